@@ -1,11 +1,11 @@
 #!/usr/bin/env python3
-"""Says what the documents name that is not there, and what nothing names: .ci/check_names.py [--unused]
+"""Checks names and links in the documents, and lists unused definitions: .ci/check_names.py [--unused]
 
 In each document a name in backticks has to be in the code, and a link has to lead to a file, to a heading if it names
-one, and to the file with the definition that its text names. docs/PERF.md is checked in the same way, but for its
-sections on what is gone, and its words are not counted: all other documents have at most 30,000 words together. Each
-fault is a line, and the status is then 1. A lemma or a definition of `proofs/` or `specs/` that nothing else names is a
-line, too, which begins with `unused:`, and the status is then 1 with --unused.
+one, and to the file with the definition that its text names. docs/PERF.md is checked too, except its sections on former
+code; all other documents have at most 30,000 words together. Each fault is printed on a line, and the status is then 1.
+A lemma or a definition of `proofs/` or `specs/` that nothing else uses is printed on a line that begins with `unused:`,
+and the status is then 1 with --unused.
 """
 import collections
 import os
@@ -19,7 +19,7 @@ PERF = "docs/PERF.md"
 PERF_PAST = ("Tried and dropped", "Words of private parts that changed")
 # Names of Rust and of the toolchain, which no file of the repository has.
 OTHERS = {"splice", "in_lanes", "rattle", "kit", "crates", "txt", "antt", "edit", "sh", "rlib", "README", "md"}
-# What the tool looks for in a proof, so that nothing else names it.
+# Names that the tool looks for in a proof, so that nothing else uses them.
 OF_TOOL = {"returns", "pub"}
 
 

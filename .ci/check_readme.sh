@@ -1,12 +1,12 @@
 #!/usr/bin/env bash
 # Runs the commands of a document in a fresh clone: .ci/check_readme.sh [--short|--long] [DOCUMENT..]
 #
-# Without DOCUMENT it is README.md, of which it also compares what it quotes: the lines of code with the example's, the
-# kit with `rt version`, its length and width. With --short it only compares, all but the kit, what stands here.
+# Without DOCUMENT it is README.md. Its quotations are compared too: lines of code with the example, the kit with
+# `rt version`, its length and width. With --short nothing is run, and all but the kit is compared in the working tree.
 # Commands are the lines of the blocks ```sh. Each block is run in one shell, up to its first failure: from the top of
 # the clone, or in the folder of the document's crate. A line whose comment begins with `long:` takes minutes or hours,
-# and is skipped without --long. Each line of a block ```text behind it has to be among what the block printed. What is
-# committed is what is run. The status is 0 where all held.
+# and is skipped without --long. Each line of a following block ```text has to be in the output of the block. Committed
+# files are run. The status is 0 if all comparisons and commands succeeded.
 set -uo pipefail
 cd "$(dirname "$0")/.."
 form=usual
@@ -29,7 +29,7 @@ fi
 status=0
 wrong() { echo "check_readme: $*" >&2; status=1; }
 
-# What the README quotes.
+# Compares the quotations of the README.
 compare() {
     local readme=$clone/README.md example=$clone/crates/example_filter/src/main.rt
     python3 - "$readme" "$example" << 'END' || status=1
@@ -71,7 +71,7 @@ for document in "${documents[@]}"; do
     folder=$clone
     [[ $document == crates/* ]] && folder=$clone/$(dirname "$document")
     for block in $(ls "$work"/block.*.sh 2> /dev/null | sort -V); do
-        # The lines that are run, each behind one that prints it.
+        # The lines to run; before each, a line that prints it.
         skipped=0
         while IFS= read -r line; do
             if [ "$form" != long ] && [[ $line == *"# long:"* ]]; then

@@ -1,10 +1,10 @@
 #!/usr/bin/env python3
-"""Lists what a new header touches, by existing ones: python3 .ci/header_files.py [SAMPLE..] [--names]
+"""Lists the files that a new header has to change, by existing headers: python3 .ci/header_files.py [SAMPLE..] [--names]
 
-The samples are headers of the new one's kind: udp tcp (transport headers, which are taken where none is given),
-arp (a net layer), macsec vlan (link extensions), ip_auth (an extension header), linux_sll (a link header). Prints the
-files that are the first sample's own, and each other file of which some line names it and some line each other sample:
-there a case of the new header is wanted. With --names also the definitions and functions in which the first one is named.
+The samples are headers of the same kind as the new one: udp tcp (transport headers, the default), arp (a network layer),
+macsec vlan (link extensions), ip_auth (an extension header), linux_sll (a link header). Prints the files of the first
+sample alone, and each other file that names all samples: it needs a case for the new header. With --names it also
+prints the definitions and functions that name the first sample.
 """
 import os
 import re
@@ -12,7 +12,7 @@ import subprocess
 import sys
 
 CODE = (".rt", ".antt", ".edit", ".h", ".c", ".cc", ".rs", ".py")
-# A line with which a function, a type or a definition begins, by the ending of its file.
+# The first line of a function, a type or a definition, by the ending of its file.
 HEADS = {
     ".rt": r"\s*(?:pub(?:\(crate\))? )?(?:const |unsafe |extern \"C\" )*(?:fn|struct|enum|trait|impl|mod|const)\b[<\w', >]*?\s(\w+)",
     ".antt": r"(?:abbrev |unfoldable |pub |data |record )*([^\W\d]\w*)(?: .*)? :",

@@ -1,6 +1,6 @@
 #!/usr/bin/env bash
-# Does what README.md says, word by word, in a clean folder with a release alone and no `rt` on the path, and compares
-# what its commands print with what it says that they print: clean_test.sh RELEASE.tar.gz
+# Runs the commands of README.md, word by word, in a clean folder with only a release and without `rt` on the path, and
+# compares their output with the output in README.md: clean_test.sh RELEASE.tar.gz
 set -euo pipefail
 here=$(cd "$(dirname "$0")" && pwd)
 release=$(realpath "$1")
@@ -23,12 +23,12 @@ fi
 work=$(mktemp -d)
 trap 'rm -rf "$work"' EXIT
 mkdir "$work/bin" "$work/home" "$work/clean"
-# The tools that README.md names, and nothing else of the places where `rt` may be.
+# The tools that README.md names, and nothing else from folders that may contain `rt`.
 ln -s "$(command -v cargo)" "$(command -v rustc)" "$work/bin"
 ln -s "$(python3 -c 'import sys; print(sys.executable)')" "$work/bin/python3"
 cp "$release" "$work/clean"
 python3 - "$here/README.md" > "$work/commands" <<'END'
-# The blocks of commands, each with what it prints to a file of its own, and that compared with the block behind it.
+# Each block of commands prints to a file, which is compared with the block of text after it.
 import re
 import sys
 

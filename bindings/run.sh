@@ -1,7 +1,7 @@
 #!/usr/bin/env bash
 # Builds the examples and tests of C, Rust and Python against the archive that `rt lib` left in crates/etherparse_c/out,
-# runs them on input that is made here, and compares what they print. Says which of them need a compiler that is not
-# there. Its status is 0 where all that ran did what they must.
+# runs them on input that is created here, and compares their output. Prints which of them were skipped for a missing
+# compiler. The exit status is 0 if all that ran passed.
 set -euo pipefail
 cd "$(dirname "$0")"
 top=$(cd .. && pwd)
@@ -13,16 +13,16 @@ fi
 work=$(mktemp -d)
 trap 'rm -rf "$work"' EXIT
 
-# Little-endian numbers of four bytes, and bytes in hexadecimal.
+# Print little-endian numbers of four bytes, and bytes from hexadecimal.
 byte() { printf "\\x$(printf %02x $(($1 & 255)))"; }
 word() { local i; for ((i = 0; i < 32; i += 8)); do byte $(($1 >> i)); done; }
 bytes() { local i; for ((i = 0; i < ${#1}; i += 2)); do printf "\\x${1:i:2}"; done; }
 record() { word 0; word 0; word $((${#1} / 2)); word $((${#1} / 2)); bytes "$1"; }
 
-# A capture: a datagram to port 1234, one behind a VLAN tag, one to another port, and one that is cut.
+# A capture: a datagram to port 1234, one after a VLAN tag, one to another port, and a truncated one.
 addresses=0708090a0b0c010203040506
-datagram=450000240000400014 # up to the IPv4 header's number of hops
-datagram=${datagram}11e375c0a80101c0a80102 # and up to its end
+datagram=450000240000400014 # up to the TTL of the IPv4 header
+datagram=${datagram}11e375c0a80101c0a80102 # the rest of the IPv4 header
 datagram=${datagram}001504d20010677f0102030405060708
 other=${datagram/04d2/0035}
 {
@@ -34,7 +34,7 @@ other=${datagram/04d2/0035}
 } > "$work/capture"
 
 if gcc --version > /dev/null 2>&1; then
-    build() { # a folder, a name, and what is linked
+    build() { # folder, name, files to link
         gcc -std=c99 -pedantic -Wall -Wextra -Werror -O2 -Ic "c/$1/$2.c" "${@:3}" "$archive" -o "$work/$2"
     }
     heap=c/etherparse_heap.c
@@ -46,13 +46,13 @@ if gcc --version > /dev/null 2>&1; then
         "$work/$name" | tee "$work/$name.out"
         cmp "$work/$name.out" "c/examples/$name.out"
     done
-    build tests statuses # it has a memory of its own
-    build tests stack "$heap" -pthread -Wl,-z,now # binding late takes stack of its own
+    build tests statuses # with its own allocator
+    build tests stack "$heap" -pthread -Wl,-z,now # lazy binding needs stack too
     for name in statuses stack; do
         "$work/$name" | tee "$work/$name.out"
         cmp "$work/$name.out" "c/tests/$name.out"
     done
-    # What a compiler has to say of a caller's mistake, and a header of another layout, which must not link.
+    # Mistakes of a caller that a compiler must reject, and a header of another layout, which must not link.
     for mistake in NULL_PACKET NULL_FRAME STATUS_IGNORED STATUS_FORGOTTEN; do
         if gcc -std=c99 -Wall -Wextra -Werror -O2 -Ic -D"$mistake" -c c/tests/mistakes.c -o "$work/mistake.o" \
             2> /dev/null; then
@@ -77,7 +77,7 @@ else
     echo "bindings: no g++, so the header was not read as C++"
 fi
 
-# What is in other languages, and what installs: each says what is not there.
+# The other languages and the installation; each script prints what it skips.
 export ETHERPARSE_C_ARCHIVE=$archive
 bash rust/test.sh "$work/capture"
 bash python/test.sh

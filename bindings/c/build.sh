@@ -1,19 +1,19 @@
 #!/usr/bin/env bash
 # Builds crates/etherparse_c/out/libetherparse_c.a, as `rt lib` in that folder does.
 #
-# `rt lib` proves the libraries below once more where no check of one's own has kept them, which takes half an hour.
-# `rt ci` has just proved them and left them in crates/*/out/rlib, but without the mark by which `rt lib` would know
-# them. So behind `rt ci`, and only there, this takes them as they lie: `bindings/c/build.sh behind-ci`. What it then
-# runs is the command by which `rt lib` builds, which proves etherparse_c itself.
+# `rt lib` proves the libraries below again unless your own check has kept them, which takes half an hour. `rt ci`
+# leaves the libraries that it proved in crates/*/out/rlib, but without the mark that `rt lib` looks for. So directly
+# after `rt ci`, and only then, `bindings/c/build.sh after-ci` uses these libraries. It then runs the build command of
+# `rt lib`, which proves etherparse_c itself.
 #
-# The verdict's line (`logic=proved ..`) is left in crates/etherparse_c/out/verdict, for a release to name.
+# The line of the verdict (`logic=proved ..`) is written to crates/etherparse_c/out/verdict, for a release.
 set -euo pipefail
 top=$(cd "$(dirname "$0")/../.." && pwd)
 cd "$top/crates/etherparse_c"
 libraries=$(sed -n 's/^etherparse_c staticlib: *//p' "$top/crates.txt")
 words=()
 
-# Runs a command that builds the archive, and keeps the verdict's line.
+# Runs a command that builds the archive, and keeps the line of the verdict.
 build() {
     mkdir -p out
     rm -f out/verdict
@@ -22,10 +22,10 @@ build() {
     exit 0
 }
 
-if [ "${1:-}" = behind-ci ]; then
+if [ "${1:-}" = after-ci ]; then
     for name in $libraries; do
         if [ -e "$top/crates/$name/out/rlib/stamp" ] || [ ! -e "$top/crates/$name/out/rlib/$name.rlib" ]; then
-            words=() # kept by checks of one's own, or not there: both are for rt lib
+            words=() # kept by your own check, or missing: rt lib handles both
             break
         fi
         words+=(--extern "$name=$top/crates/$name/out/rlib/$name.rlib")
@@ -36,7 +36,7 @@ if [ ${#words[@]} -eq 0 ]; then
 fi
 for folder in "$top"/crates/*/out/rlib; do
     words+=(-L "dependency=$folder")
-    # a run of the gate that was broken off may have left nothing of a library
+    # an interrupted run of the gate may have left no library
     for library in "$folder"/*.rlib; do
         [ -e "$library" ] || build rt lib
     done

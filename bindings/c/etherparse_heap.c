@@ -1,17 +1,17 @@
-/* The memory of libetherparse_c.a, over malloc: compile this file and link it beside the archive. The calls that build
- * frames or write a text take memory for as long as they run, and pools keep some; no other call takes any.
+/* The allocation functions of libetherparse_c.a, over malloc: compile this file and link it with the archive. The call
+ * that writes a text allocates while it runs, and a pool holds memory until it is freed; no other call allocates.
  *
- * malloc aligns a block to each power of two up to 16 that divides its size, and no greater alignment is asked for. */
+ * malloc aligns a block to each power of two up to 16 that divides its size; no greater alignment is requested. */
 #include <stdbool.h>
 #include <stddef.h>
 #include <stdlib.h>
 
 struct tried {
     bool is_there;
-    void *block; /* never null; nothing is read or written there where is_there is false */
+    void *block; /* never null; not read or written if is_there is false */
 };
 
-#ifdef __cplusplus /* as for a compiler that takes every file for C++ */
+#ifdef __cplusplus /* for a compiler that compiles every file as C++ */
 extern "C" {
 #endif
 struct tried rattle_alloc(size_t len, size_t align);
@@ -27,7 +27,7 @@ static struct tried tried(void *block) {
     return answer;
 }
 
-/* A block of no bytes takes some all the same, so that null says only that there is no memory. */
+/* An empty block allocates some bytes, so that null only means that the allocation failed. */
 struct tried rattle_alloc(size_t len, size_t align) { return tried(malloc(len != 0 ? len : align)); }
 
 struct tried rattle_realloc(void *block, size_t kept, size_t len, size_t align) {

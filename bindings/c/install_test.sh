@@ -1,7 +1,6 @@
 #!/usr/bin/env bash
-# Makes a release of the archive, installs it into a folder of its own, and builds an example by pkg-config, one by
-# CMake and one against the shared object; runs a program with memory of its own on the archive; compares what they
-# print.
+# Builds a release of the archive, installs it into its own folder, and builds an example with pkg-config, one with
+# CMake and one with the shared object; runs a program with its own allocator on the archive; compares their output.
 set -euo pipefail
 here=$(cd "$(dirname "$0")" && pwd)
 CC=${CC:-cc}
@@ -11,7 +10,7 @@ if ! "$CC" --version > /dev/null 2>&1 || ! make --version > /dev/null 2>&1; then
 fi
 work=$(mktemp -d)
 trap 'rm -rf "$work"' EXIT
-# (no release: the line of the verdict is not looked for)
+# (not published: the line of the verdict is not searched)
 ETHERPARSE_VERDICT=${ETHERPARSE_VERDICT:-"verdict: a test"} "$here/release.sh" "$work" > "$work/log"
 tar -xzf "$work"/etherparse-c-*-x86_64-linux.tar.gz -C "$work"
 release=$(echo "$work"/etherparse-c-*-x86_64-linux)
@@ -20,7 +19,7 @@ make -s -C "$release" check
 make -s -C "$release" install PREFIX="$prefix"
 flags=(-std=c99 -Wall -Wextra -Werror -O2)
 
-# By pkg-config, from where it is installed and from where it lies. Without one, the flags are as it would tell them.
+# With pkg-config, from the installed release and from the unpacked one. Without pkg-config its flags are set here.
 for folder in "$prefix" "$release"; do
     if pkg-config --version > /dev/null 2>&1; then
         told=$(PKG_CONFIG_PATH=$folder/lib/pkgconfig pkg-config --cflags --libs etherparse)
@@ -50,7 +49,7 @@ END
     for name in by_archive by_shared; do
         "$work/by_cmake/build/$name" | cmp - "$here/examples/reassemble.out"
     done
-    # another minor version is not taken
+    # another minor version is not accepted
     sed -i 's/etherparse 0.1/etherparse 0.2/' "$work/by_cmake/CMakeLists.txt"
     ! cmake -S "$work/by_cmake" -B "$work/by_cmake/other" -DCMAKE_PREFIX_PATH="$prefix" > "$work/log" 2>&1
     grep -q 'compatible with requested version "0.2"' "$work/log"
@@ -60,10 +59,10 @@ fi
 "$CC" "${flags[@]}" "$here/examples/reassemble.c" -I"$prefix/include" -L"$prefix/lib" -letherparse_c \
     -Wl,-rpath,"$prefix/lib" -o "$work/reassemble"
 "$work/reassemble" | cmp - "$here/examples/reassemble.out"
-if command -v readelf > /dev/null; then # it is the shared object that is asked for
+if command -v readelf > /dev/null; then # the program needs the shared object
     readelf -d "$work/reassemble" | grep -q 'NEEDED.*libetherparse_c.so.1'
 fi
-# The program's own memory goes before the archive's.
+# The program's own allocator replaces the archive's.
 "$CC" "${flags[@]}" "$here/tests/statuses.c" -I"$prefix/include" "$prefix/lib/libetherparse_c.a" -o "$work/statuses"
 "$work/statuses" | cmp - "$here/tests/statuses.out"
 make -s -C "$release" uninstall PREFIX="$prefix"

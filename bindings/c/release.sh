@@ -1,10 +1,11 @@
 #!/usr/bin/env bash
-# Makes etherparse-c-VERSION-x86_64-linux.tar.gz in FOLDER (crates/etherparse_c/out): release.sh [FOLDER]
+# Builds etherparse-c-VERSION-x86_64-linux.tar.gz in FOLDER (default crates/etherparse_c/out): release.sh [FOLDER]
 #
-# It needs a C compiler (CC), ar, nm and the archive that bindings/c/build.sh leaves, or ETHERPARSE_C_ARCHIVE; beside it
-# the file `verdict` with the line by which the crate was proved, or that line as ETHERPARSE_VERDICT. With ARCH=aarch64
-# it makes a release for that, behind bindings/c/build.sh: the kit builds the archive, and clang its memory. There is no
-# C library for it here, so it has no shared object, and nothing of it is run.
+# It needs a C compiler (CC), ar, nm and the archive that bindings/c/build.sh leaves, or ETHERPARSE_C_ARCHIVE; in the
+# folder of the archive the file `verdict` with the line of the crate's proof, or that line as
+# ETHERPARSE_VERDICT. With ARCH=aarch64, after bindings/c/build.sh, it builds a release for that processor: the kit
+# builds the archive, and clang the allocator. There is no C library for it here, so the release has no shared object,
+# and nothing of it is run.
 set -euo pipefail
 here=$(cd "$(dirname "$0")" && pwd)
 top=$(cd "$here/../.." && pwd)
@@ -14,7 +15,7 @@ folder=$(realpath -m "${1:-$out}")
 say() { echo "release.sh: $*"; }
 fail() { say "$*" >&2; exit 1; }
 
-# The archive for another processor: the same proved code, by the libraries that are proved already.
+# Builds the archive for another processor, from the same proved code and the libraries that are already proved.
 build_for() {
     local kit words=() library
     kit=$(dirname "$(dirname "$(readlink -f "$(command -v rt)")")")
@@ -52,10 +53,10 @@ trap 'rm -rf "$work"' EXIT
 stage=$work/$name
 mkdir -p "$stage"/{include,lib/pkgconfig,lib/cmake/etherparse,share/man/man3,examples,python}
 
-# The archive, with its memory as a member of its own: it is linked where the program does not define these functions.
+# The archive, with its allocator as a separate member, which is linked unless the program defines these functions.
 case $arch in
     x86_64) compile=(${CC:-cc} -O2 -fPIC) ;;
-    aarch64) # without the headers of a C library for it: these are what the memory calls
+    aarch64) # without the headers of a C library for it: these are the functions that the allocator calls
         mkdir "$work/declared"
         echo '#include <stddef.h>
 void *malloc(size_t len); void *realloc(void *block, size_t len); void free(void *block);' > "$work/declared/stdlib.h"
@@ -67,7 +68,7 @@ chmod 644 "$stage/lib/libetherparse_c.a"
 "${compile[@]}" -c "$here/etherparse_heap.c" -o "$work/etherparse_heap.o"
 ${AR:-ar} rsD "$stage/lib/libetherparse_c.a" "$work/etherparse_heap.o" 2> /dev/null
 
-# The header's calls are over these exports; what else the archive defines is its own.
+# The header's calls use these exports; all other symbols of the archive are private.
 exports=$(sed -n '/^\/\* ---- What is linked/,/^\/\* The version of the archive/p' "$here/etherparse.h" |
     grep -o 'etherparse_[0-9]*_[a-z_]*(' | tr -d '(' | sort)
 [ -n "$exports" ] || fail "etherparse.h declares no export where it says what is linked"
@@ -98,12 +99,12 @@ filled "$here/etherparse.3" > "$stage/share/man/man3/etherparse.3"
 cp "$here/Makefile" "$here/../README.md" "$stage"
 cp "$here/etherparse_heap.c" "$stage/examples"
 cp "$here"/examples/*.c "$here"/examples/*.out "$stage/examples"
-# The Rust crates, with the archive where the package looks for its own, and the Python module.
+# The Rust crates, with the archive where the package searches its own copy, and the Python module.
 mkdir -p "$stage/rust/etherparse-c-sys/native/$arch-linux"
 (cd "$here/../rust" && cp --parents --dereference --recursive Cargo.toml Cargo.lock \
     etherparse-c/{Cargo.toml,README.md,src,examples} etherparse-c-sys/{Cargo.toml,README.md,build.rs,src} "$stage/rust")
 cp "$here/etherparse_heap.c" "$stage/rust/etherparse-c-sys"
-rm "$stage/rust/etherparse-c/examples/compare.rs" # which measures, and needs the repository
+rm "$stage/rust/etherparse-c/examples/compare.rs" # a benchmark that needs the repository
 cp "$stage/lib/libetherparse_c.a" "$stage/rust/etherparse-c-sys/native/$arch-linux"
 (cd "$here/../python" && cp --parents README.md pyproject.toml etherparse_c/{__init__.py,py.typed} "$stage/python")
 {

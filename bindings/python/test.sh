@@ -1,5 +1,5 @@
 #!/usr/bin/env bash
-# Tests the Python module against the shared object of the archive: test.sh
+# Tests the Python module with the shared object of the archive: test.sh
 set -euo pipefail
 here=$(cd "$(dirname "$0")" && pwd)
 if ! python3 -c 'import sys; sys.exit(sys.version_info < (3, 9))' 2> /dev/null; then

@@ -1,5 +1,5 @@
 #!/usr/bin/env bash
-# Tests the crates against the archive: test.sh [CAPTURE], where CAPTURE is the one that bindings/run.sh makes.
+# Tests the crates with the archive: test.sh [CAPTURE], where CAPTURE is the capture that bindings/run.sh creates.
 set -euo pipefail
 cd "$(dirname "$0")"
 archive=${ETHERPARSE_C_ARCHIVE:-$PWD/../../crates/etherparse_c/out/libetherparse_c.a}
@@ -31,11 +31,11 @@ if [ $# -gt 0 ]; then
     cargo run --quiet --offline --example filter -- 1234 "$1" > "$work/out"
     cmp "$work/out" etherparse-c/examples/filter.out
 fi
-# No document is missing.
+# No documentation is missing.
 RUSTDOCFLAGS="-D warnings" cargo doc --quiet --offline --no-deps
-# Where there is no archive, or none for the target, one line says what to do; CC is obeyed where the archive has no
-# memory.
-plain() { # what is said, what is set, and further words
+# Without an archive, or without one for the target, one line states what to do; CC is used if the archive has no
+# allocator.
+plain() { # expected message, variable to set, and further arguments
     local said=$1 set=$2
     shift 2
     if env "$set" cargo check --quiet --offline -p etherparse-c-sys --target-dir "$work/target" "$@" \
@@ -47,8 +47,8 @@ plain() { # what is said, what is set, and further words
 }
 plain "no libetherparse_c.a in $work or $work/lib, which ETHERPARSE_C_DIR names" ETHERPARSE_C_DIR="$work"
 plain "there is no libetherparse_c.a for i686-unknown-linux-gnu" CC=false --target i686-unknown-linux-gnu
-# A package has the source of the memory in a release alone, so it is packaged here over an archive that has the memory
-# in it.
+# A package has the source of the allocator only in a release, so it is packaged here with an archive that includes the
+# allocator.
 whole=$work/whole
 mkdir "$whole"
 cp "$archive" "$whole/libetherparse_c.a"

@@ -1,6 +1,6 @@
 #!/usr/bin/env bash
-# Runs the tests of this crate, without proof, on more cases: 100,000 streams at once, and 1,000 streams whose names
-# hash alike. It takes some minutes, works on a copy, and ends with the last line of `rt try`.
+# Runs the tests of this crate, without proof, on more cases: 100,000 streams at once, and 1,000 streams whose keys
+# collide. It takes some minutes, works on a copy of the repository, and ends with the last line of `rt try`.
 set -eu
 top=$(cd "$(dirname "$0")/../.." && pwd)
 copy=$(mktemp -d)
@@ -17,5 +17,5 @@ while IFS=: read -r name _; do
 done < "$top/crates.txt"
 cd "$copy/crates/etherparse"
 git init -q "$copy"
-sed -i -e '/STREAMS/s/= .*;/= 100_000;/' -e '/ALIKE/s/= .*;/= 1_000;/' src/tests/sizes.rt
+sed -i -e '/const STREAMS/s/= .*;/= 100_000;/' -e '/const COLLIDING_STREAMS/s/= .*;/= 1_000;/' src/tests/sizes.rt
 rt try --test --seconds 1800

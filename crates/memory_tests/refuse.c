@@ -1,6 +1,6 @@
-/* Refuses one request for memory of the program that it is preloaded into (`LD_PRELOAD`), with the C library of GNU:
- * the one whose number the variable `REFUSE` says, from 1 on. Where it comes to that, the file that `REFUSED` names is
- * made. */
+/* Makes one allocation fail in the program that it is preloaded into (`LD_PRELOAD`), with the GNU C library: the
+ * environment variable `REFUSE` has its number, from 1 on. When it fails, the file named by the variable `REFUSED` is
+ * created. */
 #include <errno.h>
 #include <fcntl.h>
 #include <stdlib.h>

@@ -1,14 +1,14 @@
 #!/usr/bin/env python3
-"""Refuses each request for memory in turn, of built tests and of the built program: python3 refuse.py [--write]
+"""Makes each allocation fail in turn, of built tests and of the built program: python3 refuse.py [--write]
 
     rt test && (cd ../frame_bench && rt test && rt run < stdin)      # builds them, and so does rt ci
 
-Runs each test of this crate but those of `ample`, and each of frame_bench about memory, with its first request for
-memory refused, then with its second, until it meets no refusal (refuse.c, preloaded). Each run has to pass, and each
-request has to be named by the call that it is refused to; which requests are those of which call has to be what the
-file `requests` says; with --write it is written there. Then the program frame_bench on its file `stdin`, and on random
-lines with many limits, the same way: a refused run ends with status 1 and `frame_bench: out of memory`, and what it
-wrote begins its answers. The status is 1 at the first difference.
+Runs each test of this crate except those of `ample`, and each memory test of frame_bench, with its first allocation
+failing, then with its second, until none fails (refuse.c, preloaded). Each run has to pass, and has to name exactly
+one call for the failed allocation. The allocations of each call have to match the file `requests`; --write writes
+that file. Then the program frame_bench is run in the same way on its file `stdin`, and on random lines with many
+limits: a run with a failed allocation ends with status 1 and `frame_bench: out of memory`, and its output is a start of
+its answers. The status is 1 at the first difference.
 """
 import collections
 import difflib
@@ -23,11 +23,11 @@ import tempfile
 
 HERE = pathlib.Path(__file__).resolve().parent
 BENCH = HERE.parent / "frame_bench"
-# Where tests stand, and how the names begin of those that pass whatever is refused, and of those among them that ask
-# too often for that to be tried.
+# Folders of tests, the prefix of the names of tests that pass whichever allocation fails, and the prefix of those among
+# them that allocate too often to try it.
 TESTS = [(HERE, "", "ample::"), (BENCH, "tests::memory::", None)]
 MOST = 100_000
-# Random lines, of which so many are limits.
+# Number of random lines, and number of lines `limit` among them.
 LINES, LIMITS = 2000, 50
 
 sys.dont_write_bytecode = True
@@ -37,7 +37,7 @@ import hostile
 
 
 def built(folder, name):
-    """A program that is built."""
+    """Returns the path of a built program."""
     program = folder / "out" / name
     if not program.exists():
         sys.exit(f"{program} is not built")
@@ -45,7 +45,7 @@ def built(folder, name):
 
 
 class Refusing:
-    """Runs with one request for memory refused."""
+    """Runs with one failing allocation."""
 
     def __init__(self, folder):
         self.library = str(folder / "refuse.so")
@@ -57,7 +57,7 @@ class Refusing:
         subprocess.run(command, check=True)
 
     def run(self, command, nth, given=b""):
-        """What a program writes, its status, and whether it made so many requests."""
+        """Runs a program; returns its output and status, and whether it made `nth` allocations."""
         self.met.unlink(missing_ok=True)
         variables = dict(os.environ, LD_PRELOAD=self.library, REFUSE=str(nth), REFUSED=str(self.met))
         done = subprocess.run(command, input=given, env=variables, capture_output=True, check=False)
@@ -65,7 +65,7 @@ class Refusing:
 
 
 def requests_of(refusing, program, test):
-    """The call that each request of a test is refused to, in order."""
+    """Returns the call that each allocation of a test belongs to, in order."""
     calls = []
     for nth in range(1, MOST):
         done, is_met = refusing.run([program, test], nth)
@@ -81,7 +81,7 @@ def requests_of(refusing, program, test):
 
 
 def ranges(numbers):
-    """Numbers in order, such as 1-3 5."""
+    """Returns numbers in order as text, such as 1-3 5."""
     texts, first = [], None
     for number in numbers:
         first = number if first is None else first
@@ -92,7 +92,7 @@ def ranges(numbers):
 
 
 def table_of(refusing):
-    """Which requests are those of which call, in a line for each call of each test."""
+    """Returns the allocations of each call, in a line for each call of each test."""
     rows = []
     for folder, begin, often in TESTS:
         program = built(folder, f"{folder.name}_tests")
@@ -108,13 +108,13 @@ def table_of(refusing):
 
 
 def requests_in(table):
-    """How many requests a table names."""
+    """Returns the number of allocations in a table."""
     spans = re.findall(r"(\d+)(?:-(\d+))?", " ".join(line.rpartition(": ")[2] for line in table.splitlines()))
     return sum(int(last or first) - int(first) + 1 for first, last in spans)
 
 
 def program_refused(refusing, name, given, wanted):
-    """Sees that the program says so, behind a beginning of its answers, whichever request is refused."""
+    """Checks that the program reports the failure after a start of its answers, whichever allocation fails."""
     program = built(BENCH, "frame_bench")
     for nth in range(1, MOST):
         done, is_met = refusing.run([program], nth, given)
@@ -131,7 +131,7 @@ def program_refused(refusing, name, given, wanted):
 
 
 def random_lines():
-    """Random lines with many limits, and their answers by the second reader."""
+    """Returns random lines with many limits, and their answers by the second implementation."""
     lines = hostile.Lines(random.Random(1))
     rows = [lines.line() for _ in range(LINES)]
     rows[:: LINES // LIMITS] = [lines.limit_line().encode("ascii") for _ in range(LIMITS)]

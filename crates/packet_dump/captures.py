@@ -1,4 +1,4 @@
-# Writes a capture of twenty packets, and one of the same and five more in sections of both byte orders:
+# Writes a pcap capture of twenty packets, and a pcapng capture of these and five more in sections of both byte orders:
 # python3 captures.py data/small.pcap data/small.pcapng
 import struct,sys
 def ck(b):
@@ -28,8 +28,8 @@ packets=[(1600000000,100,eth(0x800,ip4(17,udp(21,1234,b"12345678")),5),None),
 (1600000002,50,eth(0x88e5,bytes.fromhex("2c00000000070200000000010001")+bytes(20)),None),
 (1600000002,60,eth(0x88cc,bytes(46)),None),
 (1600000002,70,eth(0x800,b"\x65"+ip4(17,udp(21,1234,b""))[1:]),None)]
-# Fragments: of a datagram, of one whose second fragment comes 31 seconds behind the first, one of an odd length, and those
-# of a segment over IPv6, the last one first.
+# Fragments: of a datagram, of a datagram whose second fragment comes 31 seconds after the first, one of odd length, and
+# those of a TCP segment over IPv6, the last one first.
 halves=lambda p,n,ident: (ip4(17,p[:n],0x2000,ident=ident),ip4(17,p[n:],n//8,ident=ident))
 ip6=lambda n,p: bytes.fromhex("60000000")+struct.pack("!HBB",len(p),n,64)+bytes(15)+b"\1"+bytes(15)+b"\2"+p
 one,late=halves(udp(21,1234,b"a datagram in two"),16,77),halves(udp(21,1234,b"a late one"),16,78)
@@ -53,8 +53,8 @@ section=lambda order: block(order,0x0a0d0d0a,struct.pack(order+"IHHq",0x1a2b3c4d
 interface=lambda order,link,options=b"": block(order,1,struct.pack(order+"HHI",link,0,65535)+options)
 def enhanced(order,at,ticks,b,original=None):
     return block(order,6,struct.pack(order+"IIIII",at,ticks>>32,ticks&0xffffffff,len(b),original or len(b))+b)
-# Interfaces: Ethernet in microseconds; in nanoseconds, a link type that is not read; and in the second section raw IP, in
-# parts of 2^-20 s from a number of seconds on.
+# Interfaces: Ethernet with timestamps in microseconds; an unsupported link type, in nanoseconds; and in the second section
+# raw IP, in units of 2^-20 s with an offset in seconds.
 def pcapng():
     out=section("<")+interface("<",1)+interface("<",105,option("<",2,b"any")+option("<",9,b"\x09")+option("<",0,b""))
     out+=block("<",4,bytes(4))

@@ -1,23 +1,23 @@
 #!/usr/bin/env python3
 """Compares packet_dump with tshark and tcpdump: python3 compare.py PROGRAM CAPTURE..
 
-PROGRAM is the built program, as out/packet_dump, and each CAPTURE a file, or a folder with files. Of each packet the
-time, addresses, ports, lengths, flags and sequence numbers, fragments, VLANs, and types and codes of ICMP are compared
-with tshark's and tcpdump's, where both tell them, and the numbers of packets. It prints what differs, and at the end
-how much was compared and, in percent of the packets whose link type is read, what others tell of them and this does
-not, by cause. It needs tshark, tcpdump and editcap, and is no part of the gate.
+PROGRAM is the built program, such as out/packet_dump, and each CAPTURE is a file, or a folder with files. For each packet
+the time, addresses, ports, lengths, flags and sequence numbers, fragments, VLANs, and ICMP types and codes are compared
+with those of tshark and tcpdump, if both programs print them, and so are the numbers of packets. The script prints the
+differences, and at the end how much was compared and which fields only the others print, by cause, in percent of the
+packets with a supported link type. It needs tshark, tcpdump and editcap, and is no part of the gate.
 
-python3 compare.py --cut N PROGRAM CAPTURE.. compares each capture of which N bytes of each packet are kept.
+python3 compare.py --cut N PROGRAM CAPTURE.. compares each capture with its packets truncated to N bytes.
 
-python3 compare.py --forms PROGRAM CAPTURE.. compares each capture in other forms too, as editcap writes them: pcap in
+python3 compare.py --forms PROGRAM CAPTURE.. also compares each capture in the other formats that editcap writes: pcap in
 microseconds and nanoseconds, and pcapng.
 
-python3 compare.py --reassembled PROGRAM CAPTURE.. compares the payloads that are put together from fragments: behind
-which packet each comes, its transport header and its bytes, with those of tshark, which keeps fragments without an end.
+python3 compare.py --reassembled PROGRAM CAPTURE.. compares the payloads that are reassembled from fragments: the packet
+that completes each, its transport header and its bytes. tshark keeps fragments indefinitely.
 
-With --verbose in front of these what packet_dump tells with that option is compared too: TTL, identification, DF,
-priorities, window and options of TCP, checksums, and the packet that an ICMP message quotes. With --all in front of
-that each difference is printed, and not the first five of a kind.
+--verbose before these options also compares the fields that packet_dump prints with that option: TTL, identification, DF,
+priorities, TCP window and options, checksums, and the packet that an ICMP message quotes. --all before that prints every
+difference, and not only the first five of a kind.
 """
 import os
 import re
@@ -42,7 +42,7 @@ FIELDS = [
     "icmpv6.checksum.status",
 ]
 DETAILS = [name for name in FIELDS if re.search(r"\.(ttl|df|hlim|flow|window_size_value|status)$|tcp\.options", name)]
-# What tshark has of both packets where a message of ICMP quotes one.
+# Fields that tshark prints for both packets if an ICMP message quotes one.
 QUOTED = ["ip.src", "ip.dst", "ipv6.src", "ipv6.dst", "udp.srcport", "udp.dstport", "tcp.srcport", "tcp.dstport"]
 PAYLOAD_FIELDS = [
     "frame.number", "udp.srcport", "udp.dstport", "udp.length", "tcp.srcport", "tcp.dstport", "tcp.len", "icmp.type",
@@ -52,10 +52,10 @@ TSHARK_OPTIONS = ["-E", "occurrence=a", "-E", "aggregator=,"]
 for setting in ("ip.defragment:FALSE", "ipv6.defragment:FALSE", "tcp.relative_sequence_numbers:FALSE",
                 "ip.check_checksum:TRUE", "tcp.check_checksum:TRUE", "udp.check_checksum:TRUE"):
     TSHARK_OPTIONS += ["-o", setting]
-# How many bytes of a payload are there, and of how many.
+# Captured length of a payload, and its full length.
 LEN = r" len (\d+)(?: of (\d+))?"
 LENGTHS = ("udp.length", "tcp.len", "icmp.length", "ip.payload", "ipv6.payload")
-# What is counted where others tell it and this does not.
+# Fields that are counted if only the other programs print them.
 WANTED = [name for name in FIELDS
           if re.search(r"\.(src|dst|srcport|dstport|type|code)$|^sll|^arp|_gw$", name)
           or name in ("udp.length", "tcp.len", "tcp.flags", "tcp.seq_raw", "tcp.ack_raw")]
@@ -74,7 +74,7 @@ ICMPV6 = {"destination-unreachable": 1, "packet-too-big": 2, "time-exceeded": 3,
           "certification-path-solicitation": 148, "certification-path-advertisement": 149,
           "multicast-router-advertisement": 151, "multicast-router-solicitation": 152,
           "multicast-router-termination": 153, "extended-echo-request": 160, "extended-echo-reply": 161}
-# The names of the codes of a type, from 0 on.
+# Names of the codes of a type, from 0 on.
 EXCEEDED = ["in-transit", "reassembly"]
 CODES = {
     ("icmp", 3): ["network", "host", "protocol", "port", "fragmentation-needed", "source-route-failed",
@@ -88,7 +88,7 @@ CODES = {
     ("icmpv6", 3): EXCEEDED,
     ("icmpv6", 4): ["erroneous-header", "unrecognized-next-header", "unrecognized-option", "incomplete-header-chain"],
 }
-# Blocks of packets, and those that tshark counts too.
+# Types of blocks with a packet, and those that tshark counts as well.
 READ = {2, 3, 6}
 TOLD = READ | {0xBAD, 0x40000BAD}
 FORMS = {"pcap": "pcap", "nsecpcap": "pcap", "pcapng": "pcapng"}
@@ -99,12 +99,12 @@ def number(text):
 
 
 def len_of(found, at):
-    """How many bytes a payload has, of which some may be missing."""
+    """Returns the full length of a payload, some bytes of which may be missing."""
     return int(found[at + 1] or found[at])
 
 
 def ours(line):
-    """The fields of a line of packet_dump, under tshark's names."""
+    """Returns the fields of a line of packet_dump, with tshark's names."""
     found = {}
     head = re.match(r"(\d+) (-?[\d.]*)(.*)$", line)
     found["frame.number"], found["time"], rest = int(head[1]), head[2], head[3]
@@ -121,7 +121,7 @@ def ours(line):
     if " ttl " in head[3] or " hop-limit " in head[3] or " pcp " in head[3]:
         details_of(found, head[3])
     found["incomplete"] = re.search(r" incomplete(?: |$)", line) is not None
-    # Of all bytes it is told how many they are, also where they are missing.
+    # True if the line has the full length of the payload, even if bytes are missing.
     found["whole"] = not found["incomplete"] or "stopped" in found or re.search(r" len \d+ of \d+", rest) is not None
     outer_of(found, rest)
     net_of(found, rest)
@@ -133,7 +133,7 @@ def ours(line):
 
 
 def outer_of(found, rest):
-    """Adds what a line says of the link layer, its extensions, and ARP."""
+    """Adds the fields of the link layer, its extensions, and ARP."""
     if eth := re.search(r" eth (\S+) > (\S+)", rest):
         found["eth.src"], found["eth.dst"] = eth[1], eth[2]
     if sll := re.search(r" sll \S+ from ((?:\w\w:){5}\w\w)(?: |$)", rest):
@@ -152,7 +152,7 @@ def outer_of(found, rest):
 
 
 def net_of(found, rest):
-    """Adds what a line says of IP, and of a payload that no transport header is read in."""
+    """Adds the fields of IP, and of a payload without a parsed transport header."""
     for name, field in (("ipv4", "ip"), ("ipv6", "ipv6")):
         if f" {name} " not in rest:
             continue
@@ -171,7 +171,7 @@ def net_of(found, rest):
 
 
 def transport_of(found, rest):
-    """Adds what a line says of UDP and TCP: in a first fragment, and of most headers that are cut, there is no length."""
+    """Adds the fields of UDP and TCP. In a first fragment, and after most truncated headers, there is no length."""
     if udp := re.search(rf" udp (\d+) > (\d+)(?: length (0))?(?:{LEN})?", rest):
         found["udp.srcport"], found["udp.dstport"] = int(udp[1]), int(udp[2])
         if udp[4] is not None:
@@ -187,12 +187,12 @@ def transport_of(found, rest):
 
 
 def icmp_of(found, rest):
-    """Adds what a line says of ICMP."""
+    """Adds the fields of ICMP."""
     for name, field, table in (("icmpv4", "icmp", ICMPV4), ("icmpv6", "icmpv6", ICMPV6)):
         if icmp := re.search(rf" {name} (?:type (\d+)|(\S+))(?: code (\d+)| (\S+))?", rest):
             kind = int(icmp[1]) if icmp[1] else table[icmp[2]]
             names = CODES.get((field, kind), [])
-            # A code without a name is told by its number, and 0 not at all.
+            # A code without a name is printed as a number, and code 0 is left out.
             code = names.index(icmp[4]) if icmp[4] in names else int(icmp[3] or 0)
             found[field + ".type"], found[field + ".code"] = kind, code
             if length := re.search(LEN, rest):
@@ -202,7 +202,7 @@ def icmp_of(found, rest):
 
 
 def details_of(found, rest):
-    """Adds what a line says with --verbose."""
+    """Adds the fields that --verbose prints."""
     for names, form in (
         (("ip.ttl", "ip.id"), r" ttl (\d+) id (\d+)"),
         (("ipv6.hlim", "ipv6.flow"), r" hop-limit (\d+) flow (\d+)"),
@@ -224,7 +224,7 @@ def details_of(found, rest):
 
 
 def told_by_tshark(path, fields, options):
-    """What tshark tells of the packets of a capture, and how it ended."""
+    """Returns the fields that tshark prints for the packets of a capture, and how it ended."""
     command = ["tshark", "-r", path, "-n", "-T", "fields"] + options
     for field in fields:
         command += ["-e", field]
@@ -234,7 +234,7 @@ def told_by_tshark(path, fields, options):
 
 
 def theirs(path):
-    """The fields of each packet by tshark, the first of each, and how tshark ended."""
+    """Returns tshark's fields of each packet, the first value of each, and how tshark ended."""
     packets, run = told_by_tshark(path, FIELDS, TSHARK_OPTIONS)
     for found in packets:
         found.setdefault("frame.protocols", "")
@@ -246,11 +246,11 @@ def theirs(path):
                 found[name] = value.split(",")[0]
         found["nets"], found["vlans"], found["priorities"] = nets, tags, priorities
         found["quoted"] = {name: values[0] for name, values in quoted if values}
-        # It tells offsets in units of 8 bytes.
+        # tshark prints offsets in units of 8 bytes.
         for name in ("ip.frag_offset", "ipv6.fraghdr.offset"):
             if name in found:
                 found[name] = str(8 * number(found[name]))
-        # Reserved bits are no flags.
+        # Reserved bits are not flags.
         if "tcp.flags" in found:
             found["tcp.flags"] = str(number(found["tcp.flags"]) & 0x1FF)
         if number(found.get("ip.len", "0")):
@@ -261,7 +261,7 @@ def theirs(path):
 
 
 def tags_of(found, field):
-    """A field of the VLANs from the outside in, of which tshark tells those of 802.1ad apart."""
+    """Returns a field of the VLAN tags, from the outermost inwards. tshark prints those of 802.1ad separately."""
     names = {layer: f"{layer}.{field}" for layer in ("vlan", "ieee8021ad")}
     waiting = {layer: found[name].split(",") for layer, name in names.items() if name in found}
     if not waiting:
@@ -270,7 +270,7 @@ def tags_of(found, field):
 
 
 def tcpdump_of(path, options):
-    """What tcpdump writes of each packet, its time in front, and how it ended."""
+    """Returns the text that tcpdump prints for each packet, beginning with its time, and how tcpdump ended."""
     command = ["tcpdump", "-nn", "-tt", "--nano"] + options + ["-r", path]
     run = subprocess.run(command, capture_output=True, text=True, errors="replace")
     begins = r"^(?=-?\d+\.\d{9,10} |\[Invalid header|\[Error converting time)"
@@ -278,7 +278,7 @@ def tcpdump_of(path, options):
 
 
 def around(names, other):
-    """What stands around the outermost of some fields that tshark tells, as its names of layers."""
+    """Returns the layers up to the outermost of some of tshark's fields, with tshark's names."""
     layers = other["frame.protocols"].split(":")
     wanted = {"vlan" if name == "vlan.id" else name.split(".")[0] for name in names}
     places = [at for at, layer in enumerate(layers) if layer in wanted]
@@ -286,7 +286,7 @@ def around(names, other):
 
 
 def damaged_times(path):
-    """Which records of a classic capture have a fraction of a second that is more than one, or a time behind 2038."""
+    """Returns the indexes of the pcap records with a fraction of a second or more, or a time from 2^31 s on (2038)."""
     data, at, index, found = open(path, "rb").read(), 24, 0, set()
     order = "<" if data[:4] in (b"\xd4\xc3\xb2\xa1", b"\x4d\x3c\xb2\xa1") else ">"
     units = {b"\xd4\xc3": 10**6, b"\xa1\xb2": 10**6 if data[2:4] == b"\xc3\xd4" else 10**9}.get(data[:2], 10**9)
@@ -299,7 +299,7 @@ def damaged_times(path):
 
 
 def blocks_of(data):
-    """The kinds of the blocks of a capture in the newer format, and none of another capture."""
+    """Returns the types of the blocks of a pcapng capture, or an empty list for another format."""
     at, order, kinds = 0, "<", []
     while data[:4] == b"\n\r\r\n" and at + 12 <= len(data):
         if data[at:at + 4] == b"\n\r\r\n":
@@ -311,13 +311,13 @@ def blocks_of(data):
 
 
 def of_kinds(entries, kinds):
-    """Of what tshark tells of a capture that of the packets in blocks which packet_dump reads."""
+    """Returns tshark's entries of the packets in blocks that packet_dump reads."""
     kinds = [kind for kind in kinds if kind in TOLD]
     return [entry for entry, kind in zip(entries, kinds) if kind in READ] if kinds else entries
 
 
 class Tally:
-    """What was counted, and what was said of it, a few times each."""
+    """Counts of a comparison, and messages about it, each printed a few times."""
 
     def __init__(self, shown):
         self.counted, self.reasons, self.said, self.shown = Counter(), Counter(), Counter(), shown
@@ -352,40 +352,40 @@ class Tally:
 
 
 def same_time(first, mine, this):
-    """Whether the time since the first packet is so many seconds, by all digits that are told."""
+    """Returns whether the time since the first packet is `mine` seconds, to the printed number of digits."""
     digits = len(mine.split(".")[1])
     return abs(Decimal(mine) - (Decimal(this) - Decimal(first))) < Decimal(1).scaleb(-digits)
 
 
 def compare_times(tally, path, reader, mine, times, damaged):
-    """Compares times since the first packet that has one, of which both tell."""
+    """Compares times since the first packet for which both programs print one."""
     first = None
     for a, this in zip(mine, times):
         if a["time"] == "-" or this is None or this.startswith("["):
             continue
-        # Of a fraction that is more than a second they tell one that wrapped around.
+        # If the fraction is more than a second, the others print a time that wrapped around.
         if a["frame.number"] - 1 in damaged:
             tally.reasons[f"{reader}: a time whose fraction is more than a second"] += 1
             if first is None:
                 return
             continue
-        # Of the first packet, whose time is 0, tcpdump may tell none.
+        # For the first packet, whose time is 0, tcpdump may print no time.
         first = str(Decimal(this) - Decimal(a["time"])) if first is None else first
         tally.compared(path, a["frame.number"], "time", a["time"], f"{this} - {first}",
                        same_time(first, a["time"], this), reader)
 
 
 def same(a, name, other):
-    """Whether a field is the same: where only those bytes of a payload are told that are there, no more of them are."""
+    """Returns whether a field is equal. A length that counts only captured bytes may be less than the other."""
     value, other = a[name], number(other) if isinstance(a[name], int) else other
     if name == "udp.length" and other < 8:
-        # It says nothing of the bytes that are there; how many they are IP says.
+        # The field does not limit the payload; the length of IP does.
         return other > 0 or value in (0, 8) or a["incomplete"]
     return value <= other if name in LENGTHS and not a["whole"] else value == other
 
 
 def missing_of(a, name, other):
-    """How what a length says stands to the bytes that are there of an incomplete payload, and to those left out."""
+    """Compares the missing bytes of an incomplete payload, by a length field, with those that the capture left out."""
     kept, original = a.get("cut", (0, 0))
     gone = number(other) - a[name]
     if gone == original - kept:
@@ -394,13 +394,13 @@ def missing_of(a, name, other):
 
 
 def compare_tshark(tally, path, a, b, text):
-    """Compares what tshark tells; `text` is what tcpdump writes, which alone tells an IPv4 length of 0, and how many bytes
-    a packet was short of those that IP counts."""
+    """Compares the fields of tshark. `text` is the output of tcpdump, as only tcpdump prints that an IPv4 length is 0, and
+    by how many bytes a packet is shorter than its IP length."""
     at = a["frame.number"]
     kept, original = int(b["frame.cap_len"]), int(b["frame.len"])
     equal = a["cut"] == (kept, original) if "cut" in a else kept >= original
     if "link" in a:
-        # It leaves out what some link types have in front of the packet.
+        # tshark leaves out the header that some link types have before the packet.
         there, whole = a.get("cut", (a["len"], a["len"] - kept + original))
         equal = a["len"] == there and there - kept == whole - original >= 0 and ("cut" in a or kept >= original)
     tally.compared(path, at, "lengths", a.get("cut", a.get("len")), (kept, original), equal)
@@ -423,10 +423,10 @@ def compare_tshark(tally, path, a, b, text):
         elif name.endswith(".checksum.status") and b.get(name) not in ("0", "1"):
             tally.reasons[f"packet_dump alone: {name}; tshark says {b.get(name)}"] += 1
         elif name in LENGTHS and "cut" in a and "IP bad-len 0" in text:
-            # No field says how long the packet is: tshark presumes that all bytes are its.
+            # No field has the length of the packet: tshark assumes that all bytes belong to it.
             tally.reasons["lengths not compared: of a segment whose IPv4 length is left to the card, and cut"] += 1
         elif name == "tcp.len" and name in b and (short := re.search(r"truncated-ip6? - (\d+) bytes missing", text)):
-            # The packet ended in front of what IP counts, and tshark counts to there.
+            # The packet is shorter than its IP length, and tshark counts only the bytes present.
             tally.reasons["of TCP in a packet that was short of what IP counts tshark tells what there was"] += 1
             there = max(0, value - int(short[1]))
             tally.compared(path, at, name, value, f"{b[name]} and {short[1]} more", there == number(b[name]))
@@ -440,7 +440,7 @@ def compare_tshark(tally, path, a, b, text):
 
 
 def compare_ends(tally, path, a, seen):
-    """Compares addresses and ports with what tcpdump writes, and answers whether it tells ports and this does not."""
+    """Compares addresses and ports with tcpdump's, and returns whether only tcpdump prints ports."""
     untold = False
     for field in ("ip", "ipv6"):
         if field + ".src" not in a:
@@ -457,18 +457,18 @@ def compare_ends(tally, path, a, seen):
             continue
         told = f"{found[1]} > {found[2]}:"
         if ends == apart and told != apart:
-            # It tells the ports of other transports too.
+            # tcpdump prints the ports of other transport protocols as well.
             told = re.sub(r"\.\d+ > (.*)\.\d+:$", r" > \1:", told)
             untold = True
         elif told == apart and ends != apart and f" {ports[0]} > {ports[1]}:" in seen:
-            # Behind extension headers it tells ports apart from addresses.
+            # After extension headers, tcpdump prints ports separately from addresses.
             told = ends
         tally.compared(path, a["frame.number"], "ends", ends, told, told == ends, "tcpdump")
     return untold
 
 
 def compare_tcpdump(tally, path, a, text):
-    """Compares addresses, ports, lengths and fragments, and answers whether it tells ports and this does not."""
+    """Compares addresses, ports, lengths and fragments, and returns whether only tcpdump prints ports."""
     if "link" in a:
         return False
     at, seen = a["frame.number"], " ".join(text.split())
@@ -494,7 +494,7 @@ def compare_tcpdump(tally, path, a, text):
 
 
 def compare_outer(tally, path, a, text):
-    """Compares what tcpdump writes with its option -e: Ethernet's addresses, VLANs, flags, and sequence numbers."""
+    """Compares the output of tcpdump -e: Ethernet addresses, VLANs, flags, and sequence numbers."""
     if "link" in a:
         return
     at = a["frame.number"]
@@ -514,7 +514,7 @@ def compare_outer(tally, path, a, text):
 
 
 def untold(a, b):
-    """What tshark tells of a packet and this does not, of what is wanted."""
+    """Returns the fields in WANTED that tshark prints for a packet and packet_dump does not."""
     names = [name for name in WANTED if name in b and name not in a and name not in a.get("quoted", {})]
     if "tcp.flags" not in b or number(b["tcp.flags"]) & FLAGS["A"] == 0:
         names = [name for name in names if name != "tcp.ack_raw"]
@@ -524,7 +524,7 @@ def untold(a, b):
 
 
 def cause_of(a, b, names):
-    """Why this does not tell what tshark does, or none where it tells all."""
+    """Returns why packet_dump does not print fields that tshark prints, or None if it prints all."""
     lengths = [name for name in LENGTHS if name in a and name in b and not a["whole"] and a[name] < number(b[name])]
     alone = f" ({', '.join(names)})" if all(name in LENGTHS for name in names) else ""
     if names and "stopped" in a:
@@ -543,7 +543,7 @@ def cause_of(a, b, names):
 
 
 def compare_two(tally, path, mine, other, texts, outer):
-    """Compares what is told of each packet, and counts why something is not told."""
+    """Compares the fields of each packet, and counts the causes of missing ones."""
     for at, a in enumerate(mine):
         b = other[at] if at < len(other) else None
         ports = compare_tcpdump(tally, path, a, texts[at]) if at < len(texts) else False
@@ -582,7 +582,7 @@ def compare(tally, program, path):
             tally.say(f"status {reader}", f"{path}: {reader}: {' '.join(ended.stderr.split())[-150:]}")
         elif len(mine) != len(told) and run.returncode == 0:
             tally.differs(path, "-", f"number of packets, {reader}", len(mine), len(told))
-    # Where numbers differ it is not known which packets are the same.
+    # If the numbers of packets differ, it is unknown which ones correspond.
     other = other if len(other) == len(mine) or run.returncode or by_tshark.returncode else []
     if len(texts) != len(mine) and not run.returncode and not by_tcpdump.returncode:
         texts = []
@@ -592,7 +592,7 @@ def compare(tally, program, path):
 
 
 def in_forms(tally, program, path):
-    """Compares a capture as it is, and in the forms that editcap writes."""
+    """Compares a capture as it is, and in the formats that editcap writes."""
     compare(tally, program, path)
     with tempfile.TemporaryDirectory() as folder:
         for form, suffix in FORMS.items():
@@ -604,7 +604,7 @@ def in_forms(tally, program, path):
 
 
 def cut(tally, program, path, kept):
-    """Compares a capture of which so many bytes of each packet are kept."""
+    """Compares a capture with its packets truncated to `kept` bytes."""
     with tempfile.TemporaryDirectory() as folder:
         to = os.path.join(folder, os.path.basename(path))
         if subprocess.run(["editcap", "-s", kept, path, to], capture_output=True).returncode == 0:
@@ -614,7 +614,7 @@ def cut(tally, program, path, kept):
 
 
 def payloads_of(program, path):
-    """The payloads that packet_dump puts together, by the packets behind which they come, and fragments refused."""
+    """Returns the payloads that packet_dump reassembles, by the packet that completes each, and the rejected fragments."""
     command = [program, "--reassemble", "--timeout", "4294967295", "--streams", "4294967295", "--hex", path]
     run = subprocess.run(command, capture_output=True, text=True)
     found, refused, rows = {}, [], None
@@ -633,7 +633,7 @@ def payloads_of(program, path):
 
 
 def reassembled(tally, program, path):
-    """Compares the payloads that are put together."""
+    """Compares the reassembled payloads."""
     mine, refused = payloads_of(program, path)
     tally.counted["fragments refused"] += len(refused)
     for line in refused:
@@ -664,7 +664,7 @@ def reassembled(tally, program, path):
 
 
 def files_of(paths):
-    """The files that are named, and those in folders."""
+    """Returns the named files, and those in named folders."""
     for path in paths:
         if os.path.isdir(path):
             for folder, _, names in sorted(os.walk(path)):

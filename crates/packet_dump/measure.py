@@ -19,7 +19,7 @@ HEADING = struct.pack("<IHHIIII", 0xA1B2C3D4, 2, 4, 0, 0, 262144, 1)
 
 
 def frames_of(path):
-    """The frames of a corpus."""
+    """Yields the frames of a corpus."""
     data, start = open(path, "rb").read(), 0
     while start < len(data):
         (length,) = struct.unpack_from("<I", data, start)
@@ -28,7 +28,7 @@ def frames_of(path):
 
 
 def write(path, frames, kept):
-    """A capture of PACKETS packets, these frames over and over, a microsecond apart, of each so many bytes kept."""
+    """Writes a capture of PACKETS packets: these frames in turn, a microsecond apart, each truncated to `kept` bytes."""
     with open(path, "wb") as out:
         out.write(HEADING)
         for at in range(PACKETS):
@@ -38,7 +38,7 @@ def write(path, frames, kept):
 
 
 def taken(command, source=()):
-    """The user's time and the greatest resident size of a run, which what `source` gives is written to."""
+    """Returns the user time and the maximum resident size of a run with the chunks of `source` as its input."""
     with tempfile.NamedTemporaryFile("r") as told, open(os.devnull, "wb") as nowhere:
         timed = ["/usr/bin/time", "-f", "%U %M", "-o", told.name, *command]
         run = subprocess.Popen(timed, stdin=subprocess.PIPE, stdout=nowhere, stderr=nowhere)
@@ -52,7 +52,7 @@ def taken(command, source=()):
 
 
 def in_turns(commands, runs):
-    """Of each command the least and the median of the user's times, and the greatest resident size."""
+    """Yields for each command the minimum and the median of the user times, and the maximum resident size."""
     for turns in zip(*([taken(command) for command in commands] for _ in range(runs))):
         times, sizes = zip(*turns)
         yield f"{min(times):6.2f} {statistics.median(times):6.2f} {max(sizes):6.1f}"

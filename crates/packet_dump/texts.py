@@ -1,15 +1,15 @@
-# Writes a capture of one packet for each text of a line, and the lines, which stand beside the packets as the definitions
-# of specs/ have them, also those of --strict: python3 texts.py data/texts.pcapng runs/texts.lines runs/strict.lines
+# Writes a capture with one packet for each text of a line, and the expected lines by the definitions of specs/, also those
+# of --strict: python3 texts.py data/texts.pcapng runs/texts.lines runs/strict.lines
 import struct
 import sys
 
-ETHERNET, RAW, COOKED, OTHER = range(4)  # the interfaces, by their places
+ETHERNET, RAW, COOKED, OTHER = range(4)  # interface numbers
 packets, lax_lines, strict_lines = [], [], []
 
 
 def row(link, data, text, more=None, kept=None, strict=None):
-    """A packet, of which so many bytes are kept, its text, what --reassemble says behind it, and its text with --strict,
-    where that is another."""
+    """Adds a packet of which `kept` bytes are captured, with its text, the line that --reassemble adds after it, and its
+    text with --strict, if different."""
     shown = data[:kept]
     cut = f" cut {len(shown)} of {len(data)}" if len(shown) < len(data) else ""
     number = len(packets) + 1
@@ -57,7 +57,7 @@ def sll(way, hardware=1, length=6, protocol=0x0800, data=v4(17, udp(b""))):
     return struct.pack("!HHH", way, hardware, length) + bytes.fromhex("0200000000010203") + struct.pack("!H", protocol) + data
 
 
-# Link layers: each way of a cooked packet, and senders of other lengths.
+# Link layers: each direction of a cooked packet, and sender addresses of other lengths.
 ways = ["host", "broadcast", "multicast", "other-host", "outgoing", "loopback", "user", "kernel"]
 for way, name in enumerate(ways):
     row(COOKED, sll(way), f"sll {name} from 02:00:00:00:00:01 {V4} udp 21 > 1234 len 0")
@@ -66,7 +66,7 @@ row(COOKED, sll(4, length=9), f"sll outgoing from 02:00:00:00:00:01:02:03 {V4} u
 row(COOKED, sll(0, protocol=0x86DD, data=v6(59, b"")), f"sll host from 02:00:00:00:00:01 {V6} protocol 59 len 0")
 row(COOKED, sll(1, protocol=0x88CC, data=b"abc"), "sll broadcast from 02:00:00:00:00:01 type 0x88cc len 3")
 
-# Link extensions: tags, and MACsec that was changed in each way, with a channel and without one.
+# Link extensions: VLAN tags, and MACsec with each kind of payload, with and without a channel identifier.
 row(ETHERNET, eth(0x8100, b"\0\5\x88\xccab"), f"{ETH} vlan:5 type 0x88cc len 2")
 row(ETHERNET, eth(0x88A8, b"\x0f\xff\x81\0\0\1\x91\0\0\2\x86\xdd" + v6(17, udp(b"a"))), f"{ETH} vlan:4095 vlan:1 vlan:2 {V6} udp 21 > 1234 len 1")
 row(ETHERNET, eth(0x88E5, b"\0\0\0\0\0\7\x08\0" + v4(17, udp(b""))), f"{ETH} macsec pn 7 {V4} udp 21 > 1234 len 0")
@@ -74,7 +74,7 @@ row(ETHERNET, eth(0x88E5, b"\4\0\0\0\0\x08ab"), f"{ETH} macsec pn 8 modified len
 row(ETHERNET, eth(0x88E5, b"\x0c\0\0\0\0\x09abc"), f"{ETH} macsec pn 9 encrypted len 3")
 row(ETHERNET, eth(0x88E5, b"\x28\0\0\0\0\x0a\2\0\0\0\0\1\0\1a"), f"{ETH} macsec pn 10 sci 0200000000010001 encrypted-unmodified len 1")
 
-# Net layers: extension headers, fragments, and ARP of each operation and with other addresses.
+# Network layers: extension headers, fragments, and ARP with each operation and with other addresses.
 auth = bytes.fromhex("1101000000000001" "00000001")
 row(RAW, v4(51, auth + udp(b"ab")), f"{V4} authentication udp 21 > 1234 len 2")
 row(RAW, v4(1, b"abc", identification=5, fragment=3), f"{V4} fragment id 5 offset 24 protocol 1 ICMP len 3")
@@ -94,16 +94,16 @@ row(COOKED, sll(1, protocol=4, data=b"abc"), "sll broadcast from 02:00:00:00:00:
 row(ETHERNET, eth(0x05DD, b"abc"), f"{ETH} type 0x05dd len 3")
 row(OTHER, b"abc", "link 105 len 3")
 
-# TCP: each flag, and all of them.
+# TCP: each flag alone, and all flags.
 for flags, letters in [(0, ""), (2, "S"), (1, "F"), (4, "R"), (8, "P"), (32, "U"), (64, "E"), (128, "C"), (256, "N")]:
     row(RAW, v4(6, tcp(flags)), f"{V4} tcp 80 > 4000 [{letters}] seq 1 len 0")
 row(RAW, v6(6, tcp(0x1FF, b"\2\4\5\xb4abc", offset=6)), f"{V6} tcp 80 > 4000 [SFRPAUECN] seq 1 ack 2 len 3")
 
-# UDP whose length field is 0.
+# UDP with the length field 0.
 row(RAW, v4(17, udp(b"abc", length=0)), f"{V4} udp 21 > 1234 length 0 len 3")
 row(RAW, v4(17, udp(b"", length=0)), f"{V4} udp 21 > 1234 len 0")
 
-# Messages of ICMP: each type, and each code that has a name, with what they hold.
+# ICMP messages: each type, and each code that has a name, with their fields.
 numbers = b"\0\1\0\2"
 times = bytes(12)
 icmpv4 = [
@@ -163,8 +163,8 @@ for kind, code, rest, name in icmpv6:
     row(RAW, v6(58, icmp(kind, code, rest)), f"{V6} icmpv6 {name} len 0")
 
 
-# Refusals: each layer that has too few bytes, by each thing that limits them, and each other error. In front of it stand
-# other layers or none, and it may be that it is refused only with --strict.
+# Errors: each layer with too few bytes, by each limit of their number, and each other error. There may be other layers
+# before it, and some packets are rejected only with --strict.
 def wrong(link, data, why, front="", lax=None, kept=None):
     text = lax or (f"{front} stopped {why}" if front else f"refused {why}")
     row(link, data, text, None, kept, f"refused {why}")
@@ -225,9 +225,9 @@ short(RAW, v4(1, icmp(14, 0, numbers + times + b"a")), "Icmpv4TimestampReply", 2
 short(RAW, v6(58, icmp(128, 0)[:7]), "Icmpv6", 8, 7, "Ipv6HeaderPayloadLen", 40, V6)
 
 
-# Fragments: a payload of each kind that is put together, and each refusal of the pool.
+# Fragments: a reassembled payload of each kind, and each error of the pool.
 def halves(number, name, payload, identification, told):
-    """The two fragments of a payload, and what is told of it."""
+    """Adds the two fragments of a payload, with its expected text."""
     first, last = payload[:8], payload[8:]
     opening = f"{V4} fragment id {identification} offset"
     ports = {6: " tcp 80 > 4000", 17: " udp 21 > 1234"}.get(number, "")
@@ -236,7 +236,7 @@ def halves(number, name, payload, identification, told):
 
 
 def refused(identification, offset, more, length, why):
-    """A fragment that the pool refuses."""
+    """Adds a fragment that the pool rejects."""
     opening = f"{V4} fragment id {identification} offset {offset}{' more' if more else ''}"
     fragment = (0x2000 if more else 0) | offset // 8
     row(RAW, v4(17, bytes(length), identification, fragment), f"{opening} protocol 17 UDP len {length}", f"{opening} not reassembled: {why}")
@@ -258,9 +258,9 @@ refused(110, 24, False, 8, "Received a IP fragment (offset + len: 32) which conf
 row(RAW, v4(6, tcp(2)[:16], 111, 0x2000), f"{V4} fragment id 111 offset 0 more tcp 80 > 4000 [S] seq 1 protocol 6 TCP len 16")
 
 
-# Payloads of which bytes are missing: how many the headers say there are, each of them in turn.
+# Payloads with missing bytes: their full length by each of the headers in turn.
 def missing(packet, kept, text, front=V4, v6=False):
-    """A packet of IP of which so many bytes are kept."""
+    """Adds an IP packet, `kept` bytes of it captured."""
     lens = ("Ipv6Packet", 40) if v6 else ("Ipv4Packet", 20)
     short(RAW, packet, lens[0], len(packet), kept, "Slice", 0, lax=f"{front} {text}", kept=kept)
 
@@ -286,7 +286,7 @@ missing(v4(99, ten), 20, "protocol 99 len 0 of 10 incomplete")
 missing(v4(17, udp(bytes(8)), 112, 0x2000), 28, "fragment id 112 offset 0 more udp 21 > 1234 protocol 17 UDP len 8 of 16 incomplete")
 missing(v6(44, bytes.fromhex("1100000800000070") + ten), 49, "fragment id 112 offset 8 protocol 17 UDP len 1 of 10 incomplete", V6, True)
 
-# The same behind a TCP header that is cut, of which 14 bytes are there, and whose own length can be right.
+# Payloads after a truncated TCP header, with 14 bytes of the header captured and a header length that can be right.
 segment = tcp(2, b"\2\4\5\xb4" + ten, offset=6)
 cut = "stopped TcpHeader: 24 bytes needed"
 missing(v4(6, segment), 43, f"tcp 80 > 4000 [S] seq 1 len 0 of 10 {cut}, 23 there (limit Slice, offset 20) incomplete")
@@ -303,14 +303,14 @@ row(OTHER, b"abcde", "link 105 len 2", kept=2)
 
 
 def counted(name, line):
-    """How often a layer stands in a line; ports that are told of a header that is not read are no layer."""
+    """Returns how often a layer is in a line; the ports of a header that is not parsed are no layer."""
     if name in ("udp ", "tcp ") and (" protocol " in line or " stopped " in line):
         return 0
     return line.count(" " + name)
 
 
 def refusals(word, lines):
-    """How many lines say this, and how often for what: of too few bytes the layer, and of others what is wrong."""
+    """Yields the number of lines with a word, and the count of each error: the layer if bytes are missing, or the error."""
     names = {}
     for line in lines:
         if f" {word} " in line:
@@ -323,7 +323,7 @@ def refusals(word, lines):
 
 
 def summary(lines):
-    """The lines of --summary, counted by the texts."""
+    """Yields the lines of --summary, counted from the texts."""
     own = [line for line in lines if "reassembled" not in line]
     yield f"packets: {len(packets)}"
     yield f"bytes: {sum(len(data) for _, data, _ in packets)} of {sum(length for _, _, length in packets)}"
@@ -336,8 +336,8 @@ def summary(lines):
     yield f"  link 105: {unread}"
     yield f"reassembled: {sum(' reassembled ' in line for line in lines)}"
     yield f"not reassembled: {sum(' not reassembled: ' in line for line in lines)}"
-    yield "given up: 0"
-    yield "open at the end: 4"
+    yield "expired or evicted: 0"
+    yield "incomplete at the end: 4"
 
 
 def block(number, body):
@@ -346,7 +346,7 @@ def block(number, body):
 
 
 def capture():
-    """The packets, a microsecond apart, in a section of four interfaces."""
+    """Yields the blocks of the capture: the packets, a microsecond apart, in a section of four interfaces."""
     yield block(0x0A0D0D0A, struct.pack("<IHHq", 0x1A2B3C4D, 1, 0, -1))
     for link in (1, 101, 113, 105):
         yield block(1, struct.pack("<HHI", link, 0, 0))

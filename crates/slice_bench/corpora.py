@@ -1,25 +1,25 @@
 #!/usr/bin/env python3
 """Writes corpora for slice_bench: python3 corpora.py FOLDER [SEED [FRAGMENTS]]
 
-A file holds frames, each a length of four bytes, the lowest first, and then its bytes. The same seed gives the same
+A file contains frames, each with its length in four bytes, little endian, and then its bytes. Equal seeds produce equal
 bytes.
 
 udp64        Ethernet II, IPv4, UDP with a payload of 64 bytes
-udp1400      the same with 1,400 bytes
-vlan2        udp64 behind a service tag and a customer tag
-vlan1        udp64 behind a customer tag
+udp1400      Ethernet II, IPv4, UDP with a payload of 1,400 bytes
+vlan2        udp64 with a service tag and a customer tag
+vlan1        udp64 with a customer tag
 tcp64        Ethernet II, IPv4, TCP with a payload of 64 bytes
 udp64ipv6    Ethernet II, IPv6, UDP with a payload of 64 bytes
-raw64        Ethernet II, IPv4, 64 bytes of a protocol that is not read
+raw64        Ethernet II, IPv4, 64 bytes of an unknown protocol
 mix          IPv4 and IPv6, with and without options, extension headers and tags; UDP, TCP with options, ICMP, ARP
-interleaved  1,000 streams of FRAGMENTS fragments each (1,000 where it is left out) of 64 bytes, in turn
-streams      the same fragments, one stream after the other
-crowd        100,000 streams of a hundredth of FRAGMENTS fragments each (10, at least 1) of 64 bytes, in turn
-queue        the same fragments, one stream after the other
+interleaved  1,000 streams of FRAGMENTS fragments each (default 1,000) of 64 bytes, in turn
+streams      the fragments of interleaved, one stream after the other
+crowd        100,000 streams of FRAGMENTS / 100 fragments each (default 10, at least 1) of 64 bytes, in turn
+queue        the fragments of crowd, one stream after the other
 ascending    a payload of 65,528 bytes in fragments of 8 bytes, from the first to the last
-descending   the same fragments, from the last to the first
-shuffled     the same in random order
-alternating  the same, every second one first
+descending   the fragments of ascending, from the last to the first
+shuffled     the fragments of ascending, in random order
+alternating  the fragments of ascending, first every second one, then the others
 """
 import os
 import random
@@ -32,7 +32,7 @@ CROWD = 100_000
 
 
 def checksum(data):
-    """RFC 1071."""
+    """The Internet checksum (RFC 1071)."""
     if len(data) % 2:
         data += b"\0"
     total = sum(struct.unpack(f">{len(data) // 2}H", data))
@@ -42,7 +42,7 @@ def checksum(data):
 
 
 def ethernet(rng, ether_type, payload, tags=()):
-    """IEEE 802.3, with tags of IEEE 802.1Q: pairs of the tag's type and its identifier."""
+    """An Ethernet II frame with IEEE 802.1Q tags: pairs of tag type and VLAN identifier."""
     types = [kind for kind, _ in tags] + [ether_type]
     head = rng.randbytes(12) + struct.pack(">H", types[0])
     for (_, vlan), inside in zip(tags, types[1:]):
@@ -51,7 +51,7 @@ def ethernet(rng, ether_type, payload, tags=()):
 
 
 def ipv4(rng, protocol, payload, options=b"", addresses=None, ident=None, fragment=0x4000):
-    """RFC 791."""
+    """An IPv4 packet (RFC 791)."""
     addresses = addresses or rng.randbytes(8)
     ident = rng.randrange(65536) if ident is None else ident
     head_len = 20 + len(options)
@@ -63,20 +63,20 @@ def ipv4(rng, protocol, payload, options=b"", addresses=None, ident=None, fragme
 
 
 def ipv6(rng, number, payload, addresses=None):
-    """RFC 8200."""
+    """An IPv6 packet (RFC 8200)."""
     addresses = addresses or rng.randbytes(32)
     return struct.pack(">IHBB", 6 << 28, len(payload), number, 64) + addresses + payload
 
 
 def pseudo_header(addresses, number, length):
-    """RFC 768, RFC 9293, 3.1 and RFC 8200, 8.1."""
+    """The pseudo-header of UDP and TCP (RFC 768; RFC 9293, 3.1; RFC 8200, 8.1)."""
     if len(addresses) == 8:
         return addresses + struct.pack(">BBH", 0, number, length)
     return addresses + struct.pack(">II", length, number)
 
 
 def udp(rng, addresses, payload):
-    """RFC 768."""
+    """A UDP datagram (RFC 768)."""
     length = 8 + len(payload)
     ports = struct.pack(">HHH", rng.randrange(1024, 65536), 53, length)
     total = checksum(pseudo_header(addresses, 17, length) + ports + b"\0\0" + payload) or 0xFFFF
@@ -84,7 +84,7 @@ def udp(rng, addresses, payload):
 
 
 def tcp(rng, addresses, payload, options=b""):
-    """RFC 9293, 3.1."""
+    """A TCP segment (RFC 9293, 3.1)."""
     offset = (20 + len(options)) // 4
     head = struct.pack(
         ">HHIIBBH", rng.randrange(1024, 65536), 443, rng.getrandbits(32), rng.getrandbits(32), offset << 4, 0x18, 65535
@@ -96,14 +96,14 @@ def tcp(rng, addresses, payload, options=b""):
 
 
 def icmp(rng, kind, payload, pseudo=b""):
-    """An echo request: RFC 792 and RFC 4443, 4.1."""
+    """An ICMP echo request (RFC 792; RFC 4443, 4.1)."""
     rest = struct.pack(">HH", rng.randrange(65536), rng.randrange(65536)) + payload
     total = checksum(pseudo + struct.pack(">BBH", kind, 0, 0) + rest)
     return struct.pack(">BBH", kind, 0, total) + rest
 
 
 def extension(number, inside, options=b"\x01\x04\0\0\0\0"):
-    """Hop by hop or destination options of eight bytes with this next header: RFC 8200, 4.3 and 4.6."""
+    """A hop-by-hop or destination options header of eight bytes with this next header (RFC 8200, 4.3 and 4.6)."""
     return bytes([number, 0]) + options + inside
 
 
@@ -154,7 +154,7 @@ def mixed_frame(rng):
 
 
 def stream_fragments(rng, count, size=64):
-    """The fragments of a UDP datagram without a checksum, of so many bytes each, a multiple of 8."""
+    """The fragments of a UDP datagram without a checksum, of `size` bytes each, a multiple of 8."""
     addresses, ident = rng.randbytes(8), rng.randrange(65536)
     payload = rng.randbytes(size * count)
     payload = payload[:4] + struct.pack(">HH", len(payload), 0) + payload[8:]
@@ -195,7 +195,7 @@ def main(arguments):
     write(folder, "descending", frames[::-1])
     write(folder, "shuffled", rng.sample(frames, len(frames)))
     write(folder, "alternating", frames[::2] + frames[1::2])
-    # Last, so that they change no byte of the others.
+    # Last, so that adding these corpora did not change the bytes of the others.
     write(folder, "vlan1", [udp_frame(rng, 64, ((0x8100, 9),)) for _ in range(FRAMES)])
     write(folder, "tcp64", [tcp_frame(rng, 64) for _ in range(FRAMES)])
     write(folder, "udp64ipv6", [udp_ipv6_frame(rng, 64) for _ in range(FRAMES)])

@@ -1,10 +1,11 @@
-/* Times this library by its C interface beside others that read the same frames, in one process and in turns:
+/* Compares the time of this library's C interface with others that read the same frames, in one process and in turns:
  *     compare FILE ROUNDS [COLUMN]
- * FILE is a corpus of crates/slice_bench/corpora.py: frames, each its length in four bytes, the lowest first, and its
- * bytes. The walk by hand is crates/slice_bench/compare/walk.c. Where they are installed, libtins (-DWITH_TINS -ltins)
- * and the filter of libpcap (-DWITH_PCAP -lpcap: "udp", compiled once and run over each frame) are measured too. Says
- * nanoseconds a frame, the fastest of the rounds, and how that relates to the first, the walk. With COLUMN, a name that
- * is printed, that one alone runs, so that its instructions can be counted. compare.py builds it and measures both. */
+ * FILE is a corpus of crates/slice_bench/corpora.py: frames, each with its length in four bytes (little-endian) before
+ * its bytes. The walk by hand is crates/slice_bench/compare/walk.c. If installed, libtins (-DWITH_TINS -ltins) and the
+ * filter of libpcap (-DWITH_PCAP -lpcap: "udp", compiled once and run over each frame) are measured too. Prints
+ * nanoseconds for each frame, of the fastest round, and their ratio to the first column, the walk. With COLUMN, a
+ * printed name, only that column runs, so that its instructions can be counted. compare.py builds it and measures
+ * both. */
 #include "../etherparse.h"
 #include <cstdio>
 #include <cstdlib>
@@ -18,7 +19,7 @@
 #include <pcap.h>
 #endif
 
-struct packet; /* of walk.c: 32 bytes and more are kept for it */
+struct packet; /* of walk.c: at least 32 bytes are reserved for it */
 extern "C" int walk(struct packet *p, const uint8_t *bytes, uint32_t len);
 
 struct frame {

@@ -1,14 +1,15 @@
 #!/usr/bin/env python3
 """Measures what a frame takes through the C interface beside others: python3 compare.py FOLDER [ROUNDS]
 
-FOLDER has the corpora that crates/slice_bench/corpora.py writes. Builds compare.cc beside this file with what is
-installed of libtins and libpcap, and bindings/rust/examples/compare.rs where cargo is there, over the archive of
-crates/etherparse_c.
-Says of each corpus and each way to read a frame
+FOLDER has the corpora that crates/slice_bench/corpora.py writes. Builds compare.cc in the folder of this file with
+libtins and libpcap, if installed, and bindings/rust/etherparse-c/examples/compare.rs, if cargo is installed, with the
+archive of crates/etherparse_c.
+Prints for each corpus and each way to read a frame
 
-- instructions a frame: what callgrind counts of three rounds of it alone less what it counts of one, by 2 and by the
-  number of frames, so that neither the start nor the reading of the file is in them, but the loop over the frames is;
-- nanoseconds a frame, the fastest of ROUNDS (500), those of C in turns in one process, those of Rust in another;
+- instructions for each frame: those that callgrind counts for three rounds minus those of one round, divided by 2 and
+  by the number of frames: this excludes the start and the reading of the file, but includes the loop over the frames;
+- nanoseconds for each frame, of the fastest of ROUNDS (500) rounds, those of C in turns in one process, those of Rust
+  in another;
 
 and both as multiples of the walk by hand. With 0 rounds there are no times.
 """
@@ -25,7 +26,7 @@ CORPORA = ["udp64", "udp1400", "vlan2", "mix"]
 
 
 def output(*words):
-    """What a command prints on both of its outputs; its failure ends this program."""
+    """Returns the output of a command on stdout and stderr; exits if the command fails."""
     ran = subprocess.run([str(word) for word in words], stdout=subprocess.PIPE, stderr=subprocess.STDOUT, text=True)
     if ran.returncode:
         sys.exit(f"compare.py: {' '.join(map(str, words))} failed\n{ran.stdout}")
@@ -33,7 +34,7 @@ def output(*words):
 
 
 def is_there(*words, given=None):
-    """Whether a command can be run, and does not fail."""
+    """Returns whether a command can be run and succeeds."""
     try:
         return subprocess.run(words, input=given, capture_output=True, text=True).returncode == 0
     except FileNotFoundError:
@@ -41,7 +42,7 @@ def is_there(*words, given=None):
 
 
 def built(folder):
-    """The program in C++, and that in Rust, if cargo is there."""
+    """Builds the program in C++ and, if cargo is installed, the program in Rust, and returns their paths."""
     walk, heap, program = folder / "walk.o", folder / "heap.o", folder / "compare"
     output("gcc", "-O2", "-Dmain=walk_main", "-c", TOP / "crates/slice_bench/compare/walk.c", "-o", walk)
     output("gcc", "-O2", "-c", TOP / "bindings/c/etherparse_heap.c", "-o", heap)
@@ -61,13 +62,13 @@ def built(folder):
 
 
 def times(program, corpus, rounds):
-    """The nanoseconds a frame of each of a program's columns, by its name."""
+    """Returns the nanoseconds for each frame of each column of a program, by its name."""
     rows = re.findall(r"^(\w+) +([\d.]+) ns", output(program, corpus, rounds), re.MULTILINE)
     return {name: float(ns) for name, ns in rows}
 
 
 def instructions(program, corpus, name):
-    """The instructions a frame of one column."""
+    """Returns the instructions for each frame of one column."""
     def counted(rounds):
         told = output("valgrind", "--tool=callgrind", "--callgrind-out-file=/dev/null", program, corpus, rounds, name)
         return int(re.search(r"Collected : (\d+)", told)[1]), int(re.search(r"^(\d+) frames", told, re.MULTILINE)[1])
@@ -90,7 +91,7 @@ def main():
         for corpus in CORPORA:
             first = None
             for program in programs:
-                # one round names the columns, and says what they take where no more are wanted
+                # one round is enough for the names of the columns, if no times are wanted
                 for name, ns in times(program, corpora / corpus, max(rounds, 1)).items():
                     count = instructions(program, corpora / corpus, name) if counts else float("nan")
                     first = first or (count, ns)

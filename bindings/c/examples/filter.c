@@ -1,5 +1,5 @@
-/* Prints the UDP datagrams of a capture that go to a port: filter PORT FILE.
- * FILE is a capture of Ethernet II in the classic format of pcap, in either order of bytes. */
+/* Prints the UDP datagrams to a port in a capture: filter PORT FILE.
+ * FILE is an Ethernet II capture in the classic pcap format, of either byte order. */
 #include <etherparse.h>
 #include <stdio.h>
 #include <stdlib.h>

@@ -1,9 +1,9 @@
-/* Puts fragmented datagrams together: two of them, whose fragments come mixed and in no order. */
+/* Reassembles two fragmented datagrams, whose fragments are interleaved and out of order. */
 #include <etherparse.h>
 #include <stdio.h>
 #include <string.h>
 
-/* Writes the fragment of an IPv4 packet of `end` bytes of payload that has those from `from` to `to`. */
+/* Writes a fragment of an IPv4 packet with `end` bytes of payload: the bytes `from` to `to`. */
 static size_t cut(const uint8_t *packet, size_t end, uint16_t identification, size_t from, size_t to,
                   uint8_t *fragment) {
     size_t len = 20 + to - from, place = from / 8 | (to < end ? 0x2000 : 0);
@@ -46,11 +46,11 @@ int main(void) {
     if (etherparse_pool_with_limit(sizeof room, &pool) != ETHERPARSE_OK) return fprintf(stderr, "out of memory\n"), 1;
     const struct { int packet; size_t from, to; } steps[] = {
         {0, 16, 99}, /* the end of the first */
-        {1, 0, 32},  /* the front of the second */
-        {0, 0, 12},  /* 12 bytes, though more follow: refused */
+        {1, 0, 32},  /* the start of the second */
+        {0, 0, 12},  /* 12 bytes, though more follow: rejected */
         {0, 0, 16},  /* the first is complete */
         {1, 32, 99}, /* the second is complete, and waits */
-        {0, 0, 16},  /* not looked at */
+        {0, 0, 16},  /* ignored, since a payload waits */
     };
     for (size_t i = 0; i < sizeof steps / sizeof *steps; i++) {
         int packet = steps[i].packet;
@@ -63,7 +63,7 @@ int main(void) {
     uint32_t status = etherparse_pool_take(pool, room, sizeof room, &answer);
     print(status, &answer, room);
 
-    /* Half a datagram, which is dropped: the other half then begins anew. */
+    /* Half a datagram, which is dropped: the other half then starts a new stream. */
     for (size_t i = 0; i < 2; i++) {
         size_t len = cut(packets[0], ends[0], 7, i * 16, i == 0 ? 16 : ends[0], fragment);
         status = etherparse_pool_push(pool, ETHERPARSE_ENTRY_IP, 0, fragment, len, 10 + i, 0, buffer, sizeof buffer,

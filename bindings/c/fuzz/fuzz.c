@@ -1,9 +1,10 @@
-/* Asks the calls of etherparse.h about bytes that libFuzzer makes, and stops where an answer is none that the header allows.
+/* Passes inputs of libFuzzer to the calls of etherparse.h, and aborts on a result that the header does not allow.
  *
- * An input is the number of an entry, an ether type in two bytes, and frames, each behind its length in two bytes. Each
- * frame is sliced, alone, laxly and with its neighbour; what is refused is put into words; each payload is built into a frame,
- * which is sliced again; and all frames are given to one pool. Each frame ends where a page begins that may not be read,
- * and each buffer is looked at behind its end. The archive has no counters for libFuzzer, so what is answered counts. */
+ * An input is the number of an entry, an ether type in two bytes, and frames, each after its length in two bytes. Each
+ * frame is sliced separately, laxly and with its neighbour; errors are formatted; each payload is built into a frame,
+ * which is sliced again; and all frames are pushed to one pool. Each frame ends before an unreadable page, and the
+ * bytes after the end of each buffer are checked. The archive has no coverage counters for libFuzzer, so results are
+ * counted instead. */
 #include <etherparse.h>
 #include <stdio.h>
 #include <stdlib.h>
@@ -18,7 +19,7 @@ __attribute__((used, section("__libfuzzer_extra_counters"))) static uint8_t seen
 
 static void see(uint32_t what, uint32_t which) { seen[(what * 131 + which) % sizeof seen] = 1; }
 
-/* The bytes, at the end of readable memory. */
+/* Returns a copy of the bytes at the end of readable memory. */
 static const uint8_t *guarded(const uint8_t *bytes, size_t len) {
     static uint8_t *room;
     if (!room) {
@@ -84,7 +85,7 @@ static void look_at_packet(const struct etherparse_packet *packet, uint32_t entr
     see(30 + packet->link.kind, packet->ip.fragmented + 2 * packet->ip.more_fragments);
 }
 
-/* The same bytes, sliced laxly: a frame as it was, and other bytes up to where they stop. */
+/* Checks lax slicing: a frame has its strict layers, and other bytes have the layers up to the first invalid one. */
 static void look_at_lax(const struct etherparse_packet *strict, enum etherparse_status status, uint32_t entry,
                         uint16_t ether_type, const uint8_t *frame, size_t len) {
     struct etherparse_packet packet;
@@ -109,7 +110,7 @@ static void look_at_lax(const struct etherparse_packet *strict, enum etherparse_
     WANT(packet.net.len == strict->net.len && packet.link_ext_count == strict->link_ext_count);
 }
 
-/* A frame with this payload, which has it when it is sliced. */
+/* Checks that a built frame has this payload when it is sliced. */
 static void look_at_building(const uint8_t *payload, size_t len, uint32_t choice) {
     static uint8_t buffer[ROOM];
     struct etherparse_route route = {.version = choice & 1 ? 6 : 4, .with_ethernet = (choice >> 1) & 1, .hop_limit = 9};
@@ -134,7 +135,7 @@ static void look_at_building(const uint8_t *payload, size_t len, uint32_t choice
     WANT(written == less + 1 && buffer[0] == MARK && buffer[less] == MARK);
 }
 
-/* The same behind tags, with options, and in two fragments, which a pool puts together. */
+/* Checks frames with tags and options, and two fragments that a pool reassembles. */
 static void look_at_tagged(const uint8_t *payload, size_t len, uint32_t choice) {
     static uint8_t buffer[ROOM];
     struct etherparse_tagged_route route = {
@@ -188,7 +189,7 @@ static void look_at_pool(struct etherparse_pool *pool, uint32_t entry, uint16_t 
     uint8_t buffer[LIMIT + 1];
     struct etherparse_pool_answer answer;
     memset(buffer, MARK, sizeof buffer);
-    size_t room = time % 2 == 0 ? LIMIT : 24; /* a shorter one lets payloads wait */
+    size_t room = time % 2 == 0 ? LIMIT : 24; /* with a shorter buffer payloads wait */
     enum etherparse_status status =
         etherparse_pool_push(pool, entry, ether_type, frame, len, time, time % 3 == 2, buffer, room, &answer);
     see(40, status * 8 + answer.fragment_refusal);
@@ -222,7 +223,7 @@ static void look_at_pool(struct etherparse_pool *pool, uint32_t entry, uint16_t 
 
 int LLVMFuzzerTestOneInput(const uint8_t *input, size_t left) {
     if (left < 3 || left > ROOM) return 0;
-    uint32_t entry = input[0] % 5; /* 4 is none */
+    uint32_t entry = input[0] % 5; /* 4 is invalid */
     uint16_t ether_type = (uint16_t)(input[1] << 8 | input[2]);
     input += 3, left -= 3;
     struct etherparse_pool *pool;

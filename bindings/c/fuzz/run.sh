@@ -1,7 +1,7 @@
 #!/usr/bin/env bash
-# Runs fuzz.c by libFuzzer: run.sh [SECONDS] (60). It needs clang with its libFuzzer, python3 and the archive that
-# bindings/c/build.sh leaves, or ETHERPARSE_C_ARCHIVE. The driver and the memory are built with AddressSanitizer and
-# UndefinedBehaviorSanitizer; the archive is as it is.
+# Runs fuzz.c with libFuzzer: run.sh [SECONDS] (default 60). It needs clang with libFuzzer, python3 and the archive that
+# bindings/c/build.sh leaves, or ETHERPARSE_C_ARCHIVE. The driver and the allocator are built with AddressSanitizer and
+# UndefinedBehaviorSanitizer; the archive is used as built.
 set -euo pipefail
 here=$(cd "$(dirname "$0")" && pwd)
 archive=${ETHERPARSE_C_ARCHIVE:-$here/../../../crates/etherparse_c/out/libetherparse_c.a}
@@ -11,7 +11,7 @@ python3 "$here/seeds.py" "$work/seeds"
 mkdir "$work/corpus"
 ${CLANG:-clang} -g -O1 -fsanitize=fuzzer,address,undefined -fno-sanitize-recover=all -Wall -Wextra -I"$here/.." \
     "$here/fuzz.c" "$here/../etherparse_heap.c" "$archive" -o "$work/fuzz"
-cd "$work" # where a failing input is left
+cd "$work" # libFuzzer writes a failing input here
 if ! ./fuzz -max_total_time="${1:-60}" -print_final_stats=1 -max_len=4096 corpus seeds 2> log; then
     tail -n 40 log
     cp crash-* "$OLDPWD" 2> /dev/null || true

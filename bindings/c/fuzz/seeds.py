@@ -1,8 +1,8 @@
 #!/usr/bin/env python3
 """Writes 100 inputs for fuzz.c: seeds.py FOLDER
 
-An input is the number of an entry, an ether type in two bytes, and frames, each behind its length in two bytes; the last
-one's length may be greater than what is there. The inputs are the same in each run.
+An input is the number of an entry, an ether type in two bytes, and frames, each after its length in two bytes; the
+length of the last frame may be greater than its bytes. All runs write equal inputs.
 """
 import itertools
 import pathlib
@@ -40,7 +40,7 @@ def icmp(kind, payload):
 
 
 def frames():
-    """Frames with what they begin with and, where that is one, the ether type."""
+    """Yields frames with their entry and, for the entry of an ether type, that type."""
     text = b"hello, frame"
     transports = [(17, udp(text)), (17, udp(b"")), (6, tcp(text)), (6, tcp(text, bytes([1, 1, 4, 2]))),
                   (1, icmp(8, bytes(8))), (1, icmp(13, bytes(16))), (58, icmp(128, bytes(8))), (253, text)]
@@ -66,13 +66,13 @@ def frames():
         yield LINUX_SLL, 0, struct.pack(">HHHQH", 4, 1, 6, 0x010203040506 << 16, ether_type) + packet
         if ether_type in (0x0800, 0x86dd):
             yield IP, 0, packet
-    for first in (0x00, 0x20, 0x04, 0x0c):  # MACsec: with and without a channel, changed, encrypted
+    for first in (0x00, 0x20, 0x04, 0x0c):  # MACsec: with and without an SCI, modified, encrypted
         behind = (bytes(8) if first & 0x20 else b"") + (word(0x0800) if not first & 0x0c else b"")
         yield ETHERNET, 0, ADDRESSES + word(0x88e5) + bytes([first, 0, 0, 0, 0, 1]) + behind + ipv4(17, udp(text))
 
 
 def fragments(order, version):
-    """A datagram in three fragments, in this order."""
+    """Yields a datagram in three fragments, in this order."""
     whole = udp(bytes(range(40)))
     parts = [(0, 16), (16, 32), (32, 48)]
     for i in order:
@@ -85,7 +85,7 @@ def fragments(order, version):
 
 
 def inputs():
-    """Whole frames and frames that are cut, then fragments of one payload."""
+    """Yields complete and truncated frames, then fragments of one payload."""
     every = list(frames())
     step = len(every) / 76
     chosen = [every[int(i * step)] for i in range(76)]

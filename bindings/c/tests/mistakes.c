@@ -1,4 +1,4 @@
-/* What a compiler warns of: each of these mistakes is refused under -Wall -Wextra -Werror, and without them this
+/* Mistakes that a compiler warns of: each of them is an error with -Wall -Wextra -Werror, and without them this file
  * compiles. */
 #include <etherparse.h>
 

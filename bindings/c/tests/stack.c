@@ -1,6 +1,6 @@
-/* How much stack each call needs: each is made on a thread of 16 KiB, the least that there is, whose stack is painted
- * before, and the deepest byte that it wrote is looked for. The status is 1 where a call needs more than the header
- * says. ETHERPARSE_SHOW_STACK=1 shows the figures. */
+/* Measures the stack that each call needs. Each call runs on a thread with a stack of 16 KiB, the minimum, which is
+ * filled with a pattern before; then the deepest overwritten byte is searched. The exit status is 1 if a call needs
+ * more than the header states. ETHERPARSE_SHOW_STACK=1 shows the figures. */
 #define _GNU_SOURCE
 #include <etherparse.h>
 #include <limits.h>
@@ -75,7 +75,7 @@ static void pool_free(void) { etherparse_pool_free(pool); }
 
 /* ---- a call on a painted stack */
 
-enum { OWN = 128 }; /* at most so many bytes below its frame are those of the function that makes the call */
+enum { OWN = 128 }; /* the calling function uses at most this many bytes below its frame */
 
 struct painted {
     void (*call)(void);
@@ -83,8 +83,8 @@ struct painted {
     size_t taken;
 };
 
-/* Paints what lies below its own frame, makes the call, and looks for the deepest byte that this wrote: in the thread
- * itself, since starting and ending one take stack too. */
+/* Fills the stack below its own frame with the pattern, makes the call, and searches the deepest overwritten byte: in
+ * the thread itself, since starting and ending a thread need stack too. */
 static void *run(void *argument) {
     struct painted *painted = argument;
     uint8_t *const top = __builtin_frame_address(0);
@@ -97,7 +97,7 @@ static void *run(void *argument) {
     return NULL;
 }
 
-/* How many bytes of a stack of `len` the call needs, with the frame of the function that makes it. */
+/* Returns the number of bytes that the call needs of a stack of `len` bytes, with the frame of its caller. */
 static size_t needed_by(void (*call)(void), size_t len) {
     static uint8_t *stack;
     if (!stack && posix_memalign((void **)&stack, (size_t)sysconf(_SC_PAGESIZE), 1 << 17)) exit(2);
@@ -113,7 +113,7 @@ static size_t needed_by(void (*call)(void), size_t len) {
 
 static int failed;
 
-/* A call of this status needs at most so many bytes. */
+/* Checks that a call returns this status and needs at most `most` bytes. */
 static void needs(const char *name, void (*call)(void), uint32_t wanted, size_t most, size_t len) {
     status = wanted;
     size_t taken = needed_by(call, len);
@@ -123,7 +123,7 @@ static void needs(const char *name, void (*call)(void), uint32_t wanted, size_t 
 }
 #define NEEDS(call, wanted) needs(#call, call, wanted, ETHERPARSE_STACK, LEAST)
 
-/* The frame that is pushed next: the fragment at this place. */
+/* Builds the frame that is pushed next: the fragment with these bytes. */
 static void cut(size_t from, size_t to, uint8_t more) {
     fragment.fragment_offset = (uint16_t)from, fragment.more_fragments = more;
     if (etherparse_build_fragment(&tagged, &fragment, payload, to - from, frame, sizeof frame, &frame_len)) exit(2);
@@ -163,7 +163,7 @@ int main(void) {
         NEEDS(pool_push, ETHERPARSE_TOO_SMALL);
         NEEDS(pool_push, ETHERPARSE_PAYLOAD_WAITS);
         NEEDS(pool_take, ETHERPARSE_COMPLETE);
-        for (size_t i = 0; i < 64; i++) { /* tables that grow */
+        for (size_t i = 0; i < 64; i++) { /* growing tables */
             fragment.identification = (uint32_t)(100 + i);
             cut(8, 16, 1);
             NEEDS(pool_push, ETHERPARSE_OK);

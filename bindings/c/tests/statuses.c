@@ -1,6 +1,6 @@
-/* Asks each call for each of its statuses, and looks at what it leaves: the buffer, the number that is told, memory.
- * The memory is this program's own, in place of etherparse_heap.c: it counts the blocks that are out, and refuses one
- * request. Says what held; its status is 1 where something did not. */
+/* Makes each call return each of its statuses, and checks the buffer, the stored number and the memory. The allocator
+ * is this program's own, in place of etherparse_heap.c: it counts the allocated blocks, and fails one request. Prints
+ * the properties that hold; the exit status is 1 if one does not. */
 #include <etherparse.h>
 #include <stdbool.h>
 #include <stdio.h>
@@ -9,7 +9,7 @@
 
 /* ---- memory */
 
-static unsigned long blocks, requests, refused; /* blocks that are out; requests so far; the request that is refused */
+static unsigned long blocks, requests, refused; /* allocated blocks; requests so far; the request that fails */
 
 static struct etherparse_block answer(void *block, bool is_new) {
     static char none;
@@ -32,7 +32,7 @@ void rattle_dealloc(void *block) {
     free(block);
 }
 
-/* ---- what is wanted */
+/* ---- expectations */
 
 static int failed;
 
@@ -49,7 +49,7 @@ static const struct etherparse_route route = {
 
 static bool is_untouched(size_t from) { return memcmp(buffer + from, untouched + from, ROOM - from) == 0; }
 
-/* ---- calls that write into a buffer: each takes a route, the payload's length and the buffer's */
+/* ---- calls that write to a buffer: each takes a route, the payload's length and the buffer's length */
 
 static uint32_t udp(const struct etherparse_route *r, size_t len, size_t room) {
     return etherparse_build_udp(r, 21, 1234, payload, len, buffer, room, &written);
@@ -98,7 +98,7 @@ static uint32_t text(const struct etherparse_route *r, size_t len, size_t room) 
 
 typedef uint32_t writing(const struct etherparse_route *, size_t, size_t);
 
-/* A call that writes `whole` bytes: with room, with too little, and with each of its requests for memory refused. */
+/* A call that writes `whole` bytes: with a large enough buffer, with a small one, and with each allocation failing. */
 static void writes(const char *name, writing *call, size_t whole) {
     memcpy(buffer, untouched, ROOM);
     requests = refused = 0;
@@ -113,7 +113,7 @@ static void writes(const char *name, writing *call, size_t whole) {
         WANT(call(&route, 8, room) == ETHERPARSE_TOO_SMALL);
         WANT(written == whole && is_untouched(0) && blocks == 0);
     }
-    WANT((asked > 0) == (call == text)); /* to build a frame none is asked for */
+    WANT((asked > 0) == (call == text)); /* building a frame does not allocate */
     for (unsigned long i = 1; i <= asked; i++) {
         requests = 0, refused = i, written = 7;
         WANT(call(&route, 8, ROOM) == ETHERPARSE_OUT_OF_MEMORY);
@@ -123,7 +123,7 @@ static void writes(const char *name, writing *call, size_t whole) {
     printf("%s: written whole or not at all; without memory nothing is written, and none is kept\n", name);
 }
 
-/* A call that builds: with a version that is none, and with a payload that is one byte too long. */
+/* A call that builds a frame: with an invalid version, and with a payload that is one byte too long. */
 static void builds(const char *name, writing *call, size_t headers, size_t most) {
     struct etherparse_route other = route;
     for (int version = 0; version < 256; version++) {
@@ -138,7 +138,7 @@ static void builds(const char *name, writing *call, size_t headers, size_t most)
     printf("%s: at most %zu bytes of payload, and no version but 4 and 6\n", name, most);
 }
 
-/* Numbers of tags, options and fragments that are none. */
+/* Invalid numbers of tags, options and fragments. */
 static void tags(void) {
     struct etherparse_route other = route;
     memcpy(buffer, untouched, ROOM);
@@ -180,9 +180,9 @@ static void tags(void) {
     printf("tags, options, fragments: no other numbers; a fragment behind two tags is sliced as it was built\n");
 }
 
-/* ---- calls that take no memory */
+/* ---- calls that do not allocate */
 
-/* Many frames in one call: all of them, up to a bad end, and none. */
+/* Many frames in one call: all of them, up to an invalid end, and none. */
 static void many(void) {
     uint8_t frames[3 * 60];
     size_t lens[3], len = 0, ends[3], sliced = 7;
@@ -201,7 +201,7 @@ static void many(void) {
         WANT(memcmp(&one, &packets[i], sizeof one) == 0 && one.destination_port == i && one.payload.len == i);
     }
     WANT(memcmp(&before, &packets[3], sizeof before) == 0);
-    ends[1] = ends[0] + 13; /* too few bytes for a frame, and the rest is another */
+    ends[1] = ends[0] + 13; /* too few bytes for a frame; the rest is another frame */
     WANT(etherparse_slice_many(0, 0, frames, len, ends, 3, packets, &sliced) == ETHERPARSE_OK && sliced == 3);
     WANT(packets[0].refusal.kind == 0 && packets[1].refusal.kind == ETHERPARSE_REFUSAL_LEN);
     for (size_t end = 0; end < 2; end++) {
@@ -218,7 +218,7 @@ static void many(void) {
     printf("etherparse_slice_many: as one call for each, up to a bad end\n");
 }
 
-/* Null, where there are no bytes. */
+/* Null pointers with length 0. */
 static void nulls(void) {
     struct etherparse_packet packet;
     struct etherparse_pool *pool;
@@ -260,7 +260,7 @@ static void slices(void) {
     printf("etherparse_slice, etherparse_checksum: no memory is asked for\n");
 }
 
-/* A datagram of 8 bytes behind IPv4 and Ethernet II, cut behind so many bytes: what is told of its payload. */
+/* Checks the payload of a datagram of 8 bytes in IPv4 and Ethernet II that is truncated to `len` bytes. */
 static void cut(size_t len, uint32_t transport, size_t offset, uint32_t incomplete, uint32_t end) {
     struct etherparse_packet packet;
     memset(&packet, 0xff, sizeof packet);
@@ -286,9 +286,9 @@ static void slices_laxly(void) {
     for (size_t len = 34; len < 42; len++) cut(len, 0, 34, 1, ETHERPARSE_END_SLICE);
     for (size_t len = 42; len < 50; len++) cut(len, ETHERPARSE_TRANSPORT_UDP, 42, 1, ETHERPARSE_END_SLICE);
     cut(50, ETHERPARSE_TRANSPORT_UDP, 42, 0, ETHERPARSE_END_UDP);
-    buffer[16] = buffer[17] = 0; /* the total length: as from segmentation offload */
+    buffer[16] = buffer[17] = 0; /* total length 0, as with segmentation offload */
     cut(50, ETHERPARSE_TRANSPORT_UDP, 42, 0, ETHERPARSE_END_UDP);
-    buffer[38] = buffer[39] = 0; /* the length of UDP */
+    buffer[38] = buffer[39] = 0; /* length of UDP */
     cut(50, ETHERPARSE_TRANSPORT_UDP, 42, 0, ETHERPARSE_END_SLICE);
     buffer[16] = buffer[17] = 0xff;
     cut(50, ETHERPARSE_TRANSPORT_UDP, 42, 1, ETHERPARSE_END_SLICE);
@@ -337,7 +337,7 @@ static uint32_t push(struct etherparse_pool *pool, uint8_t stream, size_t from, 
     return etherparse_pool_push(pool, ETHERPARSE_ENTRY_IP, 0, frame, len, time, 0, buffer, room, told);
 }
 
-/* The same, with each request for memory refused in turn before it is granted. The pool may keep what was granted. */
+/* Pushes a fragment; each allocation fails once before it succeeds. The pool may keep earlier allocations. */
 static uint32_t pushed(struct etherparse_pool *pool, uint8_t stream, size_t from, size_t to, bool more, size_t room,
                        struct etherparse_pool_answer *told) {
     for (unsigned long i = 1;; i++) {
@@ -393,7 +393,7 @@ static void pools(void) {
     WANT(etherparse_pool_push(pool, ETHERPARSE_ENTRY_IP, 0, payload, 9, 1, 0, buffer, 40, &told)
          == ETHERPARSE_REFUSED);
     WANT(told.refusal.kind != ETHERPARSE_REFUSAL_NONE && told.len == 0 && is_untouched(0));
-    /* a payload that no buffer has room for is given up, and the pool goes on */
+    /* a payload that no buffer is large enough for is discarded, and the pool continues */
     WANT(push(pool, 9, 8, 16, false, 2, 0, &told) == ETHERPARSE_OK);
     WANT(push(pool, 9, 0, 8, true, 2, 0, &told) == ETHERPARSE_TOO_SMALL && told.len == 16);
     WANT(etherparse_pool_streams(pool) == 1 && etherparse_pool_bytes(pool) == 16 + 16);
@@ -402,13 +402,13 @@ static void pools(void) {
     WANT(blocks == held - 1 && etherparse_pool_streams(pool) == 1 && etherparse_pool_bytes(pool) == 16);
     etherparse_pool_discard(pool);
     WANT(etherparse_pool_take(pool, buffer, ROOM, &told) == ETHERPARSE_OK && told.len == 0 && blocks == held - 1);
-    /* the other stream stayed, until it is dropped */
+    /* the other stream is kept until it is dropped */
     etherparse_pool_drop_older(pool, 2);
     WANT(etherparse_pool_streams(pool) == 0 && etherparse_pool_bytes(pool) == 0);
     WANT(push(pool, 2, 0, 8, true, 2, ROOM, &told) == ETHERPARSE_OK);
     WANT(push(pool, 2, 16, 20, false, 2, ROOM, &told) == ETHERPARSE_OK);
     WANT(push(pool, 2, 8, 16, true, 2, ROOM, &told) == ETHERPARSE_COMPLETE && told.len == 20 && is_untouched(20));
-    /* a pool is freed with what waits in it and what it holds */
+    /* a pool is freed with its waiting payload and its streams */
     memcpy(buffer, untouched, ROOM);
     WANT(push(pool, 3, 8, 16, false, 2, 0, &told) == ETHERPARSE_OK);
     WANT(push(pool, 4, 8, 16, false, 2, 0, &told) == ETHERPARSE_OK);

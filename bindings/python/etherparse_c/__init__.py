@@ -1,7 +1,7 @@
-"""Slices, builds and puts together network frames, by the shared object libetherparse_c.so.
+"""Slices and builds network frames, and reassembles fragments, by the shared object libetherparse_c.so.
 
-Names are those of the header etherparse.h, which says in full what each call answers; what a frame's layers are is told
-by attributes. What is refused is raised. Any call may be made from any thread; those on one pool wait for each other.
+Names are those of the C header etherparse.h, which documents each call in full; the layers of a frame are attributes.
+Errors are raised. Any call may be made from any thread; calls on one pool wait for each other.
 
     >>> import etherparse_c
     >>> route = etherparse_c.Route(version=4, ipv4_source=bytes([10, 0, 0, 1]), ipv4_destination=bytes([10, 0, 0, 2]))
@@ -33,16 +33,16 @@ __all__ = [
 ]
 
 VERSION = 100
-"""The version that this module is of: 10000 times the major number, 100 times the minor one, and the patch."""
+"""Version of this module: 10000 times the major number, plus 100 times the minor one, plus the patch."""
 
 MAX_PAYLOAD = 65535
-"""The greatest number of bytes of a payload in a pool that is made without a limit."""
+"""Maximum payload length in a pool without a limit of its own, in bytes."""
 
 Bytes = Union[bytes, bytearray, memoryview]
 
 
 class Status(enum.IntEnum):
-    """What a call answers. A caller of this module sees OK alone: the others are raised, or told by None."""
+    """Status of a call. A caller of this module sees only OK: other statuses are raised, or returned as None."""
 
     OK = 0
     REFUSED = 1
@@ -56,7 +56,7 @@ class Status(enum.IntEnum):
 
 
 class Entry(enum.IntEnum):
-    """What a frame begins with."""
+    """First header of a frame."""
 
     ETHERNET = 0
     LINUX_SLL = 1
@@ -65,21 +65,21 @@ class Entry(enum.IntEnum):
 
 
 class LinkKind(enum.IntEnum):
-    """The link header; 0 is none."""
+    """Kind of the link header; 0 is none."""
 
     ETHERNET2 = 1
     LINUX_SLL = 2
 
 
 class ExtKind(enum.IntEnum):
-    """The tag of a link extension; 0 is none."""
+    """Kind of the tag of a link extension; 0 is none."""
 
     VLAN = 1
     MACSEC = 2
 
 
 class NetKind(enum.IntEnum):
-    """The net layer; 0 is none."""
+    """Kind of the network layer; 0 is none."""
 
     ARP = 1
     IPV4 = 4
@@ -87,7 +87,7 @@ class NetKind(enum.IntEnum):
 
 
 class TransportKind(enum.IntEnum):
-    """The transport layer, by its protocol number; 0 is none."""
+    """Kind of the transport layer: its IP number; 0 is none."""
 
     ICMPV4 = 1
     TCP = 6
@@ -96,7 +96,7 @@ class TransportKind(enum.IntEnum):
 
 
 class LenSource(enum.IntEnum):
-    """What set the end of some bytes."""
+    """Length field that limits some bytes; SLICE is the length that was passed."""
 
     SLICE = 0
     MACSEC = 1
@@ -107,7 +107,7 @@ class LenSource(enum.IntEnum):
 
 
 class RefusalKind(enum.IntEnum):
-    """Why bytes are no frame."""
+    """Kind of an error."""
 
     NONE = 0
     LEN = 1
@@ -127,7 +127,7 @@ class RefusalKind(enum.IntEnum):
 
 
 class Layer(enum.IntEnum):
-    """The layers that a refusal by length names; 0 is none."""
+    """Layer of a length error; 0 is none."""
 
     ETHERNET2_HEADER = 1
     LINUX_SLL_HEADER = 2
@@ -153,7 +153,7 @@ class Layer(enum.IntEnum):
 
 
 class TcpFlag(enum.IntFlag):
-    """The flags of TCP."""
+    """Flags of TCP."""
 
     FIN = 1
     SYN = 2
@@ -166,7 +166,7 @@ class TcpFlag(enum.IntFlag):
 
 
 class FragmentRefusal(enum.IntEnum):
-    """Why a fragment is refused."""
+    """Reason why a fragment is rejected."""
 
     UNALIGNED = 1
     TOO_BIG = 2
@@ -174,7 +174,7 @@ class FragmentRefusal(enum.IntEnum):
 
 
 class _Struct(ctypes.Structure):
-    """A struct of the header, printed with its fields."""
+    """Struct of the header, printed with its fields."""
 
     def __repr__(self) -> str:
         values = [(field[0], getattr(self, field[0])) for field in self._fields_]
@@ -183,7 +183,7 @@ class _Struct(ctypes.Structure):
 
 
 class Part(_Struct):
-    """A header: `len` bytes from the `offset`-th of the frame on. Where there is none, kind and len are 0."""
+    """Kind of a header, its offset in the frame and its length. If the frame has none, kind and len are 0."""
 
     kind: int
     offset: int
@@ -192,7 +192,7 @@ class Part(_Struct):
 
 
 class LinkExt(_Struct):
-    """The tag of a link extension, behind the ether type that names it."""
+    """Tag of a link extension; it starts after its own ether type."""
 
     kind: int
     vlan_id: int
@@ -204,7 +204,7 @@ class LinkExt(_Struct):
 
 
 class Ip(_Struct):
-    """What an IP header says, and its extension headers; all 0 where there is no IP packet."""
+    """Fields of an IP header and its extension headers; all 0 if the packet is not IP."""
 
     version: int
     number: int
@@ -221,8 +221,7 @@ class Ip(_Struct):
 
 
 class Payload(_Struct):
-    """The payload of the last layer that was read; `incomplete` is 1 if bytes are missing that a length field says are
-    there, which slice_lax alone tells."""
+    """Payload of the last layer; `incomplete` is 1 if bytes that a length field counts are missing (slice_lax only)."""
 
     len_source: int
     incomplete: int
@@ -235,7 +234,7 @@ class Payload(_Struct):
 
 
 class Refusal(_Struct):
-    """Why bytes are no frame, or why slice_lax stopped; all 0 of a frame."""
+    """Error of rejected bytes, or the error at which slice_lax stopped; all 0 for a frame."""
 
     kind: int
     layer: int
@@ -251,7 +250,7 @@ class Refusal(_Struct):
     ]
 
     def __str__(self) -> str:
-        """The refusal in words."""
+        """Returns the text of the error."""
         buffer, written = (ctypes.c_uint8 * 142)(), ctypes.c_size_t()
         status = _library.etherparse_1_refusal_text(ctypes.byref(self), buffer, 142, ctypes.byref(written))
         if status == Status.OUT_OF_MEMORY:
@@ -260,7 +259,7 @@ class Refusal(_Struct):
 
 
 class Packet(_Struct):
-    """What the layers of a frame are, or why bytes are no frame."""
+    """Layers of a frame, or the error if the bytes are not a frame."""
 
     link: Part
     link_exts: Sequence[LinkExt]
@@ -273,7 +272,7 @@ class Packet(_Struct):
     payload: Payload
     refusal: Refusal
     frame: bytes
-    """The bytes that were sliced."""
+    """Bytes of the frame."""
     _fields_ = [
         ("link", Part), ("link_exts", LinkExt * 3), ("link_ext_count", ctypes.c_uint32),
         ("source_port", ctypes.c_uint16), ("destination_port", ctypes.c_uint16), ("net", Part), ("ip", Ip),
@@ -285,49 +284,49 @@ class Packet(_Struct):
 
     @property
     def link_bytes(self) -> bytes:
-        """The link header."""
+        """Bytes of the link header."""
         return self._bytes(self.link)
 
     @property
     def net_bytes(self) -> bytes:
-        """IP with its extension headers, or the whole ARP packet."""
+        """Bytes of IP with its extension headers, or of the whole ARP packet."""
         return self._bytes(self.net)
 
     @property
     def transport_bytes(self) -> bytes:
-        """The transport header."""
+        """Bytes of the transport header."""
         return self._bytes(self.transport)
 
     @property
     def payload_bytes(self) -> bytes:
-        """The payload of the last layer."""
+        """Bytes of the payload of the last layer."""
         return self._bytes(self.payload)
 
     @property
     def is_incomplete(self) -> bool:
-        """Whether bytes of the payload are missing that a length field says are there, of what slice_lax answers."""
+        """Whether bytes of the payload that a length field counts are missing (slice_lax only)."""
         return self.payload.incomplete != 0
 
     @property
     def stop(self) -> Optional[Refusal]:
-        """Why the layer behind the last one is none, where one must follow, of what slice_lax answers."""
+        """Error of the layer after the last one, if a layer must follow and is invalid (slice_lax only)."""
         return self.refusal if self.refusal.kind else None
 
     @property
     def vlan_ids(self) -> Tuple[int, ...]:
-        """The identifiers of the VLAN tags, from the outside in."""
+        """Identifiers of the VLAN tags, from the outermost on."""
         return tuple(tag.vlan_id for tag in self.link_exts if tag.kind == ExtKind.VLAN)
 
 
 class EtherparseError(Exception):
-    """What this module raises of its own."""
+    """Base class of the exceptions of this module."""
 
 
 class Refused(EtherparseError, ValueError):
-    """The bytes are no frame: the fields of the refusal, whose text the message is.
+    """The bytes are not a frame: has the fields of the error, and its text as the message.
 
-    Of the kind LEN, `layer` needs `required_len` bytes, where `len` are, which `len_source` ends; it begins at
-    `layer_start_offset`. Of the kinds that name a number, `number` is what the bytes hold.
+    For kind LEN, `layer` needs `required_len` bytes and has `len`, limited by `len_source`; it starts at
+    `layer_start_offset`. For the kinds that name a number, `number` is the invalid value of a field.
     """
 
     def __init__(self, refusal: Refusal) -> None:
@@ -341,12 +340,12 @@ class Refused(EtherparseError, ValueError):
         self.len: int = refusal.len
         self.layer_start_offset: int = refusal.layer_start_offset
 
-    def __reduce__(self) -> Tuple[Any, ...]:  # so that it comes from another process as what it is
+    def __reduce__(self) -> Tuple[Any, ...]:  # so that it can be pickled
         return type(self), (self._refusal,)
 
 
 class FragmentRefused(EtherparseError, ValueError):
-    """A fragment does not fit to those that came before; the pool is as it was."""
+    """A fragment is rejected; the pool is unchanged."""
 
     def __init__(self, fragment_refusal: int) -> None:
         self.fragment_refusal = FragmentRefusal(fragment_refusal)
@@ -357,15 +356,15 @@ class FragmentRefused(EtherparseError, ValueError):
 
 
 class TooLong(EtherparseError, ValueError):
-    """The payload, or TCP's options, are longer than the headers can count."""
+    """The payload or the TCP options are too long for the headers."""
 
 
 class UnknownChoice(EtherparseError, ValueError):
-    """A number is none of those that its place can have."""
+    """A number is not valid for its field."""
 
 
 def _number(name: str, value: int, bits: int) -> int:
-    """The number, which its type of C can hold: ctypes would cut it."""
+    """Returns the number if its C type can hold it, since ctypes would truncate it."""
     if not 0 <= value < 1 << bits:
         raise ValueError(f"{name} is {value}, and has {bits} bits")
     return value
@@ -373,8 +372,8 @@ def _number(name: str, value: int, bits: int) -> int:
 
 @dataclass(frozen=True)
 class Route:
-    """The headers before the transport header. The addresses of the other version do not matter. VLAN tags, at most two
-    identifiers from the outside in, need Ethernet addresses."""
+    """Headers before the transport header. The addresses of the other IP version are ignored. VLAN tags, at most two
+    identifiers from the outermost on, need Ethernet addresses."""
 
     version: int
     hop_limit: int = 64
@@ -411,7 +410,7 @@ class Route:
 
 @dataclass(frozen=True)
 class TcpFields:
-    """The fields of a TCP header without options."""
+    """Fields of a TCP header without options."""
 
     source_port: int
     destination_port: int
@@ -420,7 +419,7 @@ class TcpFields:
     window_size: int = 0
     urgent_pointer: int = 0
     flags: int = 0
-    """Of TcpFlag."""
+    """Sum of TcpFlag."""
 
     def _told(self) -> _TcpFields:
         widths = (16, 16, 32, 32, 16, 16, 8)
@@ -430,13 +429,13 @@ class TcpFields:
 
 @dataclass(frozen=True)
 class FragmentFields:
-    """What the header of a fragment says: that of IPv4, or of IPv6 its fragment header."""
+    """Fields of a fragment: of the IPv4 header, or of the IPv6 fragment header."""
 
     ip_number: int
     identification: int
     more_fragments: bool = False
     fragment_offset: int = 0
-    """Where the fragment lies in the whole payload, in bytes: a multiple of 8."""
+    """Offset of the fragment in the reassembled payload, in bytes: a multiple of 8."""
 
     def _told(self) -> _FragmentFields:
         return _FragmentFields(
@@ -481,7 +480,7 @@ class _PoolAnswer(ctypes.Structure):
 
 
 _u8, _u16, _u32, _u64, _size = ctypes.c_uint8, ctypes.c_uint16, ctypes.c_uint32, ctypes.c_uint64, ctypes.c_size_t
-_bytes_in = (ctypes.c_char_p, _size)  # as Python keeps them, which is never at null
+_bytes_in = (ctypes.c_char_p, _size)  # as stored by Python, never null
 _bytes_out = (ctypes.POINTER(_u8), _size)
 _written = ctypes.POINTER(_size)
 _pool = ctypes.c_void_p
@@ -511,12 +510,12 @@ _CALLS: dict[str, tuple[Any, tuple[Any, ...]]] = {
     "pool_streams": (_size, (_pool,)),
     "pool_bytes": (_size, (_pool,)),
 }
-"""What each export that is called here answers and takes, without the first words of its name."""
+"""Result and parameter types of each export that is called here, by its name without the first words."""
 
 
 def _loaded() -> Any:
-    """The shared object: that of ETHERPARSE_C_LIBRARY, one that lies beside this module or in lib of a release, or the
-    installed one."""
+    """Loads the shared object: that of ETHERPARSE_C_LIBRARY, or one in the folder of this module or in lib of a
+    release, or the installed one."""
     here, name = pathlib.Path(__file__).resolve().parent, "libetherparse_c.so.1"
     given = os.environ.get("ETHERPARSE_C_LIBRARY")
     near = [path for path in (here / name, here.parent.parent / "lib" / name) if path.exists()]
@@ -537,37 +536,37 @@ _library = _loaded()
 
 
 def version() -> int:
-    """The version of the shared object, to be compared with VERSION."""
+    """Returns the version of the shared object, to be compared with VERSION."""
     return int(_library.etherparse_1_version())
 
 
 def _as_bytes(given: Bytes) -> bytes:
-    """The bytes themselves, or a copy of what may change."""
+    """Returns the bytes themselves, or a copy of mutable ones."""
     return given if type(given) is bytes else bytes(memoryview(given))
 
 
 def slice(frame: Bytes, entry: int = 0, ether_type: int = 0) -> Packet:
-    """Slices a frame, which begins with what `entry` says (0 is Entry.ETHERNET); `ether_type` is read for
-    Entry.ETHER_TYPE alone.
+    """Slices a frame, whose first header is `entry` (0 is Entry.ETHERNET); `ether_type` is read for Entry.ETHER_TYPE
+    only.
 
-    Raises Refused where the bytes are no frame, and UnknownChoice where the entry is none.
+    Raises Refused if the bytes are not a frame, and UnknownChoice if the entry is unknown.
     """
     return _sliced(_library.etherparse_1_slice, frame, entry, ether_type)
 
 
 def slice_lax(data: Bytes, entry: int = 0, ether_type: int = 0) -> Packet:
-    """Slices the layers that stand of bytes that a capture has cut, or whose length fields say less or more than is
-    there, with the entries of slice; a frame is answered as there. Where a layer must follow that does not stand, `stop`
-    of the packet says why, and what of it is there begins the payload; `is_incomplete` tells whether bytes of that are
-    missing.
+    """Slices a packet that was truncated by the capture, or whose length fields do not match its bytes, up to the first
+    invalid layer. The entries are those of slice; a valid frame has the layers of slice. If a layer must follow and is
+    invalid, `stop` of the packet is its error, and the payload starts with its available bytes; `is_incomplete` is
+    whether bytes of the payload are missing.
 
-    Raises Refused where the first header does not stand, and UnknownChoice where the entry is none.
+    Raises Refused if the first header is invalid, and UnknownChoice if the entry is unknown.
     """
     return _sliced(_library.etherparse_1_slice_lax, data, entry, ether_type)
 
 
 def _sliced(call: Any, frame: Bytes, entry: int, ether_type: int) -> Packet:
-    """What a call tells of a frame."""
+    """Slices a frame by one of the slicing calls."""
     if type(frame) is not bytes:
         frame = _as_bytes(frame)
     if entry >> 32 or ether_type >> 16:
@@ -583,7 +582,7 @@ def _sliced(call: Any, frame: Bytes, entry: int, ether_type: int) -> Packet:
 
 
 class Packets(Sequence[Packet]):
-    """What slice_many answers: as many packets as frames. Of one that is refused, the refusal's kind is not 0."""
+    """Result of slice_many: a packet for each frame. For a rejected frame the kind of the refusal is not 0."""
 
     def __init__(self, packets: Any, frames: Sequence[bytes]) -> None:
         self._packets, self._frames = packets, frames
@@ -609,7 +608,7 @@ class Packets(Sequence[Packet]):
 
 
 def slice_many(frames: Iterable[Bytes], entry: int = Entry.ETHERNET, ether_type: int = 0) -> Packets:
-    """Slices many frames in one call. None is raised: of one that is no frame, packet.refusal says why."""
+    """Slices many frames in one call. Errors are not raised: packet.refusal has the error of a rejected frame."""
     kept = tuple(frames)
     if not set(map(type, kept)) <= {bytes}:
         kept = tuple(map(_as_bytes, kept))
@@ -625,14 +624,14 @@ def slice_many(frames: Iterable[Bytes], entry: int = Entry.ETHERNET, ether_type:
 
 
 def checksum(data: Bytes) -> int:
-    """The Internet checksum (RFC 1071) of some bytes."""
+    """Returns the Internet checksum (RFC 1071) of the bytes."""
     data = _as_bytes(data)
     return int(_library.etherparse_1_checksum(data, len(data)))
 
 
 def _built(call: Any, told: tuple[Any, ...], payload: Bytes) -> bytes:
-    """The frame that a call builds: in a buffer for the longest headers (Ethernet, two tags, IPv6 with a fragment
-    header, TCP with options), so that none is too small."""
+    """Builds a frame by one of the building calls, in a buffer for the longest headers (Ethernet, two tags, IPv6 with a
+    fragment header, TCP with options), so that it is never too small."""
     payload = _as_bytes(payload)
     buffer, written = (_u8 * (14 + 8 + 48 + 60 + len(payload)))(), _size()
     status = call(*told, payload, len(payload), buffer, len(buffer), written)
@@ -646,13 +645,13 @@ def _built(call: Any, told: tuple[Any, ...], payload: Bytes) -> bytes:
 
 
 def build_udp(route: Route, source_port: int, destination_port: int, payload: Bytes) -> bytes:
-    """The frame of a UDP datagram. Raises TooLong and UnknownChoice."""
+    """Returns the frame of a UDP datagram. Raises TooLong and UnknownChoice."""
     ports = _number("source_port", source_port, 16), _number("destination_port", destination_port, 16)
     return _built(_library.etherparse_1_build_tagged_udp, (route._told(), *ports), payload)
 
 
 def build_tcp(route: Route, fields: TcpFields, payload: Bytes, options: Bytes = b"") -> bytes:
-    """The frame of a TCP segment, whose options are filled up by zero bytes to words of 4. Raises TooLong and
+    """Returns the frame of a TCP segment; options are padded with zero bytes to a multiple of 4. Raises TooLong and
     UnknownChoice."""
     options = _as_bytes(options)
     told = (route._told(), fields._told(), options, len(options))
@@ -660,19 +659,19 @@ def build_tcp(route: Route, fields: TcpFields, payload: Bytes, options: Bytes = 
 
 
 def build_icmp_echo(route: Route, is_reply: bool, id: int, seq: int, payload: Bytes) -> bytes:
-    """The frame of an echo message of ICMP, or of ICMPv6 where the version is 6. Raises TooLong and UnknownChoice."""
+    """Returns the frame of an ICMP echo message, or ICMPv6 if the version is 6. Raises TooLong and UnknownChoice."""
     told = (route._told(), bool(is_reply), _number("id", id, 16), _number("seq", seq, 16))
     return _built(_library.etherparse_1_build_tagged_icmp_echo, told, payload)
 
 
 def build_fragment(route: Route, fields: FragmentFields, payload: Bytes) -> bytes:
-    """The frame of a fragment of a longer payload. It takes up to 64 KB of stack, all other calls 2. Raises TooLong
-    and UnknownChoice."""
+    """Returns the frame of a fragment of a longer payload. Needs up to 64 KB of stack, all other calls 2. Raises
+    TooLong and UnknownChoice."""
     return _built(_library.etherparse_1_build_fragment, (route._told(), fields._told()), payload)
 
 
 class PoolPayload(NamedTuple):
-    """A payload that was put together."""
+    """Reassembled payload."""
 
     data: bytes
     ip_number: int
@@ -680,17 +679,17 @@ class PoolPayload(NamedTuple):
 
 
 class Pool:
-    """Puts the fragmented payloads of many streams together, each as if it were alone.
+    """Reassembles the fragmented payloads of many streams, each as if it were alone.
 
-    Where frames may be hostile, set a limit, and drop old streams once in a while. Its calls wait for each other. Used
-    with `with`, it is closed at the end, and gives its memory back; a call behind that raises ValueError.
+    If frames may be hostile, set a limit, and drop old streams once in a while. Its calls wait for each other. A `with`
+    statement closes it and frees its memory at the end; later calls raise ValueError.
     """
 
     def __init__(self, limit: int = MAX_PAYLOAD) -> None:
         self._pool: Optional[int] = None
         self._lock = threading.Lock()
         _number("limit", limit, 16)
-        # as many bytes as the longest payload may have, so that none waits in the pool
+        # as long as the longest payload can be, so that none waits in the pool
         self._buffer = (_u8 * max(limit, 1))()
         self._limit = limit
         pool = _pool()
@@ -705,10 +704,10 @@ class Pool:
 
     def push(self, frame: Bytes, timestamp: int, channel: int = 0, entry: int = Entry.ETHERNET,
              ether_type: int = 0) -> Optional[PoolPayload]:
-        """Gives it a frame, and answers the payload that is complete with it, if one is.
+        """Passes a frame to the pool, and returns the payload that it completes, if any.
 
-        Raises Refused where the bytes are no frame, FragmentRefused where its fragment does not fit, MemoryError and
-        UnknownChoice; the streams are then as they were.
+        Raises Refused if the bytes are not a frame, FragmentRefused if its fragment is rejected, MemoryError and
+        UnknownChoice; the streams are then unchanged.
         """
         frame, answer = _as_bytes(frame), _PoolAnswer()
         told = (_number("entry", entry, 32), _number("ether_type", ether_type, 16), frame, len(frame),
@@ -729,23 +728,23 @@ class Pool:
         raise UnknownChoice(f"entry is {entry}")
 
     def drop_older(self, timestamp: int) -> None:
-        """Drops the streams whose last fragment that was taken came before `timestamp`."""
+        """Drops the streams whose last accepted fragment came before `timestamp`."""
         _number("timestamp", timestamp, 64)
         with self._lock:
             _library.etherparse_1_pool_drop_older(self._open(), timestamp)
 
     def streams(self) -> int:
-        """How many streams it holds."""
+        """Returns the number of streams."""
         with self._lock:
             return int(_library.etherparse_1_pool_streams(self._open()))
 
     def bytes(self) -> int:
-        """How many bytes of payloads it holds, of each stream up to the greatest end that came."""
+        """Returns the number of payload bytes, of each stream up to the greatest end of its fragments."""
         with self._lock:
             return int(_library.etherparse_1_pool_bytes(self._open()))
 
     def close(self) -> None:
-        """Gives its memory back; once more it does nothing."""
+        """Frees the memory of the pool; further calls do nothing."""
         with self._lock:
             pool, self._pool = self._pool, None
             if pool is not None:
@@ -759,5 +758,5 @@ class Pool:
         self.close()
 
     def __del__(self) -> None:
-        if getattr(self, "_pool", None) is not None and _library is not None:  # as it may be where Python ends
+        if getattr(self, "_pool", None) is not None and _library is not None:  # as may be the case when Python exits
             self.close()

@@ -1,5 +1,6 @@
-"""A second reader of packets of which bytes are missing, or whose length fields do not fit: written by the standards'
-pictures of headers and the rules of lax reading, apart from the library. `read` says of bytes what `slice_lax` tells."""
+"""A second lax parser of packets that are truncated, or whose length fields do not match: written independently of the
+library, from the header diagrams of the standards and the rules of lax slicing. `read` returns the numbers of
+`slice_lax`."""
 from etherparse_c import Layer, LenSource, RefusalKind
 
 VLAN_TYPES, MACSEC_TYPE = (0x8100, 0x88a8, 0x9100), 0x88e5
@@ -8,7 +9,7 @@ HOP_BY_HOP, ROUTING, FRAGMENT, AUTHENTICATION, DESTINATION = 0, 43, 44, 51, 60
 
 
 class Stop(Exception):
-    """A layer does not stand: its kind, layer, source, number, bytes needed and there, and its place, as C tells them."""
+    """Error of an invalid layer: kind, layer, length source, number, needed and available bytes, offset, as in C."""
 
 
 def word(data, at):
@@ -29,14 +30,14 @@ def needs(layer, needed, data, at, source=LenSource.SLICE):
 
 
 def cut(data, header_len, least, says, field, outer):
-    """What a length field leaves of a layer behind its header: the bytes, what set their end, and whether some are missing."""
+    """Returns the payload of a layer with a length field: its bytes, their limit, and whether some are missing."""
     if least <= says <= len(data):
         return data[header_len:says], field, False
     return data[header_len:], LenSource.SLICE, outer or says > len(data)
 
 
 class Told:
-    """What is told; the place of what comes next, its bytes, what set their end, and whether some are missing."""
+    """Description so far; offset of the next layer, its bytes, their limit, and whether some are missing."""
 
     def __init__(self, data):
         self.link, self.tags, self.net, self.transport = (0, 0), [], (0, 0), (0, 0)
@@ -81,7 +82,7 @@ def linux_sll(told):
 
 
 def tag(told, ether_type):
-    """One link extension, and the type behind it."""
+    """Parses one link extension and returns the ether type of its payload."""
     data = told.data
     if ether_type in VLAN_TYPES:
         needs(Layer.VLAN_HEADER, 4, data, told.at)
@@ -105,7 +106,7 @@ def tag(told, ether_type):
     return word(data, proper) if is_open else None
 
 
-# ---- net layers
+# ---- network layers
 
 
 def arp(told):
@@ -126,7 +127,7 @@ def authentication(data, at, end, zero):
 
 
 def extension(number, data, at, end, is_first):
-    """The length of one extension header of IPv6."""
+    """Returns the length of one IPv6 extension header."""
     if number == HOP_BY_HOP and not is_first:
         wrong(RefusalKind.IPV6_HOP_BY_HOP)
     if number == AUTHENTICATION:
@@ -229,7 +230,7 @@ def transport(told, number, end):
         told.behind(8, data[8:])
 
 
-# ---- the walk
+# ---- all layers
 
 
 def behind_link(told, ether_type):
@@ -241,14 +242,14 @@ def behind_link(told, ether_type):
 
 
 def ip_header(data):
-    """Refuses what begins with no IP header."""
+    """Rejects bytes that do not start with an IP header."""
     needs(Layer.IP_HEADER, 1, data, 0)
     if data[0] >> 4 not in (4, 6):
         wrong(RefusalKind.IP_VERSION, data[0] >> 4)
 
 
 def read(data, entry, ether_type=0):
-    """The numbers of what stands, with the refusal of the layer where it stops; or the refusal of the first header."""
+    """Returns the numbers of the valid layers and the error where parsing stops, or the error of the first header."""
     told = Told(data)
     try:
         if entry == 3:

@@ -1,4 +1,4 @@
-"""Compares the module with the stored answers of the program (crates/frame_bench/cases), and calls with each other."""
+"""Compares the module with the stored answers of frame_bench (crates/frame_bench/cases), and calls with each other."""
 import array
 import copy
 import doctest
@@ -24,7 +24,7 @@ LINKS = {0: "-", ep.LinkKind.ETHERNET2: "eth", ep.LinkKind.LINUX_SLL: "sll"}
 NETS = {0: "-", ep.NetKind.ARP: "arp", ep.NetKind.IPV4: "ipv4", ep.NetKind.IPV6: "ipv6"}
 TRANSPORTS = {0: "-", ep.TransportKind.UDP: "udp", ep.TransportKind.TCP: "tcp", ep.TransportKind.ICMPV4: "icmpv4",
               ep.TransportKind.ICMPV6: "icmpv6"}
-# what the program calls each kind of refusal, and whether it tells the number
+# the name of each kind of error in frame_bench, and whether it prints the number
 REFUSALS = {
     ep.RefusalKind.SLL_PACKET_TYPE: ("sll-packet-type", True),
     ep.RefusalKind.SLL_ARP_HARDWARE: ("sll-arp-hardware", True),
@@ -48,7 +48,7 @@ def digits(data):
 
 def refused(refusal):
     if refusal.kind == ep.RefusalKind.LEN:
-        # the program names the end and the layer as the text does
+        # frame_bench names the limit and the layer as the text does
         end, layer = re.fullmatch(r"(\w+): .* \(limit (\w+), .*", str(refusal)).group(2, 1)
         return f"err len {refusal.required_len} {refusal.len} {end} {layer} {refusal.layer_start_offset}"
     name, has_number = REFUSALS[refusal.kind]
@@ -63,8 +63,8 @@ def sliced(packet):
 
 
 def answered(line, pool):
-    """The answer to a line that is well formed, and the pool behind it. Of a fragment that is refused the program tells
-    numbers that the library does not."""
+    """Returns the answer to a well-formed line, and the pool after it. For a rejected fragment frame_bench prints
+    numbers that the library does not return."""
     word, *words = line.split(" ")
     if word == "drop":
         pool.drop_older(int(words[0]))
@@ -93,7 +93,7 @@ class Program(unittest.TestCase):
             pool = ep.Pool()
             for line, wanted in zip(lines, case.read_text().splitlines()):
                 if wanted == "err line":
-                    continue  # no call is made of it
+                    continue  # not a call
                 told, pool = answered(line, pool)
                 if wanted.split(" ")[1:2] and wanted.split(" ")[1] in FRAGMENTS.values():
                     wanted = " ".join(wanted.split(" ")[:2])
@@ -126,7 +126,7 @@ class Program(unittest.TestCase):
 
 
 class Header(unittest.TestCase):
-    """The numbers and the structs are those of the header."""
+    """The numbers and the structs are equal to those of the header."""
 
     text = HEADER.read_text()
 
@@ -159,7 +159,7 @@ class Header(unittest.TestCase):
                 self.assertEqual(size, widths.get(c_kind) or ep.ctypes.sizeof(here[c_kind]), (name, field))
 
     def test_calls(self):
-        """Each call that is made here is declared with as many parameters."""
+        """Each call is declared with the number of parameters of the header."""
         linked = self.text.split("/* ---- What is linked.")[1].split("/* The version of the archive")[0]
         declared = dict(re.findall(r"etherparse_1_(\w+)\(([^)]*)\);", linked))
         for name, (_, argtypes) in ep._CALLS.items():
@@ -210,7 +210,7 @@ class Slicing(unittest.TestCase):
     def test_many_are_quick(self):
         """A million frames in chunks of 4,096 take at most two seconds."""
         frames, took = [FRAME] * 4096, 0.0
-        for _ in range(3):  # the fastest of three, where other programs run
+        for _ in range(3):  # the fastest of three, since other programs may run
             from_ = time.perf_counter()
             for _ in range(1_000_000 // 4096 + 1):
                 packets = ep.slice_many(frames)
@@ -280,7 +280,7 @@ class Pools(unittest.TestCase):
             whole = pool.push(parts[0], 2, entry=ep.Entry.IP)
             self.assertEqual(whole, (self.payload, 17, ep.LenSource.IPV4))
             self.assertEqual((pool.streams(), pool.bytes()), (0, 0))
-            # what is dropped begins anew, and fragments of another channel are another stream's
+            # a dropped stream starts again, and fragments of another channel belong to another stream
             pool.push(parts[0], 3, channel=1, entry=ep.Entry.IP)
             pool.push(parts[0], 4, entry=ep.Entry.IP)
             pool.drop_older(4)
@@ -303,7 +303,7 @@ class Pools(unittest.TestCase):
         pool.close()
 
     def test_threads(self):
-        """Many threads on one pool: each payload comes out once."""
+        """Many threads on one pool: each payload is returned once."""
         done, pool = [], ep.Pool()
 
         def work(first):
@@ -323,7 +323,7 @@ class Pools(unittest.TestCase):
 
 
 def load_tests(_loader, tests, _pattern):
-    """The example in the module's own words too."""
+    """Adds the example in the module's docstring."""
     tests.addTests(doctest.DocTestSuite(ep))
     return tests
 

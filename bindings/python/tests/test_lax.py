@@ -1,5 +1,5 @@
-"""Compares slice_lax with a second reader on each cut of frames of every kind, on every number in their length fields, and
-on random changes."""
+"""Compares slice_lax with a second parser on frames of every kind: truncated at each byte, with each byte set to
+several values, and with random changes."""
 import pathlib
 import random
 import re
@@ -16,7 +16,7 @@ ENTRIES = {"eth": ep.Entry.ETHERNET, "sll": ep.Entry.LINUX_SLL, "ip": ep.Entry.I
 
 
 def answer(data, entry, ether_type=0):
-    """What slice_lax tells, as the second reader tells it."""
+    """Returns the result of slice_lax in the form of the second parser."""
     try:
         packet = ep.slice_lax(data, entry, ether_type)
     except ep.Refused as error:
@@ -49,7 +49,7 @@ def udp(payload, length=None):
 
 
 def macsec(payload, short_len=None, ether_type=0x0800, sci=b""):
-    """A tag whose short length counts the type and the payload, or as is said; without a type the payload is modified."""
+    """Returns a tag; a short length of None counts type and payload; without a type the payload is modified."""
     if ether_type is not None:
         payload = ether_type.to_bytes(2, "big") + payload
     short_len = (len(payload) if len(payload) < 48 else 0) if short_len is None else short_len
@@ -110,7 +110,7 @@ class SecondReader(unittest.TestCase):
                 self.same(data[:end] + bytes(3), entry)
 
     def test_lengths(self):
-        """Each byte of a frame with each number, of which some are in a length field."""
+        """Sets each byte of a frame to several values; some of the bytes are in length fields."""
         for data, entry in self.frames():
             if entry == ep.Entry.LINUX_SLL:
                 continue

@@ -1,5 +1,6 @@
-"""Answers by hand of slice_lax: each header cut at each byte, each length field with what it may say, chains of extension
-headers, and fragments. Each row stands alone, in a VLAN tag, and in MACsec tags that say nothing, as much, and too much."""
+"""Hand-written results of slice_lax: each header truncated at each byte, each length field with its possible values,
+chains of extension headers, and fragments. Each row is tested without a tag, in a VLAN tag, and in MACsec tags whose
+short length is 0, exact, and too great."""
 import pathlib
 import sys
 import unittest
@@ -12,7 +13,7 @@ from test_lax import ARP, ETHERNET, TCP, authentication, fragment, ipv4, ipv6, m
 
 IPV4, IPV6 = 0x0800, 0x86dd
 
-# what stands around bytes of a type: its bytes, how many there are, what ends those inside, and whether some are missing
+# wrapper of bytes of an ether type, length of its tag, limit of the inner bytes, and whether some of them are missing
 AROUND = [
     (lambda type, inside: (type, inside), 0, "SLICE", False),
     (lambda type, inside: (0x8100, b"\0\7" + type.to_bytes(2, "big") + inside), 4, "SLICE", False),
@@ -20,9 +21,9 @@ AROUND = [
     (lambda type, inside: (0x88e5, macsec(inside, len(inside) + 2, type) + b"behind"), 8, "MACSEC", False),
     (lambda type, inside: (0x88e5, macsec(inside, 63, type)), 8, "SLICE", True),
 ]
-OF_ANY_LENGTH = AROUND[:3]  # the others hold at most 60 bytes
+OF_ANY_LENGTH = AROUND[:3]  # the others contain at most 60 bytes
 
-# the type of the front, the front, a header behind it, and up to how many bytes it is refused, by which layer
+# ether type of the outer headers, these headers, a header after them, and the lengths below which a layer rejects it
 HEADERS = [
     (0x8100, b"", b"\0\7\x12\x34", [(4, Layer.VLAN_HEADER)]),
     (0x88e5, b"", macsec(b"", 0, 0x1234, bytes(8)), [(6, Layer.MACSEC_HEADER), (16, Layer.MACSEC_HEADER)]),
@@ -46,7 +47,7 @@ HEADERS = [
     (IPV6, ipv6(b"", 58, 99), bytes(8), [(8, Layer.ICMPV6)]),
 ]
 
-# the first headers of an entry, the same
+# first headers of an entry, and the lengths below which a layer rejects them
 FIRST_HEADERS = [
     (ep.Entry.ETHERNET, ETHERNET + b"\x12\x34", [(14, Layer.ETHERNET2_HEADER)]),
     (ep.Entry.LINUX_SLL, b"\0\0\0\1" + bytes(12), [(16, Layer.LINUX_SLL_HEADER)]),
@@ -54,8 +55,8 @@ FIRST_HEADERS = [
     (ep.Entry.IP, ipv6(b"", 59), [(1, Layer.IP_HEADER), (40, Layer.IPV6_HEADER)]),
 ]
 
-# headers of a chain: number, layer, where it begins, up to how many bytes of it are refused, and whether those in front of
-# it say that the payload is a fragment
+# headers of a chain: number, layer, offset, lengths below which it is rejected, and whether a header before it marks
+# the payload as a fragment
 CHAIN = options(options(fragment(authentication(bytes(4) + options(udp(b""), 17), 60), 51, more=1), 44, 1), 43)
 CHAIN_HEADERS = [
     (0, Layer.IPV6_EXT_HEADER, 0, [8], 0), (43, Layer.IPV6_EXT_HEADER, 8, [8, 16], 0), (44, Layer.IPV6_FRAG_HEADER, 24, [8], 0),
@@ -69,7 +70,7 @@ class Rows(unittest.TestCase):
         return LenSource(payload.len_source).name, packet.is_incomplete, payload.offset, payload.len
 
     def around(self, ether_type, inside, wanted, around=AROUND):
-        """Reads bytes with all that may stand around them, where their payload is told so, and yields what is read."""
+        """Slices bytes in all wrappers, checks their payload, and yields the packets with the length of the wrapper."""
         for wrap, front, end, missing in around:
             source, incomplete, offset, length = wanted
             if source == "SLICE":
@@ -84,7 +85,7 @@ class Rows(unittest.TestCase):
             self.assertIsNone(packet.stop)
 
     def misses(self, ether_type, inside, wanted, refusal, around=AROUND):
-        """The same, where a layer misses bytes: which one, what ends them, how many it needs and has, and where it begins."""
+        """Checks bytes in all wrappers, and the length error: layer, limit, needed and available bytes, and offset."""
         for packet, front in self.around(ether_type, inside, wanted, around):
             layer, source, needed, there, begin = refusal
             stop = packet.stop
@@ -119,7 +120,7 @@ class Rows(unittest.TestCase):
             for there in range(steps[-1]):
                 needed = next(step for step in steps if there < step)
                 cut = CHAIN[: begin + there]
-                # bytes that are missing, and a payload length that says so many
+                # missing bytes, and a payload length that counts the available bytes
                 told = [(ipv6(cut, 0, 99), "SLICE", True), (ipv6(cut, 0) + b"behind", "IPV6", False)]
                 for data, source, incomplete in told if cut else told[:1]:
                     self.misses(IPV6, data, (source, incomplete, 40 + begin, there),
@@ -134,7 +135,7 @@ class Rows(unittest.TestCase):
                               (21, ("IPV4", False, 20, 1)), (32, ("IPV4", False, 20, 12)),
                               (33, ("SLICE", True, 20, 12)), (65535, ("SLICE", True, 20, 12))]:
             self.ends(IPV4, ipv4(bytes(12), 253, total), wanted)
-        # less than a header with options has
+        # less than the length of a header with options
         self.ends(IPV4, ipv4(bytes(12), 253, 23, options=b"\1\1\1\0"), ("SLICE", False, 24, 12))
 
     def test_payload_lengths(self):
@@ -148,7 +149,7 @@ class Rows(unittest.TestCase):
         for length, cuts, incomplete, there in [(0, False, False, 5), (7, False, False, 5), (8, True, False, 0),
                                                 (9, True, False, 1), (13, True, False, 5), (14, False, True, 5),
                                                 (65535, False, True, 5)]:
-            # in IP whose length field cuts, says nothing, or says more than is there
+            # in IP whose length field is in effect, is 0, or counts missing bytes
             for ether_type, data, source, missing in [
                 (IPV4, ipv4(udp(b"abcde", length)) + b"behind", "IPV4", False),
                 (IPV4, ipv4(udp(b"abcde", length), total=0), "SLICE", False),
@@ -169,12 +170,12 @@ class Rows(unittest.TestCase):
             (63, False, ("SLICE", True, 8, 47)),
         ]:
             self.ends(0x88e5, macsec(bytes(49 if modified else 47), short_len, None if modified else 0x1234), wanted)
-        # no unmodified payload has room for less than its type
+        # an unmodified payload is at least as long as its ether type
         for packet, _ in self.around(0x88e5, macsec(bytes(9), 1, 0x1234), ("SLICE", False, 0, 17)):
             self.assertEqual(packet.stop.kind, RefusalKind.MACSEC_SHORT_LEN)
 
     def test_fragments(self):
-        refused = b"\x11\0" + bytes(10)  # an authentication header whose length is none
+        refused = b"\x11\0" + bytes(10)  # an authentication header with payload length 0
         for ether_type, data, number, fields, transport, stop in [
             (IPV4, ipv4(udp(b"abcdefgh"), flags=0x2000), 17, (1, 1, 0), 0, 0),
             (IPV4, ipv4(udp(b"abcdefgh"), flags=2), 17, (1, 0, 16), 0, 0),
@@ -186,7 +187,7 @@ class Rows(unittest.TestCase):
             (IPV6, ipv6(fragment(udp(b""), offset=2), 44, 99), 17, (1, 0, 16), 0, 0),
             (IPV6, ipv6(fragment(udp(b"")), 44), 17, (0, 0, 0), 17, 0),
             (IPV6, ipv6(fragment(fragment(b""), 44, more=1), 44), 17, (1, 1, 0), 0, 0),
-            # behind a refused header nothing is read, nor does what is there say anything
+            # nothing is parsed after a rejected header, and its fields are not used
             (IPV6, ipv6(fragment(options(b"", 44), 0, more=1), 44), 0, (1, 1, 0), 0, RefusalKind.IPV6_HOP_BY_HOP),
             (IPV6, ipv6(b"\x2c\0" + bytes(10) + fragment(b"", more=1), 51), 51, (0, 0, 0), 0, RefusalKind.IPV6_AUTH),
         ]:

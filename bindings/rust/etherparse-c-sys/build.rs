@@ -1,11 +1,12 @@
-//! Finds `libetherparse_c.a` and has it linked. Looks in this order:
+//! Finds `libetherparse_c.a` and links it. Searches in this order:
 //!
-//! 1. `ETHERPARSE_C_DIR`: a folder with the archive, or with it in `lib`, as an unpacked release has it;
-//! 2. where `pkg-config etherparse` says, if it knows one of this minor version, and not an older patch;
+//! 1. `ETHERPARSE_C_DIR`: a folder with the archive, or with the archive in `lib`, as an unpacked release has it;
+//! 2. the folder that `pkg-config etherparse` reports, if it is of this minor version and not an older patch;
 //! 3. `native/ARCH-linux` of this package, where a release puts a copy;
-//! 4. `crates/etherparse_c/out` of the repository, if this package lies in it.
+//! 4. `crates/etherparse_c/out` of the repository, if this package is in it.
 //!
-//! An archive of a release has its memory in it (`etherparse_heap.c`). One that has not gets it compiled here by `CC`.
+//! The archive of a release contains its allocation functions (`etherparse_heap.c`). For an archive without them they
+//! are compiled here by `CC`.
 use std::path::{Path, PathBuf};
 use std::process::{exit, Command};
 use std::{env, fs};
@@ -49,7 +50,7 @@ fn needed(name: &str) -> Result<String, String> {
     env::var(name).map_err(|_| format!("no {name} is set: run this by cargo"))
 }
 
-/// The folder with the archive.
+/// Returns the folder with the archive.
 fn folder(package: &Path, arch: &str, target: &str) -> Result<PathBuf, String> {
     let has_archive = |folder: &PathBuf| folder.join(ARCHIVE).is_file();
     if let Some(given) = env::var_os("ETHERPARSE_C_DIR") {
@@ -65,7 +66,7 @@ fn folder(package: &Path, arch: &str, target: &str) -> Result<PathBuf, String> {
     }
     let own = package.join(format!("native/{arch}-linux"));
     let repository = package.join("../../../crates/etherparse_c/out");
-    // what this machine has installed is for this machine
+    // an installed archive is for this machine only
     let installed = if env::var("HOST").as_deref() == Ok(target) { installed() } else { None };
     let mut places = installed.into_iter().chain([own]).chain((arch == "x86_64").then_some(repository));
     places.find(has_archive).ok_or(format!(
@@ -73,7 +74,7 @@ fn folder(package: &Path, arch: &str, target: &str) -> Result<PathBuf, String> {
     ))
 }
 
-/// The folder that pkg-config tells.
+/// Returns the folder that pkg-config reports.
 fn installed() -> Option<PathBuf> {
     let program = env::var("PKG_CONFIG").unwrap_or_else(|_| "pkg-config".into());
     let (major, minor) = (env!("CARGO_PKG_VERSION_MAJOR"), env!("CARGO_PKG_VERSION_MINOR").parse::<u32>().ok()?);
@@ -84,7 +85,7 @@ fn installed() -> Option<PathBuf> {
     (fits.success() && told.status.success()).then(|| PathBuf::from(folder.trim_end()))
 }
 
-/// Whether an archive's own list of symbols, its first member, has this name.
+/// Returns whether the symbol table of an archive, its first member, has this name.
 fn defines(archive: &[u8], name: &[u8]) -> bool {
     let list = || {
         let header = archive.strip_prefix(b"!<arch>\n")?;
@@ -95,7 +96,7 @@ fn defines(archive: &[u8], name: &[u8]) -> bool {
 }
 
 fn compile_memory(package: &Path) -> Result<(), String> {
-    // a release puts a copy into the package; the repository has it beside the header
+    // a release has a copy in the package; the repository has it in the folder of the header
     let places = [package.join("etherparse_heap.c"), package.join("../../c/etherparse_heap.c")];
     let source = places.into_iter().find(|place| place.is_file());
     let source = source.ok_or(format!("{ARCHIVE} has no memory in it: use the archive of a release"))?;
@@ -109,7 +110,7 @@ fn compile_memory(package: &Path) -> Result<(), String> {
     Ok(())
 }
 
-/// Runs the program that a variable names, with words behind it, if there are some, or else the usual one.
+/// Runs the program, and its first arguments, that a variable names, or else the usual program.
 fn run(variable: &str, usual: &str, words: &[&str], paths: &[&Path]) -> Result<(), String> {
     let named = env::var(variable).unwrap_or_default();
     let mut named = named.split_whitespace();

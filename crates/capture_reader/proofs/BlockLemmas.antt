@@ -1,4 +1,4 @@
--- Blocks are read in one way.
+-- Bytes begin with at most one block, which parsing finds.
 use Rattle.std.proofs.Common.{◌≡◌, ℕ, ◌+◌, ◌-◌, ◌%◌, ◌^◌, ◌<◌, ◌≤◌, ◌==◌, ◌&&◌, ◌||◌, Bool, false, not, is_some, nat_lt}
 use Rattle.std.proofs.Common.{List, [], ◌∷◌, ◌++◌, Option, Some, None, length, drop, slice_range}
 use Rattle.std.proofs.Common.{refl, sym, ap, subst, ◌∙◌, append_assoc, length-append, arith}
@@ -15,9 +15,9 @@ use Rattle.capture_reader.specs.Blocks.{header, interface, enhanced, obsolete, s
 use Rattle.capture_reader.specs.Blocks.{block_in}
 use Rattle.capture_reader.specs.Blocks.{block_len, block_number, block_of, block_order, block_rows, body_rows}
 use Rattle.capture_reader.specs.Blocks.{front_rows}
-use Rattle.capture_reader.specs.Blocks.{has_no_order, is_other, kind_in, kind_of, least_len, most_block, order_in}
+use Rattle.capture_reader.specs.Blocks.{has_no_order, is_other, kind_in, kind_of, min_len, most_block, order_in}
 use Rattle.capture_reader.specs.Blocks.{order_of}
-use Rattle.capture_reader.specs.Blocks.{order_or, order_said, whole_rows}
+use Rattle.capture_reader.specs.Blocks.{order_or, byte_order_of_magic, whole_rows}
 use Rattle.capture_reader.specs.Captures.{BeginsSection, block_shown}
 use Rattle.capture_reader.specs.declared.block.BlockKind.{BlockKind}
 use Rattle.capture_reader.specs.declared.block.BlockKind.TheVariants.{SectionHeader, InterfaceDescription, SimplePacket}
@@ -35,9 +35,9 @@ use Rattle.capture_reader.proofs.BodyLemmas.{interface_is_read, interface_reads,
 use Rattle.capture_reader.proofs.BodyLemmas.{row_none, row_pass}
 use Rattle.capture_reader.proofs.BodyLemmas.{simple_is_read, simple_reads}
 
--- ---- the numbers of kinds and byte orders
+-- ---- block types and byte orders
 
--- the number that begins a section is the same in both byte orders
+-- The type of a Section Header Block has the same bytes in both byte orders.
 section_number : (order before : ByteOrder) → word32 before 0x0a0d0d0a ≡ word32 order 0x0a0d0d0a
 unfolding word32
 section_number Big Big = refl
@@ -60,34 +60,34 @@ number_enhanced n is = grind (arith, nat_tests)
 number_obsolete : (n : ℕ) → kind_of n ≡ ObsoletePacket → n ≡ 2
 number_obsolete n is = grind (arith, nat_tests)
 
--- what is read as a byte order
-magic_big : (magic : ℕ) → order_said magic ≡ Some Big → magic ≡ 0x1a2b3c4d
+-- A known byte order is read from one magic number only.
+magic_big : (magic : ℕ) → byte_order_of_magic magic ≡ Some Big → magic ≡ 0x1a2b3c4d
 magic_big magic is = grind (arith, nat_tests)
 
-magic_little : (magic : ℕ) → order_said magic ≡ Some Little → magic ≡ 0x4d3c2b1a
+magic_little : (magic : ℕ) → byte_order_of_magic magic ≡ Some Little → magic ≡ 0x4d3c2b1a
 magic_little magic is = grind (arith, nat_tests)
 
--- is written so
+-- A little-endian byte-order magic has the bytes of its big-endian reading.
 little_written : word32 Big 0x4d3c2b1a ≡ word32 Little 0x1a2b3c4d
 unfolding word32
 little_written = refl
 
-said_written : (before : ByteOrder) (magic : ℕ) (said : Option ByteOrder) → order_said magic ≡ said
+said_written : (before : ByteOrder) (magic : ℕ) (said : Option ByteOrder) → byte_order_of_magic magic ≡ said
     → not (is_some said) ≡ false → word32 Big magic ≡ word32 (order_or before said) 0x1a2b3c4d
 said_written before magic None is known = absurd (true≢false known)
 said_written before magic (Some Big) is known = ap (word32 Big) (magic_big magic is)
 said_written before magic (Some Little) is known = ap (word32 Big) (magic_little magic is) ∙ little_written
 
--- what was written so is read as the byte order
+-- A byte-order magic is read as the byte order in which it was written.
 magic_read : (order : ByteOrder) (rest : List ℕ)
-    → order_said (word32_at Big (word32 order 0x1a2b3c4d ++ rest) 0) ≡ Some order
+    → byte_order_of_magic (word32_at Big (word32 order 0x1a2b3c4d ++ rest) 0) ≡ Some order
 unfolding word32 word32_at
 magic_read Big rest = refl
 magic_read Little rest = refl
 
--- ---- what stands around what a block holds
+-- ---- framing
 
--- the parts of a block, and what stands behind it
+-- The bytes of a block are its type, its length, its body and its length again; the next bytes follow.
 block_parts : (before : ByteOrder) (block : PlainBlock) (rest : List ℕ)
     → let order = block_order before block in
     block_bytes before block ++ rest
@@ -95,7 +95,7 @@ block_parts : (before : ByteOrder) (block : PlainBlock) (rest : List ℕ)
     ++ (word32 order (block_len order block) ++ rest)))
 block_parts before block rest = simp append_assoc
 
--- bytes of a length that is said twice are the parts of a block
+-- Bytes with the same length field before and after a body are the parts of a block.
 frame_front : (before order : ByteOrder) (bytes : List ℕ) (len : ℕ) → AreBytes bytes → 12 ≤ len → len ≤ length bytes
     → word32_at order bytes 4 ≡ len → word32_at order bytes (len - 4) ≡ len
     → (length (slice_range bytes 8 (len - 4)) ≡ len - 12)
@@ -122,14 +122,14 @@ frame_front before order bytes len fits long within said trailing =
           (third ∙ ap (λ (s : List ℕ). slice_range bytes 8 (len - 4) ++ s) last)),
     )
 
--- what a block holds is right
+-- The body is that of a valid block.
 record Holds (section : Section) (order : ByteOrder) (number : ℕ) (body : List ℕ) (block : PlainBlock) : Type 0 where
   fits : FitsContent section block
   order_is : block_order section.order block ≡ order
   number_is : word32 section.order number ≡ word32 order (block_number block)
   body_is : body ≡ block_body order block
 
--- so its bytes are the block's
+-- The bytes around a valid body are the bytes of the block.
 holds_block : (section : Section) (order : ByteOrder) (number len : ℕ) (bytes body rest : List ℕ) (block : PlainBlock)
     → Holds section order number body block → len ≡ 12 + length body → len ≤ most_block → len % 4 ≡ 0
     → bytes ≡ word32 section.order number ++ (word32 order len ++ (body ++ (word32 order len ++ rest)))
@@ -156,9 +156,9 @@ holds_block section order number len bytes body rest block holds size most whole
       parts = subst Parts (sym holds.order_is) all ∙ sym (block_parts before block rest);
     }
 
--- ---- what no row refuses
+-- ---- bytes that no row rejects
 
--- the rows of a block, by what they are about
+-- the refusal table of a block, by topic
 abbrev pub rows_of : ByteOrder → List Interface → ByteOrder → BlockKind → (magic len : ℕ) → List ℕ
     → List (Bool × Refusal)
 rows_of before interfaces order kind magic len bytes =
@@ -167,12 +167,12 @@ rows_of before interfaces order kind magic len bytes =
     ++ (nat_lt (length bytes) len, refusal.Cut len (length bytes))
     ∷ whole_rows interfaces order kind len bytes
 
--- what they do not refuse
+-- Holds if no row of the table rejects the bytes.
 pub record Passes (before : ByteOrder) (interfaces : List Interface) (order : ByteOrder) (kind : BlockKind)
     (magic len : ℕ) (bytes : List ℕ) : Type 0 where
   pub long : 12 ≤ length bytes
   pub known : has_no_order before kind magic ≡ false
-  pub least : least_len kind ≤ len
+  pub least : min_len kind ≤ len
   pub whole : len % 4 ≡ 0
   pub most : len ≤ most_block
   pub within : len ≤ length bytes
@@ -186,15 +186,15 @@ passes : (before : ByteOrder) (interfaces : List Interface) (order : ByteOrder) 
 passes before interfaces order kind magic len bytes none =
     let a = row_none (nat_lt (length bytes) 12) _ _ none in
     let b = row_none (has_no_order before kind magic) _ _ a.1 in
-    let c = row_none (nat_lt len (least_len kind) || not (len % 4 == 0)) _ _ b.1 in
+    let c = row_none (nat_lt len (min_len kind) || not (len % 4 == 0)) _ _ b.1 in
     let d = row_none (nat_lt most_block len) _ _ c.1 in
     let e = row_none (nat_lt (length bytes) len) _ _ d.1 in
     let f = row_none (not (word32_at order bytes (len - 4) == len)) _ _ e.1 in
-    let lens = or_parts (nat_lt len (least_len kind)) (not (len % 4 == 0)) c.0 in
+    let lens = or_parts (nat_lt len (min_len kind)) (not (len % 4 == 0)) c.0 in
     record {
       long = ltb-false (length bytes) 12 a.0;
       known = b.0;
-      least = ltb-false len (least_len kind) lens.0;
+      least = ltb-false len (min_len kind) lens.0;
       whole = eqb-true (len % 4) 0 (not-false (len % 4 == 0) lens.1);
       most = ltb-false most_block len d.0;
       within = ltb-false (length bytes) len e.0;
@@ -210,8 +210,8 @@ pub none_of : (before : ByteOrder) (interfaces : List Interface) (order : ByteOr
 none_of before interfaces order kind magic len bytes passed =
     row_pass (nat_lt (length bytes) 12) _ _ (le-ltb (length bytes) 12 passed.long)
     ∙ row_pass (has_no_order before kind magic) _ _ passed.known
-    ∙ row_pass (nat_lt len (least_len kind) || not (len % 4 == 0)) _ _
-    (or_from (nat_lt len (least_len kind)) (not (len % 4 == 0)) (le-ltb len (least_len kind) passed.least)
+    ∙ row_pass (nat_lt len (min_len kind) || not (len % 4 == 0)) _ _
+    (or_from (nat_lt len (min_len kind)) (not (len % 4 == 0)) (le-ltb len (min_len kind) passed.least)
     (not_from_true (len % 4 == 0) (eq-eqb (len % 4) 0 passed.whole)))
     ∙ row_pass (nat_lt most_block len) _ _ (le-ltb most_block len passed.most)
     ∙ row_pass (nat_lt (length bytes) len) _ _ (le-ltb (length bytes) len passed.within)
@@ -220,7 +220,7 @@ none_of before interfaces order kind magic len bytes passed =
     (eq-eqb (word32_at order bytes (len - 4)) len passed.trailing))
     ∙ passed.body
 
-pub least_12 : (kind : BlockKind) → 12 ≤ least_len kind
+pub least_12 : (kind : BlockKind) → 12 ≤ min_len kind
 least_12 SectionHeader = omega arith
 least_12 InterfaceDescription = omega arith
 least_12 SimplePacket = omega arith
@@ -228,16 +228,16 @@ least_12 EnhancedPacket = omega arith
 least_12 ObsoletePacket = omega arith
 least_12 Other = omega arith
 
--- a multiple of four, and twelve more
+-- A multiple of four plus twelve is a multiple of four.
 whole_by_4 : (n : ℕ) → n % 4 ≡ 0 → (12 + n) % 4 ≡ 0
 whole_by_4 n whole = omega (arith, whole)
 
--- the block that is read, and what stands behind it
+-- the block that parsing returns, and the bytes after it
 abbrev pub block_read : Section → List ℕ → PlainBlock × List ℕ
 block_read section bytes =
     (block_in section bytes, drop (word32_at (order_in section.order bytes) bytes 4) bytes)
 
--- what a block of a kind holds
+-- A body that no row rejects is that of a valid block of its kind.
 holds_with : (section : Section) (kind : BlockKind) (bytes : List ℕ) (len : ℕ) → AreBytes bytes
     → kind_of (word32_at section.order bytes 0) ≡ kind
     → let order = order_of section.order kind (word32_at Big bytes 8) in
@@ -249,12 +249,12 @@ holds_with : (section : Section) (kind : BlockKind) (bytes : List ℕ) (len : �
 holds_with section SectionHeader bytes len fits is body_fits size split passed =
     let before = section.order in
     let magic = word32_at Big bytes 8 in
-    let order = order_or before (order_said magic) in
+    let order = order_or before (byte_order_of_magic magic) in
     let body = slice_range bytes 8 (len - 4) in
     let same : word32_at Big body 0 ≡ magic =
     sym (word32_at-more Big body (drop (len - 4) bytes) 0 (omega (arith, size, passed.least)))
     ∙ ap (λ (s : List ℕ). word32_at Big s 0) (sym split) ∙ word32_at-drop Big bytes 8 in
-    let written = ap (word32 Big) same ∙ said_written before magic (order_said magic) refl passed.known in
+    let written = ap (word32 Big) same ∙ said_written before magic (byte_order_of_magic magic) refl passed.known in
     let read = header_reads order order len (slice_range bytes 8 (len - 4)) body_fits
     (omega (arith, size, passed.least)) written passed.body in
     record {
@@ -335,7 +335,7 @@ block_reads section bytes fits none =
     reads_with section kind bytes fits refl
     (passes section.order section.interfaces order kind (word32_at Big bytes 8) (word32_at order bytes 4) bytes none)
 
--- ---- what is a block
+-- ---- bytes of a block
 
 abbrev block_kind : PlainBlock → BlockKind
 block_kind (header plain) = SectionHeader
@@ -371,7 +371,7 @@ number_written before (obsolete plain) = refl
 number_written before (simple plain) = refl
 number_written before (other plain) = refl
 
--- the byte order of a block is read
+-- The byte order of a block is read from its bytes.
 order_read : (section : Section) (block : PlainBlock) (bytes behind : List ℕ)
     → drop 8 bytes ≡ block_body (block_order section.order block) block ++ behind
     → (order_of section.order (block_kind block) (word32_at Big bytes 8) ≡ block_order section.order block)
@@ -382,7 +382,7 @@ order_read section (header plain) bytes behind parts =
     let all : drop 8 bytes ≡ word32 order 0x1a2b3c4d ++ rest = parts ∙ simp append_assoc in
     let magic : word32_at Big bytes 8 ≡ word32_at Big (word32 order 0x1a2b3c4d ++ rest) 0 =
     sym (word32_at-drop Big bytes 8) ∙ ap (λ (s : List ℕ). word32_at Big s 0) all in
-    let said : order_said (word32_at Big bytes 8) ≡ Some order = ap order_said magic ∙ magic_read order rest in (
+    let said : byte_order_of_magic (word32_at Big bytes 8) ≡ Some order = ap byte_order_of_magic magic ∙ magic_read order rest in (
       ap (order_or section.order) said,
       ap (λ (o : Option ByteOrder). not (is_some o)) said,
     )
@@ -392,11 +392,11 @@ order_read section (obsolete plain) bytes behind parts = (refl, refl)
 order_read section (simple plain) bytes behind parts = (refl, refl)
 order_read section (other plain) bytes behind parts = (refl, refl)
 
--- what a block holds is read
+-- The body of the block is not rejected, and is read as the block.
 record IsHeld (section : Section) (block : PlainBlock) (number len : ℕ) (body : List ℕ) : Type 0 where
   none : first_row (body_rows section.interfaces (block_order section.order block) (block_kind block) len body) ≡ None
   is : block_of section.interfaces (block_order section.order block) (block_kind block) number body ≡ block
-  least : least_len (block_kind block) ≤ 12 + length body
+  least : min_len (block_kind block) ≤ 12 + length body
 
 held : (section : Section) (block : PlainBlock) (len : ℕ) (body : List ℕ) → FitsContent section block
     → body ≡ block_body (block_order section.order block) block
@@ -422,7 +422,7 @@ held section (other plain) len body fits is = record {
   least = omega arith;
 }
 
--- what stands in a block's bytes is found there
+-- The fields of a block are found in its bytes.
 record Framed (section : Section) (block : PlainBlock) (bytes rest : List ℕ) : Type 0 where
   number : word32_at section.order bytes 0 ≡ block_number block
   order : order_in section.order bytes ≡ block_order section.order block
@@ -514,14 +514,14 @@ block_is_read section bytes (block, rest) is =
       λ i. (sym (read ∙ same) i, sym (ap (λ (n : ℕ). drop n bytes) len_is ∙ found.behind) i),
     )
 
--- the number that a block begins with
+-- A block begins with its block type.
 pub number_of_block : (section : Section) (block : PlainBlock) (bytes rest : List ℕ) → IsBlock section bytes
     (block, rest)
     → (word32_at section.order bytes 0 ≡ block_number block) × (12 ≤ length bytes)
 number_of_block section block bytes rest is =
     let found = framed section block bytes rest is in (found.number, omega (arith, found.long))
 
--- a block that is read whole does not come in parts
+-- A block that is read as a whole is not a long block.
 not_long : (section : Section) (block : PlainBlock) (bytes : List ℕ) → kind_in section.order bytes ≡ block_kind block
     → word32_at (block_order section.order block) bytes 4 ≡ block_len (block_order section.order block) block
     → block_len (block_order section.order block) block ≤ most_block
@@ -547,7 +547,7 @@ block_not_long section block bytes rest is =
     let found = framed section block bytes rest is in
     not_long section block bytes found.kind found.len is.fits.len
 
--- a block has a byte at least
+-- A block has at least one byte.
 pub block_some : (before : ByteOrder) (block : PlainBlock) → 0 < length (block_bytes before block)
 block_some before block =
     let order = block_order before block in
@@ -561,7 +561,7 @@ block_some before block =
       length-word32 order (block_number block),
     )
 
--- the block that begins a section has its number, and shows no packet
+-- A block that begins a section has the type of a section header, and is no packet.
 pub section_block : (one : PlainBlock) → BeginsSection one → block_number one ≡ 0x0a0d0d0a
 section_block (header plain) begins = refl
 section_block (interface plain) begins = absurd begins
@@ -579,6 +579,6 @@ shows_none interfaces (obsolete plain) begins = absurd begins
 shows_none interfaces (simple plain) begins = absurd begins
 shows_none interfaces (other plain) begins = absurd begins
 
--- blocks are decided
+-- Bytes either begin with exactly one block or are rejected with one error.
 pub block_is_read_by : (section : Section) → IsReadBy (IsBlock section) (block_rows section) (block_read section)
 block_is_read_by section = record { reads = block_reads section; is_read = block_is_read section }

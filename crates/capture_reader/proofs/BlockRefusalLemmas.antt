@@ -1,4 +1,4 @@
--- Refusals that more bytes do not change, and those of blocks.
+-- Errors that stay the same if more bytes follow, in general and for blocks.
 use Rattle.std.proofs.Common.{◌≡◌, ℕ, ◌-◌, ◌%◌, ◌<◌, ◌≤◌, ◌==◌, ◌||◌, ◌⊎◌, Bool, true, false, not, nat_lt}
 use Rattle.std.proofs.Common.{List, [], ◌∷◌, ◌++◌, Some, None, length, take, drop, slice_range}
 use Rattle.std.proofs.Common.{refl, sym, ap, ◌∙◌, inl, inr, length-append, length-drop, arith}
@@ -8,7 +8,7 @@ use Rattle.ep_base.specs.Tables.{first_row}
 use Rattle.ep_base.proofs.TableLemmas.{AllErrors, refusal_is}
 use Rattle.capture_reader.specs.Numbers.{word32_at}
 use Rattle.capture_reader.specs.Blocks.{Section, block_rows, body_rows, front_rows, has_no_order, kind_in, kind_of}
-use Rattle.capture_reader.specs.Blocks.{least_len}
+use Rattle.capture_reader.specs.Blocks.{min_len}
 use Rattle.capture_reader.specs.Blocks.{most_block, order_in, order_of, whole_rows}
 use Rattle.capture_reader.specs.declared.block.BlockKind.{BlockKind}
 use Rattle.capture_reader.specs.declared.block.BlockKind.TheVariants.{SectionHeader, InterfaceDescription, SimplePacket}
@@ -21,7 +21,7 @@ use Rattle.capture_reader.specs.declared.refusal.Refusal.TheVariants as refusal
 use Rattle.capture_reader.proofs.BodyLemmas.{row_none, row_pass}
 use Rattle.capture_reader.proofs.NumberLemmas.{word32_at-more}
 
--- a refusal that more bytes do not change
+-- Holds for errors that stay the same if more bytes follow.
 abbrev pub IsFinal : Refusal → Type 0
 IsFinal (refusal.Cut required len) = ⊥
 IsFinal other = Unit {0}
@@ -41,14 +41,14 @@ not_final (refusal.UnsupportedResolution resolution) required len final same = c
 not_final (refusal.UndescribedInterface interface) required len final same = cc
 not_final refusal.TooManyInterfaces required len final same = cc
 
--- what refuses for good is not that bytes are too few
+-- A final error comes from the rows after the one for too few bytes.
 pub not_few : (few : Bool) (required len : ℕ) (rows : List (Bool × Refusal)) (e : Refusal) → IsFinal e
     → first_row ((few, refusal.Cut required len) ∷ rows) ≡ Some e → (few ≡ false) × (first_row rows ≡ Some e)
 not_few true required len rows e final refused = absurd (not_final e required len final refused)
 not_few false required len rows e final refused = (refl, refused)
 
--- Rows in front of one about too few bytes, and rows behind it: where as many are there as are needed, the others are
--- the same with more.
+-- Rows before and after a row for too few bytes: if that row does not apply with more bytes either, and the rows after
+-- it decide alike, then the table reports the same final error with more bytes.
 past_front : (front : List (Bool × Refusal)) (short other_short : Bool) (len n m : ℕ)
     (last other_last : List (Bool × Refusal)) (e : Refusal) → IsFinal e
     → (short ≡ false → (other_short ≡ false) × (first_row other_last ≡ first_row last))
@@ -62,7 +62,7 @@ past_front ((true, error) ∷ front) short other_short len n m last other_last e
 past_front ((false, error) ∷ front) short other_short len n m last other_last e final more refused =
     past_front front short other_short len n m last other_last e final more refused
 
--- ---- with more bytes behind
+-- ---- with more bytes
 
 range-more : (bytes more : List ℕ) (i j : ℕ) → i ≤ length bytes → j ≤ length bytes
     → slice_range (bytes ++ more) i j ≡ slice_range bytes i j
@@ -70,7 +70,7 @@ range-more bytes more i j start end =
     ap (take (j - i)) (drop-append-le i bytes more start)
     ∙ take-append-le (j - i) (drop i bytes) more (omega (arith, length-drop i bytes))
 
--- the rows of a block, by what they are about
+-- the refusal table of a block, by topic
 abbrev rows_by : ByteOrder → List Interface → ByteOrder → BlockKind → (magic len n trailing : ℕ) → List ℕ
     → List (Bool × Refusal)
 rows_by before interfaces order kind magic len n trailing body =
@@ -80,7 +80,7 @@ rows_by before interfaces order kind magic len n trailing body =
     ∷ (not (trailing == len), refusal.TrailingLength len trailing)
     ∷ body_rows interfaces order kind len body
 
--- those behind the first, which says whether bytes are too few for the length
+-- the rows after the first one, which applies if the bytes are too few for the block's length
 abbrev rows_behind : Section → List ℕ → List (Bool × Refusal)
 rows_behind section bytes =
     let kind = kind_in section.order bytes in
@@ -138,16 +138,16 @@ block_more section bytes more e final refused =
     ∙ past_front (front_rows before kind magic len) (nat_lt n len) (nat_lt m len) len n m last other_last e final
     goes_on is.1
 
--- what refuses a block for good is known by its first 12 bytes
+-- A final error of a block requires its first 12 bytes.
 pub block_long : (section : Section) (bytes : List ℕ) (e : Refusal) → IsFinal e
     → first_row (block_rows section bytes) ≡ Some e → 12 ≤ length bytes
 block_long section bytes e final refused =
     ltb-false (length bytes) 12
     (not_few (nat_lt (length bytes) 12) 12 (length bytes) (rows_behind section bytes) e final refused).0
 
--- ---- bytes that are too few
+-- ---- too few bytes
 
--- where bytes are too few, no row in front refuses, and this one does
+-- If the table reports too few bytes, no row before applies, and this one does.
 pub cut_behind : (front : List (Bool × Refusal)) (short : Bool) (len n required there : ℕ)
     (last : List (Bool × Refusal))
     → AllErrors IsFinal front → AllErrors IsFinal last
@@ -190,7 +190,7 @@ block_few section bytes required there refused =
           (whole_rows section.interfaces order kind len bytes) (tt, (tt, (tt, tt)))
           (tt, body_final section.interfaces order kind len (slice_range bytes 8 (len - 4))) behind in
           let a = row_none (has_no_order section.order kind magic) _ _ cut.0 in
-          let b = row_none (nat_lt len (least_len kind) || not (len % 4 == 0)) _ _ a.1 in
+          let b = row_none (nat_lt len (min_len kind) || not (len % 4 == 0)) _ _ a.1 in
           let c = row_none (nat_lt most_block len) _ _ b.1 in
           let most : len ≤ most_block = ltb-false most_block len c.0 in
           let below : n < len = ltb-true n len cut.1 in

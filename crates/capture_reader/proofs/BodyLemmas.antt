@@ -1,4 +1,4 @@
--- What blocks hold is read in one way.
+-- The body of a block is read in one way only.
 use Rattle.std.proofs.Common.{◌≡◌, ℕ, ◌+◌, ◌-◌, ◌^◌, ◌<◌, ◌≤◌, ◌==◌, ◌||◌, Bool, true, false, not, nat_lt}
 use Rattle.std.proofs.Common.{if◌then◌else◌}
 use Rattle.std.proofs.Common.{List, [], ◌∷◌, ◌++◌, Option, Some, None, length, drop, slice_range}
@@ -21,7 +21,7 @@ use Rattle.capture_reader.specs.Blocks.{header, interface, enhanced, obsolete, s
 use Rattle.capture_reader.specs.Blocks.{body_rows, enhanced_of, header_of, interface_read, kept_rows, numbered_rows}
 use Rattle.capture_reader.specs.Blocks.{obsolete_of}
 use Rattle.capture_reader.specs.Blocks.{packet_body, packet_with}
-use Rattle.capture_reader.specs.Blocks.{knows_minor, most_interfaces, options_rows, said_rows, simple_kept, simple_of}
+use Rattle.capture_reader.specs.Blocks.{knows_minor, most_interfaces, options_rows, said_rows, captured_len_of_simple, simple_of}
 use Rattle.capture_reader.specs.Blocks.{version_rows}
 use Rattle.capture_reader.specs.declared.block.BlockKind.TheVariants.{SectionHeader, InterfaceDescription, SimplePacket}
 use Rattle.capture_reader.specs.declared.block.BlockKind.TheVariants.{EnhancedPacket, ObsoletePacket}
@@ -35,22 +35,22 @@ use Rattle.capture_reader.proofs.NumberLemmas.{range_read, word16_at-fits, word1
 use Rattle.capture_reader.proofs.NumberLemmas.{word32_front, word32_read, words_front, words_read, words_then}
 use Rattle.capture_reader.proofs.OptionLemmas.{ends_stuck, one_parse, parsed}
 
--- ---- rows, one by one
+-- ---- single rows
 
--- where no row refuses, the first does not, and no other does
+-- If no row applies, neither the first one nor any of the others does.
 pub row_none : (condition : Bool) (error : Refusal) (others : Option Refusal)
     → (if condition then Some error else others) ≡ None → (condition ≡ false) × (others ≡ None)
 row_none true error others none = absurd (none-some error (sym none))
 row_none false error others none = (refl, none)
 
--- past a row whose condition does not hold
+-- A row whose condition is false leaves the decision to the other rows.
 pub row_pass : (condition : Bool) (error : Refusal) (others : Option Refusal) → condition ≡ false
     → (if condition then Some error else others) ≡ others
 row_pass condition error others pass = ap (λ (c : Bool). if c then Some error else others) pass
 
--- ---- the bytes of a packet, and what fills them up
+-- ---- captured bytes and their padding
 
--- what stands from i on: so many bytes, what fills them up, and what stands behind
+-- From index i on, the body is the captured bytes, their padding, and the remaining bytes.
 pub kept_front : (body : List ℕ) (i kept : ℕ) → i + kept + padding_of kept ≤ length body
     → (length (slice_range body i (i + kept)) ≡ kept)
     × (length (slice_range body (i + kept) (i + kept + padding_of kept)) ≡ padding_of kept)
@@ -64,7 +64,7 @@ kept_front body i kept within =
       bytes.1 ∙ ap (λ (s : List ℕ). slice_range body i (i + kept) ++ s) padding.1,
     )
 
--- the same, found there
+-- The captured bytes, their padding and the remaining bytes are found at index i.
 record FindsKept (body : List ℕ) (i kept : ℕ) (bytes padding behind : List ℕ) : Type 0 where
   bytes_is : slice_range body i (i + kept) ≡ bytes
   padding_is : slice_range body (i + kept) (i + kept + padding_of kept) ≡ padding
@@ -88,7 +88,7 @@ kept_read body bytes padding behind i kept long parts len filled =
       within = omega (arith, long, size, len, same);
     }
 
--- the rows of a packet
+-- If no row of a packet applies, at most 256 KiB are captured, and they fit in the body with their padding.
 pub kept_facts : (len before kept there : ℕ) → first_row (kept_rows len before kept there) ≡ None
     → (kept ≤ most_kept) × (before + kept + padding_of kept ≤ there)
 kept_facts len before kept there none =
@@ -103,14 +103,14 @@ kept_none len before kept there few within =
     ∙ row_pass (nat_lt there (before + kept + padding_of kept)) (refusal.BlockLength len) _
     (le-ltb there (before + kept + padding_of kept) within)
 
--- ---- the header of a section
+-- ---- section headers
 
 header_parts : (order : ByteOrder) (plain : PlainHeader)
     → block_body order (header plain)
     ≡ word32 plain.order 0x1a2b3c4d ++ (word16 plain.order 1 ++ (word16 plain.order plain.minor ++ plain.behind))
 header_parts order plain = simp append_assoc
 
--- a version that is known
+-- If no row of the version applies, it is a supported one.
 version_facts : (major minor : ℕ) → first_row (version_rows major minor) ≡ None
     → (major ≡ 1) × (knows_minor minor ≡ true)
 version_facts major minor none =
@@ -124,7 +124,7 @@ version_none major minor is known =
     (or_from (not (major == 1)) (not (knows_minor minor)) (not_from_true (major == 1) (eq-eqb major 1 is))
     (not_from_true (knows_minor minor) known))
 
--- its minor number fits two bytes
+-- A supported minor version fits in two bytes.
 minor_fits : (minor : ℕ) → knows_minor minor ≡ true → minor < 2 ^ 16
 minor_fits minor known = grind (arith, common_steps, nat_tests)
 
@@ -162,7 +162,7 @@ header_is_read before len interfaces plain body fits is =
       omega (arith, ap length minor.1, length-drop 8 body, fits.behind),
     )
 
--- ---- the description of an interface
+-- ---- interface descriptions
 
 interface_parts : (order : ByteOrder) (plain : PlainInterface)
     → block_body order (interface plain)
@@ -272,7 +272,7 @@ packet_parts : (order : ByteOrder) (plain : PlainEnhanced)
     ≡ words_then order (packet_words plain) (plain.bytes ++ (plain.padding ++ plain.options))
 packet_parts order plain = simp append_assoc
 
--- what stands behind the number of an interface
+-- The bytes after the interface number are those of the packet that is read.
 packet_reads : (section : Section) (number len : ℕ) (body : List ℕ) → AreBytes body → 20 ≤ length body → number < 2 ^ 32
     → first_row (numbered_rows section.interfaces number section.order len body) ≡ None
     → FitsEnhanced section (packet_with section.order number body)
@@ -419,7 +419,7 @@ pub simple_reads : (section : Section) (len : ℕ) (body : List ℕ) → AreByte
 simple_reads section len body fits long none =
     let order = section.order in
     let plain = simple_of section.interfaces order body in
-    let kept = simple_kept section.interfaces (word32_at order body 0) in
+    let kept = captured_len_of_simple section.interfaces (word32_at order body 0) in
     let described = row_none (not (nat_lt 0 (length section.interfaces))) _ _ none in
     let facts = kept_facts len 4 kept (length body) described.1 in
     let front = kept_front body 4 kept facts.1 in (
@@ -444,8 +444,8 @@ simple_is_read section len plain body fits is =
     let interfaces = section.interfaces in
     let parts = is ∙ simple_parts order plain in
     let read = word32_read order plain.original_len 0 body _ fits.original_len parts in
-    let kept : simple_kept interfaces (word32_at order body 0) ≡ length plain.bytes =
-    ap (simple_kept interfaces) read.0 ∙ sym fits.bytes in
+    let kept : captured_len_of_simple interfaces (word32_at order body 0) ≡ length plain.bytes =
+    ap (captured_len_of_simple interfaces) read.0 ∙ sym fits.bytes in
     let long : 4 ≤ length body =
     omega (
       arith,
@@ -454,11 +454,11 @@ simple_is_read section len plain body fits is =
       length-word32 order plain.original_len,
     ) in
     let found = kept_read body plain.bytes plain.padding plain.behind 4
-    (simple_kept interfaces (word32_at order body 0))
+    (captured_len_of_simple interfaces (word32_at order body 0))
     long read.1 kept fits.padding in
     let described : nat_lt 0 (length interfaces) ≡ true = lt-ltb 0 (length interfaces) fits.described in (
       row_pass (not (nat_lt 0 (length interfaces))) _ _ (not_from_true (nat_lt 0 (length interfaces)) described)
-          ∙ kept_none len 4 (simple_kept interfaces (word32_at order body 0)) (length body)
+          ∙ kept_none len 4 (captured_len_of_simple interfaces (word32_at order body 0)) (length body)
           (omega (arith, kept, fits.kept)) found.within,
       λ i. record {
         original_len = read.0 i;

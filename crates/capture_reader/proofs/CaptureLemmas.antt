@@ -1,4 +1,4 @@
--- Whole captures: their items are read one behind the other, in one way.
+-- The items of a capture are read one after the other, in one way only.
 use Rattle.std.proofs.Common.{◌≡◌, ℕ, zero, suc, ◌+◌, ◌-◌, ◌%◌, ◌<◌, ◌≤◌, ◌==◌, ◌&&◌, ◌⊎◌, Bool, true, false, not}
 use Rattle.std.proofs.Common.{nat_le}
 use Rattle.std.proofs.Common.{nat_lt, min, take, drop, length-take-le, take-append-drop}
@@ -43,40 +43,40 @@ use Rattle.capture_reader.proofs.NumberLemmas.{length-word32, word32_at-fits, wo
 
 -- ---- one item
 
--- the bytes are an item, and what stands behind it
+-- The bytes begin with this item, and these bytes follow it.
 pub record IsStep (stage : Stage) (bytes : List ℕ) (step : Item × List ℕ) : Type 0 where
   pub fits : Fits stage step.0
   pub parts : bytes ≡ item_bytes stage step.0 ++ step.1
 
--- the rows in front of which nothing stands, where a section begins and where none does
+-- the refusal table of the first item, for a section header or a file header
 abbrev pub start_rows : Bool → List ℕ → List (Bool × Refusal)
 start_rows begins bytes = if begins then block_rows no_section bytes else heading_rows bytes
 
--- what is read there
+-- the first item as it is read, and the bytes after it
 abbrev start_read : Bool → List ℕ → Item × List ℕ
 start_read true bytes = (block (block_read no_section bytes).0, (block_read no_section bytes).1)
 start_read false bytes = (heading (heading_read bytes).0, (heading_read bytes).1)
 
--- what is read in a section, where a block comes in parts and where it does not
+-- an item of a section as it is read, a long block or not, and the bytes after it
 abbrev section_read : Bool → Section → List ℕ → Item × List ℕ
 section_read true section bytes =
     (part (front (word32_at section.order bytes 0) (word32_at section.order bytes 4)), drop 8 bytes)
 section_read false section bytes = (block (block_read section bytes).0, (block_read section bytes).1)
 
--- inside of such a block, where nothing is left in front of its length, and where so many bytes are
+-- a part of a long block as it is read, its trailing length field or a stretch of its body, and the bytes after it
 abbrev inside_read : Bool → ℕ → List ℕ → Item × List ℕ
 inside_read true left bytes = (part back, drop 4 bytes)
 inside_read false left bytes =
     (part (stretch (take (min left most_stretch) bytes)), drop (min left most_stretch) bytes)
 
--- the item that is read, and what stands behind it
+-- the item that is read at a stage, and the bytes after it
 abbrev pub step_read : Stage → List ℕ → Item × List ℕ
 step_read at_start bytes = start_read (begins_section bytes) bytes
 step_read (in_records first) bytes = (packet (record_read first.order bytes).0, (record_read first.order bytes).1)
 step_read (in_section section) bytes = section_read (begins_long section.order bytes) section bytes
 step_read (inside section len left) bytes = inside_read (left == 0) left bytes
 
--- the block that is read where a section begins is its header
+-- A block with the type of a section header begins a section.
 begins_with : (interfaces : List Interface) (order : ByteOrder) (kind : BlockKind) (number : ℕ) (body : List ℕ)
     → kind ≡ SectionHeader → BeginsSection (block_of interfaces order kind number body)
 begins_with interfaces order kind number body is =
@@ -90,7 +90,7 @@ begins_header bytes begins =
     begins_with [] (order_in Big bytes) (kind_in Big bytes) (word32_at Big bytes 0)
     (slice_range bytes 8 (word32_at (order_in Big bytes) bytes 4 - 4)) (ap kind_of is)
 
--- a section's header begins so
+-- The bytes of a section header begin with its type.
 header_begins : (bytes : List ℕ) (one : PlainBlock) (rest : List ℕ) → BeginsSection one
     → IsBlock no_section bytes (one, rest) → begins_section bytes ≡ true
 header_begins bytes one rest begins is =
@@ -100,7 +100,7 @@ header_begins bytes one rest begins is =
     (le-leb 4 (length bytes) (omega (arith, found.1)))
     (eq-eqb (word32_at Big bytes 0) 0x0a0d0d0a number)
 
--- where a section begins, no heading stands
+-- Bytes with a valid file header do not begin a section.
 no_heading : (bytes : List ℕ) → first_row (heading_rows bytes) ≡ None → begins_section bytes ≡ false
 no_heading bytes none =
     elim (cases_Bool (begins_section bytes)) [
@@ -131,7 +131,7 @@ other_is EnhancedPacket is = absurd (true≢false (sym is))
 other_is ObsoletePacket is = absurd (true≢false (sym is))
 other_is Other is = refl
 
--- what is known of bytes that begin with a block that comes in parts
+-- A long block has at least 8 bytes, a skipped kind, and more than 320 KiB.
 pub long_facts : (order : ByteOrder) (bytes : List ℕ) → begins_long order bytes ≡ true
     → (8 ≤ length bytes) × (kind_in order bytes ≡ Other) × (most_block < word32_at order bytes 4)
 long_facts order bytes long =
@@ -327,11 +327,11 @@ step_is_read (inside section len left) bytes (part back, rest) is =
       same ∙ ap (λ (b : Bool). inside_read b left bytes) (sym done),
     )
 
--- an item is decided
+-- Bytes either begin with exactly one item or are rejected with one error.
 pub step_is_read_by : (stage : Stage) → IsReadBy (IsStep stage) (item_rows stage) (step_read stage)
 step_is_read_by stage = record { reads = step_reads stage; is_read = step_is_read stage }
 
--- an item has a byte at least
+-- An item has at least one byte.
 pub item_some : (stage : Stage) (item : Item) → Fits stage item → 0 < length (item_bytes stage item)
 item_some at_start (heading first) fits = grind (arith, length-append, length-word32)
 item_some at_start (packet one) fits = absurd fits
@@ -357,22 +357,22 @@ item_some (inside section len left) (part (stretch bytes)) fits =
     omega (arith, some, fits.1)
 item_some (inside section len left) (part back) fits = omega (arith, length-word32 section.order len)
 
--- ---- items in a row
+-- ---- sequences of items
 
--- what stands behind the items: nothing, where a capture may end there, or bytes that are refused so
+-- Reading ends here: either the capture may end, or the next item is rejected with this error.
 abbrev Stops : Stage → List ℕ → Option Refusal → Type 0
 Stops stage rest None = may_end stage rest ≡ true
 Stops stage rest (Some refusal) =
     (may_end stage rest ≡ false) × (first_row (item_rows stage rest) ≡ Some refusal)
 
--- the bytes are these items, and then stops what is read
+-- The bytes are these items, and then reading ends.
 record Runs (stage : Stage) (bytes : List ℕ) (items : List Item) (ending : Option Refusal) : Type 0 where
   fits : AreItems stage items
   rest : List ℕ
   parts : bytes ≡ items_bytes stage items ++ rest
   stops : Stops (stage_behind stage items) rest ending
 
--- the first item, and the others
+-- The bytes begin with the first item, and the other items follow it.
 first_step : (stage : Stage) (bytes : List ℕ) (item : Item) (items : List Item) (ending : Option Refusal)
     → (run : Runs stage bytes (item ∷ items) ending)
     → IsStep stage bytes (item, items_bytes (stage_after stage item) items ++ run.rest)
@@ -388,7 +388,7 @@ other_steps : (stage : Stage) (bytes : List ℕ) (item : Item) (items : List Ite
 other_steps stage bytes item items ending run =
     record { fits = run.fits.1; rest = run.rest; parts = refl; stops = run.stops }
 
--- a capture ends only where no byte is left
+-- A capture ends only if no bytes are left.
 pub ended_empty : (stage : Stage) (bytes : List ℕ) → may_end stage bytes ≡ true → bytes ≡ []
 ended_empty at_start bytes ended = absurd (cc)
 ended_empty (in_records first) [] ended = refl
@@ -397,7 +397,7 @@ ended_empty (in_section section) [] ended = refl
 ended_empty (in_section section) (byte ∷ bytes) ended = absurd (cc)
 ended_empty (inside section len left) bytes ended = absurd (cc)
 
--- where an item stands, nothing stops
+-- Reading does not end before a valid item.
 stops_not : (stage : Stage) (bytes : List ℕ) (ending : Option Refusal) (step : Item × List ℕ)
     → Stops stage bytes ending → IsStep stage bytes step → ⊥
 stops_not stage bytes None step stops is =
@@ -417,7 +417,7 @@ one_stop stage bytes None (Some f) a b = absurd (cc)
 one_stop stage bytes (Some e) None a b = absurd (cc)
 one_stop stage bytes (Some e) (Some f) a b = sym a.1 ∙ b.1
 
--- items in a row are read in one way
+-- Bytes are a sequence of items in at most one way.
 one_run : (items others : List Item) (stage : Stage) (bytes : List ℕ) (e f : Option Refusal)
     → Runs stage bytes items e → Runs stage bytes others f → (items ≡ others) × (e ≡ f)
 one_run [] [] stage bytes e f a b = (
@@ -439,21 +439,21 @@ one_run (item ∷ items) (other ∷ others) stage bytes e f a b =
     (subst Behind same (other_steps stage bytes other others f b)) in
     ((λ i. (sym same i).0 ∷ next.0 i), next.1)
 
--- a table refuses, or it does not
+-- A refusal table reports an error or none.
 refused_or_not : (answer : Option Refusal) → (answer ≡ None) ⊎ ((refusal : Refusal) × (answer ≡ Some refusal))
 refused_or_not None = inl refl
 refused_or_not (Some refusal) = inr (refusal, refl)
 
--- a capture may end, or it may not
+-- A capture may end here or not.
 ends_or_not : (answer : Bool) → (answer ≡ true) ⊎ (answer ≡ false)
 ends_or_not true = inl refl
 ends_or_not false = inr refl
 
--- what runs, and how it stops
+-- a sequence of items that the bytes are, and how it ends
 abbrev SomeRun : Stage → List ℕ → Type 0
 SomeRun stage bytes = (items : List Item) × (ending : Option Refusal) × Runs stage bytes items ending
 
--- an item in front of those that run
+-- An item before a sequence of items is a longer sequence.
 further : (stage : Stage) (bytes : List ℕ) (step : Item × List ℕ) → IsStep stage bytes step
     → SomeRun (stage_after stage step.0) step.1 → SomeRun stage bytes
 further stage bytes step is run = (
@@ -468,7 +468,7 @@ further stage bytes step is run = (
   },
 )
 
--- all bytes run, and stop
+-- All bytes are a sequence of items that ends.
 some_run : (fuel : ℕ) (stage : Stage) (bytes : List ℕ) → AreBytes bytes → length bytes < fuel → SomeRun stage bytes
 some_run zero stage bytes fits within = absurd (omega arith)
 some_run (suc fuel) stage bytes fits within =
@@ -547,7 +547,7 @@ not_both bytes items found a b =
     none-some found.1.refusal
     (one_run items found.0 at_start bytes _ _ (whole_runs bytes items a) (refused_runs bytes found b)).1
 
--- bytes are a capture in one way, or are refused with one error, and never both
+-- Bytes either are a capture in exactly one way, or are rejected with exactly one error.
 pub capture_decided : (bytes : List ℕ) → AreBytes bytes → IsDecided (IsCapture bytes) (RefusesCapture bytes)
 capture_decided bytes fits = record {
   some = decide bytes (some_run (length bytes + 1) at_start bytes fits (omega arith));

@@ -1,4 +1,4 @@
--- The bytes of headings and records, and what is read from them.
+-- The wire bytes of file headers and records, and the values read from them.
 use Rattle.std.proofs.Common.{◌≡◌, ℕ, ◌+◌, ◌-◌, ◌^◌, ◌<◌, ◌≤◌, List, [], ◌∷◌, ◌++◌, Option, Some, None}
 use Rattle.std.proofs.Common.{◌==◌, ◌&&◌, Bool, not, nat_lt, is_some}
 use Rattle.std.proofs.Common.{length, take, drop, get_or, slice_range, refl, sym, ap, ◌∙◌}
@@ -25,11 +25,11 @@ use Rattle.capture_reader.proofs.NumberLemmas.{length-word32, words_front, words
 
 -- ---- records
 
--- the record that is read, and what stands behind it
+-- the record that is read, and the bytes after it
 abbrev pub record_read : ByteOrder → List ℕ → PlainPacket × List ℕ
 record_read order bytes = (record_of order bytes, drop (16 + word32_at order bytes 8) bytes)
 
--- the numbers in front of a packet
+-- the numbers of a record header
 abbrev record_words : PlainPacket → List ℕ
 record_words packet = packet.seconds ∷ packet.fraction ∷ length packet.bytes ∷ packet.original_len ∷ []
 
@@ -37,7 +37,7 @@ record_parts : (order : ByteOrder) (packet : PlainPacket) (rest : List ℕ)
     → record_bytes order packet ++ rest ≡ words_then order (record_words packet) (packet.bytes ++ rest)
 record_parts order packet rest = simp append_assoc
 
--- what stands between two indices, and behind
+-- The n bytes after a record header, and the bytes after these, are all bytes after the header.
 pub range_split : (bytes : List ℕ) (n : ℕ) → 16 + n ≤ length bytes
     → (length (slice_range bytes 16 (16 + n)) ≡ n)
     × (drop 16 bytes ≡ slice_range bytes 16 (16 + n) ++ drop (16 + n) bytes)
@@ -114,7 +114,7 @@ record_is_read order bytes value is =
       ),
     )
 
--- how many bytes are kept of a packet, as its record says
+-- The captured length in a record is that of its packet.
 pub record_kept : (order : ByteOrder) (bytes : List ℕ) (packet : PlainPacket) (rest : List ℕ)
     → IsRecord order bytes (packet, rest) → word32_at order bytes 8 ≡ length packet.bytes
 record_kept order bytes packet rest is =
@@ -124,13 +124,13 @@ record_kept order bytes packet rest is =
     (is.fits.seconds, (is.fits.fraction, (few, (is.fits.original_len, tt))))
     (is.parts ∙ record_parts order packet rest)).0
 
--- such records are decided
+-- Bytes either begin with exactly one record or are rejected with one error.
 pub record_is_read_by : (order : ByteOrder) → IsReadBy (IsRecord order) (record_rows order) (record_read order)
 record_is_read_by order = record { reads = record_reads order; is_read = record_is_read order }
 
--- ---- the heading
+-- ---- file header
 
--- the number that was written in a byte order is read as this order and these fractions
+-- A magic number is read back as the byte order and timestamp unit that it was written for.
 style_read : (order : ByteOrder) (resolution : Resolution) (rest : List ℕ)
     → style_in (word32 order (magic_of resolution) ++ rest) ≡ Some (order, resolution)
 unfolding word32 word32_at
@@ -139,19 +139,19 @@ style_read Big Nanos rest = refl
 style_read Little Micros rest = refl
 style_read Little Nanos rest = refl
 
--- the number of some style, read with the highest byte first
+-- the magic number of a byte order and timestamp unit, read with the highest byte first
 abbrev number_of : ByteOrder → Resolution → ℕ
 number_of Big Micros = 0xa1b2c3d4
 number_of Little Micros = 0xd4c3b2a1
 number_of Big Nanos = 0xa1b23c4d
 number_of Little Nanos = 0x4d3cb2a1
 
--- what is read as a style is its number
+-- A byte order and timestamp unit are read from one magic number only.
 number_of_style : (magic : ℕ) (order : ByteOrder) (resolution : Resolution)
     → style_of magic ≡ Some (order, resolution) → magic ≡ number_of order resolution
 number_of_style magic order resolution is = grind (arith, nat_tests)
 
--- which is written so
+-- The magic number has the same bytes in either reading.
 style_written : (order : ByteOrder) (resolution : Resolution)
     → word32 Big (number_of order resolution) ≡ word32 order (magic_of resolution)
 unfolding word32
@@ -160,11 +160,11 @@ style_written Little Micros = refl
 style_written Big Nanos = refl
 style_written Little Nanos = refl
 
--- the heading that is read, and what stands behind it
+-- the file header that is read, and the bytes after it
 abbrev pub heading_read : List ℕ → Heading × List ℕ
 heading_read bytes = (heading_of bytes, drop 24 bytes)
 
--- the numbers behind the version
+-- the numbers after the version
 abbrev heading_words : Heading → List ℕ
 heading_words heading = heading.zone ∷ heading.accuracy ∷ heading.snap_len ∷ heading.network ∷ []
 
@@ -174,7 +174,7 @@ heading_parts : (heading : Heading) (rest : List ℕ)
     ++ words_then heading.order (heading_words heading) rest))
 heading_parts heading rest = simp append_assoc
 
--- what a style makes of bytes
+-- the file header that is read with this byte order and timestamp unit
 abbrev pub heading_with : Option (ByteOrder × Resolution) → List ℕ → Heading
 heading_with style bytes =
     let order = style_order style in
@@ -187,7 +187,7 @@ heading_with style bytes =
       network = word32_at order bytes 20;
     }
 
--- the rows behind the style's
+-- the refusal table after the magic number
 abbrev rows_with : Option (ByteOrder × Resolution) → List ℕ → List (Bool × Refusal)
 rows_with style bytes =
     let order = style_order style in
@@ -199,7 +199,7 @@ rows_with style bytes =
     ∷ (not ((major == 2) && (minor == 4)), refusal.UnsupportedVersion major minor)
     ∷ []
 
--- what no row refuses
+-- Holds if no row of the table rejects the bytes.
 pub record Passes (style : ByteOrder × Resolution) (bytes : List ℕ) : Type 0 where
   pub long : 24 ≤ length bytes
   pub major : word16_at style.0 bytes 4 ≡ 2
@@ -218,7 +218,7 @@ none_refuses style bytes passed =
     let long = passed.long in
     rw (passed.major, passed.minor) (grind (arith, common_steps))
 
--- without a style a row refuses
+-- An unknown magic number is rejected.
 no_style : (bytes : List ℕ) → first_row (rows_with None bytes) ≡ None → ⊥
 no_style bytes none = grind (arith, common_steps)
 
@@ -298,6 +298,6 @@ heading_is_read bytes value is =
       λ i. ((same ∙ ap (λ s. heading_with s bytes) (sym style)) i, sym read.1 i),
     )
 
--- such headings are decided
+-- Bytes either begin with exactly one file header or are rejected with one error.
 pub heading_is_read_by : IsReadBy IsHeading heading_rows heading_read
 heading_is_read_by = record { reads = heading_reads; is_read = heading_is_read }

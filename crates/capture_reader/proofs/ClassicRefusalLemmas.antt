@@ -1,4 +1,4 @@
--- Refusals of headings and records: those that more bytes do not change, and those of too few bytes.
+-- Errors of file headers and records: those that stay the same with more bytes, and those for too few bytes.
 use Rattle.std.proofs.Common.{◌≡◌, ℕ, ◌+◌, ◌<◌, ◌≤◌, ◌==◌, ◌&&◌, ◌⊎◌, nat_lt, not, is_some, Bool, true, false}
 use Rattle.std.proofs.Common.{List, [], ◌∷◌, ◌++◌, Option, Some, length}
 use Rattle.std.proofs.Common.{refl, sym, ap, ◌∙◌, inl, inr, length-append, arith}
@@ -17,12 +17,12 @@ use Rattle.capture_reader.specs.declared.refusal.Refusal.TheVariants as refusal
 use Rattle.capture_reader.proofs.BlockRefusalLemmas.{IsFinal, not_final}
 use Rattle.capture_reader.proofs.NumberLemmas.{word16_at-more, word32_at-more}
 
--- the rows of a record, by what their conditions are
+-- the refusal table of a record, by its conditions
 abbrev rows_3 : (few long short : Bool) (len kept : ℕ) → List (Bool × Refusal)
 rows_3 few long short len kept =
     (few, refusal.Cut 16 len) ∷ (long, refusal.PacketTooLong kept) ∷ (short, refusal.Cut (16 + kept) len) ∷ []
 
--- what refuses for good is the number that says how many bytes are kept
+-- The only final error of a record is that its captured length is too large.
 final_3 : (few long short : Bool) (len kept : ℕ) (e : Refusal) → IsFinal e
     → first_row (rows_3 few long short len kept) ≡ Some e → (few ≡ false) × (long ≡ true)
 final_3 true long short len kept e final refused = absurd (not_final e 16 len final refused)
@@ -34,7 +34,7 @@ pick_3 : (few long short : Bool) (len kept : ℕ) → few ≡ false → long ≡
     → first_row (rows_3 few long short len kept) ≡ Some (refusal.PacketTooLong kept)
 pick_3 few long short len kept no_few is_long = rw (no_few, is_long) refl
 
--- where bytes are too few, it is by one of two rows
+-- Too few bytes for a record are reported by one of two rows.
 cut_3 : (few long short : Bool) (len kept required there : ℕ)
     → first_row (rows_3 few long short len kept) ≡ Some (refusal.Cut required there)
     → (few ≡ true) ⊎ ((long ≡ false) × (short ≡ true))
@@ -71,7 +71,7 @@ record_few order bytes required there refused =
           omega arith
     ]
 
--- the rows of a heading behind its style and its length
+-- the refusal table of a file header after its magic number and its length
 abbrev pub last_rows : Option (ByteOrder × Resolution) → List ℕ → List (Bool × Refusal)
 last_rows style bytes =
     let order = style_order style in
@@ -79,7 +79,7 @@ last_rows style bytes =
     let minor = word16_at order bytes 6 in
     (not ((major == 2) && (minor == 4)), refusal.UnsupportedVersion major minor) ∷ []
 
--- the rows of a heading, by what the conditions of the first three are
+-- the refusal table of a file header, by the conditions of its first three rows
 abbrev pub rows_5 : (few unknown short : Bool) (len magic : ℕ) → List (Bool × Refusal) → List (Bool × Refusal)
 rows_5 few unknown short len magic last =
     (few, refusal.Cut 4 len) ∷ (unknown, refusal.UnknownMagic magic) ∷ (short, refusal.Cut 24 len) ∷ last
@@ -142,7 +142,7 @@ heading_more bytes more e final refused =
           ∙ sym (pick_last (nat_lt n 4) unknown (nat_lt n 24) n magic last is.0 known.0 known.1) ∙ refused
     ]
 
--- the last rows say nothing of too few bytes
+-- The last rows don't report too few bytes.
 last_not_cut : (version : Bool) (major minor required there : ℕ)
     → first_row ((version, refusal.UnsupportedVersion major minor) ∷ []) ≡ Some (refusal.Cut required there) → ⊥
 last_not_cut true major minor required there refused = cc
@@ -173,4 +173,4 @@ heading_few bytes required there refused =
       | inr short ↦ let below : n < 24 = ltb-true n 24 short in omega arith
     ]
 
--- ---- what is answered where bytes are refused
+-- ---- results of rejected items

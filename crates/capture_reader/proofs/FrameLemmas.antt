@@ -1,4 +1,4 @@
--- What stands around a block, as it was read.
+-- The framing of a block, as it is parsed.
 use Rattle.std.proofs.Common.{◌≡◌, ℕ, ◌+◌, ◌-◌, ◌≤◌}
 use Rattle.std.proofs.Common.{List, None, length, drop, slice_range, refl, sym, ap, subst, ◌∙◌}
 use Rattle.std.proofs.Common.{Bool, false, ◌&&◌, nat_le, nat_lt}
@@ -36,7 +36,7 @@ framed_rows before bytes frame interfaces is =
     let lens = framed_len before bytes frame is in
     λ i. rows_of before interfaces (sym is.order_is i) (sym is.kind i) (word32_at Big bytes 8) (lens i) bytes
 
--- bytes that begin with the rest of a block
+-- If the framing is valid and the body is not rejected, the block is not rejected.
 pub framed_none : (before : ByteOrder) (bytes : List ℕ) (frame : Framing) (interfaces : List Interface)
     → IsFramed before bytes frame
     → first_row (body_rows interfaces frame.order frame.kind frame.len (slice_range bytes 8 (frame.len - 4))) ≡ None
@@ -78,7 +78,7 @@ framed_stands before bytes frame is =
     stands_as before frame.order frame.kind (word32_at Big bytes 8)
     (is.order_is ∙ ap (λ k. order_of before k (word32_at Big bytes 8)) (sym is.kind))
 
--- a block that is there whole, and is not refused
+-- A block with valid framing and this content is read as a block of that content.
 pub whole_block : (before : ByteOrder) (bytes : List ℕ) (frame : Framing) (interfaces : List Interface)
     (content : Content)
     → AreBytes bytes → IsFramed before bytes frame
@@ -114,7 +114,7 @@ not_parts before EnhancedPacket magic len bytes is most = refl
 not_parts before ObsoletePacket magic len bytes is most = refl
 not_parts before Other magic len bytes is most = grind (arith, common_steps)
 
--- a block that is there whole is none that comes in parts
+-- A complete block is not a long block.
 pub framed_short : (before : ByteOrder) (bytes : List ℕ) (frame : Framing) → IsFramed before bytes frame
     → begins_long before bytes ≡ false
 framed_short before bytes frame is =

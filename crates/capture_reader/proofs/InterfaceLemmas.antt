@@ -1,4 +1,4 @@
--- The description of an interface, as it was read.
+-- The description of an interface, as it is parsed.
 use Rattle.std.proofs.Common.{◌≡◌, ℕ, ℤ, ◌-◌, Bool, List, Option, take, drop, length, length-drop, sym, ap, ◌∙◌, arith}
 use Rattle.std.proofs.lemmas.List.{take_all}
 use Rattle.capture_reader.specs.Numbers.{word16_at, word32_at}
@@ -8,7 +8,7 @@ use Rattle.capture_reader.specs.Options.{resolution_said, value_of}
 use Rattle.capture_reader.specs.declared.byte_order.ByteOrder.{ByteOrder}
 use Rattle.capture_reader.specs.declared.interface.Interface.{Interface}
 
--- what options say, of which a block's body has these
+-- The options in the body of a block have these values.
 pub record Said (order : ByteOrder) (body options : List ℕ) (ended : Bool)
     (resolution offset : Option (List ℕ)) : Type 0 where
   pub options_are : options ≡ drop 8 body
@@ -16,7 +16,7 @@ pub record Said (order : ByteOrder) (body options : List ℕ) (ended : Bool)
   pub offset_is : offset ≡ value_of 14 (options_of order options)
   pub ended_is : ended ≡ ends_options order (options_end order options)
 
--- as the options are read that lie behind the first eight bytes
+-- The values are read from the options after the first eight bytes.
 pub said_by : (order : ByteOrder) (body : List ℕ) (ended : Bool) (resolution offset : Option (List ℕ))
     → let options = take (length body - 8) (drop 8 body) in
     resolution ≡ value_of 9 (options_of order options) → offset ≡ value_of 14 (options_of order options)
@@ -28,7 +28,7 @@ said_by order body ended resolution offset resolution_is offset_is ended_is = re
   ended_is = ended_is;
 }
 
--- the rows are about what they say
+-- The refusal table of the options depends on these values only.
 pub said_are : (order : ByteOrder) (body options : List ℕ) (ended : Bool) (resolution offset : Option (List ℕ))
     → Said order body options ended resolution offset
     → options_rows order (drop 8 body) ≡ said_rows ended resolution offset
@@ -37,7 +37,7 @@ said_are order body options ended resolution offset said =
     λ i. said_rows (sym said.ended_is i) (sym said.resolution_is i) (sym said.offset_is i) in
     ap (options_rows order) (sym said.options_are) ∙ rows
 
--- what is known of the interface
+-- The block describes the interface that is parsed.
 pub said_interface : (order : ByteOrder) (body options : List ℕ) (ended : Bool) (resolution offset : Option (List ℕ))
     (about : Interface) → Said order body options ended resolution offset
     → about.link_type ≡ word16_at order body 0 → about.snap_len ≡ word32_at order body 4

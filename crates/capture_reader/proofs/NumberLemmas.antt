@@ -1,4 +1,4 @@
--- Numbers written and read again, one behind the other.
+-- Numbers that are written and read again.
 use Rattle.std.proofs.Common.{◌≡◌, ℕ, zero, suc, ◌+◌, ◌-◌, ◌*◌, ◌^◌, ◌<◌, ◌≤◌, List, [], ◌∷◌, ◌++◌, length, take, drop}
 use Rattle.std.proofs.Common.{get_or, slice_range, refl, sym, ap, ◌∙◌, add-zero, length-append, length-drop}
 use Rattle.std.proofs.Common.{length-take-le, take-append-drop, arith}
@@ -21,20 +21,20 @@ unfolding word32
 length-word32 Big n = refl
 length-word32 Little n = refl
 
--- a number of four bytes fits them
+-- A number that is read from four bytes is below 2^32.
 pub word32_at-fits : (order : ByteOrder) (bytes : List ℕ) (i : ℕ) → AreBytes bytes → word32_at order bytes i < 2 ^ 32
 unfolding word32_at
 word32_at-fits Big bytes i fits = omega (arith, fits i, fits (i + 1), fits (i + 2), fits (i + 3))
 word32_at-fits Little bytes i fits = omega (arith, fits i, fits (i + 1), fits (i + 2), fits (i + 3))
 
--- what is read of a number that was written
+-- A number that was written is read back.
 word32_at-front : (order : ByteOrder) (n : ℕ) (rest : List ℕ) → n < 2 ^ 32
     → word32_at order (word32 order n ++ rest) 0 ≡ n
 unfolding word32 word32_at
 word32_at-front Big n rest fits = from_be_bytes-to_be_bytes_4 n fits
 word32_at-front Little n rest fits = from_le_bytes-to_le_bytes_4 n fits
 
--- each of four bytes is a byte
+-- Each of the four bytes at index i is a byte.
 four_fit : (bytes : List ℕ) (i : ℕ) → AreBytes bytes → AreBytes (four_at bytes i)
 four_fit bytes i fits zero = fits i
 four_fit bytes i fits (suc zero) = fits (i + 1)
@@ -42,7 +42,7 @@ four_fit bytes i fits (suc (suc zero)) = fits (i + 2)
 four_fit bytes i fits (suc (suc (suc zero))) = fits (i + 3)
 four_fit bytes i fits (suc (suc (suc (suc k)))) = omega arith
 
--- what is written of a number that was read
+-- A number that was read is written as the four bytes it was read from.
 word32_of_read : (order : ByteOrder) (bytes : List ℕ) (i : ℕ) → AreBytes bytes
     → word32 order (word32_at order bytes i) ≡ four_at bytes i
 unfolding word32 word32_at
@@ -52,7 +52,7 @@ word32_of_read Little bytes i fits = le_bytes_4 (four_at bytes i) _ refl (four_f
 four_at-drop : (bytes : List ℕ) (i : ℕ) → four_at (drop i bytes) 0 ≡ four_at bytes i
 four_at-drop bytes i = simp (get_or-drop, add-zero)
 
--- four bytes, and what stands behind them
+-- The bytes from index i on are four bytes and the bytes after them.
 drop-four : (bytes : List ℕ) (i : ℕ) → i + 4 ≤ length bytes → drop i bytes ≡ four_at bytes i ++ drop (i + 4) bytes
 unfolding elements
 drop-four bytes i within =
@@ -62,14 +62,14 @@ drop-four bytes i within =
     λ j. get_or bytes i 0 ∷ get_or bytes (i + 1) 0 ∷ get_or bytes (third j) 0 ∷ get_or bytes (fourth j) 0 ∷ [] in
     drop-elements 4 i bytes within ∙ ap (λ (s : List ℕ). s ++ drop (i + 4) bytes) cells
 
--- behind a front
+-- Reading at index i is reading at the start of the bytes from index i on.
 pub word32_at-drop : (order : ByteOrder) (bytes : List ℕ) (i : ℕ) → word32_at order (drop i bytes) 0
     ≡ word32_at order bytes i
 unfolding word32_at
 word32_at-drop Big bytes i = ap (from_be_bytes w32) (four_at-drop bytes i)
 word32_at-drop Little bytes i = ap (from_le_bytes w32) (four_at-drop bytes i)
 
--- with more behind
+-- Appended bytes don't change the number at index i.
 pub word32_at-more : (order : ByteOrder) (bytes more : List ℕ) (i : ℕ) → i + 4 ≤ length bytes
     → word32_at order (bytes ++ more) i ≡ word32_at order bytes i
 unfolding word32_at
@@ -115,7 +115,7 @@ unfolding word16_at
 word16_at-more Big bytes more i within = grind (arith, common_steps)
 word16_at-more Little bytes more i within = grind (arith, common_steps)
 
--- what stands from i on is a number of two bytes, and what stands behind it
+-- The bytes from index i on are the number of two bytes that is read there, and the bytes after it.
 pub word16_front : (order : ByteOrder) (bytes : List ℕ) (i : ℕ) → AreBytes bytes → i + 2 ≤ length bytes
     → drop i bytes ≡ word16 order (word16_at order bytes i) ++ drop (i + 2) bytes
 unfolding elements
@@ -123,7 +123,7 @@ word16_front order bytes i fits within =
     drop-elements 2 i bytes within
     ∙ ap (λ (s : List ℕ). s ++ drop (i + 2) bytes) (sym (word16_of_read order bytes i fits))
 
--- the number of two bytes that was written from i on is read, and what stands behind it is there
+-- A number of two bytes that was written at index i is read back, and the bytes after it are found.
 pub word16_read : (order : ByteOrder) (n i : ℕ) (bytes rest : List ℕ) → n < 2 ^ 16
     → drop i bytes ≡ word16 order n ++ rest → (word16_at order bytes i ≡ n) × (drop (i + 2) bytes ≡ rest)
 word16_read order n i bytes rest fits parts = (
@@ -132,7 +132,7 @@ word16_read order n i bytes rest fits parts = (
   sym (drop-drop 2 i bytes) ∙ ap (drop 2) parts ∙ drop_at (word16 order n) rest 2 (length-word16 order n),
 )
 
--- the number of four bytes that was written from i on is read, and what stands behind it is there
+-- A number of four bytes that was written at index i is read back, and the bytes after it are found.
 pub word32_read : (order : ByteOrder) (n i : ℕ) (bytes rest : List ℕ) → n < 2 ^ 32
     → drop i bytes ≡ word32 order n ++ rest → (word32_at order bytes i ≡ n) × (drop (i + 4) bytes ≡ rest)
 word32_read order n i bytes rest fits parts = (
@@ -141,21 +141,21 @@ word32_read order n i bytes rest fits parts = (
   sym (drop-drop 4 i bytes) ∙ ap (drop 4) parts ∙ drop_at (word32 order n) rest 4 (length-word32 order n),
 )
 
--- what stands from i on is a number of four bytes, and what stands behind it
+-- The bytes from index i on are the number of four bytes that is read there, and the bytes after it.
 pub word32_front : (order : ByteOrder) (bytes : List ℕ) (i : ℕ) → AreBytes bytes → i + 4 ≤ length bytes
     → drop i bytes ≡ word32 order (word32_at order bytes i) ++ drop (i + 4) bytes
 word32_front order bytes i fits within =
     drop-four bytes i within ∙ ap (λ (s : List ℕ). s ++ drop (i + 4) bytes) (sym (word32_of_read order bytes i fits))
 
--- a number of two bytes fits them
+-- A number that is read from two bytes is below 2^16.
 pub word16_at-fits : (order : ByteOrder) (bytes : List ℕ) (i : ℕ) → AreBytes bytes → word16_at order bytes i < 2 ^ 16
 unfolding word16_at
 word16_at-fits Big bytes i fits = omega (arith, fits i, fits (i + 1))
 word16_at-fits Little bytes i fits = omega (arith, fits i, fits (i + 1))
 
--- ---- what stands between two indices
+-- ---- ranges of bytes
 
--- so many bytes from i on, and what stands behind them
+-- The bytes from index i on are the next n bytes and the bytes after them.
 pub range_front : (bytes : List ℕ) (i n : ℕ) → i + n ≤ length bytes
     → (length (slice_range bytes i (i + n)) ≡ n)
     × (drop i bytes ≡ slice_range bytes i (i + n) ++ drop (i + n) bytes)
@@ -168,7 +168,7 @@ range_front bytes i n within =
           ∙ ap (λ (s : List ℕ). slice_range bytes i (i + n) ++ s) behind,
     )
 
--- what stands from i on is found there, and what stands behind it
+-- Bytes that were written at index i are found there, and the bytes after them.
 pub range_read : (bytes front rest : List ℕ) (i n : ℕ) → drop i bytes ≡ front ++ rest → n ≡ length front
     → (slice_range bytes i (i + n) ≡ front) × (drop (i + n) bytes ≡ rest)
 range_read bytes front rest i n parts len = (
@@ -176,7 +176,7 @@ range_read bytes front rest i n parts len = (
   sym (drop-drop n i bytes) ∙ ap (drop n) parts ∙ drop_at front rest n (sym len),
 )
 
--- a part of a part
+-- A range of a range is a range.
 pub range_within : (bytes : List ℕ) (i j a b : ℕ) → a ≤ b → i + b ≤ j
     → slice_range (slice_range bytes i j) a b ≡ slice_range bytes (i + a) (i + b)
 range_within bytes i j a b ordered within =
@@ -190,19 +190,19 @@ range_within bytes i j a b ordered within =
     ∙ ap (take (b - a)) (drop-drop a i bytes)
     ∙ ap (λ (k : ℕ). take k (drop (i + a) bytes)) size
 
--- ---- several numbers of four bytes
+-- ---- sequences of numbers of four bytes
 
--- the bytes of some numbers, and what stands behind them
+-- the bytes of several numbers, and then `rest`
 abbrev pub words_then : ByteOrder → List ℕ → List ℕ → List ℕ
 words_then order [] rest = rest
 words_then order (n ∷ ns) rest = word32 order n ++ words_then order ns rest
 
--- so many numbers, from i on
+-- the sequence of numbers at index i
 abbrev pub words_at : ByteOrder → ℕ → ℕ → List ℕ → List ℕ
 words_at order zero i bytes = []
 words_at order (suc k) i bytes = word32_at order bytes i ∷ words_at order k (i + 4) bytes
 
--- each fits its four bytes
+-- Each number is below 2^32.
 abbrev pub AllFit : List ℕ → Type 0
 AllFit [] = Unit {0}
 AllFit (n ∷ ns) = (n < 2 ^ 32) × AllFit ns
@@ -218,7 +218,7 @@ length-words_then order (n ∷ ns) rest =
       length-words_then order ns rest,
     )
 
--- the numbers that were written from i on are read, and what stands behind them is there
+-- Numbers that were written at index i are read back, and the bytes after them are found.
 pub words_read : (order : ByteOrder) (ns : List ℕ) (i : ℕ) (bytes rest : List ℕ) → AllFit ns
     → drop i bytes ≡ words_then order ns rest
     → (words_at order (length ns) i bytes ≡ ns) × (drop (i + 4 * length ns) bytes ≡ rest)
@@ -235,7 +235,7 @@ words_read order (n ∷ ns) i bytes rest fits parts =
       ap (λ (k : ℕ). drop k bytes) (omega arith) ∙ others.1,
     )
 
--- what stands from i on is so many numbers, and what stands behind them
+-- The bytes from index i on are the k numbers that are read there, and the bytes after them.
 pub words_front : (order : ByteOrder) (k i : ℕ) (bytes : List ℕ) → AreBytes bytes → i + 4 * k ≤ length bytes
     → drop i bytes ≡ words_then order (words_at order k i bytes) (drop (i + 4 * k) bytes)
 words_front order zero i bytes fits within = ap (λ (k : ℕ). drop k bytes) (omega arith)

@@ -1,4 +1,4 @@
--- Options in a row are read in one way.
+-- A sequence of options is read in one way only.
 use Rattle.std.proofs.Common.{◌≡◌, ℕ, zero, suc, ◌+◌, ◌-◌, ◌<◌, ◌≤◌, ◌==◌, ◌&&◌, ◌||◌, Bool, true, false, not}
 use Rattle.std.proofs.Common.{nat_le, if◌then◌else◌, List, [], ◌∷◌, ◌++◌, Option, Some, None, length, drop, slice_range}
 use Rattle.std.proofs.Common.{refl, sym, ap, subst, ◌∙◌, inl, inr, append_assoc, length-append, length-drop, arith}
@@ -21,7 +21,7 @@ positive : (n : ℕ) → (n ≡ 0 → ⊥) → 0 < n
 positive zero some = absurd (some refl)
 positive (suc n) some = omega arith
 
--- what stands there, where an option does
+-- A complete option has at least four bytes and a code that is not 0, and fits in the bytes.
 pub has_facts : (n code len : ℕ) → (nat_le 4 n && (not (code == 0) && nat_le len n)) ≡ true
     → (4 ≤ n) × (0 < code) × (len ≤ n)
 has_facts n code len has =
@@ -37,7 +37,7 @@ has_from n code len long some within =
     (and_from (not (code == 0)) (nat_le len n)
     (not_from_false (code == 0) (ne_eqb code 0 (λ none. omega (arith, some, none)))) (le-leb len n within))
 
--- the parts of an option, and what stands behind it
+-- The bytes of an option are its code, its length, its value and its padding; the next bytes follow.
 option_parts : (order : ByteOrder) (option : PlainOption) (rest : List ℕ)
     → option_bytes order option ++ rest
     ≡ word16 order option.code ++ (word16 order (length option.value) ++ (option.value ++ (option.padding ++ rest)))
@@ -49,7 +49,7 @@ length-option order option =
     simp length-append
     (omega (arith, length-word16 order option.code, length-word16 order (length option.value)))
 
--- the option that stands at the front of bytes
+-- The bytes begin with the option that is read from them.
 option_front : (order : ByteOrder) (bytes : List ℕ) → AreBytes bytes → has_option order bytes ≡ true
     → FitsOption (option_of order bytes)
     × (bytes ≡ option_bytes order (option_of order bytes) ++ drop (option_len order bytes) bytes)
@@ -80,7 +80,7 @@ option_front order bytes fits has =
           ∙ sym (option_parts order option rest),
     )
 
--- an option that stands there is found there
+-- The option is found at the start of the bytes.
 record Finds (order : ByteOrder) (bytes : List ℕ) (option : PlainOption) (rest : List ℕ) : Type 0 where
   has : has_option order bytes ≡ true
   is : option_of order bytes ≡ option
@@ -109,7 +109,7 @@ option_read order bytes option rest fits is =
       behind = padding.1;
     }
 
--- ---- options in a row
+-- ---- sequences of options
 
 options_more : (most : ℕ) (order : ByteOrder) (bytes : List ℕ) → has_option order bytes ≡ true
     → (options_in (suc most) order bytes
@@ -121,7 +121,7 @@ options_more most order bytes has =
       ap (λ (b : Bool). if b then behind_options most order next else bytes) has,
     )
 
--- where no option stands, there are none
+-- Bytes that begin with no option contain none.
 pub options_stop : (most : ℕ) (order : ByteOrder) (bytes : List ℕ) → has_option order bytes ≡ false
     → (options_in most order bytes ≡ []) × (behind_options most order bytes ≡ bytes)
 options_stop zero order bytes stuck = (refl, refl)
@@ -131,7 +131,7 @@ options_stop (suc most) order bytes stuck =
       ap (λ (b : Bool). if b then behind_options most order next else bytes) stuck,
     )
 
--- where one stands, it is the first, and there may be one less
+-- Bytes that begin with an option contain it and the options after it.
 pub options_go : (most : ℕ) (order : ByteOrder) (bytes : List ℕ) → has_option order bytes ≡ true → length bytes ≤ most
     → (length (drop (option_len order bytes) bytes) ≤ most - 1)
     × (options_in most order bytes
@@ -150,13 +150,13 @@ options_go (suc most) order bytes has within =
       more.1 ∙ ap (λ (k : ℕ). behind_options k order next) (sym one_less),
     )
 
--- the bytes are these options, and these bytes, which begin with none
+-- The bytes are these options and then bytes that begin with none.
 pub record Parses (order : ByteOrder) (bytes : List ℕ) (options : List PlainOption) (ending : List ℕ) : Type 0 where
   pub are : AreOptions options
   pub parts : bytes ≡ options_bytes order options ++ ending
   pub stuck : has_option order ending ≡ false
 
--- fewer bytes than an option has at least begin with none
+-- Fewer than four bytes begin with no option.
 few_stuck : (order : ByteOrder) (bytes : List ℕ) → length bytes < 4 → has_option order bytes ≡ false
 few_stuck order bytes few =
     and_left (nat_le 4 (length bytes))
@@ -192,7 +192,7 @@ parsed_by (suc most) order bytes fits within =
           }))
     ]
 
--- all bytes are options, and bytes that begin with none
+-- All bytes are options and then bytes that begin with none.
 pub parsed : (order : ByteOrder) (bytes : List ℕ) → AreBytes bytes
     → Parses order bytes (options_of order bytes) (options_end order bytes)
 parsed order bytes fits = parsed_by (length bytes) order bytes fits (omega arith)
@@ -214,12 +214,12 @@ parses_so (option ∷ options) most order bytes ending is within =
       go.2 ∙ others.1,
     )
 
--- in one way
+-- Bytes are a sequence of options in at most one way.
 pub one_parse : (order : ByteOrder) (bytes : List ℕ) (options : List PlainOption) (ending : List ℕ)
     → Parses order bytes options ending → (options_of order bytes ≡ options) × (options_end order bytes ≡ ending)
 one_parse order bytes options ending is = parses_so options (length bytes) order bytes ending is (omega arith)
 
--- where options end, none begins
+-- Bytes at which the options end begin with no option.
 end_cases : (n code len : ℕ) → ((n == 0) || (nat_le 2 n && (code == 0))) ≡ true
     → (nat_le 4 n && (not (code == 0) && nat_le len n)) ≡ false
 end_cases n code len ends =
@@ -236,9 +236,9 @@ end_cases n code len ends =
 pub ends_stuck : (order : ByteOrder) (bytes : List ℕ) → ends_options order bytes ≡ true → has_option order bytes ≡ false
 ends_stuck order bytes ends = end_cases (length bytes) (word16_at order bytes 0) (option_len order bytes) ends
 
--- ---- what options say, as they are read
+-- ---- values of options, as they are read
 
--- Of these bytes this rest was not read, and these values were found in front of it, those of the options 9 and 14.
+-- The rest of the bytes is not yet read, and these values of the options 9 and 14 were found before it.
 pub record Told (order : ByteOrder) (bytes rest : List ℕ) (resolution offset : Option (List ℕ)) : Type 0 where
   pub most : ℕ
   pub within : length rest ≤ most
@@ -251,7 +251,7 @@ pub told_start : (order : ByteOrder) (bytes : List ℕ) → Told order bytes byt
 told_start order bytes =
     record { most = length bytes; within = omega arith; resolution_is = refl; offset_is = refl; ending_is = refl }
 
--- a value more
+-- A value is kept if it is the first one with its code.
 value_more : (wanted code : ℕ) (found : Option (List ℕ)) (value : List ℕ) (others : Option (List ℕ))
     → first_value (first_value found (if code == wanted then Some value else None)) others
     ≡ first_value found (if code == wanted then Some value else others)
@@ -288,7 +288,7 @@ told_more order bytes rest resolution offset told has =
       ending_is = sym go.2 ∙ told.ending_is;
     }
 
--- an option was read
+-- Another option was read.
 pub told_step : (order : ByteOrder) (bytes rest : List ℕ)
     (resolution offset now_resolution now_offset : Option (List ℕ))
     (code len filled : ℕ) (value next : List ℕ) → Told order bytes rest resolution offset
@@ -318,7 +318,7 @@ told_step order bytes rest resolution offset now_resolution now_offset code len 
     (first_value resolution (Choice 9 option.code option.value))) second
     (told_more order bytes rest resolution offset told has)))
 
--- what is found where none stands
+-- If no option is left, the values found are final.
 value_none : (found : Option (List ℕ)) → first_value found None ≡ found
 value_none None = refl
 value_none (Some value) = refl

@@ -1,4 +1,4 @@
--- What the steps of a reader come upon, and what it is refused.
+-- The results of a reader's steps, and its errors.
 use Rattle.std.proofs.Common.{◌≡◌, ℕ, ◌+◌, ◌%◌, ◌<◌, ◌≤◌, ◌==◌, ◌&&◌, min, nat_le, nat_lt, not, is_some, Bool, true}
 use Rattle.std.proofs.Common.{false}
 use Rattle.std.proofs.Common.{List, [], ◌∷◌, ◌++◌, Some, Result, Ok, Err, length, drop}
@@ -45,7 +45,7 @@ use Rattle.capture_reader.proofs.ClassicRefusalLemmas.{final_5, heading_few, hea
 use Rattle.capture_reader.proofs.ClassicRefusalLemmas.{record_more}
 use Rattle.capture_reader.proofs.WantLemmas.{item_wants}
 
--- ---- an item more
+-- ---- one more item
 
 stage_behind-append : (items : List Item) (stage : Stage) (item : Item)
     → stage_behind stage (items ++ item ∷ []) ≡ stage_after (stage_behind stage items) item
@@ -66,7 +66,7 @@ AreItems-append [] stage item are fits = (fits, tt)
 AreItems-append (first ∷ items) stage item are fits =
     (are.0, AreItems-append items (stage_after stage first) item are.1 fits)
 
--- the reader stands behind an item more
+-- A step over an item extends the items that the reader has read.
 reads_more : (reader next : CaptureReader) (item : Item) (taken : List ℕ) (items : List Item)
     → StepsOver reader next item → Reads reader taken items → ReadsMore next taken items item
 reads_more reader next item taken items step reads =
@@ -86,12 +86,12 @@ reads_more reader next item taken items step reads =
           ∙ ap length (sym bytes);
     }
 
--- a reader of the same state and interfaces has read the same
+-- Readers with the same state and interfaces are at the same stage.
 pub same_stage : (reader next : CaptureReader) → next.state ≡ reader.state
     → next.interfaces.items ≡ reader.interfaces.items → reader_stage next ≡ reader_stage reader
 same_stage reader next state interfaces = λ i. stage_of (state i) (interfaces i)
 
--- a reader that has not moved reads what it read
+-- A reader that has not moved has read the same items.
 pub still_reads : (reader next : CaptureReader) (taken : List ℕ) (items : List Item) → IsUnmoved reader next
     → Reads reader taken items → Reads next taken items
 still_reads reader next taken items same reads = record {
@@ -101,7 +101,7 @@ still_reads reader next taken items same reads = record {
   offset = same.offset ∙ reads.offset;
 }
 
--- a reader that took a piece more
+-- A reader that takes a chunk has taken these bytes too, and has read the same items.
 pub takes_more : (reader next : CaptureReader) (piece : List ℕ) → next.state ≡ reader.state
     → next.interfaces.items ≡ reader.interfaces.items → next.buffer.items ≡ reader_rest reader ++ piece → next.end ≡ 0
     → next.offset ≡ reader.offset → (taken : List ℕ) (items : List Item) → Reads reader taken items
@@ -117,7 +117,7 @@ takes_more reader next piece state interfaces buffer end offset taken items read
       offset = offset ∙ reads.offset;
     }
 
--- what is refused behind a reader is refused of the whole
+-- If a reader's next item is rejected, its bytes are rejected as a capture.
 refuses : (reader : CaptureReader) (more taken : List ℕ) (items : List Item) (error : CaptureError)
     → StopsAt reader more error → Reads reader taken items → RefusesCapture (taken ++ more) (items, error)
 refuses reader more taken items error stops reads =
@@ -132,7 +132,7 @@ refuses reader more taken items error stops reads =
       refused = ap (λ s. first_row (item_rows s rest)) (sym reads.stage) ∙ stops.refused;
     }
 
--- where a capture may end behind a reader, it is whole
+-- If the capture may end at the reader, the bytes it has taken are a capture.
 ends : (reader : CaptureReader) (taken : List ℕ) (items : List Item)
     → may_end (reader_stage reader) (reader_rest reader) ≡ true → Reads reader taken items → IsCapture taken items
 ends reader taken items ended reads =
@@ -155,7 +155,7 @@ unmoved_left reader next same =
     let len = ap length same.rest in
     (omega (arith, len, same.offset, left_is reader, left_is next), left_is next ∙ len)
 
--- what a step answers is what its reader came upon
+-- The result of a step is a result of `advance`.
 pub advances : (reader next : CaptureReader) (answer : Result Advance CaptureError) → Answers reader next answer
     → (taken : List ℕ) (items : List Item) → Reads reader taken items → AdvancesTo next taken items answer
 advances reader next (Ok Packet) step taken items reads = (
@@ -181,7 +181,7 @@ advances reader next (Err error) step taken items reads = (
   λ more. refuses reader more taken items error (step.1 more) reads,
 )
 
--- ---- how many bytes are left
+-- ---- number of unread bytes
 
 step_left : (reader next : CaptureReader) (item : Item) → StepsOver reader next item
     → (reader_offset next + reader_left next ≡ reader_offset reader + reader_left reader)
@@ -220,7 +220,7 @@ reads_some reader next (Ok MayEnd) step passes = absurd passes
 reads_some reader next (Ok (Cut error)) step passes = absurd passes
 reads_some reader next (Err error) step passes = absurd passes
 
--- a record or a block has a byte at least
+-- A record or block has at least one byte.
 most_some : (stage : Stage) → 0 < most_held stage
 most_some at_start = omega arith
 most_some (in_records first) = omega arith
@@ -243,9 +243,9 @@ holds_few reader next (Ok (Cut error)) step waits =
     (omega (arith, (unmoved_left reader next step.0).1, step.2))
 holds_few reader next (Err error) step waits = absurd waits
 
--- ---- refusals, whatever follows
+-- ---- errors that stay the same with more bytes
 
--- four bytes say whether a section begins
+-- The first four bytes decide whether a section begins.
 begins_more : (bytes more : List ℕ) → 4 ≤ length bytes → begins_section (bytes ++ more) ≡ begins_section bytes
 begins_more bytes more long =
     let size = length-append bytes more in
@@ -253,14 +253,14 @@ begins_more bytes more long =
     let still : nat_le 4 (length (bytes ++ more)) ≡ true = le-leb 4 (length (bytes ++ more)) (omega (arith, size)) in
     λ i. (still ∙ sym there) i && (word32_at-more Big bytes more 0 long i == 0x0a0d0d0a)
 
--- where nothing was read, of bytes that begin a section and of others
+-- A final error at the start of a capture stays the same with more bytes.
 start_more : (begins : Bool) (bytes more : List ℕ) (e : Refusal) → IsFinal e
     → begins_section bytes ≡ begins → first_row (start_rows begins bytes) ≡ Some e
     → first_row (start_rows begins (bytes ++ more)) ≡ Some e
 start_more true bytes more e final begins refused = block_more no_section bytes more e final refused
 start_more false bytes more e final begins refused = heading_more bytes more e final refused
 
--- such bytes are four at least
+-- A final error at the start of a capture requires four bytes.
 start_long : (begins : Bool) (bytes : List ℕ) (e : Refusal) → IsFinal e → begins_section bytes ≡ begins
     → first_row (start_rows begins bytes) ≡ Some e → 4 ≤ length bytes
 start_long true bytes e final begins refused =
@@ -276,7 +276,7 @@ start_few : (begins : Bool) (bytes : List ℕ) (required there : ℕ)
 start_few true bytes required there refused = block_few no_section bytes required there refused
 start_few false bytes required there refused = heading_few bytes required there refused
 
--- whether a block comes in parts is known by eight bytes
+-- The first eight bytes decide whether a block is a long one.
 long_more : (order : ByteOrder) (bytes more : List ℕ) → 8 ≤ length bytes
     → begins_long order (bytes ++ more) ≡ begins_long order bytes
 long_more order bytes more long =
@@ -287,7 +287,7 @@ long_more order bytes more long =
     let len = word32_at-more order bytes more 4 long in
     λ i. (still ∙ sym there) i && (is_other (kind_of (number i)) && nat_lt most_block (len i))
 
--- which are there where it is refused for good
+-- A final error of a block requires eight bytes.
 section_long : (long : Bool) (section : Section) (bytes : List ℕ) (e : Refusal) → IsFinal e
     → begins_long section.order bytes ≡ long → first_row (section_rows long section bytes) ≡ Some e → 8 ≤ length bytes
 section_long true section bytes e final long refused = (long_facts section.order bytes long).0
@@ -365,7 +365,7 @@ item_few (in_section section) bytes required there refused =
 item_few (inside section len left) bytes required there refused =
     inside_few (left == 0) section.order len left bytes required there refused
 
--- where a capture may not end, it may not with more bytes
+-- If a capture may not end here, it may not with more bytes.
 ends_not_more : (stage : Stage) (bytes more : List ℕ) → may_end stage bytes ≡ false → may_end stage (bytes ++ more)
     ≡ false
 ends_not_more at_start bytes more goes_on = refl
@@ -429,7 +429,7 @@ refused_answers reader next (refusal.UndescribedInterface interface) same goes_o
 refused_answers reader next refusal.TooManyInterfaces same goes_on refused =
     final_answers reader next refusal.TooManyInterfaces tt same goes_on refused
 
--- bytes in front of which a capture with a heading may not end
+-- A capture may not end before further bytes.
 pub some_left : (stage : Stage) (bytes : List ℕ) → 0 < length bytes → may_end stage bytes ≡ false
 some_left at_start bytes some = refl
 some_left (in_records first) [] some = absurd (omega arith)
@@ -438,14 +438,14 @@ some_left (in_section section) [] some = absurd (omega arith)
 some_left (in_section section) (byte ∷ bytes) some = refl
 some_left (inside section len left) bytes some = refl
 
--- a reader in records is refused what is no record
+-- If no record is read, a reader of records reports that error.
 pub refused_record : (reader : CaptureReader) (first : Heading) (e : Refusal) → reader.state ≡ Records first
     → first_row (record_rows first.order (reader_rest reader)) ≡ Some e
     → first_row (item_rows (reader_stage reader) (reader_rest reader)) ≡ Some e
 refused_record reader first e records refused =
     ap (λ s. first_row (item_rows (stage_of s reader.interfaces.items) (reader_rest reader))) records ∙ refused
 
--- a reader of a heading is refused what is none
+-- If no file header is read, a reader at the start reports that error.
 pub refused_heading : (reader : CaptureReader) (e : Refusal) → reader.state ≡ Start
     → begins_section (reader_rest reader) ≡ false → first_row (heading_rows (reader_rest reader)) ≡ Some e
     → (may_end (reader_stage reader) (reader_rest reader) ≡ false)
@@ -457,7 +457,7 @@ refused_heading reader e start not_so refused =
           ∙ ap (λ (b : Bool). first_row (start_rows b (reader_rest reader))) not_so ∙ refused,
     )
 
--- a reader of blocks is refused what is none
+-- If no block is read, a reader of blocks reports that error.
 block_refused : (state : State) (interfaces : List Interface) (order : ByteOrder) (bytes : List ℕ) (e : Refusal)
     → BlocksStand state interfaces order bytes → first_row (block_rows (section_of order interfaces) bytes) ≡ Some e
     → (may_end (stage_of state interfaces) bytes ≡ false)
@@ -484,7 +484,7 @@ pub refused_block : (reader : CaptureReader) (order : ByteOrder) (e : Refusal) �
 refused_block reader order e stands refused =
     block_refused reader.state reader.interfaces.items order (reader_rest reader) e stands refused
 
--- a reader of a block that comes in parts is refused what is none
+-- If no part is read, a reader of a long block reports that error.
 pub refused_part : (reader : CaptureReader) (stage : Stage) (e : Refusal) → reader_stage reader ≡ stage
     → may_end stage (reader_rest reader) ≡ false → first_row (item_rows stage (reader_rest reader)) ≡ Some e
     → Answers reader reader (refused_at (reader_offset reader) e)
@@ -493,7 +493,7 @@ refused_part reader stage e stands goes_on refused =
     (ap (λ s. may_end s (reader_rest reader)) stands ∙ goes_on)
     (ap (λ s. first_row (item_rows s (reader_rest reader))) stands ∙ refused)
 
--- a reader of such a block's front is refused what is none
+-- If the start of a long block is rejected, a reader of blocks reports that error.
 pub front_refused : (section : Section) (bytes : List ℕ) (e : Refusal) → begins_long section.order bytes ≡ true
     → first_row (long_rows section.order bytes) ≡ Some e
     → (may_end (in_section section) bytes ≡ false) × (first_row (item_rows (in_section section) bytes) ≡ Some e)

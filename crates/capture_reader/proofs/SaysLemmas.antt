@@ -1,4 +1,4 @@
--- What blocks say, as it was read.
+-- The content of blocks, as it is parsed.
 use Rattle.std.proofs.Common.{◌≡◌, ℕ, ◌<◌, ◌≤◌, not, nat_lt, List, [], ◌∷◌, ◌++◌}
 use Rattle.std.proofs.Common.{None, length, drop, refl, sym, ap, ◌∙◌, arith}
 use Rattle.std.proofs.lemmas.Bool.{lt-ltb, not_from_true}

@@ -1,4 +1,4 @@
--- Steps of a reader over headings, records and blocks.
+-- Steps of a reader over file headers, records and blocks.
 use Rattle.std.proofs.Common.{◌≡◌, ℕ, ◌+◌, ◌-◌, ◌<◌, ◌≤◌, true, false}
 use Rattle.std.proofs.Common.{List, [], ◌∷◌, ◌++◌, Option, Some, None, Ok, length, take, drop, slice_range}
 use Rattle.std.proofs.Common.{refl, sym, ap, subst, ◌∙◌, length-append, length-drop, arith}
@@ -35,7 +35,7 @@ use Rattle.capture_reader.proofs.CaptureLemmas.{begins_header}
 use Rattle.capture_reader.proofs.ClassicLemmas.{range_split, record_is_read_by, record_kept}
 use Rattle.capture_reader.proofs.NumberLemmas.{range_within}
 
--- ---- steps over a heading and a record
+-- ---- file headers and records
 
 pub steps_heading : (reader next : CaptureReader) (first : Heading) → reader.state ≡ Start
     → next.state ≡ Records first → next.buffer.items ≡ reader.buffer.items → next.end ≡ reader.end + 24
@@ -61,7 +61,7 @@ steps_heading reader next first start records buffer end offset long is =
       offset = omega (arith, offset, len, ap (λ s. length (item_bytes s (heading first))) stage);
     }
 
--- a heading shows no packet
+-- A file header is no packet.
 pub shows_heading : (reader : CaptureReader) (first : Heading) → reader.state ≡ Start
     → IsOther (reader_stage reader) (heading first)
 shows_heading reader first start =
@@ -98,7 +98,7 @@ steps_record reader next first one records state buffer end offset long is =
       offset = omega (arith, offset, len, ap length bytes);
     }
 
--- the packet that a reader shows is the one that was read
+-- The reader's last packet has the bytes of the record that was read.
 shown : (reader next : CaptureReader) (order : ByteOrder) (one : PlainPacket) (rest : List ℕ)
     → IsRecord order (reader_rest reader) (one, rest) → next.buffer.items ≡ reader.buffer.items
     → next.start ≡ reader.end + 16 → next.last ≡ reader.end + 16 + length one.bytes → reader_bytes next ≡ one.bytes
@@ -146,9 +146,9 @@ steps_packet reader next first kept records state buffer start last end offset l
       },
     )
 
--- ---- steps over blocks
+-- ---- blocks
 
--- behind what was read, a block that stands next may stand there
+-- The next block is valid at the reader's stage.
 record Steps (state : State) (interfaces : List Interface) (order : ByteOrder) (bytes behind : List ℕ)
     (one : PlainBlock) : Type 0 where
   fits : Fits (stage_of state interfaces) (block one)
@@ -189,7 +189,7 @@ block_steps (Blocks before) interfaces order bytes behind stands is =
       shows = refl;
     }
 
--- the reader stands behind a block, which was there whole
+-- The reader steps over a complete block.
 pub steps_block : (reader next : CaptureReader) (order next_order : ByteOrder) (len : ℕ) (said : Content)
     → ReadsBlocks reader order → next.state ≡ Blocks next_order → next.buffer.items ≡ reader.buffer.items
     → next.end ≡ reader.end + len → next.offset ≡ reader.offset + len → len ≤ length (reader_rest reader)
@@ -217,7 +217,7 @@ steps_block reader next order next_order len said stands state buffer end offset
       offset = omega (arith, offset, size);
     }
 
--- what it shows
+-- The block is the item that the stage shows.
 pub block_shows : (reader : CaptureReader) (order : ByteOrder) (len : ℕ) (shown : Option PlainShown)
     → ReadsBlocks reader order
     → let section = section_of order reader.interfaces.items in
@@ -229,7 +229,7 @@ block_shows reader order len shown stands is shows =
     is).shows
     ∙ shows
 
--- the bytes of a packet within a block
+-- The bytes of a packet within a block are those of the reader's last packet.
 pub block_bytes_at : (reader next : CaptureReader) (len start kept : ℕ) → next.buffer.items ≡ reader.buffer.items
     → next.start ≡ reader.end + 8 + start → next.last ≡ reader.end + 8 + start + kept → start + kept + 12 ≤ len
     → slice_range (slice_range (reader_rest reader) 8 (len - 4)) start (start + kept) ≡ reader_bytes next
@@ -242,25 +242,25 @@ block_bytes_at reader next len start kept buffer start_is last_is within =
     ∙ ap (take (8 + (start + kept) - (8 + start))) place
     ∙ ap (λ (k : ℕ). take k (drop next.start next.buffer.items)) size
 
--- a list of no length
+-- A list of length 0 is empty.
 nothing : {A : Type 0} → (xs : List A) → length xs ≡ 0 → xs ≡ []
 nothing [] none = refl
 nothing (x ∷ xs) none = absurd (omega arith)
 
--- where nothing was read, and no interface described, a section may begin
+-- If nothing was read and no interface is described, a section may begin.
 pub blocks_first : (reader : CaptureReader) → reader.state ≡ Start → length reader.interfaces.items ≡ 0
     → begins_section (reader_rest reader) ≡ true → ReadsBlocks reader Big
 blocks_first reader start none begins =
     subst (λ s. BlocksStand s reader.interfaces.items Big (reader_rest reader)) (sym start)
     (refl, nothing reader.interfaces.items none, begins)
 
--- behind a block another may stand
+-- Another block may follow a block.
 pub blocks_next : (reader : CaptureReader) (order : ByteOrder) → reader.state ≡ Blocks order
     → 0 < length (reader_rest reader) → begins_long order (reader_rest reader) ≡ false → ReadsBlocks reader order
 blocks_next reader order blocks some whole =
     subst (λ s. BlocksStand s reader.interfaces.items order (reader_rest reader)) (sym blocks) (refl, some, whole)
 
--- or a capture may end
+-- A capture may end after a block.
 pub ends_blocks : (reader : CaptureReader) (order : ByteOrder) → reader.state ≡ Blocks order
     → length (reader_rest reader) ≡ 0 → Answers reader reader (Ok MayEnd)
 ends_blocks reader order blocks none =
@@ -270,9 +270,9 @@ ends_blocks reader order blocks none =
           ∙ ap (may_end (in_section (section_of order reader.interfaces.items))) rest,
     )
 
--- ---- blocks that were read
+-- ---- blocks that were parsed
 
--- the reader stands behind it
+-- The reader has moved to the end of the block.
 pub record StandsBehind (reader next : CaptureReader) (one : Block) : Type 0 where
   pub state : next.state ≡ Blocks one.order
   pub buffer : next.buffer.items ≡ reader.buffer.items
@@ -294,7 +294,7 @@ stepped reader next order one read behind =
     steps_block reader next order one.order one.len one.content read.stands behind.state behind.buffer behind.end
     behind.offset read.within behind.interfaces read.is read.after
 
--- it shows nothing
+-- A block without a packet is an item that is no packet.
 pub other_block : (reader next : CaptureReader) (order : ByteOrder) (one : Block) → ReadsBlock reader order one
     → StandsBehind reader next one
     → content_shown (slice_range (reader_rest reader) 8 (one.len - 4)) one.content ≡ None
@@ -305,7 +305,7 @@ other_block reader next order one read behind nothing_shown = (
   stepped reader next order one read behind,
 )
 
--- it shows a packet, which the reader has
+-- A block with a packet becomes the reader's last packet.
 pub packet_block : (reader next : CaptureReader) (order : ByteOrder) (one : Block) (packet_in : BlockPacket)
     → ReadsBlock reader order one → StandsBehind reader next one → one.content ≡ content.Packet packet_in
     → next.start ≡ reader.end + 8 + packet_in.start → next.last ≡ reader.end + 8 + packet_in.start + packet_in.kept
@@ -326,9 +326,9 @@ packet_block reader next order one packet_in read behind content_is start last k
       },
     )
 
--- ---- blocks that come in parts
+-- ---- long blocks
 
--- a part was read, which stood in front
+-- The reader steps over a part of a long block.
 pub part_steps : (reader next : CaptureReader) (stage after : Stage) (one : Part) (len : ℕ) → reader_stage reader
     ≡ stage
     → Fits stage (part one) → shown_in stage (part one) ≡ None

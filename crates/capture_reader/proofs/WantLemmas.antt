@@ -1,4 +1,4 @@
--- A refusal for want of bytes says how many there are, and that more are needed.
+-- An error for too few bytes states how many bytes there are, and that more are required.
 use Rattle.std.proofs.Common.{◌≡◌, ℕ, ◌+◌, ◌-◌, ◌<◌, ◌==◌, min, Bool, true, false, List, [], ◌∷◌, Some, length}
 use Rattle.std.proofs.Common.{slice_range}
 use Rattle.std.proofs.Common.{refl, subst}
@@ -20,7 +20,7 @@ use Rattle.capture_reader.specs.declared.refusal.Refusal.{Refusal}
 use Rattle.capture_reader.specs.declared.refusal.Refusal.TheVariants as refusal
 use Rattle.capture_reader.proofs.CaptureLemmas.{same_some, start_rows}
 
--- where so many bytes are left, a row about too few tells how many they are, and refuses where more are needed
+-- Holds if a row for too few bytes states that `left` bytes are present, and applies only if more are required.
 abbrev TellsWant : ℕ → Bool → Refusal → Type 0
 TellsWant left short (refusal.Cut required there) = (there ≡ left) × (short ≡ true → left < required)
 TellsWant left holds other = Unit {0}
@@ -80,7 +80,7 @@ stage_wants (in_records first) bytes =
 stage_wants (in_section section) bytes = section_wants (begins_long section.order bytes) section bytes
 stage_wants (inside section len left) bytes = inside_wants (left == 0) section.order len left bytes
 
--- what stands next and is refused for want of bytes needs more of them
+-- An item that is rejected for too few bytes requires more than there are.
 pub item_wants : (stage : Stage) (bytes : List ℕ) (required there : ℕ)
     → first_row (item_rows stage bytes) ≡ Some (refusal.Cut required there)
     → WantsBytes (length bytes) (refusal.Cut required there)

@@ -1,8 +1,8 @@
--- What values say of blocks.
+-- How values of the program relate to the blocks of a pcapng capture.
 use Rattle.std.specs.Prelude.{◌≡◌, ℕ, ◌+◌, ◌-◌, ◌≤◌, ◌%◌, false, List, [], ◌∷◌, ◌++◌, Option, Some, None}
 use Rattle.std.specs.Prelude.{length, slice_range}
 use Rattle.ep_base.specs.Tables.{first_row}
-use Rattle.capture_reader.specs.Blocks.{Section, block_of, body_rows, has_no_order, kind_in, least_len, most_block}
+use Rattle.capture_reader.specs.Blocks.{Section, block_of, body_rows, has_no_order, kind_in, min_len, most_block}
 use Rattle.capture_reader.specs.Blocks.{order_in, section_after}
 use Rattle.capture_reader.specs.Captures.{PlainShown, block_shown, block_time}
 use Rattle.capture_reader.specs.Numbers.{word32_at}
@@ -16,11 +16,11 @@ use Rattle.capture_reader.specs.declared.byte_order.ByteOrder.TheVariants.{Big}
 use Rattle.capture_reader.specs.declared.interface.Interface.{Interface}
 use Rattle.capture_reader.specs.declared.shown.Known.{Known}
 
--- a section of this byte order, which described these interfaces
+-- a section of this byte order that has described these interfaces
 abbrev pub section_of : ByteOrder → List Interface → Section
 section_of order interfaces = record { order = order; interfaces = interfaces }
 
--- the packet of which this is known, and which has these bytes
+-- a packet with these properties and these bytes
 abbrev pub known_shown : Known → List ℕ → PlainShown
 known_shown known bytes =
     record {
@@ -31,8 +31,8 @@ known_shown known bytes =
       bytes = bytes;
     }
 
--- what is known of a packet of the interface of a number, whose block begins with this: the halves of its time stand
--- behind 4 and 8 bytes, its length behind 16
+-- properties of a packet of this interface, from the body of its block: the timestamp's halves are at bytes 4 and 8,
+-- the original length is at byte 16
 abbrev pub timed_known : ByteOrder → ℕ → Interface → List ℕ → Known
 timed_known order number about body = record {
   link_type = about.link_type;
@@ -41,30 +41,31 @@ timed_known order number about body = record {
   original_len = word32_at order body 16;
 }
 
--- the interfaces behind a block that says so, in a section that described these before it
+-- the interfaces of a section after a block with this content, if it had described `interfaces` before
 abbrev pub content_interfaces : List Interface → Content → List Interface
 content_interfaces interfaces content.Section = []
 content_interfaces interfaces (content.Interface about) = interfaces ++ about ∷ []
 content_interfaces interfaces said = interfaces
 
--- what the block shows which says so and holds these bytes
+-- the packet that a block with this content and this body shows, if any
 abbrev pub content_shown : List ℕ → Content → Option PlainShown
 content_shown body (content.Packet one) =
     Some (known_shown one.known (slice_range body one.start (one.start + one.kept)))
 content_shown body said = None
 
--- a block of this kind and byte order stands in a section of that one
+-- Holds if a block of this kind and byte order may be in a section of the byte order `before`.
 abbrev pub StandsIn : BlockKind → ByteOrder → ByteOrder → Type 0
 StandsIn SectionHeader order before = Unit {0}
 StandsIn kind order before = order ≡ before
 
--- an interface is described by 20 bytes at least, and a packet is within its block
+-- Holds if the content fits in a block of this length: an interface description has at least 20 bytes, and a packet
+-- ends within its block.
 abbrev pub FitsLen : Content → ℕ → Type 0
 FitsLen (content.Interface about) len = 20 ≤ len
 FitsLen (content.Packet one) len = one.start + one.kept + 12 ≤ len
 FitsLen said len = Unit {0}
 
--- a block of a kind which holds these bytes is not refused, and says so
+-- A body of a block of this kind is not rejected, and has this content.
 pub record Says (interfaces : List Interface) (order : ByteOrder) (kind : BlockKind) (len : ℕ) (body : List ℕ)
     (content : Content) : Type 0 where
   pub none : first_row (body_rows interfaces order kind len body) ≡ None
@@ -75,13 +76,13 @@ pub record Says (interfaces : List Interface) (order : ByteOrder) (kind : BlockK
       → block_shown interfaces (block_of interfaces order kind number body) ≡ content_shown body content
   pub fits : FitsLen content (12 + length body)
 
--- what stands around the block at the front of the bytes is right
+-- The framing of the block at the start of the bytes is valid.
 pub record IsFramed (order : ByteOrder) (bytes : List ℕ) (framing : Framing) : Type 0 where
   pub order_is : framing.order ≡ order_in order bytes
   pub kind : framing.kind ≡ kind_in order bytes
   pub len : framing.len ≡ word32_at framing.order bytes 4
   pub known : has_no_order order framing.kind (word32_at Big bytes 8) ≡ false
-  pub least : least_len framing.kind ≤ framing.len
+  pub least : min_len framing.kind ≤ framing.len
   pub whole : framing.len % 4 ≡ 0
   pub most : framing.len ≤ most_block
   pub within : framing.len ≤ length bytes

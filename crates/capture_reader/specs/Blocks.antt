@@ -1,5 +1,5 @@
--- The newer capture format (pcapng, draft-ietf-opsawg-pcapng): sections of blocks, each of which has its length in
--- front of what it holds, and behind it.
+-- The pcapng capture format (draft-ietf-opsawg-pcapng): sections of blocks. Each block has its length before and after
+-- its body.
 use Rattle.std.specs.Prelude.{◌≡◌, ℕ, ◌+◌, ◌-◌, ◌%◌, ◌^◌, ◌<◌, ◌≤◌, ◌==◌, ◌&&◌, ◌||◌, Bool, true, false, not, is_some}
 use Rattle.std.specs.Prelude.{nat_lt}
 use Rattle.std.specs.Prelude.{if◌then◌else◌, List, [], ◌∷◌, ◌++◌, Option, Some, None, length, drop, slice_index_or}
@@ -20,15 +20,16 @@ use Rattle.capture_reader.specs.declared.interface.Interface.{Interface}
 use Rattle.capture_reader.specs.declared.refusal.Refusal.{Refusal}
 use Rattle.capture_reader.specs.declared.refusal.Refusal.TheVariants as refusal
 
--- ---- what blocks hold
+-- ---- block contents
 
--- the header of a section (4.1): its byte order, minor version, and length and options, of which nothing is read
+-- a Section Header Block (4.1): byte order, minor version, and then the section length and options, which are not
+-- interpreted
 pub record PlainHeader : Type 0 where
   pub order : ByteOrder
   pub minor : ℕ
   pub behind : List ℕ
 
--- the description of an interface (4.2); what stands behind its options is nothing, or the end of options and any bytes
+-- an Interface Description Block (4.2); after its options come no bytes, or the end-of-options marker and any bytes
 pub record PlainInterface : Type 0 where
   pub link_type : ℕ
   pub reserved : ℕ
@@ -36,8 +37,8 @@ pub record PlainInterface : Type 0 where
   pub options : List PlainOption
   pub ending : List ℕ
 
--- An enhanced packet (4.3): the number of its interface, the upper and the lower half of its time, how long it was,
--- those of its bytes that were kept, what fills them up, and options, of which nothing is read.
+-- an Enhanced Packet Block (4.3): the number of its interface, the upper and lower half of its timestamp, the original
+-- length, the captured bytes, their padding, and options, which are not interpreted
 pub record PlainEnhanced : Type 0 where
   pub number : ℕ
   pub high : ℕ
@@ -47,21 +48,21 @@ pub record PlainEnhanced : Type 0 where
   pub padding : List ℕ
   pub options : List ℕ
 
--- A packet in the form that enhanced packets replace (appendix A), the number of whose interface has two bytes, and how
--- many packets were dropped in front of it, of which nothing is told.
+-- an obsolete Packet Block (appendix A): its interface number has two bytes, and the number of dropped packets, also
+-- two bytes, is not interpreted
 pub record PlainObsolete : Type 0 where
   pub drops : ℕ
   pub packet : PlainEnhanced
 
--- A simple packet (4.4), which has no time, and is of a section's first interface. Nothing is read of what stands
--- behind what fills its bytes up.
+-- a Simple Packet Block (4.4), which has no timestamp and belongs to the section's first interface; bytes after its
+-- padding are not interpreted
 pub record PlainSimple : Type 0 where
   pub original_len : ℕ
   pub bytes : List ℕ
   pub padding : List ℕ
   pub behind : List ℕ
 
--- a block of another kind, of which nothing is read
+-- a block of another kind, whose body is not interpreted
 pub record PlainOther : Type 0 where
   pub kind : ℕ
   pub body : List ℕ
@@ -74,16 +75,16 @@ pub data PlainBlock : Type 0 where
   simple : PlainSimple → PlainBlock
   other : PlainOther → PlainBlock
 
--- what was read of a section: its byte order, and its interfaces
+-- a section as read so far: its byte order and its interfaces
 pub record Section : Type 0 where
   pub order : ByteOrder
   pub interfaces : List Interface
 
--- in front of all sections
+-- the state before the first section
 abbrev pub no_section : Section
 no_section = record { order = Big; interfaces = [] }
 
--- what is known of an interface
+-- the description of an interface that its block contains
 abbrev pub interface_of : ByteOrder → PlainInterface → Interface
 interface_of order plain = record {
   link_type = plain.link_type;
@@ -92,24 +93,24 @@ interface_of order plain = record {
   offset = offset_said order (value_of 14 plain.options);
 }
 
--- what is known of none
+-- the description used for a number without interface
 abbrev pub no_interface : Interface
 no_interface = record { link_type = 0; snap_len = 0; per_second = 0; offset = pos 0 }
 
--- the interface of a number
+-- the interface with this number
 abbrev pub interface_at : List Interface → ℕ → Interface
 interface_at interfaces number = slice_index_or interfaces number no_interface
 
--- a section, behind a block
+-- the section after a block
 abbrev pub section_after : Section → PlainBlock → Section
 section_after section (header plain) = record { order = plain.order; interfaces = [] }
 section_after section (interface plain) =
     record section { interfaces = section.interfaces ++ interface_of section.order plain ∷ [] }
 section_after section block = section
 
--- ---- their bytes
+-- ---- wire bytes
 
--- the number that stands for a kind
+-- the block type of a kind; 0 for `Other`, which is no single type
 abbrev pub number_of : BlockKind → ℕ
 number_of SectionHeader = 0x0a0d0d0a
 number_of InterfaceDescription = 1
@@ -118,7 +119,7 @@ number_of EnhancedPacket = 6
 number_of ObsoletePacket = 2
 number_of Other = 0
 
--- the kind for which a number stands
+-- the kind of a block type
 abbrev pub kind_of : ℕ → BlockKind
 kind_of number =
     if number == 0x0a0d0d0a then SectionHeader else
@@ -127,7 +128,7 @@ kind_of number =
     (if number == 3 then SimplePacket else
     (if number == 6 then EnhancedPacket else Other))))
 
--- the number of a block
+-- the block type of a block
 abbrev pub block_number : PlainBlock → ℕ
 block_number (header plain) = number_of SectionHeader
 block_number (interface plain) = number_of InterfaceDescription
@@ -136,19 +137,20 @@ block_number (obsolete plain) = number_of ObsoletePacket
 block_number (simple plain) = number_of SimplePacket
 block_number (other plain) = plain.kind
 
--- a section says its own byte order, and by it the blocks behind are written
+-- the byte order of a block: a section header states its own, which is also that of the blocks after it
 abbrev pub block_order : ByteOrder → PlainBlock → ByteOrder
 block_order order (header plain) = plain.order
 block_order order block = order
 
--- what stands behind the number of a packet's interface: its time, how many bytes are kept, how long it was, and these
+-- the bytes of a packet block from the timestamp on, which follow the interface number (and in an obsolete Packet Block
+-- the number of dropped packets): timestamp, captured length, original length, captured bytes, padding and options
 abbrev pub packet_body : ByteOrder → PlainEnhanced → List ℕ
 packet_body order plain =
     word32 order plain.high ++ word32 order plain.low
     ++ word32 order (length plain.bytes) ++ word32 order plain.original_len
     ++ plain.bytes ++ plain.padding ++ plain.options
 
--- what a block holds
+-- the body of a block
 abbrev pub block_body : ByteOrder → PlainBlock → List ℕ
 block_body order (header plain) =
     word32 plain.order 0x1a2b3c4d ++ word16 plain.order 1 ++ word16 plain.order plain.minor ++ plain.behind
@@ -161,38 +163,38 @@ block_body order (obsolete plain) =
 block_body order (simple plain) = word32 order plain.original_len ++ plain.bytes ++ plain.padding ++ plain.behind
 block_body order (other plain) = plain.body
 
--- how many bytes a block has: those that it holds, and 12 around them
+-- the length of a block: that of its body, and 12 bytes for the type and both length fields
 abbrev pub block_len : ByteOrder → PlainBlock → ℕ
 block_len order block = 12 + length (block_body order block)
 
--- the bytes of a block in a section of a byte order
+-- the wire bytes of a block in a section of the byte order `before`
 abbrev pub block_bytes : ByteOrder → PlainBlock → List ℕ
 block_bytes before block =
     let order = block_order before block in
     word32 order (block_number block) ++ word32 order (block_len order block) ++ block_body order block
     ++ word32 order (block_len order block)
 
--- ---- which of them may stand in a section
+-- ---- which blocks a section may contain
 
--- the greatest number of bytes of a block, 320 KiB
+-- the maximum length of a block that is read as a whole (320 KiB)
 abbrev pub most_block : ℕ
 most_block = 327680
 
--- the greatest number of interfaces of a section
+-- the maximum number of interfaces of a section
 abbrev pub most_interfaces : ℕ
 most_interfaces = 65536
 
--- the minor versions of which all is known (4.1: 2 stands for 0)
+-- True for the supported minor versions (4.1): 0, and 2, which is read as 0.
 abbrev pub knows_minor : ℕ → Bool
 knows_minor minor = (minor == 0) || (minor == 2)
 
--- how many bytes are kept where so many were to be at most: all, where that is 0
+-- the number of captured bytes of a packet under the snap length `most` (0: no limit)
 abbrev pub kept_of : (most original : ℕ) → ℕ
 kept_of most original = if not (most == 0) && nat_lt most original then most else original
 
--- how many of a simple packet, which is of the first interface
-abbrev pub simple_kept : List Interface → ℕ → ℕ
-simple_kept interfaces original = kept_of (interface_at interfaces 0).snap_len original
+-- the number of captured bytes of a simple packet, which belongs to the first interface
+abbrev pub captured_len_of_simple : List Interface → ℕ → ℕ
+captured_len_of_simple interfaces original = kept_of (interface_at interfaces 0).snap_len original
 
 pub record FitsHeader (plain : PlainHeader) : Type 0 where
   pub minor : knows_minor plain.minor ≡ true
@@ -226,7 +228,7 @@ pub record FitsObsolete (section : Section) (plain : PlainObsolete) : Type 0 whe
 pub record FitsSimple (section : Section) (plain : PlainSimple) : Type 0 where
   pub described : 0 < length section.interfaces
   pub original_len : plain.original_len < 2 ^ 32
-  pub bytes : length plain.bytes ≡ simple_kept section.interfaces plain.original_len
+  pub bytes : length plain.bytes ≡ captured_len_of_simple section.interfaces plain.original_len
   pub kept : length plain.bytes ≤ most_kept
   pub padding : length plain.padding ≡ padding_of (length plain.bytes)
 
@@ -242,42 +244,42 @@ FitsContent section (obsolete plain) = FitsObsolete section plain
 FitsContent section (simple plain) = FitsSimple section plain
 FitsContent section (other plain) = FitsOther plain
 
--- what it holds may stand there, and is no longer than may be, and a multiple of four bytes
+-- The block's content is valid in the section, and its length is at most 320 KiB and a multiple of 4.
 pub record FitsBlock (section : Section) (block : PlainBlock) : Type 0 where
   pub content : FitsContent section block
   pub len : block_len (block_order section.order block) block ≤ most_block
   pub whole : length (block_body (block_order section.order block) block) % 4 ≡ 0
 
--- the bytes are a block, and what stands behind it
+-- The bytes begin with this block, and these bytes follow it.
 pub record IsBlock (section : Section) (bytes : List ℕ) (read : PlainBlock × List ℕ) : Type 0 where
   pub fits : FitsBlock section read.0
   pub parts : bytes ≡ block_bytes section.order read.0 ++ read.1
 
 -- ---- why bytes begin with no block
 
--- the kind that is said in front
+-- the kind by the block type at byte 0
 abbrev pub kind_in : ByteOrder → List ℕ → BlockKind
 kind_in before bytes = kind_of (word32_at before bytes 0)
 
--- whether it is none that is read
+-- True if the content of blocks of this kind is skipped.
 abbrev pub is_other : BlockKind → Bool
 is_other Other = true
 is_other kind = false
 
--- the byte order that the number of a section says
-abbrev pub order_said : ℕ → Option ByteOrder
-order_said magic = if magic == 0x1a2b3c4d then Some Big else (if magic == 0x4d3c2b1a then Some Little else None)
+-- the byte order that a byte-order magic states
+abbrev pub byte_order_of_magic : ℕ → Option ByteOrder
+byte_order_of_magic magic = if magic == 0x1a2b3c4d then Some Big else (if magic == 0x4d3c2b1a then Some Little else None)
 
--- the byte order of a block, where it is known: a section says its own, and by it the blocks behind are written
+-- the byte order of a block, if it is known: a section header states its own, which is also that of the blocks after it
 abbrev pub known_order : ByteOrder → BlockKind → ℕ → Option ByteOrder
-known_order before SectionHeader magic = order_said magic
+known_order before SectionHeader magic = byte_order_of_magic magic
 known_order before kind magic = Some before
 
--- a section begins there whose byte order is not known
+-- True for a section header whose byte-order magic is unknown.
 abbrev pub has_no_order : ByteOrder → BlockKind → ℕ → Bool
 has_no_order before kind magic = not (is_some (known_order before kind magic))
 
--- what is known, or else this
+-- the byte order that is known, or else `order`
 abbrev pub order_or : ByteOrder → Option ByteOrder → ByteOrder
 order_or order None = order
 order_or order (Some known) = known
@@ -289,31 +291,31 @@ order_of before kind magic = order_or before (known_order before kind magic)
 abbrev pub order_in : ByteOrder → List ℕ → ByteOrder
 order_in before bytes = order_of before (kind_in before bytes) (word32_at Big bytes 8)
 
--- how many bytes a block of a kind has at least
-abbrev pub least_len : BlockKind → ℕ
-least_len SectionHeader = 28
-least_len InterfaceDescription = 20
-least_len SimplePacket = 16
-least_len EnhancedPacket = 32
-least_len ObsoletePacket = 32
-least_len Other = 12
+-- the minimum length of a block of this kind
+abbrev pub min_len : BlockKind → ℕ
+min_len SectionHeader = 28
+min_len InterfaceDescription = 20
+min_len SimplePacket = 16
+min_len EnhancedPacket = 32
+min_len ObsoletePacket = 32
+min_len Other = 12
 
--- the rows of what stands in front of all blocks, whose first 12 bytes are there
+-- the refusal table of a block's type, byte order and length; its first 12 bytes are present
 abbrev pub front_rows : ByteOrder → BlockKind → (magic len : ℕ) → List (Bool × Refusal)
 front_rows before kind magic len =
     (has_no_order before kind magic, refusal.UnknownByteOrder magic)
-    ∷ (nat_lt len (least_len kind) || not (len % 4 == 0), refusal.BlockLength len)
+    ∷ (nat_lt len (min_len kind) || not (len % 4 == 0), refusal.BlockLength len)
     ∷ (nat_lt most_block len, refusal.BlockTooLong len)
     ∷ []
 
--- the rows of a packet of which so many bytes are kept, behind so many others
+-- the refusal table of a packet with `kept` captured bytes that start at byte `before` of the body
 abbrev pub kept_rows : (len before kept there : ℕ) → List (Bool × Refusal)
 kept_rows len before kept there =
     (nat_lt most_kept kept, refusal.PacketTooLong kept)
     ∷ (nat_lt there (before + kept + padding_of kept), refusal.BlockLength len)
     ∷ []
 
--- those of an interface, of whose options it is known whether they are within their block, and the values of 9 and 14
+-- the refusal table of an interface, from whether its options end within the block and the values of options 9 and 14
 abbrev pub said_rows : Bool → (resolution offset : Option (List ℕ)) → List (Bool × Refusal)
 said_rows ends resolution offset =
     (not ends, refusal.OptionBeyondBlock)
@@ -327,18 +329,18 @@ options_rows order bytes =
     let options = options_of order bytes in
     said_rows (ends_options order (options_end order bytes)) (value_of 9 options) (value_of 14 options)
 
--- the rows of a section's version
+-- the refusal table of a section's version
 abbrev pub version_rows : (major minor : ℕ) → List (Bool × Refusal)
 version_rows major minor =
     (not (major == 1) || not (knows_minor minor), refusal.UnsupportedVersion major minor) ∷ []
 
--- the rows of a packet of the interface of a number
+-- the refusal table of a packet of the interface with this number
 abbrev pub numbered_rows : List Interface → ℕ → ByteOrder → ℕ → List ℕ → List (Bool × Refusal)
 numbered_rows interfaces number order len body =
     (not (nat_lt number (length interfaces)), refusal.UndescribedInterface number)
     ∷ kept_rows len 20 (word32_at order body 12) (length body)
 
--- the rows of what a block of a kind and a length holds
+-- the refusal table of the body of a block
 abbrev pub body_rows : List Interface → ByteOrder → BlockKind → ℕ → List ℕ → List (Bool × Refusal)
 body_rows interfaces order SectionHeader len body = version_rows (word16_at order body 4) (word16_at order body 6)
 body_rows interfaces order InterfaceDescription len body =
@@ -347,10 +349,10 @@ body_rows interfaces order EnhancedPacket len body = numbered_rows interfaces (w
 body_rows interfaces order ObsoletePacket len body = numbered_rows interfaces (word16_at order body 0) order len body
 body_rows interfaces order SimplePacket len body =
     (not (nat_lt 0 (length interfaces)), refusal.UndescribedInterface 0)
-    ∷ kept_rows len 4 (simple_kept interfaces (word32_at order body 0)) (length body)
+    ∷ kept_rows len 4 (captured_len_of_simple interfaces (word32_at order body 0)) (length body)
 body_rows interfaces order Other len body = []
 
--- the rows of a block that is there whole
+-- the refusal table of a complete block
 abbrev pub whole_rows : List Interface → ByteOrder → BlockKind → ℕ → List ℕ → List (Bool × Refusal)
 whole_rows interfaces order kind len bytes =
     (not (word32_at order bytes (len - 4) == len), refusal.TrailingLength len (word32_at order bytes (len - 4)))
@@ -369,7 +371,7 @@ block_rows section bytes =
 abbrev pub RefusesBlock : Section → List ℕ → Refusal → Type 0
 RefusesBlock section bytes = Refuses (block_rows section bytes)
 
--- ---- the block that stands at the front of bytes, where no row refuses them
+-- ---- the block at the start of the bytes, if no row rejects them
 
 abbrev pub header_of : ByteOrder → List ℕ → PlainHeader
 header_of order body = record { order = order; minor = word16_at order body 6; behind = drop 8 body }
@@ -405,7 +407,7 @@ obsolete_of order body =
 
 abbrev pub simple_of : List Interface → ByteOrder → List ℕ → PlainSimple
 simple_of interfaces order body =
-    let kept = simple_kept interfaces (word32_at order body 0) in
+    let kept = captured_len_of_simple interfaces (word32_at order body 0) in
     record {
       original_len = word32_at order body 0;
       bytes = slice_range body 4 (4 + kept);
@@ -413,7 +415,7 @@ simple_of interfaces order body =
       behind = drop (4 + kept + padding_of kept) body;
     }
 
--- of a kind and its number, which holds this
+-- the block of this kind and block type that has this body
 abbrev pub block_of : List Interface → ByteOrder → BlockKind → ℕ → List ℕ → PlainBlock
 block_of interfaces order SectionHeader number body = header (header_of order body)
 block_of interfaces order InterfaceDescription number body = interface (interface_read order body)

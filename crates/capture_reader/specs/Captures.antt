@@ -1,4 +1,4 @@
--- Whole captures: what stands in them one behind the other, and where they break off.
+-- Captures of both formats: their items in order, and the errors that end them.
 use Rattle.std.specs.Prelude.{◌≡◌, ℕ, ◌+◌, ◌-◌, ◌*◌, ◌%◌, ◌^◌, ◌<◌, ◌==◌, ◌&&◌, Bool, true, false, not, nat_le, nat_lt}
 use Rattle.std.specs.Prelude.{if◌then◌else◌, min, pos}
 use Rattle.std.specs.Prelude.{List, [], ◌∷◌, ◌++◌, Option, Some, None, length}
@@ -23,31 +23,29 @@ use Rattle.capture_reader.specs.declared.shown.Time.{Time}
 
 -- ---- items
 
--- A part of a block that is longer than one that is kept whole, and of a kind that is not read: its number and length
--- in
--- front, bytes that it holds, or its length behind these.
+-- A part of a long block, which is longer than 320 KiB and of a kind whose content is skipped: its type and length,
+-- some bytes of its body, or its trailing length field.
 pub data Part : Type 0 where
   front : (number len : ℕ) → Part
   stretch : List ℕ → Part
   back : Part
 
--- what stands in a capture: a heading and packets, or blocks, of which long ones come in parts
+-- an item of a capture: a file header, a packet record, a block, or a part of a long block
 pub data Item : Type 0 where
   heading : Heading → Item
   packet : PlainPacket → Item
   block : PlainBlock → Item
   part : Part → Item
 
--- what was read so far: nothing; a heading, behind which stand records; blocks, the last of a section; or the front of
--- a
--- block of so many bytes, of which so many are left in front of its length
+-- the stage of reading a capture: nothing was read; a file header, after which records follow; blocks of a section; or
+-- the start of a long block of `len` bytes, with `left` bytes before its trailing length field
 pub data Stage : Type 0 where
   at_start : Stage
   in_records : Heading → Stage
   in_section : Section → Stage
   inside : Section → (len left : ℕ) → Stage
 
--- what was read behind an item
+-- the stage after an item
 abbrev pub stage_after : Stage → Item → Stage
 stage_after at_start (heading first) = in_records first
 stage_after at_start (block one) = in_section (section_after no_section one)
@@ -57,21 +55,21 @@ stage_after (inside section len left) (part (stretch bytes)) = inside section le
 stage_after (inside section len left) (part back) = in_section section
 stage_after stage item = stage
 
--- the same behind several
+-- the stage after several items
 abbrev pub stage_behind : Stage → List Item → Stage
 stage_behind stage [] = stage
 stage_behind stage (item ∷ items) = stage_behind (stage_after stage item) items
 
--- a block that begins a section
+-- Holds if the block begins a section.
 abbrev pub BeginsSection : PlainBlock → Type 0
 BeginsSection (header plain) = Unit {0}
 BeginsSection one = ⊥
 
--- how many bytes a stretch has: 64 KiB, or what is left
+-- the maximum length of a stretch: 64 KiB; a stretch is shorter only at the end of the body
 abbrev pub most_stretch : ℕ
 most_stretch = 65536
 
--- a block of this number and length comes in parts
+-- A block of this type and length is read in parts.
 pub record FitsFront (number len : ℕ) : Type 0 where
   pub numbered : number < 2 ^ 32
   pub kind : kind_of number ≡ Other
@@ -79,7 +77,7 @@ pub record FitsFront (number len : ℕ) : Type 0 where
   pub within : len < 2 ^ 32
   pub whole : len % 4 ≡ 0
 
--- an item that may stand there
+-- The item is valid at this stage.
 abbrev pub Fits : Stage → Item → Type 0
 Fits at_start (heading first) = FitsHeading first
 Fits at_start (block one) = BeginsSection one × FitsBlock no_section one
@@ -90,7 +88,7 @@ Fits (inside section len left) (part (stretch bytes)) = (0 < left) × (length by
 Fits (inside section len left) (part back) = (left ≡ 0) × (len < 2 ^ 32)
 Fits stage item = ⊥
 
--- the bytes of an item
+-- the wire bytes of an item
 abbrev pub item_bytes : Stage → Item → List ℕ
 item_bytes at_start (heading first) = heading_bytes first
 item_bytes at_start (block one) = block_bytes Big one
@@ -101,65 +99,67 @@ item_bytes (inside section len left) (part (stretch bytes)) = bytes
 item_bytes (inside section len left) (part back) = word32 section.order len
 item_bytes stage item = []
 
--- items that may stand there, one behind the other
+-- The items are valid one after the other, from this stage on.
 abbrev pub AreItems : Stage → List Item → Type 0
 AreItems stage [] = Unit {0}
 AreItems stage (item ∷ items) = Fits stage item × AreItems (stage_after stage item) items
 
--- their bytes
+-- the wire bytes of items, from this stage on
 abbrev pub items_bytes : Stage → List Item → List ℕ
 items_bytes stage [] = []
 items_bytes stage (item ∷ items) = item_bytes stage item ++ items_bytes (stage_after stage item) items
 
--- whether a capture may end in front of these bytes: where they are none, and its heading or a section's was read
+-- True if a capture may end here: no bytes follow, its file header or a section header has been read, and no long block
+-- is incomplete.
 abbrev pub may_end : Stage → List ℕ → Bool
 may_end (in_records first) [] = true
 may_end (in_section section) [] = true
 may_end stage bytes = false
 
--- whether bytes begin as a section does, in either byte order
+-- True if the bytes begin with the type of a Section Header Block.
 abbrev pub begins_section : List ℕ → Bool
 begins_section bytes = nat_le 4 (length bytes) && (word32_at Big bytes 0 == 0x0a0d0d0a)
 
--- whether bytes begin with a block that comes in parts
+-- True if the bytes begin with a long block, which is read in parts.
 abbrev pub begins_long : ByteOrder → List ℕ → Bool
 begins_long order bytes =
     nat_le 8 (length bytes) && (is_other (kind_in order bytes) && nat_lt most_block (word32_at order bytes 4))
 
--- the rows of such a block
+-- the refusal table of the start of a long block
 abbrev pub long_rows : ByteOrder → List ℕ → List (Bool × Refusal)
 long_rows order bytes =
     (not (word32_at order bytes 4 % 4 == 0), refusal.BlockLength (word32_at order bytes 4)) ∷ []
 
--- the rows of one that comes in parts, and of one that does not
+-- the refusal table of a block, long or not
 abbrev pub section_rows : Bool → Section → List ℕ → List (Bool × Refusal)
 section_rows true section bytes = long_rows section.order bytes
 section_rows false section bytes = block_rows section bytes
 
--- the rows of the length behind a block of so many bytes
+-- the refusal table of the trailing length field of a block of this length
 abbrev pub back_rows : ByteOrder → ℕ → List ℕ → List (Bool × Refusal)
 back_rows order len bytes =
     (nat_lt (length bytes) 4, refusal.Cut 4 (length bytes))
     ∷ (not (word32_at order bytes 0 == len), refusal.TrailingLength len (word32_at order bytes 0))
     ∷ []
 
--- the rows inside of it, where nothing is left in front of that, and where so many bytes are
+-- the refusal table inside of a long block: of its trailing length field if nothing is left before it, otherwise of a
+-- stretch of its body
 abbrev pub inside_rows : Bool → ByteOrder → (len left : ℕ) → List ℕ → List (Bool × Refusal)
 inside_rows true order len left bytes = back_rows order len bytes
 inside_rows false order len left bytes =
     (nat_lt (length bytes) (min left most_stretch), refusal.Cut (min left most_stretch) (length bytes)) ∷ []
 
--- why bytes begin with no item
+-- the refusal table of the next item
 abbrev pub item_rows : Stage → List ℕ → List (Bool × Refusal)
 item_rows at_start bytes = if begins_section bytes then block_rows no_section bytes else heading_rows bytes
 item_rows (in_section section) bytes = section_rows (begins_long section.order bytes) section bytes
 item_rows (inside section len left) bytes = inside_rows (left == 0) section.order len left bytes
 item_rows (in_records first) bytes = record_rows first.order bytes
 
--- ---- what packets show
+-- ---- packets
 
--- what a packet of either format shows: what it begins with, the number of its interface, when it came, how long it
--- was, and what was kept
+-- a packet of a capture in either format: its link type, the number of its interface, its timestamp, its original
+-- length and its captured bytes
 pub record PlainShown : Type 0 where
   pub link : ℕ
   pub interface : Option ℕ
@@ -167,12 +167,12 @@ pub record PlainShown : Type 0 where
   pub original_len : ℕ
   pub bytes : List ℕ
 
--- how many fractions make a second
+-- the timestamp units per second
 abbrev pub units_of : Resolution → ℕ
 units_of Micros = 1000000
 units_of Nanos = 1000000000
 
--- when the packet of a record came
+-- the timestamp of a packet record
 abbrev pub record_time : Heading → PlainPacket → Time
 record_time first one = record {
   ticks = one.seconds * units_of first.resolution + one.fraction;
@@ -180,7 +180,7 @@ record_time first one = record {
   offset = pos 0;
 }
 
--- when a packet of an interface came, of whose time these are the halves
+-- the timestamp of a packet block of this interface, from its halves
 abbrev pub block_time : Interface → (high low : ℕ) → Time
 block_time about high low =
     record { ticks = high * 2 ^ 32 + low; per_second = about.per_second; offset = about.offset }
@@ -212,7 +212,7 @@ simple_shown about one = record {
   bytes = one.bytes;
 }
 
--- what a block shows: that of a packet, or nothing
+-- the packet that a block contains, if any
 abbrev pub block_shown : List Interface → PlainBlock → Option PlainShown
 block_shown interfaces (enhanced one) = Some (enhanced_shown (interface_at interfaces one.number) one)
 block_shown interfaces (obsolete one) =
@@ -220,7 +220,7 @@ block_shown interfaces (obsolete one) =
 block_shown interfaces (simple one) = Some (simple_shown (interface_at interfaces 0) one)
 block_shown interfaces one = None
 
--- what an item shows
+-- the packet that an item contains, if any
 abbrev pub shown_in : Stage → Item → Option PlainShown
 shown_in (in_records first) (packet one) = Some (record_shown first one)
 shown_in (in_section section) (block one) = block_shown section.interfaces one
@@ -228,13 +228,13 @@ shown_in stage item = None
 
 -- ---- whole captures
 
--- the bytes are a capture: these items, and nothing else
+-- The bytes are a capture that consists of exactly these items.
 pub record IsCapture (bytes : List ℕ) (items : List Item) : Type 0 where
   pub fits : AreItems at_start items
   pub parts : bytes ≡ items_bytes at_start items
   pub ended : may_end (stage_behind at_start items) [] ≡ true
 
--- The bytes are no capture: behind these items stand bytes that are refused, and the error says at which offset.
+-- The bytes are no capture: after these items come bytes that are rejected, at the offset in the error.
 pub record RefusesCapture (bytes : List ℕ) (found : List Item × CaptureError) : Type 0 where
   pub fits : AreItems at_start found.0
   pub rest : List ℕ

@@ -1,4 +1,4 @@
--- The classic capture format (pcap, version 2.4): a heading, and then records, each a packet with its time.
+-- The pcap capture format, version 2.4: a file header, and then records, each of them a packet with its timestamp.
 use Rattle.std.specs.Prelude.{◌≡◌, ℕ, ◌+◌, ◌%◌, ◌^◌, ◌<◌, ◌≤◌, ◌==◌, ◌&&◌, Bool, not, nat_lt, if◌then◌else◌}
 use Rattle.std.specs.Prelude.{List, [], ◌∷◌, ◌++◌, Option, Some, None, is_some, length, slice_range}
 use Rattle.ep_base.specs.Tables.{Refuses}
@@ -13,14 +13,14 @@ use Rattle.capture_reader.specs.declared.packet.Record.{Record}
 use Rattle.capture_reader.specs.declared.refusal.Refusal.{Refusal}
 use Rattle.capture_reader.specs.declared.refusal.Refusal.TheVariants as refusal
 
--- ---- the heading
+-- ---- file header
 
--- the number that begins a capture whose fractions of a second are such
+-- the magic number of captures with this timestamp unit
 abbrev pub magic_of : Resolution → ℕ
 magic_of Micros = 0xa1b2c3d4
 magic_of Nanos = 0xa1b23c4d
 
--- the byte order and the fractions that are said by the first four bytes, read with the highest first
+-- the byte order and timestamp unit that a magic number states, if it was read with the highest byte first
 abbrev pub style_of : ℕ → Option (ByteOrder × Resolution)
 style_of magic =
     if magic == 0xa1b2c3d4 then Some (Big, Micros) else
@@ -28,44 +28,44 @@ style_of magic =
     (if magic == 0xa1b23c4d then Some (Big, Nanos) else
     (if magic == 0x4d3cb2a1 then Some (Little, Nanos) else None)))
 
--- the link type is the lower half of its word; the upper half says how long a frame's check sequence is
+-- the link type: the lower 16 bits of its word; the upper ones state the length of the frame check sequence
 abbrev pub link_of : ℕ → ℕ
 link_of network = network % 65536
 
--- each number fits its four bytes
+-- Each number fits in four bytes.
 pub record FitsHeading (heading : Heading) : Type 0 where
   pub zone : heading.zone < 2 ^ 32
   pub accuracy : heading.accuracy < 2 ^ 32
   pub snap_len : heading.snap_len < 2 ^ 32
   pub network : heading.network < 2 ^ 32
 
--- the bytes of a heading
+-- the wire bytes of a file header
 abbrev pub heading_bytes : Heading → List ℕ
 heading_bytes heading =
     let order = heading.order in
     word32 order (magic_of heading.resolution) ++ word16 order 2 ++ word16 order 4 ++ word32 order heading.zone
     ++ word32 order heading.accuracy ++ word32 order heading.snap_len ++ word32 order heading.network
 
--- the bytes are a heading, and what stands behind it
+-- The bytes begin with this file header, and these bytes follow it.
 pub record IsHeading (bytes : List ℕ) (read : Heading × List ℕ) : Type 0 where
   pub fits : FitsHeading read.0
   pub parts : bytes ≡ heading_bytes read.0 ++ read.1
 
--- what the first four bytes say
+-- the byte order and timestamp unit by the first four bytes
 abbrev pub style_in : List ℕ → Option (ByteOrder × Resolution)
 style_in bytes = style_of (word32_at Big bytes 0)
 
--- the byte order, where it is known
+-- the byte order, if it is known
 abbrev pub style_order : Option (ByteOrder × Resolution) → ByteOrder
 style_order (Some style) = style.0
 style_order None = Big
 
--- the fractions, where they are known
+-- the timestamp unit, if it is known
 abbrev pub style_resolution : Option (ByteOrder × Resolution) → Resolution
 style_resolution (Some style) = style.1
 style_resolution None = Micros
 
--- why bytes begin with no heading
+-- the refusal table of a file header
 abbrev pub heading_rows : List ℕ → List (Bool × Refusal)
 heading_rows bytes =
     let order = style_order (style_in bytes) in
@@ -80,7 +80,7 @@ heading_rows bytes =
 abbrev pub RefusesHeading : List ℕ → Refusal → Type 0
 RefusesHeading bytes = Refuses (heading_rows bytes)
 
--- the heading that stands at the front of 24 bytes and more
+-- the file header at the start of the bytes, which are at least 24
 abbrev pub heading_of : List ℕ → Heading
 heading_of bytes =
     let order = style_order (style_in bytes) in
@@ -95,15 +95,14 @@ heading_of bytes =
 
 -- ---- records
 
--- a packet as plain data: when it came, in seconds and fractions of one, how long it was, and those of its bytes that
--- were kept
+-- a packet record: its timestamp in seconds and fractions of a second, its original length, and its captured bytes
 pub record PlainPacket : Type 0 where
   pub seconds : ℕ
   pub fraction : ℕ
   pub original_len : ℕ
   pub bytes : List ℕ
 
--- the packet that a value shows
+-- the packet of a `Packet`
 abbrev pub packet_of : Packet → PlainPacket
 packet_of packet = record {
   seconds = packet.seconds;
@@ -112,7 +111,7 @@ packet_of packet = record {
   bytes = packet.bytes.now;
 }
 
--- the packet that stands behind what a value says, of these bytes
+-- the packet with this record header and these bytes
 abbrev pub kept_packet : Record → List ℕ → PlainPacket
 kept_packet one bytes = record {
   seconds = one.seconds;
@@ -121,29 +120,29 @@ kept_packet one bytes = record {
   bytes = bytes;
 }
 
--- the greatest number of bytes of a packet that are kept, 256 KiB
+-- the maximum number of captured bytes of a packet (256 KiB)
 abbrev pub most_kept : ℕ
 most_kept = 262144
 
--- each number fits its four bytes, and no more bytes are kept than may be
+-- Each number fits in four bytes, and at most 256 KiB are captured.
 pub record FitsRecord (packet : PlainPacket) : Type 0 where
   pub seconds : packet.seconds < 2 ^ 32
   pub fraction : packet.fraction < 2 ^ 32
   pub original_len : packet.original_len < 2 ^ 32
   pub kept : length packet.bytes ≤ most_kept
 
--- the bytes of a record: 16 in front of the packet, and the packet's
+-- the wire bytes of a record: a header of 16 bytes, and the captured bytes
 abbrev pub record_bytes : ByteOrder → PlainPacket → List ℕ
 record_bytes order packet =
     word32 order packet.seconds ++ word32 order packet.fraction ++ word32 order (length packet.bytes)
     ++ word32 order packet.original_len ++ packet.bytes
 
--- the bytes are a record, and what stands behind it
+-- The bytes begin with this record, and these bytes follow it.
 pub record IsRecord (order : ByteOrder) (bytes : List ℕ) (read : PlainPacket × List ℕ) : Type 0 where
   pub fits : FitsRecord read.0
   pub parts : bytes ≡ record_bytes order read.0 ++ read.1
 
--- why bytes begin with no record
+-- the refusal table of a record
 abbrev pub record_rows : ByteOrder → List ℕ → List (Bool × Refusal)
 record_rows order bytes =
     let kept = word32_at order bytes 8 in
@@ -155,7 +154,7 @@ record_rows order bytes =
 abbrev pub RefusesRecord : ByteOrder → List ℕ → Refusal → Type 0
 RefusesRecord order bytes = Refuses (record_rows order bytes)
 
--- the packet that stands at the front of bytes
+-- the packet of the record at the start of the bytes
 abbrev pub record_of : ByteOrder → List ℕ → PlainPacket
 record_of order bytes = record {
   seconds = word32_at order bytes 0;

@@ -1,4 +1,4 @@
--- What a contract sees of a reader.
+-- The parts of a reader's state that contracts refer to.
 use Rattle.std.specs.Prelude.{◌≡◌, ℕ, ◌+◌, ◌-◌, ◌<◌, ◌≤◌, true, false, List, [], ◌∷◌, ◌++◌, length, drop, slice_range}
 use Rattle.std.specs.Prelude.{Option, Some, None, Result, Ok, Err, vec_capacity, vec_len}
 use Rattle.ep_base.specs.Tables.{Refuses}
@@ -25,63 +25,63 @@ use Rattle.capture_reader.specs.declared.refusal.Refusal.{Refusal}
 use Rattle.capture_reader.specs.declared.refusal.Refusal.TheVariants as refusal
 use Rattle.capture_reader.specs.declared.shown.Shown.{Shown}
 
--- what was read before, of which these are the interfaces
+-- the stage of a reader in this state whose section has described these interfaces
 abbrev pub stage_of : State → List Interface → Stage
 stage_of Start interfaces = at_start
 stage_of (Records first) interfaces = in_records first
 stage_of (Blocks order) interfaces = in_section (section_of order interfaces)
 stage_of (Inside order len left) interfaces = inside (section_of order interfaces) len left
 
--- what a reader has read before
+-- the stage of a reader
 abbrev pub reader_stage : CaptureReader → Stage
 reader_stage reader = stage_of reader.state reader.interfaces.items
 
--- the heading that was read
+-- the file header that was read
 abbrev pub heading_in : Stage → Option Heading
 heading_in (in_records first) = Some first
 heading_in stage = None
 
--- the bytes that were taken, behind those that were read
+-- the bytes that were taken and are not yet read
 abbrev pub reader_rest : CaptureReader → List ℕ
 reader_rest reader = drop reader.end reader.buffer.items
 
--- how many these are
+-- the number of bytes that are not yet read
 abbrev pub reader_left : CaptureReader → ℕ
 reader_left reader = length reader.buffer.items - reader.end
 
--- how many of the bytes that were taken it keeps, read or not
+-- the number of bytes in the reader's buffer, read or not
 abbrev pub reader_held : CaptureReader → ℕ
 reader_held reader = length reader.buffer.items
 
--- how many bytes it has room for that are not read, behind the next piece
-abbrev pub bytes_room : CaptureReader → ℕ
-bytes_room reader = vec_capacity reader.buffer
+-- the capacity of the buffer, for the unread bytes and the next chunk
+abbrev pub bytes_capacity : CaptureReader → ℕ
+bytes_capacity reader = vec_capacity reader.buffer
 
--- how many interfaces it has room for
-abbrev pub interfaces_room : CaptureReader → ℕ
-interfaces_room reader = vec_capacity reader.interfaces
+-- the number of interfaces for which there is capacity
+abbrev pub interfaces_capacity : CaptureReader → ℕ
+interfaces_capacity reader = vec_capacity reader.interfaces
 
--- how many interfaces the section described so far
+-- the number of interfaces that the section has described so far
 abbrev pub interfaces_held : CaptureReader → ℕ
 interfaces_held reader = vec_len reader.interfaces
 
--- how many bytes were read
+-- the number of bytes that were read
 abbrev pub reader_offset : CaptureReader → ℕ
 reader_offset reader = reader.offset
 
--- those of the bytes of the packet that was read last which were kept
+-- the captured bytes of the last packet
 abbrev pub reader_bytes : CaptureReader → List ℕ
 reader_bytes reader = slice_range reader.buffer.items reader.start reader.last
 
--- the packet of the record that was read last
+-- the last packet, with its record header
 abbrev pub reader_packet : CaptureReader → PlainPacket
 reader_packet reader = kept_packet reader.record (reader_bytes reader)
 
--- what the packet that was read last shows
+-- the last packet, in a form that both formats share
 abbrev pub reader_shown : CaptureReader → PlainShown
 reader_shown reader = known_shown reader.known (reader_bytes reader)
 
--- what a value shows
+-- the packet of a `Shown`
 abbrev pub shown_of : Shown → PlainShown
 shown_of shown = record {
   link = shown.link_type;
@@ -91,38 +91,38 @@ shown_of shown = record {
   bytes = shown.bytes.now;
 }
 
--- the reader took these bytes, and read these items at their front
+-- The reader has taken these bytes, and has read these items at their start.
 pub record Reads (reader : CaptureReader) (taken : List ℕ) (items : List Item) : Type 0 where
   pub fits : AreItems at_start items
   pub parts : taken ≡ items_bytes at_start items ++ reader_rest reader
   pub stage : reader_stage reader ≡ stage_behind at_start items
   pub offset : reader_offset reader ≡ length (items_bytes at_start items)
 
--- as before, and one item more
+-- The reader has read one item more.
 abbrev pub ReadsMore : CaptureReader → List ℕ → List Item → Item → Type 0
 ReadsMore reader taken items item = Reads reader taken (items ++ item ∷ [])
 
--- where the item is a record, its packet is the one that the reader has
+-- Holds unless the item is a packet record other than the reader's last packet.
 abbrev pub HasRecord : CaptureReader → Item → Type 0
 HasRecord reader (packet one) = one ≡ reader_packet reader
 HasRecord reader item = Unit {0}
 
--- behind this stage the reader shows this item, which is a packet
+-- At this stage the item is a packet, and it is the reader's last packet.
 pub record ShowsItem (reader : CaptureReader) (stage : Stage) (item : Item) : Type 0 where
   pub shown : shown_in stage item ≡ Some (reader_shown reader)
   pub has_record : HasRecord reader item
 
--- behind this stage the item is no packet
+-- At this stage the item is no packet.
 abbrev pub IsOther : Stage → Item → Type 0
 IsOther stage item = shown_in stage item ≡ None
 
--- a refusal for want of bytes, where so many are left: more are needed
+-- Holds if the error is that bytes are missing, with `left` bytes present and more required.
 abbrev pub WantsBytes : ℕ → Refusal → Type 0
 WantsBytes left (refusal.Cut required there) = (there ≡ left) × (left < required)
 WantsBytes left other = ⊥
 
--- Behind these bytes and items the reader came upon this: a packet, which it shows, or another item; the end of a
--- capture; bytes that end too early, so that more are needed; or bytes that are refused whatever follows.
+-- Result of `advance` after these bytes and items: a packet, which is the last packet now, or another item; the end of
+-- a capture; too few bytes; or bytes that are rejected whatever follows.
 abbrev pub AdvancesTo : CaptureReader → List ℕ → List Item → Result Advance CaptureError → Type 0
 AdvancesTo reader taken items (Ok Packet) =
     (item : Item) × ReadsMore reader taken items item × ShowsItem reader (stage_behind at_start items) item
@@ -134,26 +134,26 @@ AdvancesTo reader taken items (Ok (Cut error)) =
 AdvancesTo reader taken items (Err error) =
     Reads reader taken items × ((more : List ℕ) → RefusesCapture (taken ++ more) (items, error))
 
--- an item was read
+-- Holds if an item was read.
 abbrev pub Passes : Result Advance CaptureError → Type 0
 Passes (Ok Packet) = Unit {0}
 Passes (Ok Other) = Unit {0}
 Passes answer = ⊥
 
--- more bytes are needed
+-- Holds if no item was read because the bytes end, where the capture may end or an item is incomplete.
 abbrev pub Waits : Result Advance CaptureError → Type 0
 Waits (Ok MayEnd) = Unit {0}
 Waits (Ok (Cut error)) = Unit {0}
 Waits answer = ⊥
 
--- the number of bytes of the longest record or block: where more are needed, fewer are there
+-- the length of the longest record or block; a reader that needs more bytes has fewer unread ones
 abbrev pub most_held : Stage → ℕ
 most_held (in_records first) = 16 + most_kept
 most_held stage = most_block
 
 -- ---- one step
 
--- behind what was read, a block of a section of this byte order stands in front of these bytes, of which there are some
+-- The bytes are not empty, and the next item is a block in a section of this byte order that is not read in parts.
 abbrev pub BlocksStand : State → List Interface → ByteOrder → List ℕ → Type 0
 BlocksStand Start interfaces order bytes = (order ≡ Big) × (interfaces ≡ []) × (begins_section bytes ≡ true)
 BlocksStand (Records first) interfaces order bytes = ⊥
@@ -161,11 +161,11 @@ BlocksStand (Blocks other) interfaces order bytes =
     (order ≡ other) × (0 < length bytes) × (begins_long other bytes ≡ false)
 BlocksStand (Inside other len left) interfaces order bytes = ⊥
 
--- what stands next is a block in a section of this byte order
+-- The next item of the reader is a block in a section of this byte order that is not read in parts.
 abbrev pub ReadsBlocks : CaptureReader → ByteOrder → Type 0
 ReadsBlocks reader order = BlocksStand reader.state reader.interfaces.items order (reader_rest reader)
 
--- a block stands there, and was read so
+-- The next item is a block, which was parsed as this value.
 pub record ReadsBlock (reader : CaptureReader) (order : ByteOrder) (one : Block) : Type 0 where
   pub stands : ReadsBlocks reader order
   pub is : IsBlock (section_of order reader.interfaces.items) (reader_rest reader)
@@ -179,26 +179,26 @@ pub record ReadsBlock (reader : CaptureReader) (order : ByteOrder) (one : Block)
       (block_in (section_of order reader.interfaces.items) (reader_rest reader))
       ≡ content_shown (slice_range (reader_rest reader) 8 (one.len - 4)) one.content
 
--- between two states of a reader, this item was read
+-- Between two states of a reader, this item was read.
 pub record StepsOver (reader next : CaptureReader) (item : Item) : Type 0 where
   pub fits : Fits (reader_stage reader) item
   pub parts : reader_rest reader ≡ item_bytes (reader_stage reader) item ++ reader_rest next
   pub stage : reader_stage next ≡ stage_after (reader_stage reader) item
   pub offset : reader_offset next ≡ reader_offset reader + length (item_bytes (reader_stage reader) item)
 
--- with more bytes behind those that were taken, the next ones are refused so
+-- If `more` bytes follow those that were taken, the next item is rejected with this error.
 pub record StopsAt (reader : CaptureReader) (more : List ℕ) (error : CaptureError) : Type 0 where
   pub goes_on : may_end (reader_stage reader) (reader_rest reader ++ more) ≡ false
   pub offset : error.offset ≡ reader_offset reader
   pub refused : Refuses (item_rows (reader_stage reader) (reader_rest reader ++ more)) error.refusal
 
--- the reader is where it was
+-- The reader has read no item between these states.
 pub record IsUnmoved (reader next : CaptureReader) : Type 0 where
   pub stage : reader_stage next ≡ reader_stage reader
   pub rest : reader_rest next ≡ reader_rest reader
   pub offset : reader_offset next ≡ reader_offset reader
 
--- what a step answers
+-- Result of one step of the reader.
 abbrev pub Answers : CaptureReader → CaptureReader → Result Advance CaptureError → Type 0
 Answers reader next (Ok Packet) =
     (item : Item) × StepsOver reader next item × ShowsItem next (reader_stage reader) item
@@ -210,7 +210,7 @@ Answers reader next (Ok (Cut error)) =
     × WantsBytes (length (reader_rest reader)) error.refusal
 Answers reader next (Err error) = IsUnmoved reader next × ((more : List ℕ) → StopsAt reader more error)
 
--- what is answered where bytes are refused: those that end too early may go on
+-- the result if the next item is rejected; one for which bytes are missing may still become complete
 abbrev pub refused_at : ℕ → Refusal → Result Advance CaptureError
 refused_at offset (refusal.Cut required len) =
     Ok (Cut (record { offset = offset; refusal = refusal.Cut required len }))

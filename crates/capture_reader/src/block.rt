@@ -1,9 +1,9 @@
-//! The blocks of a capture in the newer format.
+//! Blocks of pcapng captures.
 
 ghost use Rattle.std.specs.Prelude.{◌≡◌, ◌≤◌, ◌+◌, ◌-◌, false, List, None, IfErr, IfOk, IfSome, OnSome, drop, length, slice_range};
 ghost use Rattle.ep_base.specs.Tables.{Refuses, first_row};
 ghost use Rattle.capture_reader.specs.Blocks.{IsBlock, RefusesBlock, block_in, body_rows, kept_of, kept_rows, kind_in};
-ghost use Rattle.capture_reader.specs.Blocks.{is_other, kind_of, known_order, knows_minor, least_len, order_said, section_after};
+ghost use Rattle.capture_reader.specs.Blocks.{is_other, kind_of, known_order, knows_minor, min_len, byte_order_of_magic, section_after};
 ghost use Rattle.capture_reader.specs.Captures.{begins_long, block_shown};
 ghost use Rattle.capture_reader.specs.BlockContents.{FitsLen, IsFramed, Says, content_interfaces, content_shown, section_of, timed_known};
 
@@ -13,34 +13,34 @@ use crate::packet::MOST_KEPT;
 use crate::refusal::Refusal;
 use crate::shown::{Known, Time};
 
-/// The number that begins a section, in either byte order.
+/// Block type of a pcapng Section Header Block, which reads alike in both byte orders.
 pub(crate) const SECTION: u32 = 0x0a0d_0d0a;
 
-/// The greatest number of bytes of a block that is read whole, 320 KiB.
+/// Maximum length of a pcapng block that is read as a whole: 327,680 bytes (320 KiB).
 pub(crate) const MOST_BLOCK: u32 = 327_680;
 
-/// The greatest number of interfaces of a section.
+/// Maximum number of interfaces that a pcapng section may describe.
 const MOST_INTERFACES: usize = 65_536;
 
-/// What a block is.
+/// Kind of a pcapng block, as its block type states it.
 #[derive(Clone, Copy, Debug, PartialEq, Eq)]
 pub enum BlockKind {
-    /// The header of a section.
+    /// Section Header Block (type 0x0a0d0d0a): the start of a pcapng section.
     SectionHeader,
-    /// The description of an interface.
+    /// Interface Description Block (pcapng block type 1).
     InterfaceDescription,
-    /// A packet without a time, of the first interface.
+    /// Simple Packet Block (pcapng block type 3): a packet of the section's first interface, without a timestamp.
     SimplePacket,
-    /// A packet.
+    /// Enhanced Packet Block (pcapng block type 6): a packet with its interface and timestamp.
     EnhancedPacket,
-    /// A packet in the form that enhanced packets replace.
+    /// Packet Block (pcapng block type 2), the obsolete form that Enhanced Packet Blocks replace.
     ObsoletePacket,
-    /// Something else.
+    /// A pcapng block of any other type; its content is skipped.
     Other,
 }
 
 impl BlockKind {
-    /// Whether it is none that is read.
+    /// Returns true if the content of pcapng blocks of this kind is skipped.
     pub(crate) fn is_other(self) -> bool
         ensures { result ≡ is_other self }
     {
@@ -48,46 +48,47 @@ impl BlockKind {
     }
 }
 
-/// A packet in a block.
+/// A packet within a pcapng block: its properties, and where its bytes are in the block's body.
 #[derive(Clone, Copy, Debug)]
 pub struct BlockPacket {
-    /// What is known of it.
+    /// Link type, interface, timestamp and original length of the packet in a pcapng block.
     pub known: Known,
-    /// How many bytes of what the block holds stand in front of its own.
+    /// Offset of the packet's first byte in the body of its pcapng block.
     pub start: usize,
-    /// How many of its bytes were kept.
+    /// Number of captured bytes of the packet in a pcapng block.
     pub kept: usize,
 }
 
-/// What a block says.
+/// Content of a pcapng block, as far as a capture reader needs it.
 #[derive(Clone, Copy, Debug)]
 pub enum Content {
-    /// That a section begins.
+    /// The block is a Section Header Block: a pcapng section starts, without interfaces so far.
     Section,
-    /// What is known of the section's next interface.
+    /// The block describes an interface, which gets the next number of its pcapng section.
     Interface(Interface),
-    /// A packet.
+    /// The pcapng block contains a packet.
     Packet(BlockPacket),
-    /// Nothing that is read.
+    /// The pcapng block is of a type that is skipped.
     Other,
 }
 
-/// A block that is there whole.
+/// A complete pcapng block: byte order, length and parsed content.
 #[derive(Clone, Copy, Debug)]
 pub struct Block {
-    /// Which byte of a number stands first.
+    /// Byte order of the numbers in a pcapng block: that of its section.
     pub order: ByteOrder,
-    /// How many bytes it has.
+    /// Length of a pcapng block in bytes, including its type and both length fields.
     pub len: usize,
-    /// What it says.
+    /// Parsed content of a pcapng block.
     pub content: Content,
 }
 
 impl Block {
-    /// The number of bytes in front of what a block holds.
+    /// Number of bytes before the body of a pcapng block: 8, its type and its length field.
     pub const FRONT_LEN: usize = 8;
 
-    /// The block at the front of the bytes, in a section of a byte order which described these interfaces.
+    /// Parses the pcapng block at the start of `bytes`. `order` and `interfaces` are the byte order of the section so
+    /// far and the interfaces that it has described; a section header states its own byte order.
     pub fn from_slice(
         order: ByteOrder,
         interfaces: &[Interface],
@@ -122,10 +123,14 @@ impl Block {
         }
     }
 
-    /// The block at the front of the bytes, where it is not refused. Each kind has a call of its own, which is compiled
-    /// for that kind alone.
+    /// Parses the pcapng block at the start of `bytes`; returns `None` if it is rejected. Each kind of block is parsed
+    /// by its own inlined call, so that the compiler specializes it.
     #[inline(always)]
-    pub(crate) fn whole(order: ByteOrder, interfaces: &[Interface], bytes: &[u8]) -> Option<Block>
+    pub(crate) fn parse_complete(
+        order: ByteOrder,
+        interfaces: &[Interface],
+        bytes: &[u8],
+    ) -> Option<Block>
         ensures short { OnSome result (begins_long order bytes.now ≡ false) }
         ensures ok { IfSome result (λ one. let section = section_of order interfaces.now in
             IsBlock section bytes.now (block_in section bytes.now, drop one.len bytes.now)) }
@@ -162,7 +167,8 @@ impl Block {
         }
     }
 
-    /// The block at the front of the bytes, which is of this kind, where it is not refused.
+    /// Parses the pcapng block at the start of `bytes`, whose type is already known to be `kind`; returns `None` if it
+    /// is rejected.
     #[inline(always)]
     fn of_kind(
         order: ByteOrder,
@@ -200,17 +206,18 @@ impl Block {
     }
 }
 
-/// What stands around what a block holds.
+/// Framing of a pcapng block: byte order, kind and length, without its body.
 #[derive(Clone, Copy)]
 struct Framing {
     order: ByteOrder,
     kind: BlockKind,
-    /// The number of bytes of the block.
+    /// Length of a pcapng block in bytes, including its type and both length fields.
     len: u32,
 }
 
 impl Framing {
-    /// What stands around the block at the front of the bytes, which is there whole, in a section of a byte order.
+    /// Parses type and length fields of the complete pcapng block at the start of `bytes`, in a section of this byte
+    /// order. Returns an error if the byte-order magic or a length field is invalid, or bytes are missing.
     fn from_slice(order: ByteOrder, bytes: &[u8]) -> Result<Framing, Refusal>
         ensures ok { IfOk result (λ framing. IsFramed order bytes.now framing) }
         ensures err { IfErr result (λ error. (interfaces : List Interface) →
@@ -225,7 +232,8 @@ impl Framing {
         Framing::of_kind(order, kind_of(order.word32(bytes, 0)), bytes)
     }
 
-    /// The same of a block of this kind.
+    /// Parses the length fields of the pcapng block at the start of `bytes`, whose type is already known to be `kind`.
+    /// Returns an error if the byte-order magic or a length field is invalid, or bytes are missing.
     #[inline(always)]
     fn of_kind(order: ByteOrder, kind: BlockKind, bytes: &[u8]) -> Result<Framing, Refusal>
         requires long { 12 ≤ length bytes.now }
@@ -239,7 +247,7 @@ impl Framing {
             return Err(Refusal::UnknownByteOrder { magic });
         };
         let len = order.word32(bytes, 4);
-        if len < least_len(kind) || len % 4 != 0 {
+        if len < min_len(kind) || len % 4 != 0 {
             return Err(Refusal::BlockLength { len });
         }
         if len > MOST_BLOCK {
@@ -258,10 +266,11 @@ impl Framing {
         Ok(Framing { order, kind, len })
     }
 
-    /// What the block says which holds these bytes.
+    /// Parses the body of a pcapng block (between its length fields), as its kind requires. `interfaces` are those that
+    /// the section has described so far.
     #[inline(always)]
     fn content(&self, interfaces: &[Interface], body: &[u8]) -> Result<Content, Refusal>
-        requires { least_len self.now.kind ≤ 12 + length body.now }
+        requires { min_len self.now.kind ≤ 12 + length body.now }
         ensures ok { IfOk result (Says interfaces.now self.now.order self.now.kind self.now.len body.now) }
         ensures err { IfErr result (Refuses (body_rows interfaces.now self.now.order self.now.kind self.now.len
             body.now)) }
@@ -276,7 +285,7 @@ impl Framing {
         }
     }
 
-    /// That a section begins.
+    /// Checks the version in the body of a pcapng Section Header Block: it has to be 1.0 or 1.2.
     fn section(&self, interfaces: &[Interface], body: &[u8]) -> Result<Content, Refusal>
         requires { 16 ≤ length body.now }
         ensures ok { IfOk result (Says interfaces.now self.now.order BlockKind.SectionHeader self.now.len body.now) }
@@ -291,7 +300,8 @@ impl Framing {
         Ok(Content::Section)
     }
 
-    /// The interface that is described.
+    /// Parses the body of a pcapng Interface Description Block. Returns an error if the section already has 65,536
+    /// interfaces.
     fn interface(&self, interfaces: &[Interface], body: &[u8]) -> Result<Content, Refusal>
         requires { 8 ≤ length body.now }
         ensures ok { IfOk result (Says interfaces.now self.now.order BlockKind.InterfaceDescription self.now.len
@@ -308,7 +318,7 @@ impl Framing {
         }
     }
 
-    /// A packet without a time.
+    /// Parses the body of a pcapng Simple Packet Block, whose packet belongs to the section's first interface.
     #[inline(always)]
     fn simple(&self, interfaces: &[Interface], body: &[u8]) -> Result<Content, Refusal>
         requires { 4 ≤ length body.now }
@@ -321,7 +331,7 @@ impl Framing {
         }
         let about = interfaces[0];
         let original_len = self.order.word32(body, 0);
-        let kept = simple_kept(about.snap_len, original_len);
+        let kept = captured_len_of_simple(about.snap_len, original_len);
         let known = Known {
             link_type: about.link_type,
             interface: Some(0),
@@ -331,7 +341,7 @@ impl Framing {
         self.packet(known, 4, kept, body)
     }
 
-    /// A packet of an interface.
+    /// Parses the body of a pcapng Enhanced Packet Block. Returns an error if its interface was not described.
     #[inline(always)]
     fn enhanced(&self, interfaces: &[Interface], body: &[u8]) -> Result<Content, Refusal>
         requires { 20 ≤ length body.now }
@@ -348,8 +358,8 @@ impl Framing {
         self.packet(self.timed(number, about, body), 20, kept, body)
     }
 
-    /// A packet of an interface, in the form that enhanced packets replace: behind the number of its interface, of two
-    /// bytes, it has how many packets were dropped in front of it.
+    /// Parses the body of an obsolete pcapng Packet Block (type 2): its interface number has two bytes, and a two-byte
+    /// count of dropped packets follows.
     #[inline(always)]
     fn obsolete(&self, interfaces: &[Interface], body: &[u8]) -> Result<Content, Refusal>
         requires { 20 ≤ length body.now }
@@ -368,8 +378,8 @@ impl Framing {
         self.packet(self.timed(u32::from(number), about, body), 20, kept, body)
     }
 
-    /// What is known of a packet of the interface of a number, which begins with this: its time stands behind four
-    /// bytes, in two halves, and its length behind sixteen.
+    /// Returns link type, interface, timestamp and original length of the packet in `body`, the body of an Enhanced or
+    /// obsolete Packet Block. The timestamp is at byte 4, its upper half first, and the original length at byte 16.
     #[inline(always)]
     fn timed(&self, number: u32, about: Interface, body: &[u8]) -> Known
         requires { 20 ≤ length body.now }
@@ -389,7 +399,8 @@ impl Framing {
         }
     }
 
-    /// A packet of which so many bytes were kept, behind so many others.
+    /// Returns the packet that starts at byte `start` of a pcapng block's body and has `kept` captured bytes. Returns
+    /// an error if these are more than 256 KiB, or more than the body has.
     #[inline(always)]
     fn packet(&self, known: Known, start: usize, kept: u32, body: &[u8]) -> Result<Content, Refusal>
         requires { start ≤ 20 }
@@ -409,8 +420,9 @@ impl Framing {
     }
 }
 
-/// How many bytes are kept of a simple packet, of whose interface's so many were to be kept at most.
-fn simple_kept(most: u32, original_len: u32) -> u32
+/// Returns the number of captured bytes of a Simple Packet Block: the packet's original length, but at most the snap
+/// length `most` of its interface (0: no limit).
+fn captured_len_of_simple(most: u32, original_len: u32) -> u32
     ensures { result ≡ kept_of most original_len }
 {
     if most != 0 && most < original_len {
@@ -420,14 +432,14 @@ fn simple_kept(most: u32, original_len: u32) -> u32
     }
 }
 
-/// Whether all is known of a minor version: of 0, for which 2 stands too.
+/// Returns true for the supported minor versions of a pcapng section: 0, and 2, which is read as 0.
 fn knows_minor(minor: u16) -> bool
     ensures { result ≡ knows_minor minor }
 {
     minor == 0 || minor == 2
 }
 
-/// What a number in front of a block stands for.
+/// Returns the kind of a pcapng block whose block type is `number`.
 pub(crate) fn kind_of(number: u32) -> BlockKind
     ensures { result ≡ kind_of number }
 {
@@ -441,19 +453,21 @@ pub(crate) fn kind_of(number: u32) -> BlockKind
     }
 }
 
-/// The byte order of a block, where it is known: a section says its own.
+/// Returns the byte order of a pcapng block. A section header states it in its byte-order magic (`None` if that is
+/// unknown); any other block has `before`, the byte order of its section.
 fn known_order(before: ByteOrder, kind: BlockKind, magic: u32) -> Option<ByteOrder>
     ensures { result ≡ known_order before kind magic }
 {
     match kind {
-        BlockKind::SectionHeader => order_said(magic),
+        BlockKind::SectionHeader => byte_order_of_magic(magic),
         _ => Some(before),
     }
 }
 
-/// The byte order that the number of a section says, read with the highest byte first.
-fn order_said(magic: u32) -> Option<ByteOrder>
-    ensures { result ≡ order_said magic }
+/// Returns the byte order that the byte-order magic of a pcapng section header states, or `None` if it is unknown.
+/// `magic` was read as a big endian number.
+fn byte_order_of_magic(magic: u32) -> Option<ByteOrder>
+    ensures { result ≡ byte_order_of_magic magic }
 {
     match magic {
         0x1a2b_3c4d => Some(ByteOrder::Big),
@@ -462,9 +476,9 @@ fn order_said(magic: u32) -> Option<ByteOrder>
     }
 }
 
-/// How many bytes a block of a kind has at least.
-fn least_len(kind: BlockKind) -> u32
-    ensures { result ≡ least_len kind }
+/// Returns the minimum length of a pcapng block of this kind, in bytes, including its type and both length fields.
+fn min_len(kind: BlockKind) -> u32
+    ensures { result ≡ min_len kind }
 {
     match kind {
         BlockKind::SectionHeader => 28,

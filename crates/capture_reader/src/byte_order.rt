@@ -4,17 +4,17 @@ ghost use Rattle.std.specs.Prelude.{◌≡◌, ◌+◌, ◌≤◌, length};
 ghost use Rattle.std.specs.Int.{w64, cast_signed};
 ghost use Rattle.capture_reader.specs.Numbers.{word16_at, word32_at, word64_of};
 
-/// Which byte of a number stands first.
+/// Byte order in which a capture stores its numbers.
 #[derive(Clone, Copy, Debug, PartialEq, Eq)]
 pub enum ByteOrder {
-    /// The highest.
+    /// Big endian: the most significant byte first.
     Big,
-    /// The lowest.
+    /// Little endian: the least significant byte first.
     Little,
 }
 
 impl ByteOrder {
-    /// The number of two bytes from an index on.
+    /// Reads a 16 bit number of this byte order at index `at` of `bytes`.
     #[inline]
     #[tactic(auto, unfolding(crate::specs::Numbers::word16_at))]
     pub(crate) fn word16(self, bytes: &[u8], at: usize) -> u16
@@ -28,7 +28,7 @@ impl ByteOrder {
         }
     }
 
-    /// The number of four bytes from an index on.
+    /// Reads a 32 bit number of this byte order at index `at` of `bytes`.
     #[inline]
     #[tactic(auto, unfolding(crate::specs::Numbers::word32_at))]
     pub(crate) fn word32(self, bytes: &[u8], at: usize) -> u32
@@ -42,7 +42,7 @@ impl ByteOrder {
         }
     }
 
-    /// The number with a sign whose eight bytes these are.
+    /// Reads a signed 64 bit number of this byte order from the first 8 bytes of `bytes`.
     #[tactic(auto, unfolding(crate::specs::Numbers::word64_of))]
     pub(crate) fn signed64(self, bytes: &[u8]) -> i64
         requires { 8 ≤ length bytes.now }

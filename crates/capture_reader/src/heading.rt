@@ -1,4 +1,4 @@
-//! The heading of a classic capture.
+//! The file header of a pcap capture.
 
 ghost use Rattle.std.specs.Prelude.{◌≡◌, ◌≤◌, IfErr, IfOk, OnOk, drop, length};
 ghost use Rattle.capture_reader.specs.Classic.{IsHeading, RefusesHeading, link_of, style_of};
@@ -6,37 +6,40 @@ ghost use Rattle.capture_reader.specs.Classic.{IsHeading, RefusesHeading, link_o
 use crate::byte_order::ByteOrder;
 use crate::refusal::Refusal;
 
-/// What the fractions of a second count.
+/// Unit of the fraction of a second in the timestamps of a pcap capture.
 #[derive(Clone, Copy, Debug, PartialEq, Eq)]
 pub enum Resolution {
-    /// Microseconds.
+    /// Timestamps consist of seconds and microseconds.
     Micros,
-    /// Nanoseconds.
+    /// Timestamps consist of seconds and nanoseconds.
     Nanos,
 }
 
-/// What stands in front of all packets.
+/// The file header at the start of a pcap capture, 24 bytes.
 #[derive(Clone, Copy, Debug, PartialEq, Eq)]
 pub struct Heading {
-    /// Which byte of a number stands first.
+    /// Byte order of all numbers in the pcap capture, as the magic number in bytes 0 to 3 of the file header states it.
     pub order: ByteOrder,
-    /// What the fractions of a second count.
+    /// Unit of the fractions of a second in the timestamps of the pcap capture, as the magic number of the file header
+    /// states it.
     pub resolution: Resolution,
-    /// The time zone, in practice 0.
+    /// Time zone of a pcap capture, bytes 8 to 11 of the file header; 0 in practice.
     pub zone: u32,
-    /// How accurate times are, in practice 0.
+    /// Accuracy of the timestamps of a pcap capture, bytes 12 to 15 of the file header; 0 in practice.
     pub accuracy: u32,
-    /// How many bytes of a packet were to be kept at most.
+    /// Snap length of a pcap capture, bytes 16 to 19 of the file header: maximum number of bytes that are captured of a
+    /// packet.
     pub snap_len: u32,
-    /// The link type, and in the upper half how long a frame's check sequence is.
+    /// Bytes 20 to 23 of a pcap file header: the link type in the lower 16 bits, the length of the frame check sequence
+    /// in the upper ones.
     pub network: u32,
 }
 
 impl Heading {
-    /// The number of bytes of a heading.
+    /// Length of a pcap file header in bytes: 24.
     pub const LEN: usize = 24;
 
-    /// What the packets begin with.
+    /// Link type of all packets of the pcap capture: the lower 16 bits of `network`.
     #[inline]
     pub fn link_type(&self) -> u16
         ensures { result ≡ link_of self.now.network }
@@ -44,7 +47,7 @@ impl Heading {
         (self.network % 65_536) as u16
     }
 
-    /// The heading at the front of the bytes.
+    /// Parses the pcap file header at the start of `bytes`.
     pub fn from_slice(bytes: &[u8]) -> Result<Heading, Refusal>
         ensures ok { IfOk result (λ heading. IsHeading bytes.now (heading, drop 24 bytes.now)) }
         ensures err { IfErr result (RefusesHeading bytes.now) }
@@ -82,7 +85,8 @@ impl Heading {
     }
 }
 
-/// What the first four bytes say, read with the highest first.
+/// Returns the byte order and the unit of fractions of a second that the magic number of a pcap file header states, or
+/// `None` if it is unknown. `magic` was read as a big endian number.
 fn style_of(magic: u32) -> Option<(ByteOrder, Resolution)>
     ensures { result ≡ style_of magic }
 {

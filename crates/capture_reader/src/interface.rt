@@ -1,4 +1,4 @@
-//! The interfaces that a section of blocks describes, and their options.
+//! Interfaces that a pcapng section describes, and their options.
 
 ghost use Rattle.std.specs.Prelude.{◌≡◌, ◌≤◌, ◌==◌, if◌then◌else◌, true, false, None, Some, IfErr, IfOk, drop, length};
 ghost use Rattle.std.specs.Prelude.{option_copied};
@@ -11,24 +11,25 @@ ghost use Rattle.capture_reader.specs.Options.{resolution_said, value_len, value
 use crate::byte_order::ByteOrder;
 use crate::refusal::Refusal;
 
-/// What is known of an interface.
+/// Description of an interface of a pcapng section, from an Interface Description Block.
 #[derive(Clone, Copy, Debug, PartialEq, Eq)]
 pub struct Interface {
-    /// What its packets begin with.
+    /// Link type of all packets of a pcapng interface, which determines their first header.
     pub link_type: u16,
-    /// How many bytes of a packet were to be kept at most, or 0 where all.
+    /// Snap length of a pcapng interface: maximum number of bytes that are captured of a packet, or 0 for no limit.
     pub snap_len: u32,
-    /// How many units of its times make a second.
+    /// Timestamp units per second of a pcapng interface (option `if_tsresol`), as 1,000,000 for microseconds.
     pub per_second: u64,
-    /// Seconds to be added to its times.
+    /// Seconds that are added to the timestamps of a pcapng interface (option `if_tsoffset`).
     pub offset: i64,
 }
 
 impl Interface {
-    /// The number of bytes of the shortest block that describes an interface.
+    /// Minimum length of a pcapng Interface Description Block in bytes: 20.
     pub(crate) const LEN: usize = 20;
 
-    /// The interface that a block describes which holds these bytes.
+    /// Parses the body of a pcapng Interface Description Block: link type, snap length and the options about
+    /// timestamps.
     pub(crate) fn from_body(order: ByteOrder, body: &[u8]) -> Result<Interface, Refusal>
         requires { 8 ≤ length body.now }
         ensures none { IfOk result (λ about. first_row (options_rows order (drop 8 body.now)) ≡ None) }
@@ -45,7 +46,8 @@ impl Interface {
     }
 }
 
-/// The resolution of times that an option says, or microseconds.
+/// Returns the timestamp resolution of a pcapng interface: the value of its option `if_tsresol`, or 6 (microseconds)
+/// without it. Returns an error if the option is not 1 byte long.
 fn resolution_of(value: Option<&[u8]>) -> Result<u8, Refusal>
     ensures ok { IfOk result (λ resolution. (has_len 1 (option_copied value.entry) ≡ true)
         × (resolution ≡ resolution_said (option_copied value.entry))) }
@@ -66,7 +68,8 @@ fn resolution_of(value: Option<&[u8]>) -> Result<u8, Refusal>
     }
 }
 
-/// The seconds that an option adds to times, or none.
+/// Returns the value of the option `if_tsoffset` of a pcapng interface in seconds, or 0 without it. Returns an error if
+/// the option is not 8 bytes long.
 fn offset_of(order: ByteOrder, value: Option<&[u8]>) -> Result<i64, Refusal>
     ensures ok { IfOk result (λ offset. (has_len 8 (option_copied value.entry) ≡ true)
         × (offset ≡ offset_said order (option_copied value.entry))) }
@@ -87,7 +90,8 @@ fn offset_of(order: ByteOrder, value: Option<&[u8]>) -> Result<i64, Refusal>
     }
 }
 
-/// Whether as many units make a second as a number of 64 bits can say: up to 10^19, or 2^63.
+/// Returns true if a timestamp resolution (option `if_tsresol`) is supported: its units per second, up to 10^19 or
+/// 2^63, fit in 64 bits.
 fn knows_resolution(resolution: u8) -> bool
     ensures { result ≡ knows_resolution resolution }
 {
@@ -98,7 +102,8 @@ fn knows_resolution(resolution: u8) -> bool
     }
 }
 
-/// How many units make a second.
+/// Returns the units per second of a timestamp resolution (option `if_tsresol`): 10 to the power of `resolution`, or 2
+/// to the power of its lower 7 bits if the top bit is set.
 fn per_second_of(resolution: u8) -> u64
     requires { knows_resolution resolution ≡ true }
     ensures { result ≡ per_second_of resolution }
@@ -110,26 +115,28 @@ fn per_second_of(resolution: u8) -> u64
     }
 }
 
-/// How many bytes fill up so many to a multiple of four.
+/// Returns the number of bytes, 0 to 3, that pad `len` bytes to a multiple of 4.
 pub(crate) fn padding_of(len: usize) -> usize
     ensures { result ≡ padding_of len }
 {
     (4 - len % 4) % 4
 }
 
-/// What the options of an interface say.
+/// Options of a pcapng interface that are read: timestamp resolution and offset.
 #[derive(Clone, Copy)]
 struct Said<'a> {
-    /// The value of the first that says the resolution of times.
+    /// Value of the first option `if_tsresol` (code 9: timestamp resolution) of a pcapng interface, if present.
     resolution: Option<&'a [u8]>,
-    /// The value of the first that says what is added to them.
+    /// Value of the first option `if_tsoffset` (code 14: seconds to add to timestamps) of a pcapng interface, if
+    /// present.
     offset: Option<&'a [u8]>,
-    /// Whether all of them are within their block.
+    /// True if all options of a pcapng interface end within their block.
     ended: bool,
 }
 
 impl<'a> Said<'a> {
-    /// What options say which begin these bytes.
+    /// Parses the options of a pcapng Interface Description Block, which are all of `bytes` up to the end-of-options
+    /// marker.
     fn by(order: ByteOrder, bytes: &'a [u8]) -> Said<'a>
         ensures resolution { option_copied result.resolution ≡ value_of 9 (options_of order bytes.now) }
         ensures offset { option_copied result.offset ≡ value_of 14 (options_of order bytes.now) }
@@ -153,7 +160,8 @@ impl<'a> Said<'a> {
         }
     }
 
-    /// The interface of which options say so.
+    /// Returns a pcapng interface with this link type and snap length, and with the timestamp resolution and offset of
+    /// its options. Returns an error if an option is invalid.
     fn interface(
         &self,
         order: ByteOrder,
@@ -193,7 +201,8 @@ impl<'a> Said<'a> {
     }
 }
 
-/// The value that was found, or else this one, where its option is the one that is wanted.
+/// Returns the value of the first pcapng option with the code `wanted`: `found`, if an earlier option had it, otherwise
+/// `value` if the code of the current option is `wanted`.
 fn first_of<'a>(
     found: Option<&'a [u8]>,
     wanted: u16,
@@ -209,7 +218,7 @@ fn first_of<'a>(
     }
 }
 
-/// Whether an option stands at the front of the bytes whole.
+/// Returns true if `bytes` begin with a complete pcapng option other than the end-of-options marker.
 fn has_option(order: ByteOrder, bytes: &[u8]) -> bool
     ensures { result ≡ has_option order bytes.now }
 {
@@ -221,7 +230,8 @@ fn has_option(order: ByteOrder, bytes: &[u8]) -> bool
     code != 0 && 4 + len + padding_of(len) <= bytes.len()
 }
 
-/// Whether options end in front of these bytes.
+/// Returns true if the options of a pcapng block end at the start of `bytes`: no bytes are left, or the end-of-options
+/// marker follows.
 fn ends_options(order: ByteOrder, bytes: &[u8]) -> bool
     ensures { result ≡ ends_options order bytes.now }
 {

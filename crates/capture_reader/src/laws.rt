@@ -1,4 +1,4 @@
-//! What holds of every list of bytes, each law the contract of a function that does nothing.
+//! Laws of captures, most of them for any bytes. Each law is the contract of a function with an empty body.
 
 ghost use Rattle.std.specs.Prelude.{◌≡◌, ◌↔◌, ℕ, None, List, IsTrue};
 ghost use Rattle.ep_base.specs.Bytes.{AreBytes};
@@ -21,29 +21,33 @@ use crate::reader::Advance;
 use crate::refusal::{CaptureError, Refusal};
 use crate::shown::{Known, Shown, Time};
 
-/// Bytes begin with a heading in one way, or are refused with one error, and never both.
+/// States that any bytes either begin with exactly one pcap file header, or are rejected with exactly one error.
 pub fn heading()
     ensures { (bytes : List ℕ) → AreBytes bytes → IsDecided (IsHeading bytes) (RefusesHeading bytes) }
 {}
 
-/// Bytes begin with a record in one way, or are refused with one error, and never both.
+/// States that any bytes, in either byte order, either begin with exactly one pcap packet record, or are rejected with
+/// exactly one error.
 pub fn record_of_packet()
     ensures { (order : ByteOrder) (bytes : List ℕ) → AreBytes bytes →
         IsDecided (IsRecord order bytes) (RefusesRecord order bytes) }
 {}
 
-/// Bytes begin with a block in one way, in a section, or are refused with one error, and never both.
+/// States that any bytes, in any pcapng section, either begin with exactly one block, or are rejected with exactly one
+/// error.
 pub fn block()
     ensures { (section : Section) (bytes : List ℕ) → AreBytes bytes →
         IsDecided (IsBlock section bytes) (RefusesBlock section bytes) }
 {}
 
-/// Bytes are a capture in one way, or are refused with one error behind the items in front of it, and never both.
+/// States that any bytes either are a capture in exactly one way, or are rejected with exactly one error after the file
+/// header, packet records and blocks that precede it.
 pub fn capture()
     ensures { (bytes : List ℕ) → AreBytes bytes → IsDecided (IsCapture bytes) (RefusesCapture bytes) }
 {}
 
-/// How many bytes stand in front of packets, and the most that are kept of one; and what is known of none.
+/// States the values of the constants of captures: header lengths, the maximum number of captured bytes of a packet,
+/// and the values of a reader that has read no packet.
 pub fn constants()
     ensures lengths { (Heading.LEN ≡ 24) × (Record.LEN ≡ 16) × (Block.FRONT_LEN ≡ 8) }
     ensures most_kept { packet.MOST_KEPT ≡ 262144 }
@@ -51,7 +55,8 @@ pub fn constants()
     ensures known { Known.NONE ≡ record { link_type = 0; interface = None; time = None; original_len = 0 } }
 {}
 
-/// Values are equal where they are the same, packets by their bytes.
+/// States that the derived equality of the public types for captures is equality of values. Of packets it compares all
+/// fields, and the captured bytes themselves, not their addresses.
 pub fn comparisons()
     ensures orders { (a b : ByteOrder) → IsTrue (⟦<ByteOrder as PartialEq>⟧.eq a b) ↔ (a ≡ b) }
     ensures kinds { (a b : BlockKind) → IsTrue (⟦<BlockKind as PartialEq>⟧.eq a b) ↔ (a ≡ b) }

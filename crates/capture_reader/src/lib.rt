@@ -1,11 +1,12 @@
-//! Captures of packets, read from a stream of bytes in pieces.
+//! Reads packets of captures from a stream of bytes, in chunks of any size.
 //!
-//! The classic format (pcap, version 2.4) begins with a heading of 24 bytes, behind which each packet has a record: its
-//! time, how many bytes of it were kept, how many it had, and the bytes. Its numbers stand in the byte order of the
-//! machine that wrote it, which its first four bytes say.
+//! The classic format (pcap, version 2.4) begins with a file header of 24 bytes. A record follows for each packet: its
+//! timestamp, its captured length, its original length, and the captured bytes. Numbers are in the byte order of the
+//! machine that wrote the capture, which the magic number in the first four bytes states.
 //!
-//! The newer format (pcapng, draft-ietf-opsawg-pcapng) is sections of blocks, of which each has its length in front and
-//! behind. A section says its byte order and describes interfaces, with the unit of their times; packets name theirs.
+//! The newer format (pcapng, draft-ietf-opsawg-pcapng) is a sequence of sections that consist of blocks. A block has
+//! its length before and after its body. A section header states the byte order; interface descriptions contain the
+//! unit of timestamps, and packets refer to their interface by number.
 #![tactic(auto)]
 
 pub mod block;

@@ -1,4 +1,4 @@
-//! The records of a classic capture.
+//! The packet records of a pcap capture.
 
 ghost use Rattle.std.specs.Prelude.{◌≡◌, ◌+◌, ◌≤◌, ℕ, List, IfErr, IfOk, drop, length, slice_range};
 ghost use Rattle.capture_reader.specs.Captures.{record_shown};
@@ -10,40 +10,43 @@ use crate::heading::{Heading, Resolution};
 use crate::refusal::Refusal;
 use crate::shown::{Known, Time};
 
-/// A packet of a capture.
+/// A packet of a pcap capture, with its timestamp as the record header has it.
 #[derive(Clone, Copy, Debug, PartialEq, Eq)]
 pub struct Packet<'a> {
-    /// When it came, in seconds since 1970.
+    /// Timestamp of a packet in a pcap capture: seconds since 1970-01-01 00:00 UTC.
     pub seconds: u32,
-    /// When it came within its second, in fractions of one.
+    /// Fraction of a second in the timestamp of a packet, in microseconds or nanoseconds as the pcap file header
+    /// states.
     pub fraction: u32,
-    /// How many bytes it had.
+    /// Original length of a packet in bytes, before it was truncated to the snap length.
     pub original_len: u32,
-    /// Those of its bytes that were kept.
+    /// Captured bytes of a packet, starting at the header that the link type determines.
     pub bytes: &'a [u8],
 }
 
-/// The greatest number of bytes of a packet that are kept, 256 KiB.
+/// Maximum number of captured bytes of a packet: 262,144 (256 KiB). Captures with longer packets are rejected.
 pub const MOST_KEPT: u32 = 262_144;
 
-/// What stands in front of a packet.
+/// The record header of 16 bytes before each packet of a pcap capture.
 #[derive(Clone, Copy, Debug)]
 pub struct Record {
-    /// When the packet came, in seconds since 1970.
+    /// Timestamp of a packet in seconds since 1970-01-01 00:00 UTC, bytes 0 to 3 of a pcap record header.
     pub seconds: u32,
-    /// When it came within its second, in fractions of one.
+    /// Fraction of a second in the timestamp of a packet, bytes 4 to 7 of a pcap record header: microseconds or
+    /// nanoseconds, as the file header states.
     pub fraction: u32,
-    /// How many bytes it had.
+    /// Original length of a packet in bytes, before it was truncated to the snap length; bytes 12 to 15 of a pcap
+    /// record header.
     pub original_len: u32,
-    /// How many of its bytes were kept, and follow.
+    /// Number of captured bytes of a packet, which follow its record header; bytes 8 to 11 of a pcap record header.
     pub kept: usize,
 }
 
 impl Record {
-    /// The number of bytes in front of each packet.
+    /// Length of a pcap record header in bytes: 16.
     pub const LEN: usize = 16;
 
-    /// What stands in front of no packet.
+    /// Record header that a reader of pcap captures has before its first packet; all fields are 0.
     pub const NONE: Record = Record {
         seconds: 0,
         fraction: 0,
@@ -51,7 +54,8 @@ impl Record {
         kept: 0,
     };
 
-    /// The record at the front of the bytes, whose packet is there whole.
+    /// Parses the pcap record header at the start of `bytes`. Returns an error if the packet after it is incomplete or
+    /// has more than 256 KiB.
     #[inline]
     pub fn from_slice(order: ByteOrder, bytes: &[u8]) -> Result<Record, Refusal>
         ensures ok { IfOk result (λ one. IsRecord order bytes.now
@@ -84,7 +88,8 @@ impl Record {
         })
     }
 
-    /// What is known of the packet behind a heading.
+    /// Returns link type, timestamp and original length of the packet with this record header, in a pcap capture with
+    /// the file header `heading`.
     #[inline]
     pub(crate) fn known(&self, heading: &Heading) -> Known
         ensures { (bytes : List ℕ) → known_shown result bytes

@@ -1,4 +1,4 @@
-//! Blocks that come in parts: those that are longer than may be kept, and of a kind that is not read.
+//! Long pcapng blocks, which are read in parts: blocks longer than 320 KiB of a type whose content is skipped.
 
 ghost use Rattle.std.specs.Prelude.{◌≡◌, ◌≤◌, ◌<◌, ◌^◌, ◌++◌, true, IfErr, IfOk, OnOk, drop, length};
 ghost use Rattle.ep_base.specs.Tables.{Refuses};
@@ -9,10 +9,10 @@ use crate::block::{Block, MOST_BLOCK, kind_of};
 use crate::byte_order::ByteOrder;
 use crate::refusal::Refusal;
 
-/// How many bytes of such a block are read at a time, 64 KiB.
+/// Maximum number of bytes that are skipped at a time of a pcapng block longer than 320 KiB: 65,536 (64 KiB).
 pub(crate) const MOST_STRETCH: u32 = 65_536;
 
-/// Whether bytes begin with such a block.
+/// Returns true if `bytes` start with a long pcapng block: longer than 320 KiB, and of a type whose content is skipped.
 pub(crate) fn begins_long(order: ByteOrder, bytes: &[u8]) -> bool
     ensures { result ≡ begins_long order bytes.now }
 {
@@ -21,8 +21,9 @@ pub(crate) fn begins_long(order: ByteOrder, bytes: &[u8]) -> bool
         && order.word32(bytes, 4) > MOST_BLOCK
 }
 
-/// How many bytes such a block has, of which the front stands there.
-pub(crate) fn front_len(order: ByteOrder, bytes: &[u8]) -> Result<u32, Refusal>
+/// Parses the length field of the long pcapng block at the start of `bytes`. Only the first 8 bytes are read; the
+/// length is rejected if it is not a multiple of 4.
+pub(crate) fn parse_long_len(order: ByteOrder, bytes: &[u8]) -> Result<u32, Refusal>
     requires { begins_long order bytes.now ≡ true }
     ensures fits { IfOk result (FitsFront (word32_at order bytes.now 0)) }
     ensures parts { IfOk result (λ len. bytes.now
@@ -37,7 +38,8 @@ pub(crate) fn front_len(order: ByteOrder, bytes: &[u8]) -> Result<u32, Refusal>
     Ok(len)
 }
 
-/// Checks the length that stands behind such a block of so many bytes.
+/// Checks that `bytes` start with the trailing length field of a pcapng block, and that it is equal to `len`, the
+/// length field before the block's body.
 pub(crate) fn check_back(order: ByteOrder, len: u32, bytes: &[u8]) -> Result<(), Refusal>
     ensures fits { OnOk result (len < 2 ^ 32) }
     ensures parts { OnOk result (bytes.now ≡ word32 order len ++ drop 4 bytes.now) }

@@ -1,4 +1,4 @@
-//! A capture that comes in pieces.
+//! A reader of pcap and pcapng captures that arrive in chunks.
 
 ghost use Rattle.std.specs.Prelude.{◌≡◌, ◌≤◌, ◌<◌, ◌+◌, ◌-◌, ◌^◌, ◌++◌, [], ℕ, List, IfErr, IfOk, IfSome, OnErr, OnOk};
 ghost use Rattle.std.specs.Prelude.{◌*◌, ◌/◌, ◌⊎◌, false, true, drop, length, vec_capacity, vec_len};
@@ -10,63 +10,66 @@ use crate::byte_order::ByteOrder;
 use crate::heading::Heading;
 use crate::interface::Interface;
 use crate::packet::{Packet, Record};
-use crate::parts::{MOST_STRETCH, begins_long, check_back, front_len};
+use crate::parts::{MOST_STRETCH, begins_long, check_back, parse_long_len};
 use crate::refusal::{CaptureError, Refusal};
 use crate::shown::{Known, Shown};
 use std::alloc::{AllocError, Global};
 
-/// What was read of a capture.
+/// State of a capture reader: the format of the capture, and what comes next in it.
 #[derive(Clone, Copy, Debug)]
 pub enum State {
-    /// Nothing.
+    /// Nothing of the capture has been read.
     Start,
-    /// Its heading, behind which stand records.
+    /// The file header of a pcap capture has been read; packet records follow.
     Records(Heading),
-    /// Blocks, the last of them in a section of this byte order.
+    /// One or more blocks of a pcapng capture have been read; the current section has this byte order.
     Blocks(ByteOrder),
-    /// The front of a block that comes in parts, in a section of a byte order.
+    /// The start of a pcapng block longer than 320 KiB has been read; its content is skipped in parts.
     Inside {
         order: ByteOrder,
-        /// How many bytes the block has.
+        /// Length in bytes of the pcapng block that is being skipped.
         len: u32,
-        /// How many of these are not read, in front of its length.
+        /// Number of bytes of the pcapng block that are still to be skipped before its trailing length field.
         left: u32,
     },
 }
 
-/// What a step of a reader came upon.
+/// Result of a capture reader's call of `advance`, which reads one file header, packet record or block (or a part of a
+/// long block).
 #[derive(Clone, Copy, Debug, PartialEq, Eq)]
 pub enum Advance {
-    /// A packet, which the reader shows until it takes more or its next step.
+    /// The capture reader has read a packet, which is available until the next call of `advance` or `take`.
     Packet,
-    /// Something that is no packet.
+    /// The capture reader has read a file header, or a block (or part of a block) that is no packet.
     Other,
-    /// The end of what was taken, where a capture may end.
+    /// All bytes that the capture reader was given are read, and the capture is complete if it ends here.
     MayEnd,
-    /// Too few bytes: the error that the capture has if it ends here.
+    /// The capture reader needs more bytes. The error is the one to report if the capture ends here.
     Cut(CaptureError),
 }
 
-/// Reads a capture that comes in pieces. It keeps the last piece, what it took before of the packet that was not there
-/// whole, and what is known of the section's interfaces.
+/// Reads a pcap or pcapng capture that arrives in chunks. It keeps the last chunk, the bytes before it of an incomplete
+/// record or block, and the interface descriptions of the current pcapng section.
 #[derive(Drop)]
 pub struct CaptureReader {
     state: State,
-    /// What was taken and may not yet be read.
+    /// Bytes of the capture that the reader was given; the bytes from index `end` on are not yet read.
     buffer: Vec<u8>,
-    /// Where in the buffer the packet that was read last begins.
+    /// Index in the capture reader's buffer at which the bytes of the last packet start.
     start: usize,
-    /// Where in the buffer it ends.
+    /// Index in the capture reader's buffer at which the bytes of the last packet end.
     last: usize,
-    /// Where in the buffer the next item begins.
+    /// Index in the capture reader's buffer at which the next file header, packet record or block starts.
     end: usize,
-    /// How many bytes of the capture stand in front of that.
+    /// Offset in the capture, in bytes, at which the next file header, packet record or block (or part of a long block)
+    /// starts.
     offset: u64,
-    /// What stands in front of the packet of the record that was read last.
+    /// Record header of the packet that was read last, in a pcap capture.
     record: Record,
-    /// What is known of the packet that was read last.
+    /// Link type, interface, timestamp and original length of the packet that was read last.
     known: Known,
-    /// The interfaces that the last section described, with room for those that may stand in the buffer.
+    /// Interfaces that the current pcapng section has described. The vector has spare capacity for all interfaces that
+    /// the unread bytes may describe.
     interfaces: Vec<Interface>,
     ghost ordered: { start ≤ last },
     ghost before: { last ≤ end },
@@ -82,11 +85,11 @@ impl CaptureReader {
     ghost use Rattle.capture_reader.specs.BlockContents.{known_shown, section_of};
     ghost use Rattle.capture_reader.specs.Classic.{kept_packet, packet_of};
     ghost use Rattle.capture_reader.specs.Readers.{AdvancesTo, Answers, Passes, Reads, ReadsBlock, ReadsBlocks, Waits};
-    ghost use Rattle.capture_reader.specs.Readers.{bytes_room, interfaces_held, interfaces_room};
+    ghost use Rattle.capture_reader.specs.Readers.{bytes_capacity, interfaces_held, interfaces_capacity};
     ghost use Rattle.capture_reader.specs.Readers.{heading_in, most_held, reader_held, reader_left, reader_offset, reader_packet};
     ghost use Rattle.capture_reader.specs.Readers.{reader_rest, reader_shown, reader_stage, refused_at, shown_of};
 
-    /// A reader that took nothing yet.
+    /// Returns a capture reader that was given no bytes so far. It does not allocate.
     pub fn new(alloc: Global) -> CaptureReader
         ensures reads { Reads result [] [] }
         ensures left { reader_left result ≡ 0 }
@@ -108,14 +111,15 @@ impl CaptureReader {
         }
     }
 
-    /// How many bytes were taken.
+    /// Number of bytes of the capture that the reader was given so far by calls of `take`.
     pub fn taken(&self) -> u64
         ensures { result ≡ reader_offset self.now + reader_left self.now }
     {
         self.offset + (self.buffer.len() - self.end) as u64
     }
 
-    /// Takes the next bytes of the capture, below 2^64 with those before.
+    /// Gives the next chunk of the capture to the reader; all chunks together have fewer than 2^64 bytes. Allocates if
+    /// the buffer or the list of interfaces has to grow. If that fails, the chunk is not taken.
     pub fn take(&mut self, piece: &[u8]) -> Result<(), AllocError>
         requires { reader_offset self.old + reader_left self.old + length piece.now < 2 ^ 64 }
         ensures ok { OnOk result ((taken : List ℕ) (items : List Item) → Reads self.old taken items →
@@ -126,17 +130,18 @@ impl CaptureReader {
         ensures held { OnOk result (reader_held self.new ≡ reader_left self.new) }
         ensures offset { reader_offset self.new ≡ reader_offset self.old }
 
-        // Memory is wanting only for as many bytes as are then not read, or an interface for each 20 of them.
+        // An allocation fails only if the unread bytes exceed the capacity, or if the interfaces do, at one for each 20
+        // bytes.
         ensures full { let left = reader_left self.old + length piece.now in
-            OnErr result ((bytes_room self.old < left)
-            ⊎ (interfaces_room self.old < interfaces_held self.old + left / 20)) }
+            OnErr result ((bytes_capacity self.old < left)
+            ⊎ (interfaces_capacity self.old < interfaces_held self.old + left / 20)) }
     {
-        // All room is asked for first, so that want of memory leaves everything as it was.
+        // Both allocations come first, so that a failure changes nothing.
         let left = self.buffer.len() - self.end;
         self.buffer.reserve(piece.len().saturating_sub(self.end))?;
         self.interfaces
             .reserve((left + piece.len()) / Interface::LEN)?;
-        drop_front(&mut self.buffer, self.end);
+        remove_prefix(&mut self.buffer, self.end);
         self.start = 0;
         self.last = 0;
         self.end = 0;
@@ -144,8 +149,8 @@ impl CaptureReader {
         Ok(())
     }
 
-    /// Reads what stands next, where all of it was taken. An error comes where bytes are refused whatever follows them,
-    /// and changes nothing.
+    /// Reads the next file header, packet record or block (or part of a long block) of the capture if all of it was
+    /// taken. Returns an error if the bytes are rejected whatever follows them, and then changes nothing.
     pub fn advance(&mut self) -> Result<Advance, CaptureError>
         ensures reads { (taken : List ℕ) (items : List Item) → Reads self.old taken items →
             AdvancesTo self.new taken items result }
@@ -157,7 +162,8 @@ impl CaptureReader {
         self.step()
     }
 
-    /// Reads what stands next.
+    /// Reads the next file header, packet record or block (or part of a long block) of the capture, as the reader's
+    /// state requires.
     fn step(&mut self) -> Result<Advance, CaptureError>
         ensures { Answers self.old self.new result }
     {
@@ -171,29 +177,29 @@ impl CaptureReader {
             }
             State::Records(heading) => self.advance_record(heading),
             State::Blocks(order) => {
-                if let Some(block) = self.next_whole(order) {
+                if let Some(block) = self.parse_next_block(order) {
                     return self.read_block(block);
                 }
                 if self.end == self.buffer.len() {
                     return Ok(Advance::MayEnd);
                 }
                 if begins_long(order, self.rest()) {
-                    self.advance_front(order)
+                    self.read_long_header(order)
                 } else {
                     self.advance_block(order)
                 }
             }
             State::Inside { order, len, left } => {
                 if left == 0 {
-                    self.advance_back(order, len)
+                    self.read_trailing_len(order, len)
                 } else {
-                    self.advance_stretch(order, len, left)
+                    self.skip_long_body(order, len, left)
                 }
             }
         }
     }
 
-    /// What was taken and is not yet read.
+    /// Returns the bytes of the capture that were given to the reader and are not yet read.
     #[inline]
     fn rest(&self) -> &[u8]
         ensures { result.now ≡ reader_rest self.now }
@@ -201,7 +207,7 @@ impl CaptureReader {
         &self.buffer.as_slice()[self.end..]
     }
 
-    /// Reads the heading.
+    /// Reads the file header of a pcap capture and advances past it.
     fn advance_heading(&mut self) -> Result<Advance, CaptureError>
         requires start { self.old.state ≡ State.Start }
         requires no_section { begins_section (reader_rest self.old) ≡ false }
@@ -218,7 +224,7 @@ impl CaptureReader {
         }
     }
 
-    /// Reads a record.
+    /// Reads the next record header and packet of a pcap capture, and advances past them.
     fn advance_record(&mut self, heading: Heading) -> Result<Advance, CaptureError>
         requires { self.old.state ≡ State.Records heading }
         ensures { Answers self.old self.new result }
@@ -240,7 +246,7 @@ impl CaptureReader {
         }
     }
 
-    /// Reads the header of the first section.
+    /// Reads the first Section Header Block of a pcapng capture and advances past it.
     fn advance_section(&mut self) -> Result<Advance, CaptureError>
         requires start { self.old.state ≡ State.Start }
         requires begins { begins_section (reader_rest self.old) ≡ true }
@@ -249,7 +255,7 @@ impl CaptureReader {
         self.advance_block(ByteOrder::Big)
     }
 
-    /// The block that stands next, in a section of a byte order.
+    /// Parses the next block of a pcapng capture, in a section of this byte order, without advancing past it.
     #[inline(always)]
     fn next_block(&self, order: ByteOrder) -> Result<Block, Refusal>
         requires { ReadsBlocks self.now order }
@@ -262,16 +268,18 @@ impl CaptureReader {
         }
     }
 
-    /// The block that stands next, in a section of a byte order, where it is not refused.
+    /// Parses the next block of a pcapng capture, in a section of this byte order, without advancing past it. Returns
+    /// `None` if the block is rejected.
     #[inline(always)]
-    fn next_whole(&self, order: ByteOrder) -> Option<Block>
+    fn parse_next_block(&self, order: ByteOrder) -> Option<Block>
         requires { self.now.state ≡ State.Blocks order }
         ensures { IfSome result (ReadsBlock self.now order) }
     {
-        Block::whole(order, self.interfaces.as_slice(), self.rest())
+        Block::parse_complete(order, self.interfaces.as_slice(), self.rest())
     }
 
-    /// Reads the block that stands next.
+    /// Advances past a pcapng block that was parsed, and stores the interface or the position of the packet that it
+    /// contains.
     #[inline(always)]
     fn read_block(&mut self, block: Block) -> Result<Advance, CaptureError>
         requires { (order : ByteOrder) × ReadsBlock self.old order block }
@@ -300,7 +308,7 @@ impl CaptureReader {
         }
     }
 
-    /// Reads a block, in a section of a byte order.
+    /// Reads the next block of a pcapng capture, in a section of this byte order, and advances past it.
     fn advance_block(&mut self, order: ByteOrder) -> Result<Advance, CaptureError>
         requires { ReadsBlocks self.old order }
         ensures { Answers self.old self.new result }
@@ -311,13 +319,13 @@ impl CaptureReader {
         }
     }
 
-    /// Reads the number and the length of a block that comes in parts.
-    fn advance_front(&mut self, order: ByteOrder) -> Result<Advance, CaptureError>
+    /// Reads the type and the length of a pcapng block longer than 320 KiB, whose content is then skipped in parts.
+    fn read_long_header(&mut self, order: ByteOrder) -> Result<Advance, CaptureError>
         requires blocks { self.old.state ≡ State.Blocks order }
         requires long { begins_long order (reader_rest self.old) ≡ true }
         ensures { Answers self.old self.new result }
     {
-        match front_len(order, self.rest()) {
+        match parse_long_len(order, self.rest()) {
             Ok(len) => {
                 self.end += Block::FRONT_LEN;
                 self.offset += Block::FRONT_LEN as u64;
@@ -332,8 +340,9 @@ impl CaptureReader {
         }
     }
 
-    /// Reads bytes of a block that comes in parts, of which so many are left.
-    fn advance_stretch(
+    /// Skips up to 64 KiB of a long pcapng block; `left` bytes of it are still to be skipped before its trailing length
+    /// field.
+    fn skip_long_body(
         &mut self,
         order: ByteOrder,
         len: u32,
@@ -361,8 +370,8 @@ impl CaptureReader {
         Ok(Advance::Other)
     }
 
-    /// Reads the length behind a block that comes in parts.
-    fn advance_back(&mut self, order: ByteOrder, len: u32) -> Result<Advance, CaptureError>
+    /// Reads the trailing length field of a long pcapng block, which has to be equal to `len`, and advances past it.
+    fn read_trailing_len(&mut self, order: ByteOrder, len: u32) -> Result<Advance, CaptureError>
         requires { self.old.state ≡ State.Inside order len 0 }
         ensures { Answers self.old self.new result }
     {
@@ -377,7 +386,8 @@ impl CaptureReader {
         }
     }
 
-    /// What is answered where the next bytes are refused so.
+    /// Returns the result of `advance` if the next bytes of the capture are rejected: `Advance::Cut` if bytes are
+    /// missing, otherwise an error. Both have the current offset.
     fn refuse(&self, refusal: Refusal) -> Result<Advance, CaptureError>
         ensures { result ≡ refused_at (reader_offset self.now) refusal }
     {
@@ -391,7 +401,7 @@ impl CaptureReader {
         }
     }
 
-    /// The heading of a classic capture, once it was read.
+    /// File header of a pcap capture, once the reader has read it; `None` for a pcapng capture.
     pub fn heading(&self) -> Option<Heading>
         ensures { result ≡ heading_in (reader_stage self.now) }
     {
@@ -401,7 +411,8 @@ impl CaptureReader {
         }
     }
 
-    /// The packet of the record that was read last, where the capture is a classic one.
+    /// The packet that was read last, with the timestamp of its record header, in a pcap capture. (For both formats:
+    /// `shown`.)
     #[inline]
     pub fn packet(&self) -> Packet<'_>
         ensures { packet_of result ≡ reader_packet self.now }
@@ -414,7 +425,7 @@ impl CaptureReader {
         }
     }
 
-    /// The packet that was read last, of a capture of either format.
+    /// The packet that was read last, of a pcap or pcapng capture; empty before the first packet.
     #[inline]
     pub fn shown(&self) -> Shown<'_>
         ensures { shown_of result ≡ reader_shown self.now }
@@ -429,15 +440,15 @@ impl CaptureReader {
     }
 }
 
-/// Whether bytes begin as a section does, in either byte order.
+/// Returns true if `bytes` begin with the block type of a pcapng Section Header Block.
 fn begins_section(bytes: &[u8]) -> bool
     ensures { result ≡ begins_section bytes.now }
 {
     bytes.len() >= 4 && ByteOrder::Big.word32(bytes, 0) == SECTION
 }
 
-/// Drops the first bytes, so many, and moves the others to the front.
-fn drop_front(bytes: &mut Vec<u8>, count: usize)
+/// Removes the first `count` bytes of a vector, and moves the others to the start.
+fn remove_prefix(bytes: &mut Vec<u8>, count: usize)
     requires { count ≤ vec_len bytes.old }
     ensures items { bytes.new.items ≡ drop count bytes.old.items }
     ensures len { vec_len bytes.new + count ≡ vec_len bytes.old }
@@ -448,7 +459,7 @@ fn drop_front(bytes: &mut Vec<u8>, count: usize)
     }
     let len = bytes.len();
     let left = len - count;
-    // Without overlap, one call of the C library copies all, faster than a loop.
+    // Ranges that don't overlap are copied by one call of the C library, which is faster than a loop.
     if left <= count {
         let (read, kept) = bytes.as_mut_slice().split_at_mut(count);
         read[..left].copy_from_slice(kept);

@@ -1,57 +1,60 @@
-//! Why bytes are no capture.
+//! Errors: why bytes are not a pcap or pcapng capture.
 
 use thiserror::Error;
 
-/// What is wrong with the bytes behind an offset.
+/// Reason for which bytes are rejected as a pcap or pcapng capture.
 #[derive(Clone, Copy, Debug, PartialEq, Eq, Error)]
 pub enum Refusal {
-    /// They end too early.
+    /// A file header, packet record or block (or part of a long block) is incomplete: at least `required_len` bytes of
+    /// it are needed, and `len` are present.
     #[error("cut: {required_len} bytes are needed, and {len} are there")]
     Cut { required_len: usize, len: usize },
-    /// The first four bytes begin no capture.
+    /// The first four bytes (`magic`, read as a big endian number) start neither a pcap nor a pcapng capture.
     #[error("no capture begins with {magic:08x}")]
     UnknownMagic { magic: u32 },
-    /// The version of the format is not 2.4, or of a section neither 1.0 nor 1.2.
+    /// The version of a pcap capture is not 2.4, or the version of a pcapng section is neither 1.0 nor 1.2.
     #[error("version {major}.{minor} of the format is not known")]
     UnsupportedVersion { major: u16, minor: u16 },
-    /// More bytes of a packet are kept than 256 KiB.
+    /// A packet has more than 256 KiB of captured bytes; `len` is their number.
     #[error("a packet of {len} bytes is too long")]
     PacketTooLong { len: u32 },
-    /// The number that says a section's byte order says none.
+    /// The byte-order magic of a pcapng section header (`magic`, read as a big endian number) is unknown.
     #[error("no section begins with the byte order {magic:08x}")]
     UnknownByteOrder { magic: u32 },
-    /// The length of a block is no multiple of 4, or below that of what the block holds.
+    /// The length field of a pcapng block is not a multiple of 4, or is too small for the block's content.
     #[error("no such block has {len} bytes")]
     BlockLength { len: u32 },
-    /// A block has more bytes than 320 KiB.
+    /// A pcapng block is longer than 320 KiB. (A capture reader skips longer blocks if their type is not read.)
     #[error("a block of {len} bytes is too long")]
     BlockTooLong { len: u32 },
-    /// The length behind a block is not the one in front of it.
+    /// The length fields before (`len`) and after (`trailing`) the body of a pcapng block differ.
     #[error("a block of {len} bytes ends with the length {trailing}")]
     TrailingLength { len: u32, trailing: u32 },
-    /// An option of an interface runs past its block.
+    /// An option of a pcapng Interface Description Block extends beyond its block.
     #[error("an option of an interface runs past its block")]
     OptionBeyondBlock,
-    /// An option of an interface that says how its times are meant has another length than it must.
+    /// The option `if_tsresol` (code 9) of a pcapng interface is not 1 byte long, or `if_tsoffset` (code 14) is not 8
+    /// bytes long.
     #[error("an option {code} of an interface has {len} bytes")]
     OptionLength { code: u16, len: usize },
-    /// An interface's units of time are finer than 10^-19 or 2^-63 of a second.
+    /// The timestamp units of a pcapng interface (option `if_tsresol`) are finer than 10^-19 or 2^-63 of a second.
     #[error("a time resolution {resolution} is not read")]
     UnsupportedResolution { resolution: u8 },
-    /// A section describes more than 65,536 interfaces.
+    /// A pcapng section describes more than 65,536 interfaces.
     #[error("more than 65536 interfaces in a section")]
     TooManyInterfaces,
-    /// A packet is of an interface that its section did not describe before.
+    /// A packet refers to an interface number that its pcapng section has not described.
     #[error("interface {interface} was not described")]
     UndescribedInterface { interface: u32 },
 }
 
-/// Where bytes stop to be a capture, and why.
+/// Error of a capture: the offset at which it is rejected, and the reason.
 #[derive(Clone, Copy, Debug, PartialEq, Eq, Error)]
 #[error("at byte {offset}: {refusal}")]
 pub struct CaptureError {
-    /// How many bytes stand in front of those that are refused.
+    /// Offset in the capture, in bytes, of the file header, packet record or block (or part of a long block) that is
+    /// rejected.
     pub offset: u64,
-    /// What is wrong with these.
+    /// Reason for which the bytes at `offset` are rejected.
     pub refusal: Refusal,
 }

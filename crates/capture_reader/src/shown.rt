@@ -1,31 +1,31 @@
-//! What packets show, whatever the format of their capture.
+//! Packets of a capture in either format, pcap or pcapng.
 
-/// When a packet came: so many seconds since 1970, and `ticks / per_second` of them more.
+/// Timestamp of a packet: `offset + ticks / per_second` seconds since 1970-01-01 00:00 UTC.
 #[derive(Clone, Copy, Debug, PartialEq, Eq)]
 pub struct Time {
-    /// The time in the capture's units.
+    /// Timestamp of a packet in units of `1 / per_second` seconds, as the capture states it, without `offset`.
     pub ticks: u64,
-    /// How many of these units make a second.
+    /// Number of timestamp units in a second, as 1,000,000 for microseconds.
     pub per_second: u64,
-    /// Seconds to be added.
+    /// Seconds to be added to a packet's timestamp (option `if_tsoffset` of its pcapng interface); 0 in a pcap capture.
     pub offset: i64,
 }
 
-/// What is known of a packet besides its bytes.
+/// Link type, interface, timestamp and original length of a packet in a pcap or pcapng capture: all but its bytes.
 #[derive(Clone, Copy, Debug, PartialEq, Eq)]
 pub struct Known {
-    /// What it begins with.
+    /// Link type of a packet, which determines its first header (1: Ethernet).
     pub link_type: u16,
-    /// The number of its interface, where the capture says so.
+    /// Number of the packet's interface within its section (pcapng), from 0 on; `None` in a pcap capture.
     pub interface: Option<u32>,
-    /// When it came, where the capture says so.
+    /// Timestamp of a packet; `None` for a Simple Packet Block, which has none.
     pub time: Option<Time>,
-    /// How many bytes it had.
+    /// Original length of a packet in bytes, before it was truncated to the snap length.
     pub original_len: u32,
 }
 
 impl Known {
-    /// What is known of no packet.
+    /// Properties of the last packet before any packet was read: all fields are 0 or `None`.
     pub const NONE: Known = Known {
         link_type: 0,
         interface: None,
@@ -34,17 +34,17 @@ impl Known {
     };
 }
 
-/// A packet of a capture of either format.
+/// A packet of a pcap or pcapng capture: link type, interface, timestamp, original length and captured bytes.
 #[derive(Clone, Copy, Debug, PartialEq, Eq)]
 pub struct Shown<'a> {
-    /// What it begins with.
+    /// Link type of a packet, which determines its first header (1: Ethernet).
     pub link_type: u16,
-    /// The number of its interface in its section, in the newer format; a classic capture says none.
+    /// Number of the packet's interface within its section (pcapng), from 0 on; `None` in a pcap capture.
     pub interface: Option<u32>,
-    /// When it came, where the capture says so.
+    /// Timestamp of a packet; `None` for a Simple Packet Block, which has none.
     pub time: Option<Time>,
-    /// How many bytes it had.
+    /// Original length of a packet in bytes, before it was truncated to the snap length.
     pub original_len: u32,
-    /// Those of its bytes that were kept.
+    /// Captured bytes of a packet, starting at the header that its link type determines.
     pub bytes: &'a [u8],
 }

@@ -1,4 +1,4 @@
--- What is written is read back.
+-- Written packets are read back.
 use Rattle.std.proofs.Common.{◌≡◌, ℕ, zero, suc, ◌+◌, ◌-◌, ◌*◌, ◌/◌, ◌%◌, ◌^◌, ◌<◌, ◌≤◌, ◌==◌, Bool, not, nat_lt}
 use Rattle.std.proofs.Common.{nat_le, List, [], ◌∷◌, ◌++◌, Option, Some, None, length, refl, sym, ap, subst, ◌∙◌}
 use Rattle.std.proofs.Common.{append_assoc, arith}
@@ -22,16 +22,17 @@ use Rattle.capture_writer.specs.Written.{AreWritten, IsWritten, Shows, all_shown
 use Rattle.capture_writer.specs.Written.{packet_bytes, packets_bytes, record_of, time_rows}
 use Rattle.capture_writer.specs.Written.{write_rows, written_heading}
 
--- ---- what no row refuses
+-- ---- packets that no row rejects
 
--- a packet that is written is of the capture's link type, no longer than it may be, and of a time that fits
+-- A packet that is written has the capture's link type, at most 256 KiB, and a timestamp that fits in 32 bits of
+-- seconds.
 pub record Passes (link of_link len instant : ℕ) : Type 0 where
   pub same : of_link ≡ link
   pub short : len ≤ most_kept
   pub from : epoch ≤ instant
   pub to : instant < epoch + 2 ^ 32 * 1000000000
 
--- the rows of a packet of this link type and length that came then
+-- the refusal table of a packet with this link type, length and instant
 abbrev rows_at : (link of_link len instant : ℕ) → List (Bool × WriteRefusal)
 rows_at link of_link len instant =
     (not (of_link == link), refusal.LinkType of_link link)
@@ -47,14 +48,14 @@ passes_at link of_link len instant none =
     grind (arith, common_steps, nat_tests) in
     record { same = facts.0; short = facts.1; from = facts.2; to = facts.3 }
 
--- the rows of a packet of this link type, length and time
+-- the refusal table of a packet with this link type, length and timestamp
 abbrev rows_with : (link of_link len : ℕ) → Option Time → List (Bool × WriteRefusal)
 rows_with link of_link len time =
     (not (of_link == link), refusal.LinkType of_link link)
     ∷ (nat_lt most_kept len, refusal.TooLong len)
     ∷ time_rows time
 
--- a packet without a time is refused
+-- A packet without timestamp is rejected.
 no_time : (link of_link len : ℕ) → first_row (rows_with link of_link len None) ≡ None → ⊥
 no_time link of_link len none = grind (arith, common_steps)
 
@@ -67,7 +68,7 @@ pub passes : (link : ℕ) (shown : PlainShown) → first_row (write_rows link sh
     → Passes link shown.link (length shown.bytes) (instant_in shown.time)
 passes link shown none = passes_with link shown.link (length shown.bytes) shown.time none
 
--- and such a packet is refused by none
+-- A packet with the capture's link type, a valid length and a valid timestamp is not rejected.
 none_refuses : (link of_link len instant : ℕ) → Passes link of_link len instant
     → first_row (rows_at link of_link len instant) ≡ None
 none_refuses link of_link len instant passed =
@@ -105,7 +106,7 @@ record_fits link shown is =
       kept = passed.short;
     }
 
--- the records of packets
+-- the records of packets, as items
 abbrev packet_items : List PlainShown → List Item
 packet_items [] = []
 packet_items (shown ∷ more) = packet (record_of shown) ∷ packet_items more
@@ -125,7 +126,7 @@ records_stage : (link : ℕ) (packets : List PlainShown)
 records_stage link [] = refl
 records_stage link (shown ∷ more) = records_stage link more
 
--- its items: the heading, and a record for each packet
+-- the items of a written capture: the file header, and a record for each packet
 abbrev written_items : ℕ → List PlainShown → List Item
 written_items link packets = heading (written_heading link) ∷ packet_items packets
 
@@ -137,7 +138,7 @@ written_capture link packets fits are = record {
   ended = ap (λ (stage : Stage). may_end stage []) (records_stage link packets);
 }
 
--- ---- what it shows
+-- ---- packets of the capture
 
 same_link : (link of_link : ℕ) → link < 2 ^ 16 → of_link ≡ link → link % 65536 ≡ of_link
 same_link link of_link fits same = omega arith
@@ -146,7 +147,7 @@ same_ticks : (instant : ℕ) → epoch ≤ instant
     → (instant / 1000000000 - 2 ^ 63) * 1000000000 + instant % 1000000000 ≡ instant - epoch
 same_ticks instant from = omega arith
 
--- a record shows its packet
+-- A record shows its packet.
 same_shown : (link : ℕ) (shown : PlainShown) → link < 2 ^ 16 → IsWritten link shown
     → record_shown (written_heading link) (record_of shown) ≡ back_of shown
 same_shown link shown fits is =
@@ -169,7 +170,7 @@ records_shown link (shown ∷ more) fits are =
     let others = records_shown link more fits are.1 in
     λ i. first i ∷ others i
 
--- the time of an instant is that instant
+-- The timestamp of a packet that is read back is the same instant.
 pub same_instant : (link : ℕ) (shown : PlainShown) → IsWritten link shown
     → instant_in (back_of shown).time ≡ instant_in shown.time
 same_instant link shown is =
@@ -177,9 +178,9 @@ same_instant link shown is =
     let from = passed.from in
     omega (arith, from)
 
--- ---- its bytes are bytes
+-- ---- the written bytes are bytes
 
--- each number is a byte, as a fact whose list is known from it
+-- Each number is a byte; a record, so that the list is inferred from it.
 record AllBytes (bytes : List ℕ) : Type 0 where
   fits : AreBytes bytes
 
@@ -229,7 +230,7 @@ packets_fit_bytes link (shown ∷ others) are =
 
 -- ---- the law
 
--- what capture_reader says of all captures
+-- the law of `capture_reader` about all captures
 abbrev pub AllDecided : Type 0
 AllDecided = (bytes : List ℕ) → AreBytes bytes → IsDecided (IsCapture bytes) (RefusesCapture bytes)
 
@@ -249,7 +250,7 @@ written_shows all_decided link packets fits are =
       shown = records_shown link packets fits are;
     }
 
--- one packet more
+-- One more packet appends its record.
 packets_more : (packets : List PlainShown) (shown : PlainShown)
     → packets_bytes (packets ++ shown ∷ []) ≡ packets_bytes packets ++ packet_bytes shown
 packets_more [] shown = append-nil (packet_bytes shown)

@@ -1,4 +1,4 @@
-//! What holds of all captures that are written, each law the contract of a function that does nothing.
+//! Laws of the captures that this crate writes. Each is the contract of a function without effect.
 
 ghost use Rattle.std.specs.Prelude.{◌≡◌, ◌↔◌, ◌<◌, ◌^◌, ◌++◌, ◌∷◌, [], ℕ, List, IsTrue, map};
 ghost use Rattle.capture_reader.specs.Captures.{PlainShown};
@@ -7,8 +7,9 @@ ghost use Rattle.capture_writer.specs.Written.{packet_bytes};
 
 use crate::write_error::{WriteError, WriteRefusal};
 
-/// What is written of packets is a capture and no other, and its packets are these, byte for byte, with their original
-/// lengths, their link type and their times to the nanosecond; and one packet more is its bytes behind the others.
+/// States that a capture with written packets is read in exactly one way: byte for byte, with their original lengths,
+/// their link type and their timestamps in whole nanoseconds. Interface numbers are not kept. Writing one more packet
+/// only appends its record.
 pub fn read_back()
     ensures shown { (link : ℕ) (packets : List PlainShown) → link < 2 ^ 16 → AreWritten link packets →
         Shows (capture_bytes link packets) (map back_of packets) }
@@ -20,7 +21,7 @@ pub fn read_back()
     capture_reader::laws::capture();
 }
 
-/// Errors are equal where they are the same.
+/// States that two errors of writing a packet are equal (`==`) if and only if they are identical.
 pub fn comparisons()
     ensures refusals { (a b : WriteRefusal) → IsTrue (⟦<WriteRefusal as PartialEq>⟧.eq a b) ↔ (a ≡ b) }
     ensures errors { (a b : WriteError) → IsTrue (⟦<WriteError as PartialEq>⟧.eq a b) ↔ (a ≡ b) }

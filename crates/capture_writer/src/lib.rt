@@ -1,5 +1,6 @@
-//! Packets written as a capture: the classic format (pcap, version 2.4) in nanoseconds, with the lowest byte of each
-//! number first. It is read back as the same packets: the law [`laws::read_back`].
+//! Writes packets as a capture file in the classic format (pcap, version 2.4), with timestamps in nanoseconds and
+//! little-endian numbers. The law [`laws::read_back`] states that the packets are read back with equal bytes, lengths
+//! and timestamps.
 #![tactic(auto)]
 
 pub mod laws;

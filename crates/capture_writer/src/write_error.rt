@@ -1,35 +1,35 @@
-//! Why a packet was not written.
+//! Errors of writing a packet to a capture file.
 
 use std::alloc::AllocError;
 use thiserror::Error;
 
-/// Why a packet cannot be written.
+/// Reason why a packet cannot be written to a capture file.
 #[derive(Clone, Copy, Debug, PartialEq, Eq, Error)]
 pub enum WriteRefusal {
-    /// It is of another link type than the capture, which has one alone.
+    /// The packet has link type `link_type`, but the capture file has link type `wanted` for all its packets.
     #[error("a packet of link type {link_type} in a capture of link type {wanted}")]
     LinkType { link_type: u16, wanted: u16 },
-    /// More bytes of it are kept than 256 KiB.
+    /// The packet has more captured bytes (`len`) than a capture file can have per packet: 256 KiB.
     #[error("a packet of {len} bytes is too long")]
     TooLong { len: usize },
-    /// It is not known when it came.
+    /// The packet to be written has no timestamp, which a pcap record needs.
     #[error("a packet without a time")]
     NoTime,
-    /// It came before 1970.
+    /// The timestamp of the packet to be written is before 1970.
     #[error("a packet of a time before 1970")]
     BeforeEpoch,
-    /// It came 2^32 seconds behind the beginning of 1970, or later.
+    /// The timestamp of the packet to be written is 2^32 seconds or more after the start of 1970.
     #[error("a packet of a time beyond 32 bits of seconds")]
     TooLate,
 }
 
-/// Why a packet was not written.
+/// Error of writing a packet to a capture file.
 #[derive(Clone, Copy, Debug, PartialEq, Eq, Error)]
 pub enum WriteError {
-    /// It cannot be written.
+    /// The packet cannot be written to a capture file, for this reason.
     #[error(transparent)]
     Refused(WriteRefusal),
-    /// There was no memory for its bytes.
+    /// The allocation for the packet's record (16 bytes and its captured bytes) failed.
     #[error("out of memory")]
     OutOfMemory,
 }

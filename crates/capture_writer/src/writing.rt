@@ -1,4 +1,4 @@
-//! The bytes of a capture, appended.
+//! Appends the file header and the packet records of a capture file.
 
 ghost use Rattle.std.specs.Prelude.{◌≡◌, ◌+◌, ◌<◌, ◌≤◌, ◌^◌, ◌++◌, IfErr, IfOk, None, OnErr, OnOk, length};
 ghost use Rattle.std.specs.Prelude.{vec_capacity, vec_len};
@@ -17,7 +17,8 @@ use capture_reader::{Heading, Packet, Record, Shown};
 use packet_times::{EPOCH, SECOND, instant_of};
 use std::alloc::AllocError;
 
-/// Appends the heading of a capture of a link type. Where there is no memory, the output is as it was.
+/// Appends the file header of a capture file (pcap) with this link type, 24 bytes. If the allocation fails, the output
+/// is unchanged.
 pub fn push_heading(output: &mut Vec<u8>, link_type: u16) -> Result<(), AllocError>
     ensures ok { OnOk result (output.new.items ≡ output.old.items ++ heading_bytes (written_heading link_type)) }
     ensures err { OnErr result (output.new.items ≡ output.old.items) }
@@ -35,8 +36,8 @@ pub fn push_heading(output: &mut Vec<u8>, link_type: u16) -> Result<(), AllocErr
     Ok(())
 }
 
-/// Appends the record of a packet of a capture of a link type, or says why it is not written; then the output is as it
-/// was.
+/// Appends the record of a packet (16 byte header and captured bytes) to a capture file whose link type is `link_type`.
+/// On an error the output is unchanged.
 pub fn push_packet(
     output: &mut Vec<u8>,
     link_type: u16,
@@ -59,7 +60,7 @@ pub fn push_packet(
     }
 }
 
-/// The record of a packet, or why it is not written.
+/// Returns the pcap record of a packet in a capture file of this link type, or the reason why it cannot be written.
 fn record_of<'a>(link_type: u16, shown: &Shown<'a>) -> Result<Packet<'a>, WriteRefusal>
     ensures ok { IfOk result (λ packet. packet_of packet ≡ record_of (shown_of shown.now)) }
     ensures written { OnOk result (IsWritten link_type (shown_of shown.now)) }
@@ -97,7 +98,8 @@ fn record_of<'a>(link_type: u16, shown: &Shown<'a>) -> Result<Packet<'a>, WriteR
     })
 }
 
-/// What the types say of the numbers of a packet, for the proofs. It does nothing.
+/// Proves that `original_len` is below 2^32 and that the elements of `bytes` are below 256, as their types guarantee.
+/// It has no effect at run time.
 #[inline]
 fn value_fits(original_len: u32, bytes: &[u8])
     ensures original_len { original_len < 2 ^ 32 }
@@ -107,7 +109,8 @@ fn value_fits(original_len: u32, bytes: &[u8])
     let _ = bytes;
 }
 
-/// Appends a record.
+/// Appends a packet's record to a capture file: seconds, nanoseconds, captured length and original length, 4 bytes
+/// each, and then the captured bytes. On an error the output is unchanged.
 fn push_record(output: &mut Vec<u8>, packet: &Packet<'_>) -> Result<(), AllocError>
     requires { length packet.now.bytes.now ≤ 262144 }
     ensures ok { OnOk result (output.new.items
@@ -127,7 +130,7 @@ fn push_record(output: &mut Vec<u8>, packet: &Packet<'_>) -> Result<(), AllocErr
     Ok(())
 }
 
-/// Appends a number of two bytes, for which there is room.
+/// Appends a 16 bit number in little-endian order to the output, which must have the capacity.
 #[inline]
 #[tactic(auto, unfolding(capture_reader::specs::Numbers::word16))]
 fn push_half(output: &mut Vec<u8>, half: u16)
@@ -139,7 +142,7 @@ fn push_half(output: &mut Vec<u8>, half: u16)
     output.extend_from_slice(&half.to_le_bytes()).unwrap();
 }
 
-/// Appends a number of four bytes, for which there is room.
+/// Appends a 32 bit number in little-endian order to the output, which must have the capacity.
 #[inline]
 #[tactic(auto, unfolding(capture_reader::specs::Numbers::word32))]
 fn push_word(output: &mut Vec<u8>, word: u32)

@@ -1,4 +1,4 @@
--- The text of options, while they are read one after the other.
+-- The text of options while they are read one after the other.
 use Rattle.std.proofs.Common.{◌≡◌, ℕ, List, [], ◌∷◌, ◌++◌, Result, Ok, Err, append_assoc, ap, refl, sym, ◌∙◌}
 use Rattle.std.proofs.lemmas.List.{append-nil}
 use Rattle.ep_transport.specs.declared.tcp_option_element.TcpOptionElement.{TcpOptionElement}
@@ -6,18 +6,18 @@ use Rattle.ep_transport.specs.declared.tcp_option_element.TcpOptionReadError.{Tc
 use Rattle.ep_transport.specs.TcpOptionBytes.{AreItems, EndsOptions, IsOption, RefusesOption}
 use Rattle.detail_texts.specs.TcpDetails.{IsOptionsText, items_text, option_text, unread_text}
 
--- what is appended, and what the bytes that are left hold, are what is to be appended for all bytes
+-- The text appended so far, with that of the options in the remaining bytes, is the text of all options.
 abbrev pub IsAppending : (start now bytes left : List ℕ) → Type 0
 IsAppending start now bytes left =
     (rest : List (Result TcpOptionElement TcpOptionReadError)) → AreItems left rest
     → (all : List (Result TcpOptionElement TcpOptionReadError)) × AreItems bytes all
     × (now ++ items_text rest ≡ start ++ items_text all)
 
--- nothing is appended yet
+-- At the start nothing is appended.
 pub begins : (start bytes : List ℕ) → IsAppending start start bytes bytes
 begins start bytes = λ rest is. (rest, is, refl)
 
--- an option is appended
+-- Appending an option keeps the invariant.
 pub goes_on : (start now next bytes left behind : List ℕ) (option : TcpOptionElement)
     → IsAppending start now bytes left → IsOption left (option, behind) → next ≡ now ++ option_text option
     → IsAppending start next bytes behind
@@ -29,14 +29,14 @@ goes_on start now next bytes left behind option before is appended =
       ap (λ t. t ++ items_text rest) appended ∙ append_assoc now (option_text option) (items_text rest) ∙ more.2,
     )
 
--- no option is left
+-- If no option is left, the whole text is appended.
 pub ends : (start now bytes left : List ℕ) → IsAppending start now bytes left → EndsOptions left
     → (text : List ℕ) × IsOptionsText bytes text × (now ≡ start ++ text)
 ends start now bytes left before none =
     let more = before [] none in
     (items_text more.0, (more.0, more.1, refl), sym (append-nil now) ∙ more.2)
 
--- what is left is no option
+-- If the next option cannot be read, appending the reason completes the text.
 pub stops : (start now next bytes left : List ℕ) (error : TcpOptionReadError) → IsAppending start now bytes left
     → RefusesOption left error → next ≡ now ++ unread_text error
     → (text : List ℕ) × IsOptionsText bytes text × (next ≡ start ++ text)

@@ -1,36 +1,36 @@
--- What is told of headers beside their addresses, a space before each part.
+-- Details of headers besides their addresses, each part with a leading space.
 use Rattle.std.specs.Prelude.{ℕ, Bool, if◌then◌else◌, List, [], ◌++◌, codes}
 use Rattle.std.specs.Fmt.{decimal}
 use Rattle.ep_ip.specs.declared.ipv4_header.Ipv4Header.{Ipv4Header}
 use Rattle.ep_ip.specs.declared.ipv6_header.Ipv6Header.{Ipv6Header}
 use Rattle.ep_link.specs.declared.link_ext.single_vlan_header.SingleVlanHeader.{SingleVlanHeader}
 
--- a text, where its flag is set
+-- a text if its flag is set
 abbrev pub flag_text : Bool → List ℕ → List ℕ
 flag_text set text = if set then text else []
 
--- how many further hops a packet of IPv4 may take, its identification, and whether it must not be cut (RFC 791, 3.1)
+-- the time to live, the identification and the don't-fragment flag of an IPv4 header (RFC 791, 3.1)
 unfoldable pub ipv4_fields_text : ℕ → ℕ → Bool → List ℕ
 ipv4_fields_text time_to_live identification dont_fragment =
     (codes " ttl " ++ decimal time_to_live) ++ (codes " id " ++ decimal identification)
     ++ flag_text dont_fragment (codes " df")
 
--- the same of a header
+-- the details of an IPv4 header
 abbrev pub ipv4_details : Ipv4Header → List ℕ
 ipv4_details header = ipv4_fields_text header.time_to_live header.identification header.dont_fragment
 
--- how many further hops a packet of IPv6 may take, and its flow label (RFC 8200, 3)
+-- the hop limit and the flow label of an IPv6 header (RFC 8200, 3)
 unfoldable pub ipv6_fields_text : ℕ → ℕ → List ℕ
 ipv6_fields_text hop_limit flow_label = (codes " hop-limit " ++ decimal hop_limit) ++ (codes " flow " ++ decimal flow_label)
 
--- the same of a header
+-- the details of an IPv6 header
 abbrev pub ipv6_details : Ipv6Header → List ℕ
 ipv6_details header = ipv6_fields_text header.hop_limit header.flow_label
 
--- the priority of a VLAN tag, and whether its frame may be dropped first (IEEE 802.1Q, 9.6)
+-- the priority and the drop eligible indicator of a VLAN tag (IEEE 802.1Q, 9.6)
 unfoldable pub vlan_fields_text : ℕ → Bool → List ℕ
 vlan_fields_text priority drop_eligible = (codes " pcp " ++ decimal priority) ++ flag_text drop_eligible (codes " dei")
 
--- the same of a tag
+-- the details of a VLAN tag
 abbrev pub vlan_details : SingleVlanHeader → List ℕ
 vlan_details tag = vlan_fields_text tag.pcp tag.drop_eligible_indicator

@@ -1,4 +1,4 @@
--- What is told of the checksum of a packet's transport layer.
+-- Text about the checksum of a packet's transport layer.
 use Rattle.std.specs.Prelude.{ℕ, if◌then◌else◌, Bool, true, false, List, [], Option, Some, None}
 use Rattle.std.specs.List.{list_any}
 use Rattle.ep_base.specs.declared.len_source.LenSource.{LenSource}
@@ -10,22 +10,23 @@ use Rattle.ep_lax.specs.declared.lax_sliced_packet.LaxSlicedPacket.{LaxSlicedPac
 use Rattle.ep_lax.specs.LaxPackets.{lax_layers_of}
 use Rattle.detail_texts.specs.ChecksumTexts.{checksum_text_ipv4, checksum_text_ipv6}
 
--- whether an extension header is a routing header
+-- True if the extension header is a routing header.
 abbrev pub is_routing : ExtensionPart → Bool
 is_routing (routing header) = true
 is_routing part = false
 
--- whether a routing header is among extension headers
+-- True if the extension headers include a routing header.
 abbrev pub has_routing : List ExtensionPart → Bool
 has_routing parts = list_any is_routing parts
 
--- whether no length field counts a payload of this source, so that bytes of it may be missing which nothing tells of
+-- True if no length field limits the payload, so that missing bytes would not be noticed.
 abbrev pub is_uncounted : LenSource → Bool
 is_uncounted source.Slice = true
 is_uncounted other = false
 
--- The checksum of a transport layer in a net layer. None is told of a payload that nothing counts, as of a segment that is
--- left to a card, nor behind a routing header, which may hold the destination that is summed (RFC 8200, 8.1).
+-- The text about the checksum of a transport layer in a network layer. It is empty if no length field limits the
+-- payload, as for segments that the network card splits, and if there is a routing header, which may contain the
+-- destination address of the pseudo-header (RFC 8200, 8.1).
 abbrev pub net_checksum_text : Option NetLayer → TransportSlice → List ℕ
 net_checksum_text (Some (ipv4 header extensions payload)) transport =
     if is_uncounted payload.source then [] else checksum_text_ipv4 header.source header.destination transport
@@ -35,13 +36,13 @@ net_checksum_text (Some (ipv6 header extensions payload)) transport =
 net_checksum_text (Some (arp packet)) transport = []
 net_checksum_text None transport = []
 
--- the same of a transport layer, where there is one
+-- the text about the checksum of the transport layer, if there is one
 abbrev pub inner_checksum_text : Option NetLayer → Option TransportSlice → List ℕ
 inner_checksum_text net (Some transport) = net_checksum_text net transport
 inner_checksum_text net None = []
 
--- The checksum of a packet's transport layer, which a fragment has not. None is told where bytes of the payload are
--- missing.
+-- The text about the checksum of a packet's transport layer, which a fragment does not have. It is empty if bytes of
+-- the packet are missing.
 abbrev pub packet_checksum_text : LaxSlicedPacket → List ℕ
 packet_checksum_text packet =
     let net = (lax_layers_of packet).net in

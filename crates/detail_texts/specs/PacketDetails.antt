@@ -1,4 +1,4 @@
--- What is told of a packet beside the addresses, ports and lengths of its layers.
+-- Details of a packet besides the addresses, ports and lengths of its layers.
 use Rattle.std.specs.Prelude.{◌≡◌, ℕ, List, [], ◌∷◌, ◌++◌, Option, Some, None}
 use Rattle.ep_link.specs.VlanSlices.{vlan_slice_header}
 use Rattle.ep_transport.specs.TcpSlices.{tcp_slice_header}
@@ -17,21 +17,21 @@ use Rattle.detail_texts.specs.HeaderDetails.{ipv4_details, ipv6_details, vlan_de
 use Rattle.detail_texts.specs.PacketChecksums.{packet_checksum_text}
 use Rattle.detail_texts.specs.TcpDetails.{IsTcpDetails}
 
--- a link extension: of a VLAN its priority
+-- the details of a link extension: the priority of a VLAN tag
 abbrev pub tag_details : LaxLinkExtSlice → List ℕ
 tag_details (extension.Vlan tag) = vlan_details (vlan_slice_header tag)
 tag_details (extension.Macsec packet) = []
 
--- link extensions, from the outside in
+-- the details of all link extensions, from the outermost in
 abbrev pub tags_details : List LaxLinkExtSlice → List ℕ
 tags_details [] = []
 tags_details (tag ∷ others) = tag_details tag ++ tags_details others
 
--- the bytes in front of what is behind the header of an IPv4 packet
+-- The bytes are the header of the IPv4 packet: those before its content.
 abbrev pub AreHeaderBytes : LaxIpv4Slice → List ℕ → Type 0
 AreHeaderBytes packet bytes = bytes ++ lax_ipv4_slice_content packet ≡ lax_ipv4_slice_bytes packet
 
--- a net layer: of IPv4 its header and the header's checksum, of IPv6 its header
+-- The text has the details of the network layer: an IPv4 header and its checksum, or an IPv6 header.
 abbrev pub IsNetDetails : LaxNetSlice → List ℕ → Type 0
 IsNetDetails (net.Ipv4 packet) text =
     (header : List ℕ) × AreHeaderBytes packet header
@@ -39,12 +39,12 @@ IsNetDetails (net.Ipv4 packet) text =
 IsNetDetails (net.Ipv6 packet) text = text ≡ ipv6_details (lax_ipv6_slice_header packet)
 IsNetDetails (net.Arp packet) text = text ≡ []
 
--- the same of one, where there is one
+-- The text has the details of the network layer, if present.
 abbrev pub AreNetDetails : Option LaxNetSlice → List ℕ → Type 0
 AreNetDetails (Some layer) text = IsNetDetails layer text
 AreNetDetails None text = text ≡ []
 
--- a transport layer: of TCP its window and options
+-- The text has the details of the transport layer: window and options of TCP.
 abbrev pub IsTransportDetails : Option TransportSlice → List ℕ → Type 0
 IsTransportDetails (Some (transport.Udp datagram)) text = text ≡ []
 IsTransportDetails (Some (transport.Tcp segment)) text = IsTcpDetails (tcp_slice_header segment) text
@@ -52,7 +52,7 @@ IsTransportDetails (Some (transport.Icmpv4 message)) text = text ≡ []
 IsTransportDetails (Some (transport.Icmpv6 message)) text = text ≡ []
 IsTransportDetails None text = text ≡ []
 
--- the layers of a packet, from the outside in, and the checksum of its transport layer
+-- The text has the details of all layers, from the outermost in, and of the transport layer's checksum.
 abbrev pub IsPacketDetails : LaxSlicedPacket → List ℕ → Type 0
 IsPacketDetails packet text =
     (net transport : List ℕ) × AreNetDetails packet.net net × IsTransportDetails packet.transport transport

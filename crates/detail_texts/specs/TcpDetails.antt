@@ -1,4 +1,4 @@
--- What is told of a TCP header beside its ports, flags and numbers, a space before each part.
+-- Details of a TCP header besides its ports, flags and sequence numbers, each part with a leading space.
 use Rattle.std.specs.Prelude.{◌≡◌, ℕ, List, [], ◌∷◌, ◌++◌, Option, Some, None, Result, Ok, Err, codes}
 use Rattle.std.specs.Fmt.{decimal}
 use Rattle.ep_transport.specs.declared.tcp_header.TcpHeader.{TcpHeader}
@@ -8,21 +8,21 @@ use Rattle.ep_transport.specs.declared.tcp_option_element.TcpOptionReadError.{Tc
 use Rattle.ep_transport.specs.declared.tcp_option_element.TcpOptionReadError.TheVariants.{UnexpectedEndOfSlice, UnexpectedSize, UnknownId}
 use Rattle.ep_transport.specs.TcpOptionBytes.{AreItems, Block}
 
--- a block that was received: its first byte, and the one behind its last
+-- a SACK block: its left edge and its right edge, the sequence number after its last byte
 abbrev pub block_text : Block → List ℕ
 block_text block = (codes " " ++ decimal block.0) ++ (codes "-" ++ decimal block.1)
 
--- a block, where there is one
+-- a SACK block, if present
 abbrev pub place_text : Option Block → List ℕ
 place_text (Some block) = block_text block
 place_text None = []
 
--- blocks, where there are any
+-- the SACK blocks that are present
 abbrev pub places_text : List (Option Block) → List ℕ
 places_text [] = []
 places_text (place ∷ others) = place_text place ++ places_text others
 
--- an option: its name, and what it says
+-- an option: its name and its values
 abbrev pub option_text : TcpOptionElement → List ℕ
 option_text Noop = codes " nop"
 option_text (MaximumSegmentSize size) = codes " mss " ++ decimal size
@@ -31,28 +31,28 @@ option_text SelectiveAcknowledgementPermitted = codes " sack-permitted"
 option_text (SelectiveAcknowledgement first others) = codes " sack" ++ block_text first ++ places_text others
 option_text (Timestamp time echo) = (codes " timestamp " ++ decimal time) ++ (codes " echo " ++ decimal echo)
 
--- why no further option is read: its kind is not known, it is cut, or its length is none that its kind has
+-- why an option cannot be read: its kind is unknown, it is truncated, or its length is invalid for its kind
 abbrev pub unread_text : TcpOptionReadError → List ℕ
 unread_text (UnknownId kind) = codes " option " ++ decimal kind
 unread_text (UnexpectedEndOfSlice kind expected actual) = (codes " option " ++ decimal kind) ++ codes " cut"
 unread_text (UnexpectedSize kind size) = (codes " option " ++ decimal kind) ++ (codes " length " ++ decimal size)
 
--- an option, or why none is read
+-- an option, or why it cannot be read
 abbrev pub item_text : Result TcpOptionElement TcpOptionReadError → List ℕ
 item_text (Ok option) = option_text option
 item_text (Err error) = unread_text error
 
--- options, up to the end or to one that is not read
+-- options, up to the end of the list or the first option that cannot be read
 abbrev pub items_text : List (Result TcpOptionElement TcpOptionReadError) → List ℕ
 items_text [] = []
 items_text (item ∷ others) = item_text item ++ items_text others
 
--- the text of the options that these bytes hold
+-- The text is that of the options in these bytes.
 abbrev pub IsOptionsText : List ℕ → List ℕ → Type 0
 IsOptionsText bytes text =
     (items : List (Result TcpOptionElement TcpOptionReadError)) × AreItems bytes items × (text ≡ items_text items)
 
--- what is told of a header: its window, and its options (RFC 9293, 3.1)
+-- The text has the details of a header: its window and its options (RFC 9293, 3.1).
 abbrev pub IsTcpDetails : TcpHeader → List ℕ → Type 0
 IsTcpDetails tcp text =
     (options : List ℕ) × IsOptionsText tcp.options options

@@ -1,4 +1,4 @@
-//! What is told of checksums.
+//! Texts that state whether the checksums of a packet's layers are valid, such as ` udp checksum right`.
 
 ghost use Rattle.std.specs.Prelude.{◌≡◌, ◌+◌, ◌-◌, ◌%◌, ◌==◌, ◌++◌, OnOk, length};
 ghost use Rattle.ep_base.specs.Checksum.{ones_sum};
@@ -11,7 +11,7 @@ use ep_ip::Ipv4HeaderSlice;
 use ep_transport::TransportSlice;
 use std::alloc::AllocError;
 
-/// Appends whether the checksum of an IPv4 header is the right one.
+/// Appends whether the checksum of an IPv4 header is valid, as ` header checksum right` or `.. wrong ..`.
 pub fn push_header_checksum(
     output: &mut Vec<u8>,
     header: &Ipv4HeaderSlice<'_>,
@@ -22,7 +22,8 @@ pub fn push_header_checksum(
     push_verdict(output, b" header", &sum_of(header.slice()))
 }
 
-/// Appends whether the checksum of a whole transport layer between these addresses is the right one, where it has one.
+/// Appends whether the checksum of a complete transport layer between these IPv4 addresses is valid. Appends nothing
+/// for UDP with checksum 0, for ICMPv6, and for a TCP segment of more than 65535 bytes.
 pub fn push_checksum_ipv4(
     output: &mut Vec<u8>,
     source: [u8; 4],
@@ -47,7 +48,8 @@ pub fn push_checksum_ipv4(
     }
 }
 
-/// Appends the same between addresses of IPv6.
+/// Appends whether the checksum of a complete transport layer between these IPv6 addresses is valid. Appends nothing
+/// for TCP and ICMPv6 messages whose length exceeds 32 bits.
 pub fn push_checksum_ipv6(
     output: &mut Vec<u8>,
     source: [u8; 16],
@@ -82,8 +84,8 @@ pub fn push_checksum_ipv6(
     }
 }
 
-/// Appends whether the checksum of a message of this name and protocol is the right one, where 16 bits can count its
-/// length.
+/// Appends whether the checksum of a UDP or TCP message over IPv4, with its pseudo-header, is valid. Appends nothing if
+/// its length exceeds 16 bits.
 fn push_message_ipv4(
     output: &mut Vec<u8>,
     name: &[u8],
@@ -100,11 +102,12 @@ fn push_message_ipv4(
         return Ok(());
     }
     let len = (len as u16).to_be_bytes();
-    let sum = sum_behind(&source, &destination, &[0, number], &len, bytes);
+    let sum = sum_with_pseudo_header(&source, &destination, &[0, number], &len, bytes);
     push_verdict(output, name, &sum)
 }
 
-/// Appends the same over IPv6, where 32 bits can count its length.
+/// Appends whether the checksum of a UDP, TCP or ICMPv6 message over IPv6, with its pseudo-header, is valid. Appends
+/// nothing if its length exceeds 32 bits.
 fn push_message_ipv6(
     output: &mut Vec<u8>,
     name: &[u8],
@@ -121,18 +124,19 @@ fn push_message_ipv6(
         return Ok(());
     }
     let len = (len as u32).to_be_bytes();
-    let sum = sum_behind(&source, &destination, &len, &[0, 0, 0, number], bytes);
+    let sum = sum_with_pseudo_header(&source, &destination, &len, &[0, 0, 0, number], bytes);
     push_verdict(output, name, &sum)
 }
 
-/// Appends whether the checksum of ICMP is the right one, which has no pseudo header.
+/// Appends whether the checksum of an ICMPv4 message is valid. It has no pseudo-header.
 fn push_icmpv4(output: &mut Vec<u8>, bytes: &[u8]) -> Result<(), AllocError>
     ensures { OnOk result (output.new.items ≡ output.old.items ++ icmpv4_text bytes.now) }
 {
     push_verdict(output, b" icmpv4", &sum_of(bytes))
 }
 
-/// Appends the name of what a checksum is in, and whether bytes of this sum have the right one among them.
+/// Appends `name` (of a layer) and whether the layer's checksum is valid, as ` udp checksum right`. It is valid if
+/// `sum`, over all its 16 bit words and the pseudo-header, is 0xFFFF.
 fn push_verdict(output: &mut Vec<u8>, name: &[u8], sum: &Sum16BitWords) -> Result<(), AllocError>
     ensures { OnOk result (output.new.items
         ≡ output.old.items ++ verdict_text name.now ((65535 - sum.now) == 0)) }
@@ -145,15 +149,16 @@ fn push_verdict(output: &mut Vec<u8>, name: &[u8], sum: &Sum16BitWords) -> Resul
     }
 }
 
-/// The sum of bytes.
+/// Returns the one's complement sum of the 16 bit words of `bytes` (RFC 1071).
 fn sum_of(bytes: &[u8]) -> Sum16BitWords
     ensures { result ≡ ones_sum bytes.now }
 {
     Sum16BitWords::new().add_slice(bytes)
 }
 
-/// The sum of a pseudo header, in four parts, and of a message behind it.
-fn sum_behind(
+/// Returns the one's complement sum of a pseudo-header, given by its four parts (of even lengths), and the message
+/// after it.
+fn sum_with_pseudo_header(
     source: &[u8],
     destination: &[u8],
     third: &[u8],

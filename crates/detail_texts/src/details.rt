@@ -1,4 +1,4 @@
-//! What is told of a packet beside the addresses, ports and lengths of its layers.
+//! Texts of the fields of a packet besides the addresses, ports and lengths of its layers.
 
 ghost use Rattle.std.specs.Prelude.{◌≡◌, ◌++◌, ℕ, List, OnOk};
 ghost use Rattle.ep_ip.specs.Ipv4Slices.{ipv4_header_slice_bytes, ipv4_header_slice_header};
@@ -16,7 +16,8 @@ use ep_lax::{LaxLinkExtSlice, LaxNetSlice, LaxSlicedPacket};
 use ep_transport::TransportSlice;
 use std::alloc::AllocError;
 
-/// Appends what is told of each layer of a packet, from the outside in, and of the checksum of its transport layer.
+/// Appends the details of each layer of a packet as text (VLAN priority, TTL, TCP options ..), from the outermost in,
+/// and then whether the transport checksum is valid.
 pub fn push_details(output: &mut Vec<u8>, packet: &LaxSlicedPacket<'_>) -> Result<(), AllocError>
     ensures { OnOk result ((text : List ℕ) × IsPacketDetails packet.now text
         × (output.new.items ≡ output.old.items ++ text)) }
@@ -27,7 +28,7 @@ pub fn push_details(output: &mut Vec<u8>, packet: &LaxSlicedPacket<'_>) -> Resul
     push_checksum(output, packet)
 }
 
-/// Appends what is told of each link extension.
+/// Appends the details of each link extension as text: the priorities of VLAN tags.
 fn push_tags(output: &mut Vec<u8>, extensions: &[LaxLinkExtSlice<'_>]) -> Result<(), AllocError>
     ensures { OnOk result (output.new.items ≡ output.old.items ++ tags_details extensions.now) }
 {
@@ -37,7 +38,8 @@ fn push_tags(output: &mut Vec<u8>, extensions: &[LaxLinkExtSlice<'_>]) -> Result
     Ok(())
 }
 
-/// Appends what is told of a link extension: of a VLAN its priority.
+/// Appends the details of a link extension as text: priority and drop eligible indicator of a VLAN tag, nothing for
+/// MACsec.
 fn push_tag(output: &mut Vec<u8>, extension: &LaxLinkExtSlice<'_>) -> Result<(), AllocError>
     ensures { OnOk result (output.new.items ≡ output.old.items ++ tag_details extension.now) }
 {
@@ -47,7 +49,7 @@ fn push_tag(output: &mut Vec<u8>, extension: &LaxLinkExtSlice<'_>) -> Result<(),
     }
 }
 
-/// Appends what is told of a net layer, where there is one.
+/// Appends the details of the network layer as text (such as the TTL); nothing without a network layer.
 fn push_net(output: &mut Vec<u8>, net: &Option<LaxNetSlice<'_>>) -> Result<(), AllocError>
     ensures { OnOk result ((text : List ℕ) × AreNetDetails net.now text
         × (output.new.items ≡ output.old.items ++ text)) }
@@ -58,7 +60,7 @@ fn push_net(output: &mut Vec<u8>, net: &Option<LaxNetSlice<'_>>) -> Result<(), A
     }
 }
 
-/// Appends what is told of a net layer.
+/// Appends the details of a network layer as text: fields of the IPv4 or IPv6 header, nothing for ARP.
 fn push_net_layer(output: &mut Vec<u8>, layer: &LaxNetSlice<'_>) -> Result<(), AllocError>
     ensures { OnOk result ((text : List ℕ) × IsNetDetails layer.now text
         × (output.new.items ≡ output.old.items ++ text)) }
@@ -70,7 +72,8 @@ fn push_net_layer(output: &mut Vec<u8>, layer: &LaxNetSlice<'_>) -> Result<(), A
     }
 }
 
-/// Appends what is told of an IPv4 header, and whether its checksum is the right one.
+/// Appends the details of an IPv4 header as text (TTL, identification, "don't fragment"), and whether its checksum is
+/// valid.
 fn push_ipv4_header(output: &mut Vec<u8>, header: &Ipv4HeaderSlice<'_>) -> Result<(), AllocError>
     ensures { OnOk result (output.new.items ≡ output.old.items
         ++ (ipv4_details (ipv4_header_slice_header header.now)
@@ -80,7 +83,7 @@ fn push_ipv4_header(output: &mut Vec<u8>, header: &Ipv4HeaderSlice<'_>) -> Resul
     push_header_checksum(output, header)
 }
 
-/// Appends what is told of a transport layer: of TCP its window and options.
+/// Appends the details of the transport layer as text: window and options of TCP, nothing for other protocols.
 fn push_transport(
     output: &mut Vec<u8>,
     transport: &Option<TransportSlice<'_>>,

@@ -1,4 +1,4 @@
-//! What is told of headers beside their addresses.
+//! Texts of fields of IPv4, IPv6 and VLAN headers besides their addresses.
 
 ghost use Rattle.std.specs.Prelude.{◌≡◌, ◌++◌, OnOk};
 ghost use Rattle.ep_ip.specs.Ipv4Slices.{ipv4_header_slice_header};
@@ -12,7 +12,7 @@ use ep_link::SingleVlanSlice;
 use line_io::decimals;
 use std::alloc::AllocError;
 
-/// Appends how many further hops a packet of IPv4 may take, its identification, and whether it must not be cut.
+/// Appends the time to live, the identification and the "don't fragment" flag of an IPv4 header as text.
 pub fn push_ipv4(output: &mut Vec<u8>, header: &Ipv4HeaderSlice<'_>) -> Result<(), AllocError>
     ensures { OnOk result (output.new.items ≡ output.old.items ++ ipv4_details (ipv4_header_slice_header header.now)) }
 {
@@ -24,7 +24,8 @@ pub fn push_ipv4(output: &mut Vec<u8>, header: &Ipv4HeaderSlice<'_>) -> Result<(
     )
 }
 
-/// Appends the same from the fields.
+/// Appends the time to live, the identification and, if set, the "don't fragment" flag of an IPv4 header, as ` ttl 64
+/// id 7 df`.
 #[tactic(auto, unfolding(crate::specs::HeaderDetails::ipv4_fields_text))]
 fn push_ipv4_fields(
     output: &mut Vec<u8>,
@@ -35,35 +36,35 @@ fn push_ipv4_fields(
     ensures { OnOk result (output.new.items
         ≡ output.old.items ++ ipv4_fields_text time_to_live identification dont_fragment) }
 {
-    decimals::push_behind(output, b" ttl ", u64::from(time_to_live))?;
-    decimals::push_behind(output, b" id ", u64::from(identification))?;
+    decimals::push_with_text(output, b" ttl ", u64::from(time_to_live))?;
+    decimals::push_with_text(output, b" id ", u64::from(identification))?;
     push_flag(output, dont_fragment, b" df")
 }
 
-/// Appends how many further hops a packet of IPv6 may take, and its flow label.
+/// Appends the hop limit and the flow label of an IPv6 header as text.
 pub fn push_ipv6(output: &mut Vec<u8>, header: &Ipv6HeaderSlice<'_>) -> Result<(), AllocError>
     ensures { OnOk result (output.new.items ≡ output.old.items ++ ipv6_details (ipv6_header_slice_header header.now)) }
 {
     push_ipv6_fields(output, header.hop_limit(), header.flow_label().value())
 }
 
-/// Appends the same from the fields.
+/// Appends the hop limit and the flow label of an IPv6 header, as ` hop-limit 64 flow 0`.
 #[tactic(auto, unfolding(crate::specs::HeaderDetails::ipv6_fields_text))]
 fn push_ipv6_fields(output: &mut Vec<u8>, hop_limit: u8, flow_label: u32) -> Result<(), AllocError>
     ensures { OnOk result (output.new.items ≡ output.old.items ++ ipv6_fields_text hop_limit flow_label) }
 {
-    decimals::push_behind(output, b" hop-limit ", u64::from(hop_limit))?;
-    decimals::push_behind(output, b" flow ", u64::from(flow_label))
+    decimals::push_with_text(output, b" hop-limit ", u64::from(hop_limit))?;
+    decimals::push_with_text(output, b" flow ", u64::from(flow_label))
 }
 
-/// Appends the priority of a VLAN tag, and whether its frame may be dropped first.
+/// Appends the priority (PCP) and the drop eligible indicator (DEI) of a VLAN tag as text.
 pub fn push_vlan(output: &mut Vec<u8>, tag: &SingleVlanSlice<'_>) -> Result<(), AllocError>
     ensures { OnOk result (output.new.items ≡ output.old.items ++ vlan_details (vlan_slice_header tag.now)) }
 {
     push_vlan_fields(output, tag.pcp().value(), tag.drop_eligible_indicator())
 }
 
-/// Appends the same from the fields.
+/// Appends the priority (PCP) and, if set, the drop eligible indicator (DEI) of a VLAN tag, as ` pcp 3 dei`.
 #[tactic(auto, unfolding(crate::specs::HeaderDetails::vlan_fields_text))]
 fn push_vlan_fields(
     output: &mut Vec<u8>,
@@ -72,11 +73,11 @@ fn push_vlan_fields(
 ) -> Result<(), AllocError>
     ensures { OnOk result (output.new.items ≡ output.old.items ++ vlan_fields_text priority drop_eligible) }
 {
-    decimals::push_behind(output, b" pcp ", u64::from(priority))?;
+    decimals::push_with_text(output, b" pcp ", u64::from(priority))?;
     push_flag(output, drop_eligible, b" dei")
 }
 
-/// Appends a text, where its flag is set.
+/// Appends `text` if a flag of a header is set, and nothing otherwise.
 fn push_flag(output: &mut Vec<u8>, set: bool, text: &[u8]) -> Result<(), AllocError>
     ensures { OnOk result (output.new.items ≡ output.old.items ++ flag_text set text.now) }
 {

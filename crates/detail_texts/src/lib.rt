@@ -1,4 +1,5 @@
-//! What is told of the layers of a packet beside their addresses, ports and lengths, each part appended to bytes.
+//! Appends fields of a packet's layers as text to a vector, besides their addresses, ports and lengths, and whether
+//! checksums are valid.
 #![tactic(auto)]
 
 pub mod checksums;

@@ -1,4 +1,4 @@
-//! What is told of the checksum of a packet's transport layer.
+//! Text that states whether the checksum of a packet's transport layer is valid.
 
 ghost use Rattle.std.specs.Prelude.{◌≡◌, ◌++◌, OnOk};
 ghost use Rattle.std.specs.Option.{option_map};
@@ -14,8 +14,9 @@ use ep_lax::{LaxIpPayloadSlice, LaxNetSlice, LaxSlicedPacket};
 use ep_transport::TransportSlice;
 use std::alloc::AllocError;
 
-/// Appends whether the checksum of a packet's transport layer is the right one, where it has one and no byte of it is
-/// missing. None is told of a payload that no length field counts, or behind a routing header.
+/// Appends whether the checksum of a packet's transport layer is valid. Appends nothing without a transport layer, for
+/// UDP with checksum 0 and ICMPv6 over IPv4, if bytes of the packet are missing, if no length field limits the IP
+/// payload, or if there is an IPv6 routing header.
 pub fn push_checksum(output: &mut Vec<u8>, packet: &LaxSlicedPacket<'_>) -> Result<(), AllocError>
     ensures { OnOk result (output.new.items ≡ output.old.items ++ packet_checksum_text packet.now) }
 {
@@ -25,7 +26,8 @@ pub fn push_checksum(output: &mut Vec<u8>, packet: &LaxSlicedPacket<'_>) -> Resu
     push_inner(output, &packet.net, &packet.transport)
 }
 
-/// Appends the same of a transport layer in a net layer, where there is one.
+/// Appends whether the checksum of the transport layer is valid, whose pseudo-header has the addresses of `net`.
+/// Appends nothing if there is no transport layer.
 fn push_inner(
     output: &mut Vec<u8>,
     net: &Option<LaxNetSlice<'_>>,
@@ -35,13 +37,14 @@ fn push_inner(
         ≡ output.old.items ++ inner_checksum_text (option_map lax_net_layer_of net.now) transport.now) }
 {
     match transport {
-        Some(transport) => push_behind(output, net, transport),
+        Some(transport) => push_net_checksum(output, net, transport),
         None => Ok(()),
     }
 }
 
-/// Appends the same behind a net layer.
-fn push_behind(
+/// Appends whether the checksum of a transport layer is valid, whose pseudo-header has the addresses of `net`. Appends
+/// nothing if no length field limits the IP payload, or if there is an IPv6 routing header.
+fn push_net_checksum(
     output: &mut Vec<u8>,
     net: &Option<LaxNetSlice<'_>>,
     transport: &TransportSlice<'_>,
@@ -71,14 +74,14 @@ fn push_behind(
     }
 }
 
-/// Whether no length field counts a payload.
+/// Returns true if no length field limits the IP payload, so that it ends with the captured bytes.
 fn is_uncounted(payload: &LaxIpPayloadSlice<'_>) -> bool
     ensures { result ≡ is_uncounted payload.now.len_source }
 {
     matches!(payload.len_source, LenSource::Slice)
 }
 
-/// Whether a routing header is among extension headers.
+/// Returns true if the IPv6 extension headers include a routing header.
 fn has_routing(extensions: Ipv6ExtensionsSlice<'_>) -> bool
     ensures { result ≡ has_routing (ipv6_slice_parts extensions.entry) }
 {
@@ -90,7 +93,7 @@ fn has_routing(extensions: Ipv6ExtensionsSlice<'_>) -> bool
     false
 }
 
-/// Whether an extension header is a routing header.
+/// Returns true if the IPv6 extension header is a routing header.
 fn is_routing(extension: &Ipv6ExtensionSlice<'_>) -> bool
     ensures { result ≡ is_routing (extension_slice_part extension.now) }
 {

@@ -1,4 +1,4 @@
-//! What is told of TCP headers beside their ports, flags and numbers.
+//! Texts of fields of TCP headers besides their ports, flags and sequence numbers.
 
 ghost use Rattle.std.specs.Prelude.{◌≡◌, ◌++◌, OnOk, List, ℕ};
 ghost use Rattle.ep_transport.specs.TcpOptionSteps.{options_left};
@@ -10,16 +10,17 @@ use ep_transport::{TcpOptionElement, TcpOptionReadError, TcpOptionsIterator, Tcp
 use line_io::decimals;
 use std::alloc::AllocError;
 
-/// Appends the window of a segment, and its options.
+/// Appends the window and the options of a TCP segment as text.
 pub fn push_tcp(output: &mut Vec<u8>, segment: &TcpSlice<'_>) -> Result<(), AllocError>
     ensures { OnOk result ((text : List ℕ) × IsTcpDetails (tcp_slice_header segment.now) text
         × (output.new.items ≡ output.old.items ++ text)) }
 {
-    decimals::push_behind(output, b" window ", u64::from(segment.window_size()))?;
+    decimals::push_with_text(output, b" window ", u64::from(segment.window_size()))?;
     push_options(output, segment.options_iterator())
 }
 
-/// Appends the options that are still to be read, up to the end or to one that is not read.
+/// Appends TCP options as text, up to the end of the option list, or up to the first option that cannot be read, which
+/// is named.
 fn push_options(output: &mut Vec<u8>, options: TcpOptionsIterator<'_>) -> Result<(), AllocError>
     ensures { OnOk result ((text : List ℕ) × IsOptionsText (options_left options.entry) text
         × (output.new.items ≡ output.old.items ++ text)) }
@@ -33,17 +34,17 @@ fn push_options(output: &mut Vec<u8>, options: TcpOptionsIterator<'_>) -> Result
     Ok(())
 }
 
-/// Appends an option: its name, and what it says.
+/// Appends a TCP option as text: its name and its values, such as ` mss 1460`.
 fn push_option(output: &mut Vec<u8>, option: &TcpOptionElement) -> Result<(), AllocError>
     ensures { OnOk result (output.new.items ≡ output.old.items ++ option_text option.now) }
 {
     match option {
         TcpOptionElement::Noop => output.extend_from_slice(b" nop"),
         TcpOptionElement::MaximumSegmentSize(size) => {
-            decimals::push_behind(output, b" mss ", u64::from(*size))
+            decimals::push_with_text(output, b" mss ", u64::from(*size))
         }
         TcpOptionElement::WindowScale(shift) => {
-            decimals::push_behind(output, b" wscale ", u64::from(*shift))
+            decimals::push_with_text(output, b" wscale ", u64::from(*shift))
         }
         TcpOptionElement::SelectiveAcknowledgementPermitted => {
             output.extend_from_slice(b" sack-permitted")
@@ -54,24 +55,24 @@ fn push_option(output: &mut Vec<u8>, option: &TcpOptionElement) -> Result<(), Al
             push_places(output, others)
         }
         TcpOptionElement::Timestamp(time, echo) => {
-            decimals::push_behind(output, b" timestamp ", u64::from(*time))?;
-            decimals::push_behind(output, b" echo ", u64::from(*echo))
+            decimals::push_with_text(output, b" timestamp ", u64::from(*time))?;
+            decimals::push_with_text(output, b" echo ", u64::from(*echo))
         }
     }
 }
 
-/// Appends blocks, where there are any.
+/// Appends the blocks of a TCP SACK option that are present, as text.
 fn push_places(output: &mut Vec<u8>, places: &[Option<(u32, u32)>]) -> Result<(), AllocError>
     ensures { OnOk result (output.new.items ≡ output.old.items ++ places_text places.now) }
 {
     for place in places {
-        push_place(output, *place)?;
+        push_block_if_present(output, *place)?;
     }
     Ok(())
 }
 
-/// Appends a block, where there is one.
-fn push_place(output: &mut Vec<u8>, place: Option<(u32, u32)>) -> Result<(), AllocError>
+/// Appends a block of a TCP SACK option as text; nothing for `None`.
+fn push_block_if_present(output: &mut Vec<u8>, place: Option<(u32, u32)>) -> Result<(), AllocError>
     ensures { OnOk result (output.new.items ≡ output.old.items ++ place_text place) }
 {
     match place {
@@ -80,29 +81,31 @@ fn push_place(output: &mut Vec<u8>, place: Option<(u32, u32)>) -> Result<(), All
     }
 }
 
-/// Appends a block: its first byte, and the one behind its last.
+/// Appends a block of a TCP SACK option as text: its left edge, and its right edge, the sequence number after its last
+/// byte.
 fn push_block(output: &mut Vec<u8>, block: (u32, u32)) -> Result<(), AllocError>
     ensures { OnOk result (output.new.items ≡ output.old.items ++ block_text block) }
 {
-    decimals::push_behind(output, b" ", u64::from(block.0))?;
-    decimals::push_behind(output, b"-", u64::from(block.1))
+    decimals::push_with_text(output, b" ", u64::from(block.0))?;
+    decimals::push_with_text(output, b"-", u64::from(block.1))
 }
 
-/// Appends why no further option is read: its kind is not known, it is cut, or its length is none that its kind has.
+/// Appends why a TCP option cannot be read: its kind is unknown, it is truncated, or its length is invalid for its
+/// kind.
 fn push_unread(output: &mut Vec<u8>, error: &TcpOptionReadError) -> Result<(), AllocError>
     ensures { OnOk result (output.new.items ≡ output.old.items ++ unread_text error.now) }
 {
     match error {
         TcpOptionReadError::UnknownId(kind) => {
-            decimals::push_behind(output, b" option ", u64::from(*kind))
+            decimals::push_with_text(output, b" option ", u64::from(*kind))
         }
         TcpOptionReadError::UnexpectedEndOfSlice { option_id, .. } => {
-            decimals::push_behind(output, b" option ", u64::from(*option_id))?;
+            decimals::push_with_text(output, b" option ", u64::from(*option_id))?;
             output.extend_from_slice(b" cut")
         }
         TcpOptionReadError::UnexpectedSize { option_id, size } => {
-            decimals::push_behind(output, b" option ", u64::from(*option_id))?;
-            decimals::push_behind(output, b" length ", u64::from(*size))
+            decimals::push_with_text(output, b" option ", u64::from(*option_id))?;
+            decimals::push_with_text(output, b" length ", u64::from(*size))
         }
     }
 }

@@ -1,4 +1,4 @@
--- Lists of bytes that are the same list in two ways.
+-- Lemmas about lists of bytes and their parts.
 use Rattle.std.proofs.Common.{◌≡◌, ℕ, zero, suc, ◌+◌, ◌-◌, ◌*◌, ◌/◌, ◌%◌, ◌^◌, ◌<◌, ◌≤◌, ◌==◌, Bool, true, false, List, [], ◌∷◌, ◌++◌}
 use Rattle.std.proofs.Common.{get_or, refl, length, replicate, take, drop, sym, ap, subst, ◌∙◌, inl, inr, arith}
 use Rattle.std.proofs.lemmas.Bool.{cases_lt}
@@ -8,25 +8,25 @@ use Rattle.std.specs.Int.{w16, w32, to_be_bytes}
 use Rattle.std.proofs.Math.Seq.{take-append_seam, drop-append_seam}
 use Rattle.ep_base.specs.Bytes.{AreBytes, word_at, bit}
 
--- fronts of one length are one front, and what follows is one rest
+-- Two splits of a list at the same position have the same parts.
 pub same_parts : (a b x y : List ℕ) → length a ≡ length b → a ++ x ≡ b ++ y → (a ≡ b) × (x ≡ y)
 same_parts a b x y len same = (
   sym (take-append_seam a x) ∙ ap (take (length a)) same ∙ ap (λ (n : ℕ). take n (b ++ y)) len ∙ take-append_seam b y,
   sym (drop-append_seam a x) ∙ ap (drop (length a)) same ∙ ap (λ (n : ℕ). drop n (b ++ y)) len ∙ drop-append_seam b y,
 )
 
--- what stands behind a front
+-- Dropping the length of the first part leaves the second part.
 pub rest_of : (bytes front rest : List ℕ) (n : ℕ) → bytes ≡ front ++ rest → n ≡ length front
     → take (length bytes - n) (drop n bytes) ≡ rest
 rest_of bytes front rest n parts len =
     take_all (length bytes - n) (drop n bytes) (omega (arith, length-drop n bytes)) ∙ ap (drop n) parts
     ∙ drop_at front rest n (sym len)
 
--- a front is no longer than the bytes
+-- The first part is not longer than the whole.
 pub front_within : (bytes front rest : List ℕ) (n : ℕ) → bytes ≡ front ++ rest → n ≡ length front → n ≤ length bytes
 front_within bytes front rest n parts len = omega (arith, ap length parts, length-append front rest, len)
 
--- a copy in an array of zeros: the array has its length, and zeros stand behind the copy
+-- A copy at the start of a zeroed array keeps the array's length and is followed by zeros.
 pub stored_copy : (copy : List ℕ) (n m width : ℕ) → length copy ≡ n → n ≤ width → m ≡ n
     → (length (copy ++ drop n (replicate width 0)) ≡ width)
     × (drop m (copy ++ drop n (replicate width 0)) ≡ replicate (width - m) 0)
@@ -37,12 +37,12 @@ stored_copy copy n m width copied within same =
           ∙ drop-replicate m width 0,
     )
 
--- n elements from i on
+-- The n elements that start at i.
 unfoldable pub elements : ℕ → ℕ → List ℕ → List ℕ
 elements zero i bytes = []
 elements (suc n) i bytes = get_or bytes i 0 ∷ elements n (i + 1) bytes
 
--- what stands from i on is n elements, and what stands behind them
+-- The list from i on consists of the n elements at i and the list from i + n on.
 pub drop-elements : (n i : ℕ) (bytes : List ℕ) → i + n ≤ length bytes
     → drop i bytes ≡ elements n i bytes ++ drop (i + n) bytes
 unfolding elements
@@ -52,7 +52,7 @@ drop-elements (suc n) i bytes within =
     ∙ ap (λ (s : List ℕ). get_or bytes i 0 ∷ s) (drop-elements n (i + 1) bytes (omega arith))
     ∙ ap (λ (k : ℕ). elements (suc n) i bytes ++ drop k bytes) (omega arith)
 
--- a front of bytes is bytes
+-- A prefix of bytes is bytes.
 pub AreBytes-take : (n : ℕ) (bytes : List ℕ) → AreBytes bytes → AreBytes (take n bytes)
 AreBytes-take n bytes fits i =
     elim (cases_lt i n) [
@@ -60,11 +60,11 @@ AreBytes-take n bytes fits i =
       | inr past ↦ rw (get_or_past (take n bytes) i 0 (omega (arith, length-take n bytes))) (omega arith)
     ]
 
--- what follows a front of bytes is bytes
+-- The bytes after a prefix are bytes.
 pub AreBytes-drop : (n : ℕ) (bytes : List ℕ) → AreBytes bytes → AreBytes (drop n bytes)
 AreBytes-drop n bytes fits i = rw get_or-drop (fits (n + i))
 
--- two bytes are those of their number, in whatever way this is put together
+-- Two bytes are the big-endian bytes of the number that they encode.
 pub word_cells : (bytes : List ℕ) → AreBytes bytes → (i : ℕ) {n : ℕ} → n ≡ word_at bytes i
     → get_or bytes i 0 ∷ get_or bytes (i + 1) 0 ∷ [] ≡ to_be_bytes w16 n
 word_cells bytes fits i {n = n} same =
@@ -72,7 +72,7 @@ word_cells bytes fits i {n = n} same =
     let lower : get_or bytes (i + 1) 0 ≡ n % 256 = omega (arith, same, fits (i + 1)) in
     λ k. upper k ∷ lower k ∷ []
 
--- and so are four
+-- Four bytes are the big-endian bytes of the number that they encode.
 pub long_cells : (bytes : List ℕ) → AreBytes bytes → (i : ℕ) {n : ℕ}
     → n ≡ 2 ^ 16 * word_at bytes i + word_at bytes (i + 2)
     → get_or bytes i 0 ∷ get_or bytes (i + 1) 0 ∷ get_or bytes (i + 2) 0 ∷ get_or bytes (i + 2 + 1) 0 ∷ []
@@ -85,42 +85,42 @@ long_cells bytes fits i {n = n} same =
     let fourth : get_or bytes (i + 2 + 1) 0 ≡ n % 256 = omega (arith, same, a, b, c, d) in
     λ k. first k ∷ second k ∷ third k ∷ fourth k ∷ []
 
--- the cells of a list of 4 bytes
+-- A list of length 4 consists of its 4 elements.
 pub cells_4 : (xs : List ℕ) → length xs ≡ 4 → xs ≡ get_or xs 0 0 ∷ get_or xs 1 0 ∷ get_or xs 2 0 ∷ get_or xs 3 0 ∷ []
 cells_4 (a ∷ b ∷ c ∷ d ∷ []) len = refl
 cells_4 _ len = absurd (omega arith)
 
--- the cells of a list of 6 bytes
+-- A list of length 6 consists of its 6 elements.
 pub cells_6 : (xs : List ℕ) → length xs ≡ 6
     → xs ≡ get_or xs 0 0 ∷ get_or xs 1 0 ∷ get_or xs 2 0 ∷ get_or xs 3 0 ∷ get_or xs 4 0 ∷ get_or xs 5 0 ∷ []
 cells_6 (a ∷ b ∷ c ∷ d ∷ e ∷ f ∷ []) len = refl
 cells_6 _ len = absurd (omega arith)
 
--- the first of two parts of bytes is bytes
+-- The first part of bytes is bytes.
 pub AreBytes-front : (a b : List ℕ) → AreBytes (a ++ b) → AreBytes a
 AreBytes-front a b fits = subst AreBytes (take-append_seam a b) (AreBytes-take (length a) (a ++ b) fits)
 
--- the second of two parts of bytes is bytes
+-- The second part of bytes is bytes.
 pub AreBytes-back : (a b : List ℕ) → AreBytes (a ++ b) → AreBytes b
 AreBytes-back a b fits = subst AreBytes (drop-append_seam a b) (AreBytes-drop (length a) (a ++ b) fits)
 
--- a payload, between its header and what its cut leaves, is bytes
+-- A payload between its header and the trailing bytes is bytes.
 pub AreBytes-payload : (bytes front payload left : List ℕ) → AreBytes bytes → bytes ≡ (front ++ payload) ++ left
     → AreBytes payload
 AreBytes-payload bytes front payload left fits parts =
     AreBytes-back front payload (AreBytes-front (front ++ payload) left (subst AreBytes parts fits))
 
--- a flag is 0 or 1
+-- A flag as a bit is at most 1.
 pub bit_le : (flag : Bool) → bit flag ≤ 1
 bit_le true = omega arith
 bit_le false = omega arith
 
--- a bit that is a flag is read as the flag
+-- Reading the bit of a flag returns the flag.
 pub bit_read : (n : ℕ) (flag : Bool) → n ≡ bit flag → (n == 1) ≡ flag
 bit_read n true e = rw e refl
 bit_read n false e = rw e refl
 
--- a bit is read as a flag, which is this bit
+-- Reading a bit as a flag and converting it back returns the bit.
 pub bit_of_read : (n : ℕ) → n < 2 → bit (n == 1) ≡ n
 bit_of_read zero below = refl
 bit_of_read (suc zero) below = refl

@@ -1,4 +1,4 @@
--- What tests decide of values that have parts.
+-- Lemmas about equality tests of values with several parts.
 use Rattle.std.proofs.Common.{◌≡◌, ◌&&◌, ℕ, ◌-◌, Bool, false, List, length, replicate, Option, Some, None, refl, sym, ap, ◌∙◌}
 use Rattle.std.specs.Prelude.{nat_eq}
 use Rattle.std.specs.Bool.{Decides}
@@ -10,16 +10,16 @@ use Rattle.std.proofs.lemmas.Slice.Eq.{slice_eq-Decides}
 use Rattle.ep_base.specs.Padding.{padded}
 use Rattle.ep_base.proofs.BytesLemmas.{same_parts}
 
--- what tells two parts tells what they are the parts of
+-- A test that decides equality of two parts decides equality of the values made of them.
 pub of_part : {P W : Type 0} {r : Bool} {a b : P} (whole : P → W) → (whole a ≡ whole b → a ≡ b) → Decides r (a ≡ b)
     → Decides r (whole a ≡ whole b)
 of_part {r = r} whole part one = Decides-like r (λ same. ap whole same) part one
 
--- what is never the same is told to be other
+-- The answer false decides a proposition that never holds.
 pub apart : {P : Type 0} → (P → ⊥) → Decides false P
 apart never = (λ equal. absurd (false≢true equal), λ same. absurd (never same))
 
--- where the test of two values decides, so does that of values that may be there
+-- Equality of options is decided if equality of their values is.
 pub same_option : {A : Type 0} (test : A → A → Bool) (a b : Option A)
     → ((x y : A) → a ≡ Some x → b ≡ Some y → Decides (test x y) (x ≡ y)) → Decides (option_eq test a b) (a ≡ b)
 same_option test None None each = (λ equal. refl, λ same. refl)
@@ -28,7 +28,7 @@ same_option test (Some x) None each = (λ equal. absurd (false≢true equal), λ
 same_option test (Some x) (Some y) each =
     let one = each x y refl refl in (λ equal. ap (λ z. Some z) (one.0 equal), λ same. one.1 (cc))
 
--- parts that are compared in turn, of long records by fours
+-- Parts that are compared in order. Long records are compared in groups of four fields.
 abbrev pub two : {A B : Type 0} → A → B → A × B
 two a b = (a, b)
 
@@ -49,13 +49,13 @@ two_same first second =
     Decides-like _ (λ both i. (both.0 i, both.1 i)) (λ same. (ap (λ t. t.0) same, ap (λ t. t.1) same))
     (Decides-and _ _ first second)
 
--- values are the same where the parts are that they are made of
+-- A test that decides equality of the parts of two values decides equality of the values.
 pub made_same : {W P : Type 0} {r : Bool} (parts : W → P) (made : P → W) → ((w : W) → made (parts w) ≡ w) → (a b : W)
     → Decides r (parts a ≡ parts b) → Decides r (a ≡ b)
 made_same parts made again a b =
     Decides-like _ (λ same. sym (again a) ∙ ap made same ∙ again b) (ap parts)
 
--- bytes in an array, filled up with zeros, and their number as it is counted there
+-- Comparing padded arrays and stored lengths decides equality of the stored bytes.
 pub stored_same : (width : ℕ) (count : ℕ → ℕ) (a b : List ℕ)
     → (count (length a) ≡ count (length b) → length a ≡ length b)
     → Decides (pointwise nat_eq (padded width a) (padded width b) && nat_eq (count (length a)) (count (length b))) (a ≡ b)

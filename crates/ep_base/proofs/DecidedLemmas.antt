@@ -1,20 +1,20 @@
--- That there is one value or one error, of relations that are made of others of which the same is known.
+-- Lemmas that combined relations have exactly one value or exactly one error, if the relations that they consist of do.
 use Rattle.std.proofs.Common.{◌≡◌, ◌⊎◌, Result, Ok, Err, refl, sym, ap, subst, ◌∙◌, inl, inr}
 use Rattle.std.specs.Prelude.{IfOk, IfErr, IsOkAnd}
 use Rattle.ep_base.specs.Tables.{IsDecided, IsOne, RefusesAs}
 
--- a relation holds of the images of what another holds of, and of nothing else
+-- One relation holds exactly for the images of the values of another relation.
 pub record IsImage {V W : Type 0} (Of : V → Type 0) (Image : W → Type 0) (image : V → W) : Type 0 where
   pub there : (value : V) → Of value → Image (image value)
   pub back : (value : W) → Image value → (origin : V) × Of origin × (value ≡ image origin)
 
--- a relation that holds of the same as another is its image
+-- A relation that holds for the same values is the image under the identity.
 pub same_image : {V : Type 0} {Of Image : V → Type 0} → ((value : V) → Of value → Image value)
     → ((value : V) → Image value → Of value)
     → IsImage Of Image (λ value. value)
 same_image there back = record { there = there; back = λ value holds. (value, back value holds, refl) }
 
--- one value and no error
+-- A single value without errors is decided.
 pub decided_by : {V E : Type 0} {Is : V → Type 0} {Refuses : E → Type 0} → (value : V) → Is value
     → ((other : V) → Is other → other ≡ value)
     → ((error : E) → Refuses error → ⊥) → IsDecided Is Refuses
@@ -25,7 +25,7 @@ decided_by value is only never = record {
   not_both = λ v e a b. never e b;
 }
 
--- the images of the value and of the error
+-- The images of decided values and errors are decided.
 pub decided_as : {V W E F : Type 0} {Is : V → Type 0} {Refuses : E → Type 0} {IsImaged : W → Type 0}
     {RefusesImaged : F → Type 0}
     → (value : V → W) → (error : E → F) → IsDecided Is Refuses → IsImage Is IsImaged value
@@ -50,22 +50,22 @@ decided_as value error decided values errors = record {
       decided.not_both x.0 y.0 x.1 y.1;
 }
 
--- the same value, and the error under another name
+-- Converting the errors of a decided relation keeps it decided.
 pub refused_as : {V E F : Type 0} {Is : V → Type 0} {Refuses : E → Type 0} → (name : E → F) → IsDecided Is Refuses
     → IsDecided Is (RefusesAs name Refuses)
 refused_as name decided =
     decided_as (λ value. value) name decided (same_image (λ value is. is) (λ value is. is))
     (record { there = λ refusal refused. (refusal, refused, refl); back = λ error refused. refused })
 
--- what holds of one value and of another that is looked for once the first is there
+-- A first value, and a second value that depends on the first.
 abbrev pub IsBoth : {V W : Type 0} → (V → Type 0) → (V → W → Type 0) → V × W → Type 0
 IsBoth Is Next values = Is values.0 × Next values.0 values.1
 
--- why there is no first value, or no other one
+-- The errors of two steps: the first value is rejected, or there is a first value and the second is rejected.
 abbrev pub RefusesEither : {V E : Type 0} → (V → Type 0) → (E → Type 0) → (V → E → Type 0) → E → Type 0
 RefusesEither {V = V} Is Refuses RefusesNext error = Refuses error ⊎ ((value : V) × Is value × RefusesNext value error)
 
--- two steps have one error
+-- Two steps in sequence have at most one error.
 then_one_error : {V W E : Type 0} {Is : V → Type 0} {Refuses : E → Type 0} {Next : V → W → Type 0}
     {RefusesNext : V → E → Type 0}
     → IsDecided Is Refuses → ((value : V) → Is value → IsDecided (Next value) (RefusesNext value))
@@ -77,7 +77,7 @@ then_one_error {RefusesNext = RefusesNext} first next e f (inr a) (inr b) =
     let same = first.one_value a.0 b.0 a.1 b.1 in
     (next b.0 b.1).one_error e f (subst (λ v. RefusesNext v e) same a.2) b.2
 
--- two steps are not taken and refused
+-- Two steps in sequence do not both succeed and fail.
 then_not_both : {V W E : Type 0} {Is : V → Type 0} {Refuses : E → Type 0} {Next : V → W → Type 0}
     {RefusesNext : V → E → Type 0}
     → IsDecided Is Refuses → ((value : V) → Is value → IsDecided (Next value) (RefusesNext value))
@@ -87,7 +87,7 @@ then_not_both {Next = Next} first next values e a (inr b) =
     let same = first.one_value values.0 b.0 a.0 b.1 in
     (next b.0 b.1).not_both values.1 e (subst (λ v. Next v values.1) same a.1) b.2
 
--- one step and then another
+-- Two decided steps in sequence are decided.
 pub decided_then : {V W E : Type 0} {Is : V → Type 0} {Refuses : E → Type 0} {Next : V → W → Type 0}
     {RefusesNext : V → E → Type 0}
     → IsDecided Is Refuses → ((value : V) → Is value → IsDecided (Next value) (RefusesNext value))
@@ -109,16 +109,16 @@ decided_then {V = V} {W = W} {Next = Next} first next = record {
   not_both = then_not_both first next;
 }
 
--- an answer that is right where it is Ok and right where it is Err is Ok for the value that there is, and shows it
+-- If a call's Ok and Err results are correct, and there is a value, the call returns Ok with this value.
 pub only_of : {A V E : Type 0} {Is : V → Type 0} {Refuses : E → Type 0} (shown : A → V) → IsDecided Is Refuses
     → (answer : Result A E) → IfOk answer (λ a. Is (shown a)) → IfErr answer Refuses
     → (value : V) → Is value → IsOkAnd answer (λ a. shown a ≡ value)
 only_of shown decided (Ok a) ok err value is = decided.one_value (shown a) value ok is
 only_of shown decided (Err e) ok err value is = absurd (decided.not_both value e is err)
 
--- ---- where nothing is refused
+-- ---- relations without errors
 
--- the image of the one value
+-- The image of a unique value is unique.
 pub one_as : {V W : Type 0} {Is : V → Type 0} {IsImaged : W → Type 0} → (value : V → W) → IsOne Is
     → IsImage Is IsImaged value → IsOne IsImaged
 one_as value one image = record {
@@ -127,7 +127,7 @@ one_as value one image = record {
   only = λ other is. let origin = image.back other is in origin.2 ∙ ap value (one.only origin.0 origin.1);
 }
 
--- one value and then another
+-- A unique value followed by a unique value is unique.
 pub one_then : {V W : Type 0} {Is : V → Type 0} {Next : V → W → Type 0} → IsOne Is
     → ((value : V) → Is value → IsOne (Next value)) → IsOne (IsBoth Is Next)
 one_then {V = V} {W = W} {Is = Is} {Next = Next} first next =
@@ -142,7 +142,7 @@ one_then {V = V} {W = W} {Is = Is} {Next = Next} first next =
           λ i. (same i, last i);
     }
 
--- a value that may be refused, and then one that may not
+-- A decided step followed by a step with a unique value is decided.
 pub decided_behind : {V W E : Type 0} {Is : V → Type 0} {Refuses : E → Type 0} {Next : V → W → Type 0}
     → IsDecided Is Refuses → ((value : V) → Is value → IsOne (Next value)) → IsDecided (IsBoth Is Next) Refuses
 decided_behind {V = V} {W = W} {Next = Next} first next = record {
@@ -160,7 +160,8 @@ decided_behind {V = V} {W = W} {Next = Next} first next = record {
   not_both = λ v e a b. first.not_both v.0 e a.0 b;
 }
 
--- Where there is a value, what follows it, and where there is an error, what stands for it: of either there is one.
+-- If a value is followed by a unique result, and an error is replaced by a unique result, there is exactly one result
+-- in total.
 pub one_either : {V E W : Type 0} {Is : V → Type 0} {Refuses : E → Type 0} {There : V → W → Type 0}
     {Instead : E → W → Type 0} → IsDecided Is Refuses → ((value : V) → Is value → IsOne (There value))
     → ((error : E) → Refuses error → IsOne (Instead error))

@@ -1,34 +1,34 @@
--- What refusals by a length say of the bytes that are missing.
+-- Lemmas about length errors and the bytes that they report as missing.
 use Rattle.std.proofs.Common.{◌≡◌, ◌⊎◌, ℕ, ◌+◌, ◌≤◌, Bool, true, false, if◌then◌else◌, List, [], ◌∷◌, ◌++◌, length, Some, refl, subst, inl, inr, arith, length-append}
 use Rattle.std.specs.Prelude.{nat_lt}
 use Rattle.std.proofs.lemmas.Grind.{common_steps}
 use Rattle.std.proofs.lemmas.Option.{none-some}
 use Rattle.ep_base.specs.Readings.{len_error}
-use Rattle.ep_base.specs.Missing.{CountsMissing, IsOfBytesAtHand, IsShortAt, TellsMissing, that_row}
+use Rattle.ep_base.specs.Missing.{CountsMissing, IsOfBytesAtHand, IsShortAt, ReportsMissing, that_row}
 use Rattle.ep_base.specs.Tables.{first_row}
 use Rattle.ep_base.specs.declared.err.layer.Layer.{Layer}
 use Rattle.ep_base.specs.declared.err.len_error.LenError.{LenError}
 use Rattle.ep_base.specs.declared.len_source.LenSource.{LenSource}
 use Rattle.ep_base.specs.declared.len_source.LenSource.TheVariants as source
 
--- an error of two tables, one behind the other, is one of either
+-- An error of two concatenated tables is an error of one of them.
 pub first_row-either : {E : Type 0} (front back : List (Bool × E)) (error : E) → first_row (front ++ back) ≡ Some error
     → (first_row front ≡ Some error) ⊎ (first_row back ≡ Some error)
 first_row-either [] back error refused = inr refused
 first_row-either ((true, refusal) ∷ rows) back error refused = inl refused
 first_row-either ((false, refusal) ∷ rows) back error refused = first_row-either rows back error refused
 
--- a row that counts the bytes at hand does not come again behind enough of them
+-- A row that counts the available bytes does not reject again once enough bytes are appended.
 pub short_once : (limit further : ℕ) (more : List ℕ) (error : LenError) (len : ℕ) → IsShortAt limit error
     → IsShortAt further (that_row error len) → further ≡ limit + length more
     → error.required_len ≤ error.len + length more → ⊥
 short_once limit further more error len first again longer enough =
     omega (arith, first.there, again.there, again.needed, longer)
 
--- so it is enough that refusals count them
+-- `ReportsMissing` follows if all errors count the available bytes.
 pub tells_missing : (Refuses : List ℕ → LenError → Type 0)
     → ((bytes : List ℕ) (error : LenError) → Refuses bytes error → CountsMissing (length bytes) error)
-    → TellsMissing Refuses
+    → ReportsMissing Refuses
 tells_missing Refuses counts = record {
   counts = counts;
   not_again = λ bytes more error len refused at_hand inexact enough again.
@@ -38,12 +38,12 @@ tells_missing Refuses counts = record {
 
 -- ---- tables
 
--- each error of some rows is such, where its condition holds
+-- The error of each row has the property `Such` if the row's condition holds.
 abbrev pub AllWhere : {E : Type 0} → (E → Type 0) → List (Bool × E) → Type 0
 AllWhere Such [] = Unit {0}
 AllWhere Such (row ∷ rows) = (row.0 ≡ true → Such row.1) × AllWhere Such rows
 
--- so the error of the first row that holds is
+-- If this holds for all rows, the error of the first row that holds has the property.
 pub refusal_where : {E : Type 0} (Such : E → Type 0) (rows : List (Bool × E)) → AllWhere Such rows
     → (error : E) → first_row rows ≡ Some error → Such error
 refusal_where Such [] all error refused = absurd (none-some error refused)
@@ -51,30 +51,30 @@ refusal_where Such ((true, row_error) ∷ rows) all error refused =
     let same : row_error ≡ error = cc in subst Such same (all.0 refl)
 refusal_where Such ((false, row_error) ∷ rows) all error refused = refusal_where Such rows all.1 error refused
 
--- a row whose condition is that there are too few bytes
+-- The condition of a row for too few bytes implies `IsShortAt`.
 pub short_row : (bytes : List ℕ) (required : ℕ) (limit : LenSource) (place : Layer)
     → nat_lt (length bytes) required ≡ true → IsShortAt (length bytes) (len_error required (length bytes) limit place)
 short_row bytes required limit place below =
     record { there = omega arith; needed = grind (arith, common_steps) }
 
--- counts them
+-- A row for too few bytes counts the available bytes.
 pub counted : (bytes : List ℕ) (required : ℕ) (limit : LenSource) (place : Layer)
     → nat_lt (length bytes) required ≡ true
     → CountsMissing (length bytes) (len_error required (length bytes) limit place)
 counted bytes required limit place below at_hand inexact = short_row bytes required limit place below
 
--- of two tables, of which a condition takes one
+-- The property holds for a conditional table if it holds for both branches.
 pub either_where : {E : Type 0} (Such : E → Type 0) (condition : Bool) (rows others : List (Bool × E))
     → AllWhere Such rows → AllWhere Such others → AllWhere Such (if condition then rows else others)
 either_where Such true rows others all also = all
 either_where Such false rows others all also = also
 
--- a row of a length field counts no bytes at hand
+-- A row whose limit is a length field counts no available bytes.
 pub not_counted : (bound required len : ℕ) (limit : LenSource) (place : Layer) → (IsOfBytesAtHand limit → ⊥)
     → CountsMissing bound (len_error required len limit place)
 not_counted bound required len limit place other at_hand inexact = absurd (other at_hand)
 
--- the limits that are none of the bytes at hand
+-- Length fields are not the end of the available bytes.
 pub not_macsec : IsOfBytesAtHand source.MacsecShortLength → ⊥
 not_macsec (inl same) = cc
 not_macsec (inr same) = cc

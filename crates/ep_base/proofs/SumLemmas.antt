@@ -1,4 +1,4 @@
--- The one's complement sum of lists of bytes.
+-- Lemmas about the one's complement sum of lists of bytes.
 use Rattle.std.proofs.Common.{◌≡◌, ℕ, zero, suc, ◌+◌, ◌-◌, ◌*◌, ◌/◌, ◌%◌, ◌^◌, ◌↔◌, ◌<◌, ◌≤◌, List, [], ◌∷◌, ◌++◌, length}
 use Rattle.std.proofs.Common.{take, drop, Some, None, refl, ap, sym, ◌∙◌, arith, add_assoc, add_comm, zero-add, length-append}
 use Rattle.std.proofs.lemmas.List.{length-take-le, take-append-drop}
@@ -11,7 +11,7 @@ use Rattle.ep_base.specs.Checksum.{word_sum, residue, ones_sum, ones_add, checks
 use Rattle.ep_base.proofs.ResidueLemmas.{residue_unique, residue_part, residue_last, residue_beside, residue_times_256}
 use Rattle.ep_base.proofs.ResidueLemmas.{residue_split, residue_le, residue_zero}
 
--- the words of a concatenation, where the first part ends at a word's end
+-- The word sum of a concatenation is the sum of both word sums, if the first part has an even length.
 pub word_sum-append : (a b : List ℕ) → length a % 2 ≡ 0 → word_sum (a ++ b) ≡ word_sum a + word_sum b
 word_sum-append [] b p = omega arith
 word_sum-append (x ∷ []) b p = absurd (omega arith)
@@ -34,7 +34,7 @@ unfolding ones_add
 ones_add-assoc a b c =
     residue_part (a + b) c ∙ ap residue (add_assoc a b c) ∙ sym (residue_last a (b + c))
 
--- a big-endian number has the residue of the sum of its words
+-- A big-endian number has the residue of the sum of its words.
 pub words_of_16 : (bytes : List ℕ) → length bytes ≡ 2 → residue (from_be_bytes w16 bytes) ≡ residue (word_sum bytes)
 words_of_16 (a ∷ b ∷ []) p = residue_unique _ _ 0 0 (omega arith) (λ z. omega arith) (λ z. omega arith)
 words_of_16 _ p = absurd (omega arith)
@@ -59,7 +59,7 @@ words_of_128 (a ∷ b ∷ c ∷ d ∷ e ∷ f ∷ g ∷ h ∷ i ∷ j ∷ k ∷ 
     residue_unique _ _ 0 carried (omega arith) (λ z. omega arith) (λ z. omega arith)
 words_of_128 _ q = absurd (omega arith)
 
--- a little-endian number, taken 256 times, has the residue of the sum of the words
+-- A little-endian 64 bit number times 256 has the residue of the sum of its words.
 pub turned_of_64 : (bytes : List ℕ) → length bytes ≡ 8
     → residue (256 * from_le_bytes w64 bytes) ≡ residue (word_sum bytes)
 turned_of_64 (a ∷ b ∷ c ∷ d ∷ e ∷ f ∷ g ∷ h ∷ []) _ =
@@ -67,7 +67,7 @@ turned_of_64 (a ∷ b ∷ c ∷ d ∷ e ∷ f ∷ g ∷ h ∷ []) _ =
     residue_unique _ _ 0 carried (omega arith) (λ z. omega arith) (λ z. omega arith)
 turned_of_64 _ q = absurd (omega arith)
 
--- the halves of a number of 128 bits: it has the residue of their sum
+-- The upper and lower 64 bits of a number of 128 bits; their sum has the number's residue.
 low_half : (n : ℕ) → n ≡ 18446744073709551616 * (n / 18446744073709551616) + bit_and n 18446744073709551615
 low_half n =
     let low : bit_and n 18446744073709551615 ≡ n % 18446744073709551616 = and_mask n 64 in
@@ -79,14 +79,15 @@ residue_halves n =
     let carried = 281479271743489 * (n / 18446744073709551616) in
     residue_unique _ _ carried 0 (omega arith) (λ z. omega arith) (λ z. omega arith)
 
--- a number of 64 bits with its bytes in the other order
+-- A 64 bit number with swapped bytes has the residue of 256 times the number.
 pub turned_bytes : (n : ℕ) → n < 2 ^ 64 → residue (swap_bytes w64 n) ≡ residue (256 * n)
 turned_bytes n fits =
     let bytes = to_le_bytes w64 n in
     words_of_64 bytes refl ∙ sym (turned_of_64 bytes refl)
     ∙ ap (λ x. residue (256 * x)) (from_le_bytes-to_le_bytes_8 n fits)
 
--- a number of 64 bits by its bytes at even and at odd places; 71777214294589695 has the lower byte of each 16 bits
+-- A 64 bit number is the sum of its bytes at even positions and of its bytes at odd positions times 256. The mask
+-- 71777214294589695 selects the lower byte of each 16 bits.
 pub even_and_odd : (n : ℕ) → n < 2 ^ 64
     → n ≡ bit_and n 71777214294589695 + 256 * bit_and (n / 256) 71777214294589695
 even_and_odd n fits =
@@ -106,7 +107,7 @@ turned_even_and_odd n bytes long e fits =
     (λ z. omega arith)
     ∙ ap (λ x. residue (256 * x)) e ∙ turned_of_64 bytes long
 
--- sums of bytes at even and at odd places, joined to a number of their lower bytes and one of their upper bytes
+-- Sums of the bytes at even and at odd positions can be combined by their lower and upper bytes.
 pub joined_even_and_odd : (even odd lower upper low high : ℕ) → even < 2 ^ 64 → odd < 2 ^ 64 → lower < 2 ^ 64
     → upper < 2 ^ 64 → lower ≡ bit_and even 71777214294589695 + bit_and odd 71777214294589695 * 256
     → upper ≡ bit_and (even / 256) 71777214294589695 + bit_and (odd / 256) 71777214294589695 * 256
@@ -125,7 +126,7 @@ joined_even_and_odd even odd lower upper low high even_fits odd_fits lower_fits 
     ∙ residue_unique (256 * lower + 256 * (256 * upper)) (256 * even + odd) 0 carried (omega arith) (λ z. omega arith)
     (λ z. omega arith)
 
--- a number that stands for the words of some bytes, added to a sum, with the rest to come
+-- A number with the residue of a word sum can be added to a sum before the rest is added.
 pub sum_with_word : (sum word new rest words : ℕ) → residue new ≡ residue (sum + word) → residue word ≡ residue words
     → residue (new + rest) ≡ residue (sum + (words + rest))
 sum_with_word sum word new rest words e w =
@@ -133,7 +134,7 @@ sum_with_word sum word new rest words e w =
     let back : residue (words + (sum + rest)) ≡ residue (sum + (words + rest)) = ap residue (omega arith) in
     residue_beside new (sum + word) rest e ∙ turn ∙ residue_beside word words (sum + rest) w ∙ back
 
--- the same, where the words are those of bytes that are cut off the front of what is to come
+-- The first n bytes of the rest can be added to a sum before the bytes after them are added.
 pub sum_with_piece : (n sum word new : ℕ) (piece after rest : List ℕ) → n % 2 ≡ 0
     → (piece ≡ take n rest) × (after ≡ drop n rest) × (length after + n ≡ length rest)
     → residue new ≡ residue (sum + word) → (length piece ≡ n → residue word ≡ residue (word_sum piece))
@@ -145,20 +146,20 @@ sum_with_piece n sum word new piece after rest even cut e w =
     let words = sym (word_sum-append piece after (ap (λ x. x % 2) long ∙ even)) ∙ ap word_sum whole in
     sum_with_word sum word new (word_sum after) (word_sum piece) e (w long) ∙ ap (λ x. residue (sum + x)) words
 
--- the same, with nothing to come
+-- The last bytes can be added to a sum as a number with their residue.
 pub sum_with_last : (sum word new words : ℕ) → residue new ≡ residue (sum + word) → residue word ≡ residue words
     → residue new ≡ residue (sum + words)
 sum_with_last sum word new words e w =
     e ∙ sym (residue_last sum word) ∙ ap (λ x. residue (sum + x)) w ∙ residue_last sum words
 
--- a sum of words, as the sum of two sums
+-- Adding a word sum to a sum is the one's complement addition of both.
 pub ones_add-words : (sum : ℕ) (bytes : List ℕ)
     → residue (sum + word_sum bytes) ≡ ones_add (residue sum) (ones_sum bytes)
 unfolding ones_add ones_sum
 ones_add-words sum bytes =
     sym (residue_last sum (word_sum bytes)) ∙ sym (residue_part sum (residue (word_sum bytes)))
 
--- the sum of no bytes adds nothing
+-- Adding a sum to the sum of no bytes returns it unchanged.
 pub ones_add-none : (bytes : List ℕ) → ones_add 0 (ones_sum bytes) ≡ ones_sum bytes
 unfolding ones_add ones_sum
 ones_add-none bytes = residue_last 0 (word_sum bytes) ∙ ap residue (zero-add (word_sum bytes))
@@ -202,7 +203,7 @@ unfolding ones_sum
 ones_sum-zero bytes =
     (λ z. word_sum_zero bytes (residue_zero (word_sum bytes) z), λ z. ap residue (zeros_word_sum bytes z))
 
--- Even parts in their order.
+-- The concatenation of parts of even length has an even length.
 even_append : (a b : List ℕ) → length a % 2 ≡ 0 → length b % 2 ≡ 0 → length (a ++ b) % 2 ≡ 0
 even_append a b p q = omega (arith, length-append a b)
 
@@ -215,7 +216,7 @@ ones_sum-exchange a b back p q =
     (word_sum-append (a ++ b) back (even_append a b p q) ∙ ap (λ x. x + word_sum back) fronts
     ∙ sym (word_sum-append (b ++ a) back (even_append b a q p)))
 
--- the words of two parts with one word between them
+-- The word sum of two parts with a word between them.
 word_sum-between : (front back : List ℕ) (upper lower : ℕ) → length front % 2 ≡ 0
     → word_sum ((front ++ upper ∷ lower ∷ []) ++ back) ≡ word_sum front + (256 * upper + lower) + word_sum back
 word_sum-between front back upper lower p =

@@ -1,4 +1,4 @@
--- What a layer's refusal table and its reading have to do with the layer, and that this decides it.
+-- Lemmas that a layer is decided if its refusal table and its reading function agree with its definition.
 use Rattle.std.proofs.Common.{◌≡◌, ◌⊎◌, ℕ, ◌-◌, Bool, true, false, List, [], ◌∷◌, ◌++◌, length, take, drop}
 use Rattle.std.proofs.Common.{Option, Some, None, refl, sym, ap, subst, ◌∙◌, inl, inr}
 use Rattle.std.proofs.lemmas.Option.{none-some}
@@ -7,12 +7,12 @@ use Rattle.ep_base.specs.Bytes.{AreBytes}
 use Rattle.ep_base.proofs.BytesLemmas.{rest_of}
 use Rattle.ep_base.specs.Tables.{IsDecided, Refuses, first_row, rows_as}
 
--- what a front of so many bytes shows, and the rest
+-- The value read from the first `len` bytes and the rest.
 abbrev pub cut_at : {V : Type 0} → (List ℕ → ℕ) → (List ℕ → List ℕ → V) → List ℕ → V
 cut_at len shown bytes = shown (take (len bytes) bytes) (drop (len bytes) bytes)
 
--- Bytes that no row refuses are what is read from them, and bytes that are the layer are refused by no row and are
--- nothing else.
+-- Bytes that no row rejects are the value that `read` returns, and bytes that are the layer are rejected by no row and
+-- are no other value.
 pub record IsReadBy {V E : Type 0} (Is : List ℕ → V → Type 0) (rows : List ℕ → List (Bool × E))
     (read : List ℕ → V) : Type 0 where
   pub reads : (bytes : List ℕ) → AreBytes bytes → first_row (rows bytes) ≡ None → Is bytes (read bytes)
@@ -25,18 +25,18 @@ option_cases (Some error) = inr (error, refl)
 one_some : {E : Type 0} → (answer : Option E) → (e f : E) → answer ≡ Some e → answer ≡ Some f → e ≡ f
 one_some answer e f a b = cc
 
--- there is one value
+-- Bytes are at most one value.
 pub one_value : {V E : Type 0} {Is : List ℕ → V → Type 0} {rows : List ℕ → List (Bool × E)} {read : List ℕ → V}
     → IsReadBy Is rows read → (bytes : List ℕ) (value other : V) → Is bytes value → Is bytes other → value ≡ other
 one_value layer bytes value other a b = (layer.is_read bytes value a).1 ∙ sym (layer.is_read bytes other b).1
 
--- there is none where a row refuses
+-- Bytes that a row rejects are no value.
 pub refused_is_not : {V E : Type 0} {Is : List ℕ → V → Type 0} {rows : List ℕ → List (Bool × E)} {read : List ℕ → V}
     → IsReadBy Is rows read → (bytes : List ℕ) (value : V) (error : E) → first_row (rows bytes) ≡ Some error
     → Is bytes value → ⊥
 refused_is_not layer bytes value error refused is = none-some error (sym (layer.is_read bytes value is).0 ∙ refused)
 
--- such a layer is decided
+-- A layer with such a table and reading function is decided.
 pub decided : {V E : Type 0} {Is : List ℕ → V → Type 0} {rows : List ℕ → List (Bool × E)} {read : List ℕ → V}
     → IsReadBy Is rows read → (bytes : List ℕ) → AreBytes bytes → IsDecided (Is bytes) (Refuses (rows bytes))
 decided {rows = rows} {read = read} layer bytes fits = record {
@@ -49,7 +49,7 @@ decided {rows = rows} {read = read} layer bytes fits = record {
   not_both = λ v e a b. refused_is_not layer bytes v e b a;
 }
 
--- what is read from a front of the right length
+-- A prefix of the right length is the prefix that `cut_at` reads.
 pub cut_same : {V : Type 0} (len : List ℕ → ℕ) (shown : List ℕ → List ℕ → V) (bytes seen left : List ℕ)
     → bytes ≡ seen ++ left → length seen ≡ len bytes → shown seen left ≡ cut_at len shown bytes
 cut_same len shown bytes seen left parts same =
@@ -57,7 +57,7 @@ cut_same len shown bytes seen left parts same =
     let behind : drop (len bytes) bytes ≡ left = ap (drop (len bytes)) parts ∙ drop_at seen left (len bytes) same in
     sym (λ i. shown (front i) (behind i))
 
--- a front of the right length shows the layer, and shows no other
+-- Accepted bytes with a prefix of the right length are the value read from the prefix, and no other value.
 pub shown_is : {V E : Type 0} {Is : List ℕ → V → Type 0} {rows : List ℕ → List (Bool × E)}
     (len : List ℕ → ℕ) (shown : List ℕ → List ℕ → V) → IsReadBy Is rows (cut_at len shown)
     → (bytes seen left : List ℕ) → AreBytes bytes → first_row (rows bytes) ≡ None
@@ -69,13 +69,13 @@ shown_is {Is = Is} len shown layer bytes seen left fits none parts same =
       λ value is. (layer.is_read bytes value is).1 ∙ sym read,
     )
 
--- a header, by its value, and what stands behind it
+-- An owned header and the bytes after it, which are the only ones for the input.
 pub record IsValue {H : Type 0} (Is : List ℕ → H × List ℕ → Type 0) (bytes : List ℕ) (value : H) (behind : List ℕ)
     : Type 0 where
   pub ok : Is bytes (value, behind)
   pub only : (header : H) (rest : List ℕ) → Is bytes (header, rest) → (value ≡ header) × (behind ≡ rest)
 
--- the value of a header that a slice shows, and the bytes behind so many
+-- The owned header of a slice is the only header of the bytes, and is followed by the bytes after its length.
 pub value_shown : {H E : Type 0} {Is : List ℕ → H × List ℕ → Type 0} {rows : List ℕ → List (Bool × E)}
     {read : List ℕ → H × List ℕ} → IsReadBy Is rows read → (bytes front rest : List ℕ) (n : ℕ) (shown value : H)
     → bytes ≡ front ++ rest → n ≡ length front → value ≡ shown → Is bytes (shown, rest)
@@ -91,14 +91,14 @@ value_shown {H = H} {Is = Is} layer bytes front rest n shown value parts len sam
           (λ i. (one i).0, λ i. (one i).1);
     }
 
--- ---- what all errors of a table have in common
+-- ---- properties of all errors of a table
 
--- each error of some rows is such
+-- The error of each row has the property `Such`.
 abbrev pub AllErrors : {E : Type 0} → (E → Type 0) → List (Bool × E) → Type 0
 AllErrors Such [] = Unit {0}
 AllErrors Such (row ∷ rows) = Such row.1 × AllErrors Such rows
 
--- so the error of the first row that holds is
+-- If this holds for all rows, the error of the first row that holds has the property.
 pub refusal_is : {E : Type 0} (Such : E → Type 0) (rows : List (Bool × E)) → AllErrors Such rows
     → (error : E) → first_row rows ≡ Some error → Such error
 refusal_is Such [] all error refused = absurd (none-some error refused)
@@ -106,37 +106,37 @@ refusal_is Such ((true, row_error) ∷ rows) all error refused =
     let same : row_error ≡ error = cc in subst Such same all.0
 refusal_is Such ((false, row_error) ∷ rows) all error refused = refusal_is Such rows all.1 error refused
 
--- ---- a table that begins with the rows of another
+-- ---- concatenated tables
 
--- a table whose front refuses nothing refuses as its back
+-- If the first table does not reject, the concatenation rejects exactly as the second table does.
 pub first_row-append_none : {E : Type 0} (front back : List (Bool × E)) → first_row front ≡ None
     → first_row (front ++ back) ≡ first_row back
 first_row-append_none [] back none = refl
 first_row-append_none ((true, error) ∷ rows) back none = absurd (none-some error (sym none))
 first_row-append_none ((false, error) ∷ rows) back none = first_row-append_none rows back none
 
--- a table whose front refuses refuses so
+-- If the first table rejects, the concatenation rejects with its error.
 pub first_row-append_some : {E : Type 0} (front back : List (Bool × E)) (error : E) → first_row front ≡ Some error
     → first_row (front ++ back) ≡ Some error
 first_row-append_some [] back error some = absurd (none-some error some)
 first_row-append_some ((true, refusal) ∷ rows) back error some = some
 first_row-append_some ((false, refusal) ∷ rows) back error some = first_row-append_some rows back error some
 
--- rows under another name refuse nothing where they did
+-- Converting the errors of a table that does not reject adds no rejection.
 pub first_row-as_none : {E F : Type 0} (name : E → F) (rows : List (Bool × E)) → first_row rows ≡ None
     → first_row (rows_as name rows) ≡ None
 first_row-as_none name [] none = refl
 first_row-as_none name ((true, error) ∷ rows) none = absurd (none-some error (sym none))
 first_row-as_none name ((false, error) ∷ rows) none = first_row-as_none name rows none
 
--- and nothing more
+-- A table does not reject if the table with converted errors does not reject.
 pub first_row-none_as : {E F : Type 0} (name : E → F) (rows : List (Bool × E)) → first_row (rows_as name rows) ≡ None
     → first_row rows ≡ None
 first_row-none_as name [] none = refl
 first_row-none_as name ((true, error) ∷ rows) none = absurd (none-some (name error) (sym none))
 first_row-none_as name ((false, error) ∷ rows) none = first_row-none_as name rows none
 
--- and the error under its name
+-- A table with converted errors rejects with the converted error.
 pub first_row-as_some : {E F : Type 0} (name : E → F) (rows : List (Bool × E)) (error : E)
     → first_row rows ≡ Some error → first_row (rows_as name rows) ≡ Some (name error)
 first_row-as_some name [] error some = absurd (none-some error some)

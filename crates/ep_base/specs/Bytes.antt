@@ -1,15 +1,15 @@
--- Bytes on the wire, most significant first.
+-- Bytes and big-endian numbers on the wire.
 use Rattle.std.specs.Prelude.{ℕ, ◌+◌, ◌*◌, ◌<◌, Bool, true, false, List, slice_index}
 
--- each number is a byte
+-- each number of the list is a byte
 abbrev pub AreBytes : List ℕ → Type 0
 AreBytes bytes = (i : ℕ) → slice_index bytes i < 256
 
--- the 16 bit number whose first byte stands at i
+-- the big-endian 16 bit number at bytes i and i + 1
 abbrev pub word_at : List ℕ → ℕ → ℕ
 word_at bytes i = 256 * slice_index bytes i + slice_index bytes (i + 1)
 
--- a flag as a bit
+-- a flag as a bit, 0 or 1
 abbrev pub bit : Bool → ℕ
 bit false = 0
 bit true = 1

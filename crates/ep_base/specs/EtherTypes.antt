@@ -1,4 +1,4 @@
--- The ether types of the layers that are read (IEEE 802.3, 3.2.6; IEEE 802.1Q, 9.5; IEEE 802.1AE, 9.3).
+-- Ether types of the layers that are parsed (IEEE 802.3, 3.2.6; IEEE 802.1Q, 9.5; IEEE 802.1AE, 9.4).
 use Rattle.std.specs.Prelude.{ℕ}
 
 -- IPv4
@@ -17,11 +17,11 @@ ipv6_type = 0x86DD
 abbrev pub vlan_type : ℕ
 vlan_type = 0x8100
 
--- a service VLAN tag, of provider bridging
+-- a service VLAN tag of provider bridging
 abbrev pub provider_bridging_type : ℕ
 provider_bridging_type = 0x88A8
 
--- a VLAN tag in the older numbering of double tagged frames
+-- a VLAN tag with the older number that was used for double tagged frames
 abbrev pub double_vlan_type : ℕ
 double_vlan_type = 0x9100
 

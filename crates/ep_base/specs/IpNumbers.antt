@@ -1,7 +1,7 @@
--- The protocol numbers of IP that are read (RFC 791, 3.1; RFC 8200, 3 and 4).
+-- IP protocol numbers of the headers that are parsed (RFC 791, 3.1; RFC 8200, 3 and 4).
 use Rattle.std.specs.Prelude.{ℕ}
 
--- the hop by hop options of IPv6
+-- the hop-by-hop options header of IPv6
 abbrev pub hop_by_hop_number : ℕ
 hop_by_hop_number = 0
 
@@ -33,6 +33,6 @@ authentication_number = 51
 abbrev pub icmpv6_number : ℕ
 icmpv6_number = 58
 
--- the destination options of IPv6
+-- the destination options header of IPv6
 abbrev pub destination_options_number : ℕ
 destination_options_number = 60

@@ -1,4 +1,4 @@
--- What a refusal by a length says of the bytes that are missing.
+-- Length errors and the bytes that they report as missing.
 use Rattle.std.specs.Prelude.{◌≡◌, ◌<◌, ◌≤◌, ◌⊎◌, ℕ, ◌+◌, List, ◌++◌, length}
 use Rattle.ep_base.specs.Bytes.{AreBytes}
 use Rattle.ep_base.specs.declared.err.len_error.LenError.{LenError}
@@ -7,59 +7,61 @@ use Rattle.ep_base.specs.declared.err.layer.Layer.TheVariants as layer
 use Rattle.ep_base.specs.declared.len_source.LenSource.{LenSource}
 use Rattle.ep_base.specs.declared.len_source.LenSource.TheVariants as source
 
--- what set the limit is the end of the bytes at hand: no length field that counts them
+-- The available bytes are the limit: the length source is the end of the slice, or the address lengths of an ARP
+-- packet.
 abbrev pub IsOfBytesAtHand : LenSource → Type 0
 IsOfBytesAtHand limit = (limit ≡ source.Slice) ⊎ (limit ≡ source.ArpAddrLengths)
 
--- a message that has exactly so many bytes (RFC 792, timestamp), and is refused for too many too
+-- The message must have an exact length (RFC 792, timestamp and timestamp reply), and is also rejected if it is longer.
 abbrev pub HasExactLength : Layer → Type 0
 HasExactLength place = (place ≡ layer.Icmpv4Timestamp) ⊎ (place ≡ layer.Icmpv4TimestampReply)
 
--- a layer needs more bytes than there are from its start up to this end of the bytes
+-- A layer needs more bytes than are available from its start to this limit.
 pub record IsShortAt (limit : ℕ) (error : LenError) : Type 0 where
   pub there : error.layer_start_offset + error.len ≡ limit
   pub needed : error.len < error.required_len
 
--- where the end of the bytes at hand is what set the limit, the error counts the bytes up to there, which are too few
+-- If the available bytes are the limit, and the layer does not require an exact length, the error counts the bytes up
+-- to the limit, and these are too few.
 abbrev pub CountsMissing : ℕ → LenError → Type 0
 CountsMissing limit error =
     IsOfBytesAtHand error.len_source → (¬ HasExactLength error.layer) → IsShortAt limit error
 
--- the same row of a table again, whatever the number of bytes that are there
+-- The error of a row of a refusal table, with another number of available bytes.
 abbrev pub that_row : LenError → ℕ → LenError
 that_row error len = record error { len = len }
 
--- A refusal for want of bytes at hand counts the bytes that are there. With any bytes behind them, of which there are
--- at least as many as are missing, they are not refused by that row again.
-pub record TellsMissing (Refuses : List ℕ → LenError → Type 0) : Type 0 where
+-- Length errors whose limit is the available bytes count these exactly, unless the layer requires an exact length. Once
+-- at least the missing number of bytes is appended, the row of such an error does not reject the bytes again.
+pub record ReportsMissing (Refuses : List ℕ → LenError → Type 0) : Type 0 where
   pub counts : (bytes : List ℕ) (error : LenError) → Refuses bytes error → CountsMissing (length bytes) error
   pub not_again : (bytes more : List ℕ) (error : LenError) (len : ℕ) → Refuses bytes error
       → IsOfBytesAtHand error.len_source → (¬ HasExactLength error.layer)
       → error.required_len ≤ error.len + length more → Refuses (bytes ++ more) (that_row error len) → ⊥
 
--- The refusal of bytes of which only so many were left by a cut, of the whole: a layer needs more bytes than there are
--- from its start up to the cut, and no more than there were before it.
-pub record IsCutShort (cut whole : ℕ) (error : LenError) : Type 0 where
+-- The length error of bytes that are truncated from `whole` to `cut` bytes: a layer needs more bytes than there are
+-- from its start to the truncation, but none past the original end.
+pub record IsTruncationLenError (cut whole : ℕ) (error : LenError) : Type 0 where
   pub there : error.layer_start_offset + error.len ≡ cut
   pub needed : error.len < error.required_len
   pub within : error.layer_start_offset + error.required_len ≤ whole
 
--- such a refusal, under the name that it has there, and what sets its limit
-pub record IsCutRefusal {E : Type 0} (named : LenError → E) (limit : LenError → LenSource) (cut whole : ℕ) (error : E)
+-- An error that wraps the length error of truncated bytes, whose length source is given by `limit`.
+pub record IsTruncationError {E : Type 0} (named : LenError → E) (limit : LenError → LenSource) (cut whole : ℕ) (error : E)
     : Type 0 where
   pub missing : LenError
   pub is : error ≡ named missing
-  pub short : IsCutShort cut whole missing
+  pub short : IsTruncationLenError cut whole missing
   pub source : missing.len_source ≡ limit missing
 
--- the end of the bytes at hand is the limit
+-- The limit is the end of the available bytes.
 abbrev pub slice_end : LenError → LenSource
 slice_end error = source.Slice
 
--- Where the front of bytes that are such a value is refused, it is for want of the bytes that the cut took.
-abbrev pub TellsCut : {V E : Type 0} → (List ℕ → V → Type 0) → (List ℕ → E → Type 0) → (LenError → E)
+-- If bytes are a value and a prefix of them is rejected, the error reports the truncated bytes as missing.
+abbrev pub ReportsTruncation : {V E : Type 0} → (List ℕ → V → Type 0) → (List ℕ → E → Type 0) → (LenError → E)
     → (V → LenError → LenSource) → Type 0
-TellsCut {V = V} {E = E} Is Refuses named limit =
+ReportsTruncation {V = V} {E = E} Is Refuses named limit =
     (front back : List ℕ) → AreBytes (front ++ back) → (value : V) → Is (front ++ back) value
     → (error : E) → Refuses front error
-    → IsCutRefusal named (limit value) (length front) (length (front ++ back)) error
+    → IsTruncationError named (limit value) (length front) (length (front ++ back)) error

@@ -1,4 +1,4 @@
--- The names of the variants and of the constants, as text.
+-- Names of variants and constants as text.
 use Rattle.std.specs.Prelude.{ℕ, ◌==◌, if◌then◌else◌, List, Option, Some, None, codes}
 use Rattle.ep_base.specs.EtherTypes.{ipv4_type, arp_type, ipv6_type, vlan_type, provider_bridging_type, double_vlan_type}
 use Rattle.ep_base.specs.EtherTypes.{macsec_type}
@@ -11,7 +11,7 @@ use Rattle.ep_base.specs.declared.err.layer.Layer.TheVariants as layer
 use Rattle.ep_base.specs.declared.err.value_type.ValueType.{ValueType}
 use Rattle.ep_base.specs.declared.err.value_type.ValueType.TheVariants as value
 
--- the bytes of a length source's name
+-- the name of a length source
 abbrev pub len_source_name : LenSource → List ℕ
 len_source_name source.Slice = codes "Slice"
 len_source_name source.MacsecShortLength = codes "MacsecShortLength"
@@ -20,7 +20,7 @@ len_source_name source.Ipv6HeaderPayloadLen = codes "Ipv6HeaderPayloadLen"
 len_source_name source.UdpHeaderLen = codes "UdpHeaderLen"
 len_source_name source.ArpAddrLengths = codes "ArpAddrLengths"
 
--- the bytes of a layer's name
+-- the name of a layer
 abbrev pub layer_name : Layer → List ℕ
 layer_name layer.Ethernet2Header = codes "Ethernet2Header"
 layer_name layer.LinuxSllHeader = codes "LinuxSllHeader"
@@ -44,7 +44,7 @@ layer_name layer.Icmpv4Timestamp = codes "Icmpv4Timestamp"
 layer_name layer.Icmpv4TimestampReply = codes "Icmpv4TimestampReply"
 layer_name layer.Icmpv6 = codes "Icmpv6"
 
--- the bytes of the name of what a number was meant for
+-- the name of the kind of field that a number was meant for
 abbrev pub value_type_name : ValueType → List ℕ
 value_type_name value.VlanId = codes "VlanId"
 value_type_name value.VlanPcp = codes "VlanPcp"
@@ -62,7 +62,7 @@ value_type_name value.TcpPayloadLengthIpv4 = codes "TcpPayloadLengthIpv4"
 value_type_name value.TcpPayloadLengthIpv6 = codes "TcpPayloadLengthIpv6"
 value_type_name value.Icmpv6PayloadLength = codes "Icmpv6PayloadLength"
 
--- the bytes of the name of the constant that an ether type is; none where it is no constant
+-- the name of the constant of an ether type, or None if there is no constant
 abbrev pub ether_type_name : ℕ → Option (List ℕ)
 ether_type_name type =
     if type == ipv4_type then Some (codes "IPV4") else
@@ -73,7 +73,7 @@ ether_type_name type =
     (if type == double_vlan_type then Some (codes "VLAN_DOUBLE_TAGGED_FRAME") else
     (if type == macsec_type then Some (codes "MACSEC") else None))))))
 
--- the bytes of the name of the constant that a protocol number of IP is; none where it is no constant
+-- the name of the constant of an IP protocol number, or None if there is no constant
 abbrev pub ip_number_name : ℕ → Option (List ℕ)
 ip_number_name number =
     if number == hop_by_hop_number then Some (codes "IPV6_HEADER_HOP_BY_HOP") else

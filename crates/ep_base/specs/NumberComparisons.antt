@@ -1,5 +1,5 @@
--- How the public types are compared and cloned. They are ordered by variants and fields as declared, where the first
--- field that differs decides.
+-- Comparison and cloning of the public types. Values are ordered by variants and fields as declared; the first field
+-- that differs decides.
 use Rattle.std.specs.Prelude.{◌≡◌, ◌↔◌, ℕ, Bool, IsTrue}
 use Rattle.std.specs.declared.cmp.Ordering.{Ordering}
 use Rattle.std.specs.Ordering.{nat_cmp, bool_cmp, ordering_then}
@@ -9,7 +9,7 @@ use Rattle.ep_base.specs.declared.len_source.LenSource.TheVariants as source
 use Rattle.ep_base.specs.declared.ether_payload_slice.EtherPayloadSlice.{EtherPayloadSlice}
 use Rattle.ep_base.specs.declared.ip_payload_slice.IpPayloadSlice.{IpPayloadSlice}
 
--- a length source's place among the length sources
+-- the position of a length source in the order of declaration
 abbrev pub len_source_place : LenSource → ℕ
 len_source_place source.Slice = 0
 len_source_place source.MacsecShortLength = 1
@@ -18,18 +18,18 @@ len_source_place source.Ipv6HeaderPayloadLen = 3
 len_source_place source.UdpHeaderLen = 4
 len_source_place source.ArpAddrLengths = 5
 
--- length sources by their places
+-- the order of length sources
 abbrev pub len_source_cmp : LenSource → LenSource → Ordering
 len_source_cmp a b = nat_cmp (len_source_place a) (len_source_place b)
 
--- payloads of a link layer by the type, what set their length, and the bytes
+-- the order of link layer payloads: by ether type, length source and bytes
 abbrev pub ether_payload_cmp : EtherPayloadSlice → EtherPayloadSlice → Ordering
 ether_payload_cmp a b =
     ordering_then (nat_cmp a.ether_type.0 b.ether_type.0)
     (ordering_then (len_source_cmp a.len_source b.len_source)
     (slice_cmp nat_cmp a.payload.now b.payload.now))
 
--- payloads of IP by the number, a whole one before a fragment, what set their length, and the bytes
+-- the order of IP payloads: by protocol number, unfragmented before fragmented, length source and bytes
 abbrev pub ip_payload_cmp : IpPayloadSlice → IpPayloadSlice → Ordering
 ip_payload_cmp a b =
     ordering_then (nat_cmp a.ip_number.0 b.ip_number.0)
@@ -37,11 +37,11 @@ ip_payload_cmp a b =
     (ordering_then (len_source_cmp a.len_source b.len_source)
     (slice_cmp nat_cmp a.payload.now b.payload.now)))
 
--- the comparison holds exactly where two values are the same
-abbrev pub TellsSame : {T : Type 0} → (T → T → Bool) → Type 0
-TellsSame {T = T} eq = (a b : T) → IsTrue (eq a b) ↔ (a ≡ b)
+-- The comparison returns true exactly if two values are equal.
+abbrev pub DecidesEquality : {T : Type 0} → (T → T → Bool) → Type 0
+DecidesEquality {T = T} eq = (a b : T) → IsTrue (eq a b) ↔ (a ≡ b)
 
--- a clone is there whatever memory there is, and is the same as its source
+-- Cloning never fails, and a clone is equal to its source.
 abbrev pub ClonesExactly : {T : Type 0} → (T → Type 0) → (T → T → Type 0) → Type 0
 ClonesExactly {T = T} is_infallible is_clone =
     ((value : T) → is_infallible value) × ((source copy : T) → is_clone source copy → copy ≡ source)

@@ -1,41 +1,41 @@
--- Refusal tables, what bytes are where no row refuses them, and that this leaves nothing open.
+-- Refusal tables, and the property that bytes are either exactly one value or rejected with exactly one error.
 use Rattle.std.specs.Prelude.{◌≡◌, ℕ, Bool, if◌then◌else◌, List, [], ◌∷◌, Option, Some, None, ◌⊎◌}
 
--- The rows of a refusal table, each a condition and its error: the error of the first row whose condition holds.
+-- The error of the first row of a refusal table whose condition holds. Each row is a condition and its error.
 abbrev pub first_row : {E : Type 0} → List (Bool × E) → Option E
 first_row [] = None
 first_row (row ∷ rows) = if row.0 then Some row.1 else first_row rows
 
--- the table refuses with this error
+-- The table rejects with this error.
 abbrev pub Refuses : {E : Type 0} → List (Bool × E) → E → Type 0
 Refuses rows error = first_row rows ≡ Some error
 
--- the same rows, their errors under another name
+-- The rows of a table with their errors converted.
 abbrev pub rows_as : {E F : Type 0} → (E → F) → List (Bool × E) → List (Bool × F)
 rows_as name [] = []
 rows_as name (row ∷ rows) = (row.0, name row.1) ∷ rows_as name rows
 
--- refuses with the error that this one is under another name
+-- Rejects with the converted form of an error of `Refuses`.
 abbrev pub RefusesAs : {E F : Type 0} → (E → F) → (E → Type 0) → F → Type 0
 RefusesAs {E = E} name Refuses error = (refusal : E) × Refuses refusal × (error ≡ name refusal)
 
--- what bytes are: a header, the payload behind it, and what the header's cut leaves behind that
+-- A layer split into its header, the payload after it, and the trailing bytes after the payload.
 pub record Parts (H : Type 0) : Type 0 where
   pub header : H
   pub payload : List ℕ
   pub left : List ℕ
 
--- these parts
+-- The parts with this header, payload and trailing bytes.
 abbrev pub parts_of : {H : Type 0} → H → List ℕ → List ℕ → Parts H
 parts_of header payload left = record { header = header; payload = payload; left = left }
 
--- there is one value
+-- Exactly one value exists.
 pub record IsOne {V : Type 0} (Is : V → Type 0) : Type 0 where
   pub value : V
   pub is : Is value
   pub only : (other : V) → Is other → other ≡ value
 
--- There is one value, or there is one error, and never both.
+-- Exactly one value or exactly one error exists, and never both.
 pub record IsDecided {V E : Type 0} (Is : V → Type 0) (Refuses : E → Type 0) : Type 0 where
   pub some : ((value : V) × Is value) ⊎ ((error : E) × Refuses error)
   pub one_value : (value other : V) → Is value → Is other → value ≡ other

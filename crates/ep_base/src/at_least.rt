@@ -1,11 +1,11 @@
-//! Bytes of which there are enough for a header.
+//! Byte slices whose minimum length is part of their type.
 
 ghost use Rattle.std.specs.Prelude.{◌≤◌, length};
 
-/// A slice of at least `N` bytes: what the slices of headers of a fixed least length are made of.
+/// Byte slice of at least `N` bytes, stored in the slice types of headers whose minimum length is `N`.
 #[derive(Clone, Copy, Debug, PartialEq, Eq)]
 pub struct AtLeast<'a, const N: usize> {
-    /// The bytes.
+    /// Wrapped byte slice, whose length is at least the const parameter `N` of the type.
     pub slice: &'a [u8],
     pub ghost long: { N ≤ length slice.now },
 }

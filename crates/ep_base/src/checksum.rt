@@ -5,24 +5,27 @@ ghost use Rattle.ep_base.specs.Checksum.{word_sum, residue, ones_sum, ones_add, 
 
 use std::marker::Model;
 
-/// The number of bytes from which words added in blocks are faster than words added one by one.
+/// Minimum length in bytes of a slice whose checksum is summed in blocks. For shorter slices it is faster to add the 64
+/// bit words one by one.
 const LONG: usize = 128;
 
-/// The greatest number of bytes of a block: those at one place of its words add up to less than 2^16.
+/// Maximum number of bytes that are summed for the checksum in one block: 256 words of 64 bits. The 256 bytes at one
+/// byte position of these words add up to less than 2^16.
 const BLOCK: usize = 2048;
 
-/// The lower byte of each 16 bits.
+/// Mask that keeps the lower byte of each of the four 16 bit parts of a 64 bit word.
 const LOWER_BYTES: u64 = 0x00ff_00ff_00ff_00ff;
 
-/// The one's complement sum of the 16 bit words of some bytes, to which more bytes may be added.
+/// One's complement sum of 16 bit words for the Internet checksum (RFC 1071), to which more bytes can be added.
 ///
-/// A piece that ends within a word, which has an odd number of bytes, is filled up by a zero byte. So only the
-/// last piece of what is summed may be odd.
+/// Each addition starts a new 16 bit word: an odd last byte is padded with a zero byte. So only the last addition may
+/// have an odd number of bytes.
 #[derive(Clone, Debug, Drop)]
 pub struct Sum16BitWords {
-    /// The sum in one's complement of 64 bits: a carry out of the highest bit is added to the lowest one, so that
-    /// no sum is too great. It stands for its residue modulo 65535, of which 2^64 - 1 is a multiple. `Debug` shows it:
-    /// it is that of the big-endian words of 64 bits, in whatever way they are added.
+    /// One's complement sum in 64 bits of the numbers added so far. A carry out of the highest bit is added to the
+    /// lowest one, so that the sum never overflows. The sum of 16 bit words is its residue modulo 65535, since 2^64 - 1
+    /// is a multiple of 65535. `Debug` prints the 64 bit sum: slices and 16 bytes are added as big-endian 64 bit words,
+    /// 2 and 4 bytes as 16 and 32 bit words.
     sum: u64,
 }
 
@@ -57,7 +60,7 @@ impl Eq for Sum16BitWords {
 }
 
 impl Sum16BitWords {
-    /// The sum of no bytes.
+    /// Creates a checksum sum to which no bytes have been added: 0.
     #[inline]
     pub fn new() -> Sum16BitWords
         ensures { result ≡ 0 }
@@ -65,7 +68,7 @@ impl Sum16BitWords {
         Sum16BitWords { sum: 0 }
     }
 
-    /// The sum with two more bytes.
+    /// Returns the checksum sum with two more bytes added, as a big-endian 16 bit word.
     #[inline]
     #[must_use]
     pub fn add_2bytes(&self, value: [u8; 2]) -> Sum16BitWords
@@ -76,7 +79,7 @@ impl Sum16BitWords {
         }
     }
 
-    /// The sum with four more bytes.
+    /// Returns the checksum sum with four more bytes added, as two big-endian 16 bit words.
     #[inline]
     #[must_use]
     pub fn add_4bytes(&self, value: [u8; 4]) -> Sum16BitWords
@@ -87,7 +90,7 @@ impl Sum16BitWords {
         }
     }
 
-    /// The sum with 16 more bytes.
+    /// Returns the checksum sum with 16 more bytes added, as eight big-endian 16 bit words.
     #[inline]
     #[must_use]
     pub fn add_16bytes(&self, value: [u8; 16]) -> Sum16BitWords
@@ -98,7 +101,8 @@ impl Sum16BitWords {
         }
     }
 
-    /// The sum with the bytes of a slice, an odd last byte being the upper half of a word.
+    /// Returns the checksum sum with the bytes of a slice added as big-endian 16 bit words. If their number is odd, the
+    /// last byte is the upper half of a word whose lower half is 0.
     #[must_use]
     pub fn add_slice(&self, slice: &[u8]) -> Sum16BitWords
         ensures { result ≡ ones_add self.now (ones_sum slice.now) }
@@ -112,7 +116,7 @@ impl Sum16BitWords {
         }
     }
 
-    /// The checksum: the one's complement of the sum, whose big-endian bytes are written.
+    /// Returns the Internet checksum: the one's complement of the sum. Headers contain it in big-endian order.
     #[inline]
     pub fn ones_complement(&self) -> u16
         ensures { result ≡ 65535 - self.now }
@@ -120,7 +124,8 @@ impl Sum16BitWords {
         u16::MAX - folded(self.sum)
     }
 
-    /// The checksum as UDP writes it (RFC 768): 65535 in place of 0.
+    /// Returns the checksum as a UDP header contains it (RFC 768): the one's complement of the sum, or 65535 if this is
+    /// 0.
     #[inline]
     pub fn ones_complement_with_no_zero(&self) -> u16
         ensures { result ≡ no_zero (65535 - self.now) }
@@ -132,7 +137,7 @@ impl Sum16BitWords {
     }
 }
 
-/// Two sums in one's complement of 64 bits, added.
+/// Adds two numbers in 64 bit one's complement: a carry out of the highest bit is added to the lowest one.
 #[inline]
 fn add_word(sum: u64, word: u64) -> u64
     ensures { residue result ≡ residue (sum + word) }
@@ -141,7 +146,7 @@ fn add_word(sum: u64, word: u64) -> u64
     sum + carry as u64
 }
 
-/// A sum of 128 bits in one's complement of 64 bits.
+/// Reduces a 128 bit sum to 64 bits in one's complement: its upper half is added to its lower half.
 #[inline]
 fn in_64_bits(sum: u128) -> u64
     ensures { residue result ≡ residue sum }
@@ -149,7 +154,7 @@ fn in_64_bits(sum: u128) -> u64
     add_word((sum >> 64) as u64, (sum & u64::MAX as u128) as u64)
 }
 
-/// A sum with fewer than 128 bytes, as words of 64 bits of which the last one is filled up by zero bytes.
+/// Adds fewer than 128 bytes to a checksum sum, as big-endian 64 bit words. The last word is padded with zero bytes.
 #[inline]
 fn add_short(sum: u128, bytes: &[u8]) -> u64
     requires short { length bytes.now < 128 }
@@ -165,7 +170,8 @@ fn add_short(sum: u128, bytes: &[u8]) -> u64
     in_64_bits(sum + last_word(rest) as u128)
 }
 
-/// The same sum with any number of bytes. It is no part of `add_slice`, where few bytes would pay for its registers.
+/// Adds any number of bytes to a checksum sum, in blocks of at most 2048 bytes. It is not inlined into `add_slice`, so
+/// that `add_slice` does not have to save its registers for short slices.
 #[inline(never)]
 fn add_long(sum: u64, bytes: &[u8]) -> u64
     ensures { residue result ≡ residue (sum + word_sum bytes.now) }
@@ -180,11 +186,11 @@ fn add_long(sum: u64, bytes: &[u8]) -> u64
     add_short(sum, rest)
 }
 
-/// The sum of the words of a block.
+/// Sums the 64 bit words of at most 2048 bytes for the checksum.
 ///
-/// No carry goes from word to word, so that many are added at once: the bytes at each odd place, 1 to 7, add up in 16
-/// bits. Those at the even places would too, and are what the sum of the whole words has besides. The words are read
-/// lowest byte first, as the machine has them.
+/// The bytes at the odd positions 1 to 7 of the words are summed in parallel, in 16 bits each, so that no carry has to
+/// be propagated between words. The sums of the bytes at even positions are the difference to the wrapping sum of the
+/// words. Words are read in little-endian order, as the machine loads them.
 #[inline]
 fn block_sum(block: &[u8]) -> u64
     requires short { length block.now ≤ 2048 }
@@ -203,7 +209,8 @@ fn block_sum(block: &[u8]) -> u64
     joined(both.wrapping_sub(odd << 8), odd)
 }
 
-/// The sum of words whose bytes at each even and at each odd place add up to these, in 16 bits each.
+/// Combines the byte sums at the even and at the odd positions of little-endian 64 bit words into one sum for the
+/// checksum. Each parameter has four byte sums of 16 bits.
 #[inline]
 fn joined(even: u64, odd: u64) -> u64
     ensures { residue result ≡ residue (256 * even + odd) }
@@ -213,7 +220,7 @@ fn joined(even: u64, odd: u64) -> u64
     in_64_bits(lower.swap_bytes() as u128 + upper.swap_bytes() as u128 * 256)
 }
 
-/// Fewer than 8 bytes as a word of 64 bits, filled up by zero bytes.
+/// Reads fewer than 8 bytes as a big-endian 64 bit word, padded with zero bytes at its end.
 #[inline]
 fn last_word(bytes: &[u8]) -> u64
     requires { length bytes.now < 8 }
@@ -227,7 +234,7 @@ fn last_word(bytes: &[u8]) -> u64
     }
 }
 
-/// Fewer than 4 bytes as a word of 32 bits, filled up by zero bytes.
+/// Reads fewer than 4 bytes as a big-endian 32 bit word, padded with zero bytes at its end.
 #[inline]
 fn last_half(bytes: &[u8]) -> u64
     requires { length bytes.now < 4 }
@@ -240,7 +247,7 @@ fn last_half(bytes: &[u8]) -> u64
     }
 }
 
-/// A last byte, or none, as a word of 16 bits.
+/// Reads a slice of at most one byte as a 16 bit word: the byte is its upper half. Returns 0 for an empty slice.
 #[inline]
 fn last_byte(bytes: &[u8]) -> u64
     requires { length bytes.now < 2 }
@@ -253,7 +260,7 @@ fn last_byte(bytes: &[u8]) -> u64
     }
 }
 
-/// The sum in 16 bits that a sum in 64 bits stands for.
+/// Folds a 64 bit one's complement sum into 16 bits: the sum of the 16 bit words that the checksum covers.
 #[inline]
 fn folded(sum: u64) -> u16
     ensures { result ≡ residue sum }

@@ -1,4 +1,4 @@
-//! The errors of all layers.
+//! Errors of parsing and writing headers, in a module for each layer.
 
 pub mod ip;
 pub mod ip_auth;

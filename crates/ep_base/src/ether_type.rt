@@ -1,6 +1,6 @@
-//! The ether type of a frame (IEEE 802.3, clause 3.2.6) and the values this library knows.
+//! Ether types (IEEE 802.3, 3.2.6), with constants for the protocols that this library knows.
 
-/// What the payload of a link layer is: the 16 bit number that IEEE assigns.
+/// Ether type: the 16 bit number, assigned by IEEE, of the protocol in the payload of a link layer.
 #[derive(Clone, Copy, Debug, PartialEq, Eq, PartialOrd, Ord, Hash)]
 pub struct EtherType(pub u16);
 
@@ -8,22 +8,23 @@ impl EtherType {
     ghost use Rattle.std.specs.Prelude.{◌≡◌, option_copied};
     ghost use Rattle.ep_base.specs.Names.{ether_type_name};
 
-    /// IPv4 (RFC 791).
+    /// Ether type of IPv4 (RFC 791): 0x0800.
     pub const IPV4: EtherType = EtherType(0x0800);
-    /// The address resolution protocol (RFC 826).
+    /// Ether type of ARP, the Address Resolution Protocol (RFC 826): 0x0806.
     pub const ARP: EtherType = EtherType(0x0806);
-    /// IPv6 (RFC 8200).
+    /// Ether type of IPv6 (RFC 8200): 0x86DD.
     pub const IPV6: EtherType = EtherType(0x86DD);
-    /// A customer VLAN tag (IEEE 802.1Q).
+    /// Ether type of a customer VLAN tag (IEEE 802.1Q): 0x8100.
     pub const VLAN_TAGGED_FRAME: EtherType = EtherType(0x8100);
-    /// A service VLAN tag (IEEE 802.1Q, provider bridging).
+    /// Ether type of a service VLAN tag of provider bridging (IEEE 802.1Q): 0x88A8.
     pub const PROVIDER_BRIDGING: EtherType = EtherType(0x88A8);
-    /// A VLAN tag in the older numbering of double tagged frames.
+    /// Older ether type of the outer VLAN tag of double tagged frames: 0x9100.
     pub const VLAN_DOUBLE_TAGGED_FRAME: EtherType = EtherType(0x9100);
-    /// A MACsec tag (IEEE 802.1AE).
+    /// Ether type of a MACsec tag (IEEE 802.1AE): 0x88E5.
     pub const MACSEC: EtherType = EtherType(0x88E5);
 
-    /// The name of the constant with this number, such as `PROVIDER_BRIDGING`; none where no constant has it.
+    /// Returns the name of the `EtherType` constant with this number, such as `PROVIDER_BRIDGING`, or `None` if no
+    /// constant has it.
     pub fn name(self) -> Option<&'static str>
         ensures { option_copied result ≡ ether_type_name self.0 }
     {
@@ -40,17 +41,17 @@ impl EtherType {
     }
 }
 
-/// The constant of [`EtherType`] with this name.
+/// Ether type of IPv4, 0x0800.
 pub const IPV4: EtherType = EtherType::IPV4;
-/// The constant of [`EtherType`] with this name.
+/// Ether type of ARP, 0x0806.
 pub const ARP: EtherType = EtherType::ARP;
-/// The constant of [`EtherType`] with this name.
+/// Ether type of IPv6, 0x86DD.
 pub const IPV6: EtherType = EtherType::IPV6;
-/// The constant of [`EtherType`] with this name.
+/// Ether type of a customer VLAN tag, 0x8100.
 pub const VLAN_TAGGED_FRAME: EtherType = EtherType::VLAN_TAGGED_FRAME;
-/// The constant of [`EtherType`] with this name.
+/// Ether type of a service VLAN tag of provider bridging, 0x88A8.
 pub const PROVIDER_BRIDGING: EtherType = EtherType::PROVIDER_BRIDGING;
-/// The constant of [`EtherType`] with this name.
+/// Older ether type of the outer VLAN tag of double tagged frames, 0x9100.
 pub const VLAN_DOUBLE_TAGGED_FRAME: EtherType = EtherType::VLAN_DOUBLE_TAGGED_FRAME;
-/// The constant of [`EtherType`] with this name.
+/// Ether type of a MACsec tag, 0x88E5.
 pub const MACSEC: EtherType = EtherType::MACSEC;

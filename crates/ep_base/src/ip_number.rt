@@ -1,6 +1,6 @@
-//! The protocol number of an IP payload (RFC 791, 3.1 and RFC 8200, 3) and the values this library knows.
+//! IP protocol numbers (RFC 791, 3.1 and RFC 8200, 3), with constants for the protocols that this library knows.
 
-/// What an IP payload is: the 8 bit number that IANA assigns.
+/// IP protocol number: the 8 bit number, assigned by IANA, of the protocol or extension header in an IP payload.
 #[derive(Clone, Copy, Debug, PartialEq, Eq, PartialOrd, Ord, Hash)]
 pub struct IpNumber(pub u8);
 
@@ -8,26 +8,27 @@ impl IpNumber {
     ghost use Rattle.std.specs.Prelude.{◌≡◌, option_copied};
     ghost use Rattle.ep_base.specs.Names.{ip_number_name};
 
-    /// The hop by hop options of IPv6 (RFC 8200, 4.3).
+    /// IP protocol number of the IPv6 hop-by-hop options header (RFC 8200, 4.3): 0.
     pub const IPV6_HEADER_HOP_BY_HOP: IpNumber = IpNumber(0);
-    /// ICMP for IPv4 (RFC 792).
+    /// IP protocol number of ICMP for IPv4 (RFC 792): 1.
     pub const ICMP: IpNumber = IpNumber(1);
-    /// TCP (RFC 9293).
+    /// IP protocol number of TCP (RFC 9293): 6.
     pub const TCP: IpNumber = IpNumber(6);
-    /// UDP (RFC 768).
+    /// IP protocol number of UDP (RFC 768): 17.
     pub const UDP: IpNumber = IpNumber(17);
-    /// The routing header of IPv6 (RFC 8200, 4.4).
+    /// IP protocol number of the IPv6 routing header (RFC 8200, 4.4): 43.
     pub const IPV6_ROUTE_HEADER: IpNumber = IpNumber(43);
-    /// The fragment header of IPv6 (RFC 8200, 4.5).
+    /// IP protocol number of the IPv6 fragment header (RFC 8200, 4.5): 44.
     pub const IPV6_FRAGMENTATION_HEADER: IpNumber = IpNumber(44);
-    /// The authentication header (RFC 4302).
+    /// IP protocol number of the authentication header (RFC 4302): 51.
     pub const AUTHENTICATION_HEADER: IpNumber = IpNumber(51);
-    /// ICMP for IPv6 (RFC 4443).
+    /// IP protocol number of ICMPv6 (RFC 4443): 58.
     pub const IPV6_ICMP: IpNumber = IpNumber(58);
-    /// The destination options of IPv6 (RFC 8200, 4.6).
+    /// IP protocol number of the IPv6 destination options header (RFC 8200, 4.6): 60.
     pub const IPV6_DESTINATION_OPTIONS: IpNumber = IpNumber(60);
 
-    /// The name of the constant with this number, such as `IPV6_ICMP`; none where no constant has it.
+    /// Returns the name of the `IpNumber` constant with this number, such as `IPV6_ICMP`, or `None` if no constant has
+    /// it.
     pub fn name(self) -> Option<&'static str>
         ensures { option_copied result ≡ ip_number_name self.0 }
     {
@@ -46,21 +47,21 @@ impl IpNumber {
     }
 }
 
-/// The constant of [`IpNumber`] with this name.
+/// IP protocol number of the IPv6 hop-by-hop options header, 0.
 pub const IPV6_HEADER_HOP_BY_HOP: IpNumber = IpNumber::IPV6_HEADER_HOP_BY_HOP;
-/// The constant of [`IpNumber`] with this name.
+/// IP protocol number of ICMP for IPv4, 1.
 pub const ICMP: IpNumber = IpNumber::ICMP;
-/// The constant of [`IpNumber`] with this name.
+/// IP protocol number of TCP, 6.
 pub const TCP: IpNumber = IpNumber::TCP;
-/// The constant of [`IpNumber`] with this name.
+/// IP protocol number of UDP, 17.
 pub const UDP: IpNumber = IpNumber::UDP;
-/// The constant of [`IpNumber`] with this name.
+/// IP protocol number of the IPv6 routing header, 43.
 pub const IPV6_ROUTE_HEADER: IpNumber = IpNumber::IPV6_ROUTE_HEADER;
-/// The constant of [`IpNumber`] with this name.
+/// IP protocol number of the IPv6 fragment header, 44.
 pub const IPV6_FRAGMENTATION_HEADER: IpNumber = IpNumber::IPV6_FRAGMENTATION_HEADER;
-/// The constant of [`IpNumber`] with this name.
+/// IP protocol number of the authentication header, 51.
 pub const AUTHENTICATION_HEADER: IpNumber = IpNumber::AUTHENTICATION_HEADER;
-/// The constant of [`IpNumber`] with this name.
+/// IP protocol number of ICMPv6, 58.
 pub const IPV6_ICMP: IpNumber = IpNumber::IPV6_ICMP;
-/// The constant of [`IpNumber`] with this name.
+/// IP protocol number of the IPv6 destination options header, 60.
 pub const IPV6_DESTINATION_OPTIONS: IpNumber = IpNumber::IPV6_DESTINATION_OPTIONS;

@@ -1,17 +1,17 @@
-//! The payload of an IP packet.
+//! Payload of an IPv4 or IPv6 packet, with its protocol number.
 
 use crate::ip_number::IpNumber;
 use crate::len_source::LenSource;
 
-/// The payload of an IP header and of the extension headers behind it.
+/// Bytes after an IPv4 or IPv6 header and its extension headers, with the protocol number of their contents.
 #[derive(Clone, Debug, PartialEq, Eq, PartialOrd, Ord, Hash, Drop)]
 pub struct IpPayloadSlice<'a> {
-    /// What the payload is.
+    /// IP protocol number of the payload.
     pub ip_number: IpNumber,
-    /// Whether the payload is one fragment of a longer one.
+    /// True if the IP payload is only a fragment of the payload of a fragmented packet.
     pub fragmented: bool,
-    /// What set the payload's length.
+    /// Source of the IP payload's length: the end of the input, or the length field of the IP header.
     pub len_source: LenSource,
-    /// The payload's bytes.
+    /// Bytes after the IP header and its extension headers.
     pub payload: &'a [u8],
 }

@@ -1,4 +1,4 @@
-//! Laws of the definitions that contracts cite, each the contract of a function with an empty body.
+//! Laws of checksums, constants, orders, equality and clones: each is a function whose contract states the law.
 
 ghost use Rattle.std.specs.Prelude.{◌≡◌, ◌↔◌, ◌+◌, ◌%◌, ◌^◌, ◌≤◌, ◌<◌, ℕ, List, [], ◌∷◌, ◌++◌, length, IsTrue};
 ghost use Rattle.std.specs.Ordering.{nat_cmp};
@@ -19,47 +19,53 @@ use crate::{
     Ipv4Ecn, Ipv6FlowLabel, LenSource, MacsecAn, MacsecShortLen, VlanId, VlanPcp,
 };
 
-/// A one's complement sum is the sum of the words modulo 65535, in 1 to 65535, and 0 only where all bytes are 0.
+/// States that the one's complement sum of bytes is congruent modulo 65535 to the plain sum of their 16 bit words, is
+/// at most 65535, and is 0 only if all bytes are 0.
 pub fn sum_is_a_residue()
     ensures same { (bytes : List ℕ) → ones_sum bytes % 65535 ≡ word_sum bytes % 65535 }
     ensures bound { (bytes : List ℕ) → ones_sum bytes ≤ 65535 }
     ensures zero { (bytes : List ℕ) → (ones_sum bytes ≡ 0) ↔ All (λ byte. byte ≡ 0) bytes }
 {}
 
-/// The sum of two parts, of which the first ends with a whole word, is the sum of their sums.
+/// States that the one's complement sum of two concatenated byte sequences is that of their two sums, if the first
+/// sequence has an even number of bytes.
 pub fn sum_of_parts()
     ensures { (front back : List ℕ) → length front % 2 ≡ 0
         → ones_sum (front ++ back) ≡ ones_add (ones_sum front) (ones_sum back) }
 {}
 
-/// Sums may be added in any order, and the sum of no bytes adds nothing.
+/// States that one's complement addition of checksum sums is commutative and associative, and that 0, the sum of no
+/// bytes, is neutral.
 pub fn order_of_sums()
     ensures commutes { (a b : ℕ) → ones_add a b ≡ ones_add b a }
     ensures associates { (a b c : ℕ) → ones_add (ones_add a b) c ≡ ones_add a (ones_add b c) }
     ensures nothing { (bytes : List ℕ) → ones_add 0 (ones_sum bytes) ≡ ones_sum bytes }
 {}
 
-/// Parts that end with a whole word may be exchanged.
+/// States that exchanging two byte sequences of even length, one after the other at the start of the bytes, does not
+/// change their one's complement sum.
 pub fn order_of_parts()
     ensures { (a b back : List ℕ) → length a % 2 ≡ 0 → length b % 2 ≡ 0
         → ones_sum ((a ++ b) ++ back) ≡ ones_sum ((b ++ a) ++ back) }
 {}
 
-/// A word in place of 0, as a checksum field that is filled in, adds itself to the sum.
+/// States that replacing a zero 16 bit word at an even offset, such as an empty checksum field, adds the new word to
+/// the one's complement sum of the bytes.
 pub fn word_in_place_of_zero()
     ensures { (front back : List ℕ) (upper lower : ℕ) → length front % 2 ≡ 0
         → ones_sum ((front ++ upper ∷ lower ∷ []) ++ back)
         ≡ ones_add (ones_sum ((front ++ 0 ∷ 0 ∷ []) ++ back)) (ones_sum (upper ∷ lower ∷ [])) }
 {}
 
-/// Bytes whose checksum stands in the place that was 0 have the sum 65535, by which a receiver tests them
-/// (RFC 1071, 1).
+/// States that a receiver finds the checksum valid (RFC 1071, 1): if a zero checksum field at an even offset is
+/// replaced by the checksum of the bytes, their one's complement sum is 65535.
 pub fn checksum_is_found()
     ensures { (front back : List ℕ) → length front % 2 ≡ 0
         → ones_sum ((front ++ to_be_bytes w16 (checksum_of ((front ++ 0 ∷ 0 ∷ []) ++ back))) ++ back) ≡ 65535 }
 {}
 
-/// The ether types and protocol numbers are those that IEEE and IANA assign, under either name.
+/// States that the constants for ether types and IP protocol numbers have the values that IEEE and IANA assign: the
+/// associated constants of `EtherType` and `IpNumber`, and the module constants with the same names.
 pub fn constants()
     ensures ipv4 { (EtherType.IPV4.0 ≡ 0x0800) × (ether.IPV4.0 ≡ 0x0800) }
     ensures arp { (EtherType.ARP.0 ≡ 0x0806) × (ether.ARP.0 ≡ 0x0806) }
@@ -82,7 +88,8 @@ pub fn constants()
         × (number.IPV6_DESTINATION_OPTIONS.0 ≡ 60) }
 {}
 
-/// The number 0 of each type of numbers, and the default of those that have one.
+/// Returns the constant `ZERO` of each bounded number type (VLAN identifier, DSCP, fragment offset ..) and the default
+/// VLAN identifier. The contract states that all are 0.
 pub fn zeros() -> (
     [VlanId; 2],
     VlanPcp,
@@ -107,8 +114,8 @@ pub fn zeros() -> (
     )
 }
 
-/// Values are ordered by what they are made of, as declared: numbers as numbers, length sources as they stand, and
-/// payloads by their fields, where the first that differs decides.
+/// States how the values of this crate's types are ordered: numbers numerically, length sources in the order of their
+/// declaration, and payload slices by their fields, compared in the order of declaration.
 pub fn comparisons()
     ensures ether_types { (a b : EtherType) → ⟦<EtherType as Ord>⟧.cmp a b ≡ nat_cmp a.0 b.0 }
     ensures ip_numbers { (a b : IpNumber) → ⟦<IpNumber as Ord>⟧.cmp a b ≡ nat_cmp a.0 b.0 }
@@ -127,7 +134,8 @@ pub fn comparisons()
     ensures association_numbers { (a b : ℕ) → ⟦<MacsecAn as Ord>⟧.cmp a b ≡ nat_cmp a b }
 {}
 
-/// Values are equal where all that they are made of is.
+/// States that two ether types, IP numbers, bounded numbers, payload slices or length errors are equal exactly if all
+/// their parts are, and two checksum sums exactly if their 16 bit sums are.
 pub fn equalities()
     ensures ether_types { (a b : EtherType) → IsTrue (⟦<EtherType as PartialEq>⟧.eq a b) ↔ (a ≡ b) }
     ensures ip_numbers { (a b : IpNumber) → IsTrue (⟦<IpNumber as PartialEq>⟧.eq a b) ↔ (a ≡ b) }
@@ -156,7 +164,8 @@ pub fn equalities()
         IsTrue (⟦<ValueTooBigError<u16> as PartialEq>⟧.eq a b) ↔ (a ≡ b) }
 {}
 
-/// A clone is there whatever memory there is, and is the same as its source.
+/// States that cloning a number, payload slice, checksum sum or length error never fails, and that the clone is equal
+/// to its source.
 pub fn clones()
     ensures ether_types { ClonesExactly ⟦<EtherType as Clone>⟧.is_infallible ⟦<EtherType as Clone>⟧.is_clone }
     ensures ip_numbers { ClonesExactly ⟦<IpNumber as Clone>⟧.is_infallible ⟦<IpNumber as Clone>⟧.is_clone }

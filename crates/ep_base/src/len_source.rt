@@ -1,32 +1,32 @@
-//! Where the end of a payload comes from.
+//! Length fields, and the end of the input, as sources of the length of a layer or payload.
 
 ghost use Rattle.std.specs.Prelude.{◌≡◌};
-ghost use Rattle.ep_base.specs.Readings.{cut_by};
+ghost use Rattle.ep_base.specs.Readings.{limited_by};
 ghost use Rattle.ep_base.specs.Names.{len_source_name};
 
-/// What sets the number of bytes that a layer has at hand.
+/// Source of the limit on the bytes of a layer or payload: the end of the input, or a length field of a header.
 #[derive(Clone, Copy, Debug, PartialEq, Eq, PartialOrd, Ord, Hash)]
 pub enum LenSource {
-    /// The end of the slice that was given.
+    /// Length limited by the end of the parsed slice, not by a length field.
     Slice,
-    /// The short length of a MACsec tag.
+    /// Length limited by the short length field of a MACsec tag.
     MacsecShortLength,
-    /// The total length of an IPv4 header.
+    /// Length limited by the total length field of an IPv4 header.
     Ipv4HeaderTotalLen,
-    /// The payload length of an IPv6 header.
+    /// Length limited by the payload length field of an IPv6 header.
     Ipv6HeaderPayloadLen,
-    /// The length of a UDP header.
+    /// Length limited by the length field of a UDP header.
     UdpHeaderLen,
-    /// The two address lengths of an ARP packet.
+    /// Length given by the hardware and protocol address length fields of an ARP packet.
     ArpAddrLengths,
 }
 
 impl LenSource {
-    /// What set the end of a layer's bytes in a payload whose end `outer` set: this, or `outer` where this is the end
-    /// of the slice.
+    /// Converts the length source of a layer inside a payload to that of the entire packet. `Slice`, the end of the
+    /// payload, becomes `outer`, the source that limits the payload. Any other source stays.
     #[inline]
-    pub fn cut_by(self, outer: LenSource) -> LenSource
-        ensures { result ≡ cut_by outer self }
+    pub fn limited_by(self, outer: LenSource) -> LenSource
+        ensures { result ≡ limited_by outer self }
     {
         match self {
             LenSource::Slice => outer,
@@ -34,7 +34,7 @@ impl LenSource {
         }
     }
 
-    /// The variant's name.
+    /// Returns the name of the length source as text: the identifier of its enum variant, such as `UdpHeaderLen`.
     pub fn name(&self) -> &'static str
         ensures { result.now ≡ len_source_name self.now }
     {

@@ -1,4 +1,5 @@
-//! Numbers, lengths and errors that every layer of the packet library shares.
+//! Ether types, IP protocol numbers, bounded header fields, errors and the checksum, which all layers of the library
+//! share.
 #![tactic(auto)]
 
 mod at_least;

@@ -1,4 +1,4 @@
-//! Numbers that a header's field of a few bits holds.
+//! Header fields that are narrower than their integer type, as number types with a maximum.
 
 mod ip_frag_offset;
 mod ipv4_dscp;

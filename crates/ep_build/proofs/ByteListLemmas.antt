@@ -1,9 +1,9 @@
--- That lists of numbers are lists of bytes.
+-- Lists of numbers that are lists of bytes.
 use Rattle.std.proofs.Common.{ℕ, zero, suc, ◌<◌, List, [], ◌∷◌, ◌++◌, arith}
 use Rattle.std.specs.Int.{w16, w32, to_be_bytes}
 use Rattle.ep_base.specs.Bytes.{AreBytes}
 
--- each number is a byte, as a fact whose list is known from it
+-- Each number of the list is a byte; the list is inferred from the fact.
 pub record AllBytes (bytes : List ℕ) : Type 0 where
   pub fits : AreBytes bytes
 

@@ -1,4 +1,4 @@
--- Headers that fit still do once they are linked and count their payload, where no row of the table refuses.
+-- Header fields that fit still do after linking and setting the length, if no row of the table is met.
 use Rattle.std.proofs.Common.{◌≡◌, ℕ, ◌+◌, ◌-◌, ◌^◌, ◌<◌, ◌≤◌, List, [], ◌∷◌, ◌++◌, Option, Some, None, arith}
 use Rattle.std.specs.Prelude.{nat_lt}
 use Rattle.std.specs.Option.{option_map}
@@ -10,7 +10,7 @@ use Rattle.ep_base.specs.declared.ip_number.IpNumber.{IpNumber}
 use Rattle.ep_ext.specs.Chains.{FitParts}
 use Rattle.ep_ext.specs.ExtensionParts.{ExtensionPart, FitsPart, authentication, destination_options, fragment}
 use Rattle.ep_ext.specs.ExtensionParts.{hop_by_hop}
-use Rattle.ep_ext.specs.ExtensionParts.{parts_there, routing}
+use Rattle.ep_ext.specs.ExtensionParts.{optional_part, routing}
 use Rattle.ep_ext.specs.FragmentHeader.{FitsFragmentHeader}
 use Rattle.ep_ext.specs.IpAuth.{FitsIpAuth}
 use Rattle.ep_ext.specs.Ipv4Chains.{ip_auth_leading_to, ipv4_first}
@@ -23,7 +23,7 @@ use Rattle.ep_ext.specs.declared.ipv6_exts.Ipv6Extensions.{Ipv6Extensions}
 use Rattle.ep_ext.specs.declared.ipv6_fragment_header.Ipv6FragmentHeader.{Ipv6FragmentHeader}
 use Rattle.ep_ext.specs.declared.ipv6_raw_ext_header.Ipv6RawExtHeader.{Ipv6RawExtHeader}
 use Rattle.ep_ext.specs.declared.ipv6_routing_exts.Ipv6RoutingExtensions.{Ipv6RoutingExtensions}
-use Rattle.ep_packet.specs.IpHeaders.{FitIpHeaders, headers_for, ip_extensions_len, most_behind_header}
+use Rattle.ep_packet.specs.IpHeaders.{FitIpHeaders, headers_for, ip_extensions_len, most_after_header}
 use Rattle.ep_packet.specs.declared.ip_headers.IpHeaders.{IpHeaders}
 use Rattle.ep_packet.specs.declared.ip_headers.IpHeaders.TheVariants as version
 use Rattle.ep_build.specs.BuildErrors.{IsBuildable}
@@ -32,9 +32,9 @@ use Rattle.ep_build.specs.declared.link_part.LinkPart.{LinkPart}
 use Rattle.ep_build.proofs.LengthLemmas.{linked_len}
 use Rattle.ep_build.proofs.HeaderListLemmas.{header_lists}
 
--- ---- numbers
+-- ---- next header values
 
--- what stands before a byte is a byte
+-- The next header value before an optional header is a byte.
 before_fits : {H : Type 0} (there : Option H) (number : ℕ) (next : IpNumber) → number < 2 ^ 8 → next.0 < 2 ^ 8
     → (number_before there number next).0 < 2 ^ 8
 before_fits None number next small fits = fits
@@ -45,7 +45,7 @@ first_fits_4 : (auth : Option IpAuthHeader) (last : IpNumber) → last.0 < 2 ^ 8
 first_fits_4 None last small = small
 first_fits_4 (Some header) last small = omega arith
 
--- the numbers that lead from header to header
+-- The next header values of linked headers are bytes.
 record NumbersFit (extensions : Ipv6Extensions) (last : IpNumber) : Type 0 where
   pub auth : (after_auth extensions last).0 < 2 ^ 8
   pub fragment : (after_fragment extensions last).0 < 2 ^ 8
@@ -102,27 +102,27 @@ auth_fits next header small fits = record {
   icv = fits.icv;
 }
 
--- a header that is changed, where it is there
+-- A change that keeps a header's fields fitting does so for an optional header.
 there_fits : {H : Type 0} (kind : H → ExtensionPart) (change : H → H)
     → ((header : H) → FitsPart (kind header) → FitsPart (kind (change header))) → (there : Option H)
-    → FitParts (parts_there kind there) → FitParts (parts_there kind (option_map change there))
+    → FitParts (optional_part kind there) → FitParts (optional_part kind (option_map change there))
 there_fits kind change each None fit = tt
 there_fits kind change each (Some header) fit = (each header fit.0, tt)
 
 routing_fits : (next last : IpNumber) (behind : Option Ipv6RoutingExtensions) → next.0 < 2 ^ 8
-    → FitParts (parts_there routing (option_map routing_header behind))
-    → FitParts (parts_there routing (option_map routing_header (option_map (routing_leading_to next last) behind)))
+    → FitParts (optional_part routing (option_map routing_header behind))
+    → FitParts (optional_part routing (option_map routing_header (option_map (routing_leading_to next last) behind)))
 routing_fits next last None small fit = tt
 routing_fits next last (Some behind) small fit = (raw_fits next behind.routing small fit.0, tt)
 
 final_fits : (next last : IpNumber) (behind : Option Ipv6RoutingExtensions) → last.0 < 2 ^ 8
-    → FitParts (parts_there destination_options (final_by behind))
-    → FitParts (parts_there destination_options (final_by (option_map (routing_leading_to next last) behind)))
+    → FitParts (optional_part destination_options (final_by behind))
+    → FitParts (optional_part destination_options (final_by (option_map (routing_leading_to next last) behind)))
 final_fits next last None small fit = tt
 final_fits next last (Some behind) small fit = there_fits destination_options (raw_leading_to last)
     (λ header fits. raw_fits last header small fits) behind.final_destination_options fit
 
--- two lists of headers
+-- The fields of two concatenated lists of headers fit.
 fit_append : (parts more : List ExtensionPart) → FitParts parts → FitParts more → FitParts (parts ++ more)
 fit_append [] more fit other = other
 fit_append (part ∷ parts) more fit other = (fit.0, fit_append parts more fit.1 other)
@@ -155,29 +155,29 @@ parts_fit_6 extensions last small =
     extensions.destination_options) in
     let abc = fit_both (old.hop ++ old.destination) (new.hop ++ new.destination) old.behind new.behind ab
     (routing_fits (after_routing extensions last) last extensions.routing numbers.routing) in
-    let abcd = fit_both (old.hop ++ old.destination ++ old.behind) (new.hop ++ new.destination ++ new.behind)
+    let fit_before_auth = fit_both (old.hop ++ old.destination ++ old.behind) (new.hop ++ new.destination ++ new.behind)
     old.fragments new.fragments abc
     (there_fits fragment (fragment_leading_to (after_fragment extensions last))
     (λ header fits. fragment_fits (after_fragment extensions last) header numbers.fragment fits) extensions.fragment) in
     let abcde = fit_both (old.hop ++ old.destination ++ old.behind ++ old.fragments)
-    (new.hop ++ new.destination ++ new.behind ++ new.fragments) old.auth new.auth abcd
+    (new.hop ++ new.destination ++ new.behind ++ new.fragments) old.auth new.auth fit_before_auth
     (there_fits authentication (ip_auth_leading_to (after_auth extensions last))
     (λ header fits. auth_fits (after_auth extensions last) header numbers.auth fits) extensions.auth) in
     fit_both (old.hop ++ old.destination ++ old.behind ++ old.fragments ++ old.auth)
     (new.hop ++ new.destination ++ new.behind ++ new.fragments ++ new.auth) old.final new.final abcde
     (final_fits (after_routing extensions last) last extensions.routing small)
 
--- ---- the length
+-- ---- length
 
 within : {E : Type 0} (total most : ℕ) (first second : E)
     → first_row ((nat_lt (2 ^ 64 - 1) total, first) ∷ (nat_lt most total, second) ∷ []) ≡ None → total ≤ most
 within total most first second none = grind (arith, common_steps)
 
--- the length field counts what the table does not refuse
+-- The length field can count the length if no row of the table is met.
 counts : (part : LinkPart) (headers : IpHeaders) (last : IpNumber) (len : ℕ)
-    → IsBuildable (held_ip part headers last) len → len + ip_extensions_len headers ≤ most_behind_header headers
+    → IsBuildable (held_ip part headers last) len → len + ip_extensions_len headers ≤ most_after_header headers
 counts part headers last len buildable =
-    within (len + ip_extensions_len headers) (most_behind_header headers) _ _ buildable
+    within (len + ip_extensions_len headers) (most_after_header headers) _ _ buildable
 
 -- ---- all headers
 

@@ -1,4 +1,4 @@
--- A frame of headers that fit is bytes.
+-- A frame of headers whose fields fit consists of bytes.
 use Rattle.std.proofs.Common.{ℕ, List, [], ◌∷◌, ◌++◌, length, arith}
 use Rattle.ep_base.specs.Bytes.{AreBytes}
 use Rattle.ep_base.specs.EtherTypes.{provider_bridging_type, vlan_type}
@@ -19,7 +19,7 @@ use Rattle.ep_packet.specs.IpHeaders.{FitIpHeaders, FitsIpHeader, headers_for, i
 use Rattle.ep_packet.specs.IpHeaders.{ip_headers_type, with_checksum, written_headers}
 use Rattle.ep_packet.specs.declared.ip_headers.IpHeaders.{IpHeaders}
 use Rattle.ep_packet.specs.declared.ip_headers.IpHeaders.TheVariants as version
-use Rattle.ep_build.specs.BuiltFrames.{as_ether_type, built_frame, held_ip, link_before, link_part_bytes}
+use Rattle.ep_build.specs.BuiltFrames.{as_ether_type, built_frame, held_ip, link_with_type, link_part_bytes}
 use Rattle.ep_build.specs.Fits.{FitsLink}
 use Rattle.ep_build.specs.declared.link_part.LinkPart.{LinkPart}
 use Rattle.ep_build.specs.declared.link_part.LinkPart.TheVariants as link
@@ -46,7 +46,7 @@ parts_are_bytes [] fit = none
 parts_are_bytes (part ∷ parts) fit =
     both (part_bytes part) (parts_bytes parts) (part_is_bytes part fit.0).fits (parts_are_bytes parts fit.1)
 
--- ---- headers of IP
+-- ---- IP headers
 
 header_is_bytes : (headers : IpHeaders) → FitsIpHeader headers → AllBytes (ip_header_bytes (with_checksum headers))
 header_is_bytes (version.Ipv4 header extensions) fits =
@@ -65,7 +65,7 @@ headers_are_bytes headers fit =
     both (ip_header_bytes (with_checksum headers)) (parts_bytes (ip_headers_parts headers))
     (header_is_bytes headers fit.0).fits (parts_are_bytes (ip_headers_parts headers) fit.1)
 
--- ---- the link part
+-- ---- link part
 
 ethernet2_is_bytes : (header : Ethernet2Header) (type : EtherType) → FitsEthernet2 header
     → AllBytes (ethernet2_bytes (record header { ether_type = type }))
@@ -77,7 +77,7 @@ vlan_is_bytes : (tag : SingleVlanHeader) → AllBytes (vlan_bytes tag)
 vlan_is_bytes tag = word _ _ (word tag.ether_type.0 [] none)
 
 link_is_bytes : (part : LinkPart) (type : EtherType) → FitsLink part
-    → AllBytes (link_part_bytes (link_before part type))
+    → AllBytes (link_part_bytes (link_with_type part type))
 link_is_bytes link.Absent type fits = none
 link_is_bytes (link.Ethernet2 header) type fits = ethernet2_is_bytes header type fits
 link_is_bytes (link.Tagged header (tags.Single tag)) type fits =
@@ -92,14 +92,14 @@ link_is_bytes (link.LinuxSll header) type fits =
     word _ _ (word ethernet_hardware _ (word header.sender_address_valid_length _
     (both header.sender_address _ fits.address (word type.0 [] none))))
 
--- ---- the frame
+-- ---- frame
 
 pub ip_frame_is_bytes : (part : LinkPart) (headers : IpHeaders) (last : IpNumber) (payload : List ℕ) → FitsLink part
     → FitIpHeaders (headers_for headers last (length payload)) → AreBytes payload
     → AreBytes (built_frame (held_ip part headers last) payload)
 ip_frame_is_bytes part headers last payload fits_link fit bytes =
     let written = headers_for headers last (length payload) in
-    both_bytes (link_part_bytes (link_before part (as_ether_type (ip_headers_type headers))))
+    both_bytes (link_part_bytes (link_with_type part (as_ether_type (ip_headers_type headers))))
     (written_headers written (ip_headers_parts written) ++ payload)
     (link_is_bytes part (as_ether_type (ip_headers_type headers)) fits_link).fits
     (both_bytes (written_headers written (ip_headers_parts written)) payload (headers_are_bytes written fit).fits bytes)

@@ -1,4 +1,4 @@
--- How long headers are: linking changes no length, nor do types, numbers and checksums that are filled in.
+-- Lengths of headers: linking keeps them, and so does filling in types, numbers and checksums.
 use Rattle.std.proofs.Common.{◌≡◌, ℕ, List, length, Option, Some, None, refl, ◌∙◌, arith}
 use Rattle.std.specs.Option.{option_map, option_map_or}
 use Rattle.ep_base.specs.declared.ip_number.IpNumber.{IpNumber}
@@ -8,7 +8,7 @@ use Rattle.ep_ext.specs.declared.ipv6_fragment_header.Ipv6FragmentHeader.{Ipv6Fr
 use Rattle.ep_ext.specs.declared.ipv6_raw_ext_header.Ipv6RawExtHeader.{Ipv6RawExtHeader}
 use Rattle.ep_ext.specs.declared.ipv6_routing_exts.Ipv6RoutingExtensions.{Ipv6RoutingExtensions}
 use Rattle.ep_ext.specs.Chains.{parts_bytes}
-use Rattle.ep_ext.specs.ExtensionParts.{authentication, parts_there}
+use Rattle.ep_ext.specs.ExtensionParts.{authentication, optional_part}
 use Rattle.ep_ext.specs.IpAuth.{ip_auth_len}
 use Rattle.ep_ext.specs.Ipv4Chains.{ip_auth_leading_to}
 use Rattle.ep_ext.specs.Ipv6Chains.{after_auth, after_destination, after_fragment, after_hop_by_hop, after_routing}
@@ -22,9 +22,9 @@ use Rattle.ep_packet.specs.declared.ip_headers.IpHeaders.TheVariants as version
 use Rattle.ep_transport.specs.TransportHeaders.{transport_header_len}
 use Rattle.ep_transport.specs.declared.transport_header.TransportHeader.{TransportHeader}
 use Rattle.ep_transport.specs.declared.transport_header.TransportHeader.TheVariants as transport
-use Rattle.ep_build.specs.BuiltFrames.{transport_between, with_checksum_behind, with_length}
+use Rattle.ep_build.specs.BuiltFrames.{transport_between, with_checksum_after, with_length}
 
--- ---- extension headers that are linked
+-- ---- linked extension headers
 
 raw_len : (next : IpNumber) (header : Option Ipv6RawExtHeader)
     → option_map_or raw_extension_len (option_map (raw_leading_to next) header) 0
@@ -72,24 +72,24 @@ ipv6_len extensions last = omega (
 )
 
 ipv4_len : (next : IpNumber) (auth : Option IpAuthHeader)
-    → length (parts_bytes (parts_there authentication (option_map (ip_auth_leading_to next) auth)))
-    ≡ length (parts_bytes (parts_there authentication auth))
+    → length (parts_bytes (optional_part authentication (option_map (ip_auth_leading_to next) auth)))
+    ≡ length (parts_bytes (optional_part authentication auth))
 ipv4_len next None = refl
 ipv4_len next (Some header) = refl
 
--- linking changes no length
+-- Linking keeps the length of the extension headers.
 pub linked_len : (headers : IpHeaders) (last : IpNumber)
     → ip_extensions_len (linked_headers headers last) ≡ ip_extensions_len headers
 linked_len (version.Ipv4 header extensions) last = ipv4_len last extensions.auth
 linked_len (version.Ipv6 header extensions) last = ipv6_len extensions last
 
--- nor does setting the length field
+-- Linking and setting the length field keep the length of the headers.
 pub headers_for_len : (headers : IpHeaders) (last : IpNumber) (len : ℕ)
     → ip_headers_len (headers_for headers last len) ≡ ip_headers_len headers
 headers_for_len (version.Ipv4 header extensions) last len = omega (arith, ipv4_len last extensions.auth)
 headers_for_len (version.Ipv6 header extensions) last len = omega (arith, ipv6_len extensions last)
 
--- ---- transport headers that are filled in
+-- ---- filled in transport headers
 
 pub with_length_len : (len : ℕ) (header : TransportHeader)
     → transport_header_len (with_length len header) ≡ transport_header_len header
@@ -99,7 +99,7 @@ with_length_len len (transport.Icmpv4 header) = refl
 with_length_len len (transport.Icmpv6 header) = refl
 
 pub with_checksum_len : (headers : IpHeaders) (payload : List ℕ) (header : TransportHeader)
-    → transport_header_len (with_checksum_behind headers payload header) ≡ transport_header_len header
+    → transport_header_len (with_checksum_after headers payload header) ≡ transport_header_len header
 with_checksum_len (version.Ipv4 ip extensions) payload (transport.Udp header) = refl
 with_checksum_len (version.Ipv4 ip extensions) payload (transport.Tcp header) = refl
 with_checksum_len (version.Ipv4 ip extensions) payload (transport.Icmpv4 header) = refl

@@ -1,4 +1,4 @@
--- A frame whose net part is read behind its link part is read by each entry of its first layer.
+-- A frame whose network layer is read after its link part is read by each entry of its first layer.
 use Rattle.std.proofs.Common.{◌≡◌, ◌⊎◌, ℕ, ◌^◌, ◌<◌, ◌≤◌, List, [], ◌∷◌, ◌++◌, Option, Some, None, refl, sym, ap, subst}
 use Rattle.std.proofs.Common.{◌∙◌, inl, inr, arith}
 use Rattle.std.proofs.lemmas.List.{append-nil, append_assoc}
@@ -24,14 +24,14 @@ use Rattle.ep_packet.specs.Layers.{Layers, NetLayer}
 use Rattle.ep_packet.specs.VlanTags.{vlan_ids_in}
 use Rattle.ep_transport.specs.TransportParts.{TransportLayer}
 use Rattle.ep_build.specs.BuiltFrames.{Inside, as_ether_type, arp_packet, ip_packet, transport_packet, inside_type}
-use Rattle.ep_build.specs.BuiltFrames.{link_before, link_part_bytes}
+use Rattle.ep_build.specs.BuiltFrames.{link_with_type, link_part_bytes}
 use Rattle.ep_build.specs.BuiltFragments.{link_vlan_ids, tag_ids}
 use Rattle.ep_build.specs.Fits.{FitsCooked, FitsLink}
 use Rattle.ep_build.specs.ReadBack.{IsBareEntry, IsEntryOf}
 use Rattle.ep_build.specs.declared.link_part.LinkPart.{LinkPart}
 use Rattle.ep_build.specs.declared.link_part.LinkPart.TheVariants as link
 
--- the bytes of a type hold this net layer and this transport layer, and begin no link extension
+-- The bytes, of an ether type, are this network layer with this transport layer, and no link extension.
 pub record IsNet (reading : Reading) (type : EtherType) (bytes : List ℕ) (net : NetLayer)
     (transport : Option TransportLayer) : Type 0 where
   pub small : type.0 < 2 ^ 16
@@ -39,7 +39,7 @@ pub record IsNet (reading : Reading) (type : EtherType) (bytes : List ℕ) (net 
   pub begins_none : ¬ BeginsLinkExtension type
   pub part : IsNetPart reading (net_kind type) bytes (Some net) transport
 
--- the bytes are a frame with these VLAN identifiers, this net layer and this transport layer
+-- The bytes are a frame with these VLAN identifiers, this network layer and this transport layer.
 pub record IsFrameOf (reading : Reading) (entry : Entry) (bytes : List ℕ) (vlan_ids : List ℕ) (net : NetLayer)
     (transport : Option TransportLayer) : Type 0 where
   pub layers : Layers
@@ -48,14 +48,14 @@ pub record IsFrameOf (reading : Reading) (entry : Entry) (bytes : List ℕ) (vla
   pub has_net : layers.net ≡ Some net
   pub has_transport : layers.transport ≡ transport
 
--- these layers
+-- The layers of a frame, from its parts.
 abbrev layers_behind : Option LinkLayer → List LinkExtension → NetLayer → Option TransportLayer → Layers
 layers_behind first extensions net transport =
     record { link = first; link_exts = extensions; net = Some net; transport = transport }
 
 -- ---- link headers
 
--- a header with another type
+-- An Ethernet II header fits with another ether type.
 typed : (header : Ethernet2Header) (type : EtherType) → FitsEthernet2 header → type.0 < 2 ^ 16
     → FitsEthernet2 (record header { ether_type = type })
 typed header type fits small = record {
@@ -66,7 +66,7 @@ typed header type fits small = record {
   ether_type = small;
 }
 
--- Ethernet II before bytes of its type
+-- An Ethernet II header before bytes of its ether type is read as a frame.
 behind_ethernet2 : (reading : Reading) (header : Ethernet2Header) (inner : List ℕ) (extensions : List LinkExtension)
     (net : NetLayer) (transport : Option TransportLayer) → FitsEthernet2 header
     → IsInside reading 3 (Some header.ether_type) inner extensions (Some net) transport
@@ -95,7 +95,7 @@ is_vlan : (tag : SingleVlanHeader) (inner : List ℕ) → FitsVlan tag
 is_vlan tag inner fits =
     record { fits = fits; parts = sym (append-nil (vlan_bytes tag ++ inner)); cut = refl }
 
--- one tag before bytes of its type
+-- An Ethernet II header and one tag before bytes of its ether type are read as a frame.
 behind_one : (reading : Reading) (header : Ethernet2Header) (tag : SingleVlanHeader) (inner : List ℕ) (net : NetLayer)
     (transport : Option TransportLayer) → FitsEthernet2 header → header.ether_type.0 ≡ vlan_type → FitsVlan tag
     → IsNet reading tag.ether_type inner net transport
@@ -106,7 +106,7 @@ behind_one reading header tag inner net transport fits is_tag tag_fits is = subs
     (behind_ethernet2 reading header (vlan_bytes tag ++ inner) (vlan tag inner ∷ []) net transport fits
     (([], (inl is_tag, is_vlan tag inner tag_fits)), (is.begins_none, is.part)))
 
--- two tags before bytes of the inner one's type
+-- An Ethernet II header and two tags before bytes of the inner tag's ether type are read as a frame.
 behind_two : (reading : Reading) (header : Ethernet2Header) (outer inner_tag : SingleVlanHeader) (inner : List ℕ)
     (net : NetLayer) (transport : Option TransportLayer) → FitsEthernet2 header
     → header.ether_type.0 ≡ provider_bridging_type → FitsVlan outer → outer.ether_type.0 ≡ vlan_type
@@ -125,9 +125,9 @@ behind_two reading header outer inner_tag inner net transport fits is_service ou
       (([], (inl is_customer, is_vlan inner_tag inner inner_fits)), (is.begins_none, is.part)),
     ))
 
--- ---- cooked captures
+-- ---- Linux cooked captures
 
--- its header before what has a type
+-- A Linux cooked capture header before a payload of this ether type.
 abbrev cooked_before : LinuxSllHeader → EtherType → LinuxSllHeader
 cooked_before header type = record header {
   arp_hrd_type = record { 0 = ethernet_hardware };
@@ -137,7 +137,7 @@ cooked_before header type = record header {
 cooked : (reading : Reading) (header : LinuxSllHeader) (type : EtherType) (inner : List ℕ) (net : NetLayer)
     (transport : Option TransportLayer) → FitsCooked header → header.packet_type.0 ≤ 7
     → IsNet reading type inner net transport → IsFrameOf reading linux_sll
-    (link_part_bytes (link_before (link.LinuxSll header) type) ++ inner) [] net transport
+    (link_part_bytes (link_with_type (link.LinuxSll header) type) ++ inner) [] net transport
 cooked reading header type inner net transport fits known is =
     let there = cooked_before header type in record {
       layers = layers_behind (Some (sll there inner)) [] net transport;
@@ -166,7 +166,7 @@ cooked reading header type inner net transport fits known is =
 
 -- ---- no link part
 
--- an entry of a frame that begins with its net layer
+-- The entry of a frame without a link part is IP or its ether type.
 bare_cases : (inside : Inside) (entry : Entry) → IsBareEntry inside entry
     → (entry ≡ ip) ⊎ (entry ≡ ether_type (as_ether_type (inside_type inside)))
 bare_cases (ip_packet headers last) entry of = of
@@ -202,13 +202,13 @@ bare reading inside entry inner net transport (inr is_type) is any =
 
 -- ---- all link parts
 
--- a frame
+-- A link part before its network layer is read as a frame.
 pub frame_is : (reading : Reading) (part : LinkPart) (inside : Inside) (entry : Entry) (inner : List ℕ)
     (net : NetLayer) (transport : Option TransportLayer) → FitsLink part → IsEntryOf part inside entry
     → IsNet reading (as_ether_type (inside_type inside)) inner net transport
     → (entry ≡ ip → IsNetPart reading (Some any_ip) inner (Some net) transport)
     → IsFrameOf reading entry
-    (link_part_bytes (link_before part (as_ether_type (inside_type inside))) ++ inner) (link_vlan_ids part) net
+    (link_part_bytes (link_with_type part (as_ether_type (inside_type inside))) ++ inner) (link_vlan_ids part) net
     transport
 frame_is reading link.Absent inside entry inner net transport fits of is any =
     bare reading inside entry inner net transport (bare_cases inside entry of) is any
@@ -243,7 +243,7 @@ frame_is reading (link.Tagged header (tags.Double both)) inside entry inner net 
     (tagged both.inner type fits.1.1 is.small) is)
 frame_is reading (link.LinuxSll header) inside entry inner net transport fits of is any = subst
     (λ (e : Entry). IsFrameOf reading e
-    (link_part_bytes (link_before (link.LinuxSll header) (as_ether_type (inside_type inside))) ++ inner)
+    (link_part_bytes (link_with_type (link.LinuxSll header) (as_ether_type (inside_type inside))) ++ inner)
     [] net transport)
     (sym of.1)
     (cooked reading header (as_ether_type (inside_type inside)) inner net transport fits of.0 is)

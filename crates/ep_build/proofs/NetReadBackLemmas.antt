@@ -12,10 +12,10 @@ use Rattle.ep_ext.specs.declared.ipv6_exts.Ipv6Extensions.{Ipv6Extensions}
 use Rattle.ep_ext.specs.declared.ipv6_fragment_header.Ipv6FragmentHeader.{Ipv6FragmentHeader}
 use Rattle.ep_ext.specs.declared.ipv6_raw_ext_header.Ipv6RawExtHeader.{Ipv6RawExtHeader}
 use Rattle.ep_ext.specs.declared.ipv6_routing_exts.Ipv6RoutingExtensions.{Ipv6RoutingExtensions}
-use Rattle.ep_ext.specs.Chains.{Demand, IsChainBehind, chain_fragments, demand_of, ends, ipv4, ipv6, is_ipv6_extension}
+use Rattle.ep_ext.specs.Chains.{Demand, IsChainAfter, chain_fragments, demand_of, ends, ipv4, ipv6, is_ipv6_extension}
 use Rattle.ep_ext.specs.Chains.{is_first, is_taken, misplaced, takes}
 use Rattle.ep_ext.specs.ExtensionParts.{ExtensionPart, authentication, destination_options, fragment, hop_by_hop}
-use Rattle.ep_ext.specs.ExtensionParts.{part_fragments, part_next, parts_there, routing}
+use Rattle.ep_ext.specs.ExtensionParts.{part_fragments, part_next, optional_part, routing}
 use Rattle.ep_ext.specs.Ipv4Chains.{ip_auth_leading_to}
 use Rattle.ep_ext.specs.Ipv6Chains.{after_auth, after_destination, after_fragment, after_hop_by_hop, after_routing}
 use Rattle.ep_ext.specs.Ipv6Chains.{extensions_of, final_by, fragment_leading_to, ipv6_linked, ipv6_parts}
@@ -38,12 +38,13 @@ use Rattle.ep_build.specs.BuiltFragments.{headers_carry}
 use Rattle.ep_build.specs.BuiltFrames.{ip_frame}
 use Rattle.ep_build.proofs.HeaderListLemmas.{header_lists}
 
--- the kind of a net layer of these headers, by their ether type
+-- The network layer protocol of these headers, by their ether type.
 abbrev pub kind_of : IpHeaders → NetKind
 kind_of (version.Ipv4 header extensions) = only_ipv4
 kind_of (version.Ipv6 header extensions) = only_ipv6
 
--- the bytes are a net layer of the version of the headers, with this payload, which carries the fragment that they say
+-- The bytes are a network layer of the headers' version, with this payload, which carries the fragment that the headers
+-- state.
 pub record NetOf (reading : Reading) (headers : IpHeaders) (bytes : List ℕ) (payload : IpPayload) : Type 0 where
   pub layer : NetLayer
   pub typed : IsNetLayer reading (kind_of headers) bytes layer
@@ -51,20 +52,19 @@ pub record NetOf (reading : Reading) (headers : IpHeaders) (bytes : List ℕ) (p
   pub has_payload : net_payload layer ≡ Some payload
   pub carries : (vlan_ids : List ℕ) → net_fragment vlan_ids layer ≡ headers_carry vlan_ids headers payload
 
--- ---- chains that end in no extension header are the same in both readings
+-- ---- chains after which no extension header follows are equal in both readings
 
 chain_4 : (reading : Reading) (taken : List ℕ) (number : ℕ) (bytes : List ℕ) (parts : List ExtensionPart) (last : ℕ)
-    (rest : List ℕ) → IsChainBehind ipv4 by_value taken number bytes parts last rest
-    → IsChainBehind ipv4 reading taken number bytes parts last rest
+    (rest : List ℕ) → IsChainAfter ipv4 by_value taken number bytes parts last rest
+    → IsChainAfter ipv4 reading taken number bytes parts last rest
 chain_4 reading taken number bytes [] last rest is = is
 chain_4 reading taken number bytes (part ∷ parts) last rest is = (
   is.0,
   (is.1.0, is.1.1, chain_4 reading (number ∷ taken) (part_next part) is.1.0 parts last rest is.1.2),
 )
 
--- what a number demands, by what is known of it: hop by hop options, whether they are first, an extension header, one
--- of
--- a kind that was taken
+-- The demand of a next header value, by its properties: hop-by-hop options, being the first header, an extension
+-- header, a kind that was read before.
 abbrev demand_by : Bool → Bool → Bool → Bool → Demand
 demand_by hop first extension second =
     if hop then (if first then takes else misplaced)
@@ -101,8 +101,8 @@ takes_too slices taken number is = takes_by _ _ _ _ is
 takes_too by_value taken number is = is
 
 chain_6 : (reading : Reading) (taken : List ℕ) (number : ℕ) (bytes : List ℕ) (parts : List ExtensionPart) (last : ℕ)
-    (rest : List ℕ) → is_ipv6_extension last ≡ false → IsChainBehind ipv6 by_value taken number bytes parts last rest
-    → IsChainBehind ipv6 reading taken number bytes parts last rest
+    (rest : List ℕ) → is_ipv6_extension last ≡ false → IsChainAfter ipv6 by_value taken number bytes parts last rest
+    → IsChainAfter ipv6 reading taken number bytes parts last rest
 chain_6 reading taken number bytes [] last rest none is = (
   ends_too reading taken number (ap is_ipv6_extension (sym is.1) ∙ none),
   is.1,
@@ -135,9 +135,9 @@ in_reading_6 reading bytes packet none is = record {
   source = is.source;
 }
 
--- ---- by value there is at most one fragment header, the first
+-- ---- owned headers have at most one fragment header, the first
 
--- a kind that was taken is so behind one more header
+-- A kind that was read is so after one more header.
 taken_by : (nearest second : Bool) (taken : Bool) → taken ≡ true → second ≡ false
     → (if nearest then true else if second then false else taken) ≡ true
 taken_by true second taken there other = refl
@@ -152,7 +152,7 @@ taken_behind : (taken : List ℕ) (number : ℕ) → is_taken taken fragment_num
     → is_taken (number ∷ taken) fragment_number ≡ true
 taken_behind taken number there = taken_by _ _ _ there (and_false _)
 
--- and then its number demands no further one
+-- After a fragment header, the number of a fragment header ends the chain.
 second_ends : (taken : List ℕ) (number : ℕ) → number ≡ fragment_number → is_taken taken fragment_number ≡ true
     → demand_of ipv6 by_value taken number ≡ takes → ⊥
 second_ends taken number is there demands =
@@ -167,10 +167,10 @@ destination_kept : (before : Ipv6Extensions) (header : Ipv6RawExtHeader) (behind
 destination_kept before header None = refl
 destination_kept before header (Some behind) = refl
 
--- headers behind a fragment header are no other one
+-- After a fragment header, a chain has no other fragment header.
 kept_fragment : (taken : List ℕ) (number : ℕ) (bytes : List ℕ) (parts : List ExtensionPart) (last : ℕ) (rest : List ℕ)
     (before : Ipv6Extensions) → is_taken taken fragment_number ≡ true
-    → IsChainBehind ipv6 by_value taken number bytes parts last rest
+    → IsChainAfter ipv6 by_value taken number bytes parts last rest
     → (with_parts before parts).fragment ≡ before.fragment
 kept_fragment taken number bytes [] last rest before there is = refl
 kept_fragment taken number bytes (hop_by_hop header ∷ parts) last rest before there is =
@@ -189,10 +189,10 @@ kept_fragment taken number bytes (authentication header ∷ parts) last rest bef
     kept_fragment (number ∷ taken) header.next_header.0 is.1.0 parts last rest
     (with_part before (authentication header)) (taken_behind taken number there) is.1.2
 
--- so the first one of a chain is that of its value
+-- The first fragment header of a chain is that of the owned headers.
 first_behind : (taken : List ℕ) (number : ℕ) (bytes : List ℕ) (parts : List ExtensionPart) (last : ℕ) (rest : List ℕ)
     (before : Ipv6Extensions) → before.fragment ≡ None
-    → IsChainBehind ipv6 by_value taken number bytes parts last rest
+    → IsChainAfter ipv6 by_value taken number bytes parts last rest
     → first_fragment parts ≡ (with_parts before parts).fragment
 first_behind taken number bytes [] last rest before none is = sym none
 first_behind taken number bytes (hop_by_hop header ∷ parts) last rest before none is =
@@ -213,12 +213,12 @@ first_behind taken number bytes (authentication header ∷ parts) last rest befo
     (with_part before (authentication header)) none is.1.2
 
 first_by_value : (number : ℕ) (bytes : List ℕ) (parts : List ExtensionPart) (last : ℕ) (rest : List ℕ)
-    → IsChainBehind ipv6 by_value [] number bytes parts last rest
+    → IsChainAfter ipv6 by_value [] number bytes parts last rest
     → first_fragment parts ≡ (extensions_of parts).fragment
 first_by_value number bytes parts last rest is =
     first_behind [] number bytes parts last rest no_ipv6_extensions refl is
 
--- headers that are linked say the same fragment
+-- Linked headers state the fragment that the headers state.
 linked_carry : (vlan_ids : List ℕ) (header : Ipv6Header) (part : Option Ipv6FragmentHeader) (next : IpNumber)
     (payload : IpPayload)
     → option_and_then (ipv6_fragment vlan_ids header payload) (option_map (fragment_leading_to next) part)
@@ -226,7 +226,7 @@ linked_carry : (vlan_ids : List ℕ) (header : Ipv6Header) (part : Option Ipv6Fr
 linked_carry vlan_ids header None next payload = refl
 linked_carry vlan_ids header (Some part) next payload = refl
 
--- ---- the net layer
+-- ---- network layer
 
 net_4 : (reading : Reading) (header there : Ipv4Header) (extensions these : Ipv4Extensions) (bytes : List ℕ)
     (payload : IpPayload) (part : IpPart) → ((vlan_ids : List ℕ)
@@ -274,7 +274,7 @@ net_6 reading header there extensions these bytes payload (ipv6_part packet) sam
           ∙ ap (headers_carry vlan_ids (version.Ipv6 there these)) same_payload ∙ same vlan_ids;
     }
 
--- headers that lead to a number of no extension header, and count their content
+-- Headers that are linked to a number of no extension header, with the length of their content, are read back.
 pub net_of : (reading : Reading) (headers : IpHeaders) (last : IpNumber) (content : List ℕ)
     → FitIpHeaders (headers_for headers last (length content)) → EndsExtensions headers last.0
     → NetOf reading headers (ip_frame headers last content)
@@ -289,7 +289,7 @@ net_of reading (version.Ipv6 header extensions) last content fit other =
     (payload_of_headers (headers_for (version.Ipv6 header extensions) last (length content)) last content)) other
     back.is back.same_headers back.same_payload
 
--- ---- linked headers fragment where they did before
+-- ---- linked headers are a fragment if the headers are
 
 or_step : (x y z w : Bool) → y ≡ (z || w) → (x || y) ≡ ((x || z) || w)
 or_step true y z w same = refl
@@ -308,39 +308,39 @@ fragments_both a b c d first second =
     ∙ ap (λ (x : Bool). chain_fragments b || x) second ∙ sym (fragments-append b d)
 
 hop_by_hop_same : (next : IpNumber) (header : Option Ipv6RawExtHeader)
-    → chain_fragments (parts_there hop_by_hop (option_map (raw_leading_to next) header))
-    ≡ chain_fragments (parts_there hop_by_hop header)
+    → chain_fragments (optional_part hop_by_hop (option_map (raw_leading_to next) header))
+    ≡ chain_fragments (optional_part hop_by_hop header)
 hop_by_hop_same next None = refl
 hop_by_hop_same next (Some header) = refl
 
 destination_same : (next : IpNumber) (header : Option Ipv6RawExtHeader)
-    → chain_fragments (parts_there destination_options (option_map (raw_leading_to next) header))
-    ≡ chain_fragments (parts_there destination_options header)
+    → chain_fragments (optional_part destination_options (option_map (raw_leading_to next) header))
+    ≡ chain_fragments (optional_part destination_options header)
 destination_same next None = refl
 destination_same next (Some header) = refl
 
 routing_same : (next last : IpNumber) (behind : Option Ipv6RoutingExtensions)
     → chain_fragments
-    (parts_there routing (option_map routing_header (option_map (routing_leading_to next last) behind)))
-    ≡ chain_fragments (parts_there routing (option_map routing_header behind))
+    (optional_part routing (option_map routing_header (option_map (routing_leading_to next last) behind)))
+    ≡ chain_fragments (optional_part routing (option_map routing_header behind))
 routing_same next last None = refl
 routing_same next last (Some behind) = refl
 
 final_same : (next last : IpNumber) (behind : Option Ipv6RoutingExtensions)
-    → chain_fragments (parts_there destination_options (final_by (option_map (routing_leading_to next last) behind)))
-    ≡ chain_fragments (parts_there destination_options (final_by behind))
+    → chain_fragments (optional_part destination_options (final_by (option_map (routing_leading_to next last) behind)))
+    ≡ chain_fragments (optional_part destination_options (final_by behind))
 final_same next last None = refl
 final_same next last (Some behind) = destination_same last behind.final_destination_options
 
 fragment_same : (next : IpNumber) (header : Option Ipv6FragmentHeader)
-    → chain_fragments (parts_there fragment (option_map (fragment_leading_to next) header))
-    ≡ chain_fragments (parts_there fragment header)
+    → chain_fragments (optional_part fragment (option_map (fragment_leading_to next) header))
+    ≡ chain_fragments (optional_part fragment header)
 fragment_same next None = refl
 fragment_same next (Some header) = refl
 
 auth_same : (next : IpNumber) (header : Option IpAuthHeader)
-    → chain_fragments (parts_there authentication (option_map (ip_auth_leading_to next) header))
-    ≡ chain_fragments (parts_there authentication header)
+    → chain_fragments (optional_part authentication (option_map (ip_auth_leading_to next) header))
+    ≡ chain_fragments (optional_part authentication header)
 auth_same next None = refl
 auth_same next (Some header) = refl
 
@@ -354,17 +354,17 @@ ipv6_same extensions last =
     (destination_same (after_destination extensions last) extensions.destination_options) in
     let abc = fragments_both (new.hop ++ new.destination) (old.hop ++ old.destination) new.behind old.behind ab
     (routing_same (after_routing extensions last) last extensions.routing) in
-    let abcd = fragments_both (new.hop ++ new.destination ++ new.behind) (old.hop ++ old.destination ++ old.behind)
+    let fragments_before_auth = fragments_both (new.hop ++ new.destination ++ new.behind) (old.hop ++ old.destination ++ old.behind)
     new.fragments old.fragments abc
     (fragment_same (after_fragment extensions last) extensions.fragment) in
     let abcde = fragments_both (new.hop ++ new.destination ++ new.behind ++ new.fragments)
-    (old.hop ++ old.destination ++ old.behind ++ old.fragments) new.auth old.auth abcd
+    (old.hop ++ old.destination ++ old.behind ++ old.fragments) new.auth old.auth fragments_before_auth
     (auth_same (after_auth extensions last) extensions.auth) in
     fragments_both (new.hop ++ new.destination ++ new.behind ++ new.fragments ++ new.auth)
     (old.hop ++ old.destination ++ old.behind ++ old.fragments ++ old.auth) new.final old.final abcde
     (final_same (after_routing extensions last) last extensions.routing)
 
--- headers that say a fragment fragment
+-- If headers carry a fragment, `headers_fragment` is true for them.
 or_true : (a : Bool) → (a || true) ≡ true
 or_true true = refl
 or_true false = refl
@@ -385,7 +385,7 @@ said_4 false found said is = absurd (cc)
 
 said_6 : (vlan_ids : List ℕ) (header : Ipv6Header) (payload : IpPayload) (part : Option Ipv6FragmentHeader)
     (found : FrameFragment) → option_and_then (ipv6_fragment vlan_ids header payload) part ≡ Some found
-    → chain_fragments (parts_there fragment part) ≡ true
+    → chain_fragments (optional_part fragment part) ≡ true
 said_6 vlan_ids header payload None found is = absurd (cc)
 said_6 vlan_ids header payload (Some part) found is =
     ap (λ (x : Bool). x || false) (said_4 (is_ipv6_fragment part) found _ is)

@@ -1,18 +1,18 @@
--- Bytes that are put into a slice, one behind another.
+-- Bytes that are written to a slice, one after another.
 use Rattle.std.proofs.Common.{◌≡◌, ℕ, ◌+◌, ◌≤◌, List, [], ◌∷◌, ◌++◌, length, Option, None, Some, Ok, refl, sym, ap, subst, ◌∙◌, arith}
 use Rattle.std.specs.Prelude.{take, drop}
 use Rattle.std.proofs.lemmas.List.{append_assoc, append-nil, drop_at, drop-drop, length-append, length-drop, length-take-le}
 use Rattle.std.proofs.lemmas.List.{take_at}
 use Rattle.ep_ext.specs.Chains.{FitParts, parts_bytes}
-use Rattle.ep_ext.specs.ExtensionParts.{ExtensionPart, destination_options, hop_by_hop, part_bytes, parts_there}
+use Rattle.ep_ext.specs.ExtensionParts.{ExtensionPart, destination_options, hop_by_hop, part_bytes, optional_part}
 use Rattle.ep_ext.specs.declared.ipv6_raw_ext_header.Ipv6RawExtHeader.{Ipv6RawExtHeader}
 use Rattle.ep_build.specs.BuildErrors.{IsBuildable}
 use Rattle.ep_build.specs.BuiltFrames.{Held, built_frame}
-use Rattle.ep_build.specs.Placing.{AreAt, FillsFront, PartsAreAt}
+use Rattle.ep_build.specs.Placing.{AreAt, FillsStart, PartsAreAt}
 
 -- ---- bytes
 
--- the slice stays as long as it was
+-- The slice keeps its length.
 pub same_len : (bytes old new : List ℕ) (at end : ℕ) → AreAt bytes old new at end → length new ≡ length old
 same_len bytes old new at end there = omega (
   arith,
@@ -24,7 +24,7 @@ same_len bytes old new at end there = omega (
   length-drop (at + length bytes) old,
 )
 
--- bytes, and more behind them
+-- Bytes, and more bytes after them, are in the slice.
 pub both_at : (bytes more old mid new : List ℕ) (at middle end : ℕ) → AreAt bytes old mid at middle
     → AreAt more mid new middle end → AreAt (bytes ++ more) old new at end
 both_at bytes more old mid new at middle end first second =
@@ -55,7 +55,7 @@ both_at bytes more old mid new at middle end first second =
           (sym (append_assoc bytes more (drop (at + length (bytes ++ more)) old)));
     }
 
--- bytes at the front of a slice
+-- Bytes at the start of a slice are its prefix, and the rest is unchanged.
 pub at_front : (bytes old new : List ℕ) (end : ℕ) → AreAt bytes old new 0 end → new ≡ bytes ++ drop (length bytes) old
 at_front bytes old new end there =
     let none : 0 + length bytes ≡ length bytes = omega arith in
@@ -63,7 +63,7 @@ at_front bytes old new end there =
 
 -- ---- extension headers
 
--- the bytes of headers, and of more behind them
+-- The bytes of two concatenated lists of headers are those of the first and of the second.
 pub bytes_of_both : (parts more : List ExtensionPart)
     → parts_bytes (parts ++ more) ≡ parts_bytes parts ++ parts_bytes more
 bytes_of_both [] more = refl
@@ -74,7 +74,7 @@ fit_both : (parts more : List ExtensionPart) → FitParts parts → FitParts mor
 fit_both [] more fit fit_more = fit_more
 fit_both (part ∷ parts) more fit fit_more = (fit.0, fit_both parts more fit.1 fit_more)
 
--- headers, and more behind them
+-- Headers, and more headers after them, are in the slice.
 pub both_parts_at : (parts more : List ExtensionPart) (old mid new : List ℕ) (at middle end : ℕ)
     → PartsAreAt parts old mid at middle → PartsAreAt more mid new middle end
     → PartsAreAt (parts ++ more) old new at end
@@ -84,7 +84,7 @@ both_parts_at parts more old mid new at middle end first second = record {
   fit = fit_both parts more first.fit second.fit;
 }
 
--- a header, and extension headers behind it
+-- A header, and extension headers after it, are in the slice.
 pub headers_at : (front : List ℕ) (parts : List ExtensionPart) (old mid new : List ℕ) (at middle end : ℕ)
     → AreAt (front ++ []) old mid at middle → PartsAreAt parts mid new middle end
     → AreAt (front ++ parts_bytes parts) old new at end
@@ -92,7 +92,7 @@ headers_at front parts old mid new at middle end first second =
     both_at front (parts_bytes parts) old mid new at middle end
     (subst (λ (b : List ℕ). AreAt b old mid at middle) (append-nil front) first) second.bytes
 
--- where there is room for headers and more, there is for the headers, and behind them for the others
+-- A slice that is long enough for all headers is long enough for the first ones, and after them for the others.
 pub room_first : (parts more : List ExtensionPart) (at room : ℕ) → at + length (parts_bytes (parts ++ more)) ≤ room
     → at + length (parts_bytes parts) ≤ room
 room_first parts more at room enough = omega (
@@ -114,21 +114,21 @@ room_behind parts more old mid at middle there enough = omega (
   length-append (parts_bytes parts) (parts_bytes more),
 )
 
--- hop by hop options and destination options are written alike
+-- Hop-by-hop options and destination options have equal bytes.
 pub as_destination : (header : Option Ipv6RawExtHeader) (old new : List ℕ) (at end : ℕ)
-    → PartsAreAt (parts_there hop_by_hop header) old new at end
-    → PartsAreAt (parts_there destination_options header) old new at end
+    → PartsAreAt (optional_part hop_by_hop header) old new at end
+    → PartsAreAt (optional_part destination_options header) old new at end
 as_destination None old new at end there = there
 as_destination (Some header) old new at end there = record { bytes = there.bytes; fit = there.fit }
 
 pub same_len_destination : (header : Option Ipv6RawExtHeader)
-    → length (parts_bytes (parts_there hop_by_hop header)) ≡ length (parts_bytes (parts_there destination_options header))
+    → length (parts_bytes (optional_part hop_by_hop header)) ≡ length (parts_bytes (optional_part destination_options header))
 same_len_destination None = refl
 same_len_destination (Some header) = refl
 
 -- ---- frames
 
--- IP headers behind a link part, and what follows them
+-- A link part, IP headers and their content are a frame at the start of the slice.
 pub packet_at : (front written content frame old mid new : List ℕ) (middle end : ℕ)
     → AreAt (front ++ written) old mid 0 middle → AreAt content mid new middle end
     → front ++ (written ++ content) ≡ frame → AreAt frame old new 0 end
@@ -136,10 +136,10 @@ packet_at front written content frame old mid new middle end first second is =
     subst (λ (b : List ℕ). AreAt b old new 0 end) (append_assoc front written content ∙ is)
     (both_at (front ++ written) content old mid new 0 middle end first second)
 
--- a frame at the front of a slice
+-- A frame at the start of the slice is a successful result of building into it.
 pub fills : (held : Held) (payload old new : List ℕ) (size end : ℕ) → IsBuildable held (length payload)
     → size ≡ length (built_frame held payload) → AreAt (built_frame held payload) old new 0 end
-    → FillsFront held payload old new (Ok size)
+    → FillsStart held payload old new (Ok size)
 fills held payload old new size end buildable len there =
     let frame = built_frame held payload in (
       buildable,

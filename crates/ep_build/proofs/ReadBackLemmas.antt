@@ -9,7 +9,7 @@ use Rattle.ep_base.specs.Readings.{Reading}
 use Rattle.ep_base.specs.declared.ip_number.IpNumber.{IpNumber}
 use Rattle.ep_link.specs.Arp.{Arp, FitsArp, IsArp, arp_bytes}
 use Rattle.ep_packet.specs.FrameFragments.{net_fragment}
-use Rattle.ep_packet.specs.Frame.{IsNetPart, IsTransportBehind, any_ip}
+use Rattle.ep_packet.specs.Frame.{IsNetPart, IsTransportAfterNet, any_ip}
 use Rattle.ep_packet.specs.IpHeaders.{EndsExtensions, FitIpHeaders, headers_for, ip_headers_type}
 use Rattle.ep_packet.specs.IpHeaders.{payload_of_headers}
 use Rattle.ep_packet.specs.declared.entry.Entry.{Entry}
@@ -33,7 +33,7 @@ use Rattle.ep_build.proofs.TransportReadBackLemmas.{transport_of}
 
 -- ---- IP
 
--- the number of a transport header is none of an extension header
+-- The protocol number of a transport header is no extension header.
 ends_there : (headers : IpHeaders) (behind : TransportHeader) → EndsExtensions headers (transport_number behind)
 ends_there (version.Ipv4 header extensions) (transport.Udp datagram) = λ same. absurd (omega arith)
 ends_there (version.Ipv4 header extensions) (transport.Tcp segment) = λ same. absurd (omega arith)
@@ -44,22 +44,22 @@ ends_there (version.Ipv6 header extensions) (transport.Tcp segment) = refl
 ends_there (version.Ipv6 header extensions) (transport.Icmpv4 message) = refl
 ends_there (version.Ipv6 header extensions) (transport.Icmpv6 message) = refl
 
--- a layer of the headers' kind is the net part with what lies behind it
+-- A network layer of the headers' version, and the transport layer in its payload, are read.
 net_part : (reading : Reading) (headers : IpHeaders) (bytes : List ℕ) (payload : IpPayload)
     (transport : Option TransportLayer) → (net : NetOf reading headers bytes payload)
-    → IsTransportBehind reading (Some payload) transport
+    → IsTransportAfterNet reading (Some payload) transport
     → IsNetPart reading (Some (kind_of headers)) bytes (Some net.layer) transport
 net_part reading headers bytes payload transport net behind = (
   net.layer,
   net.typed,
   refl,
-  subst (λ (p : Option IpPayload). IsTransportBehind reading p transport) (sym net.has_payload) behind,
+  subst (λ (p : Option IpPayload). IsTransportAfterNet reading p transport) (sym net.has_payload) behind,
 )
 
--- the ether type of IP headers is that of a net layer of their kind
+-- The ether type of IP headers is that of a network layer of their version.
 ip_is_net : (reading : Reading) (headers : IpHeaders) (bytes : List ℕ) (payload : IpPayload)
     (transport : Option TransportLayer) → (net : NetOf reading headers bytes payload)
-    → IsTransportBehind reading (Some payload) transport
+    → IsTransportAfterNet reading (Some payload) transport
     → IsNet reading (as_ether_type (ip_headers_type headers)) bytes net.layer transport
 ip_is_net reading (version.Ipv4 header extensions) bytes payload transport net behind = record {
   small = omega arith;
@@ -74,7 +74,7 @@ ip_is_net reading (version.Ipv6 header extensions) bytes payload transport net b
   part = net_part reading (version.Ipv6 header extensions) bytes payload transport net behind;
 }
 
--- the frame of a transport header is read back
+-- The frame of a transport header is read back.
 pub read_back : (part : LinkPart) (headers : IpHeaders) (behind : TransportHeader) (payload : List ℕ) → FitsLink part
     → FitIpHeaders (headers_for headers (record { 0 = transport_number behind })
     (length (message_of headers behind payload)))
@@ -87,14 +87,14 @@ read_back part headers behind payload fits_link fit fits bytes = λ whole its_le
     let net = net_of reading headers last message fit (ends_there headers behind) in
     let found = transport_of reading headers behind payload fits bytes its_length in
     let not_fragment = fragments_linked headers last (length message) ∙ whole in
-    let there : IsTransportBehind reading (Some (payload_of_headers written last message)) (Some found.layer) =
+    let there : IsTransportAfterNet reading (Some (payload_of_headers written last message)) (Some found.layer) =
     subst (λ f. IsTransportPart reading (transport_number behind) f message (Some found.layer)) (sym not_fragment)
     found.part in
     let any : IsNetPart reading (Some any_ip) (ip_frame headers last message) (Some net.layer) (Some found.layer) = (
       net.layer,
       net.any,
       refl,
-      subst (λ (p : Option IpPayload). IsTransportBehind reading p (Some found.layer)) (sym net.has_payload) there,
+      subst (λ (p : Option IpPayload). IsTransportAfterNet reading p (Some found.layer)) (sym net.has_payload) there,
     ) in
     let frame = frame_is reading part (transport_packet headers behind) entry (ip_frame headers last message) net.layer
     (Some found.layer) fits_link of (ip_is_net reading headers _ _ (Some found.layer) net there) (λ is_ip. any) in
@@ -112,7 +112,7 @@ read_back part headers behind payload fits_link fit fits bytes = λ whole its_le
       sums = found.sums;
     }
 
--- a fragment has the number and the bytes of its payload, whatever else the headers count
+-- A fragment has the protocol number and the bytes of its payload, whatever else the headers count.
 same_payload : (part : LinkPart) (headers : IpHeaders) (last : IpNumber) (payload : List ℕ)
     → headers_carry (link_vlan_ids part) headers
     (payload_of_headers (headers_for headers last (length payload)) last payload)
@@ -120,7 +120,7 @@ same_payload : (part : LinkPart) (headers : IpHeaders) (last : IpNumber) (payloa
 same_payload part (version.Ipv4 header extensions) last payload = refl
 same_payload part (version.Ipv6 header extensions) last payload = refl
 
--- the frame of a fragment is read back
+-- The frame of a fragment is read back.
 pub fragment_read_back : (part : LinkPart) (headers : IpHeaders) (last : IpNumber) (payload : List ℕ) → FitsLink part
     → FitIpHeaders (headers_for headers last (length payload)) → IsFragmentReadBack part headers last payload
 fragment_read_back part headers last payload fits_link fit = λ found built other reading entry of.
@@ -130,12 +130,12 @@ fragment_read_back part headers last payload fits_link fit = λ found built othe
     let is_fragment : content.fragmented ≡ true =
     fragments_linked headers last (length payload)
     ∙ said_fragments (link_vlan_ids part) headers (payload_of_headers headers last payload) found built in
-    let there : IsTransportBehind reading (Some content) None = inl is_fragment in
+    let there : IsTransportAfterNet reading (Some content) None = inl is_fragment in
     let any : IsNetPart reading (Some any_ip) (ip_frame headers last payload) (Some net.layer) None = (
       net.layer,
       net.any,
       refl,
-      subst (λ (p : Option IpPayload). IsTransportBehind reading p None) (sym net.has_payload) there,
+      subst (λ (p : Option IpPayload). IsTransportAfterNet reading p None) (sym net.has_payload) there,
     ) in
     let frame = frame_is reading part (ip_packet headers last) entry (ip_frame headers last payload) net.layer None
     fits_link of (ip_is_net reading headers _ _ None net there) (λ is_ip. any) in
@@ -149,7 +149,7 @@ fragment_read_back part headers last payload fits_link fit = λ found built othe
 
 -- ---- ARP
 
--- an ARP packet is behind no IP entry
+-- The entry of an ARP packet's frame is not IP.
 not_ip : (part : LinkPart) (packet : Arp) (entry : Entry) → IsEntryOf part (arp_packet packet) entry → entry ≡ ip → ⊥
 not_ip link.Absent packet entry of is_ip =
     let same : ether_type (as_ether_type arp_type) ≡ ip = sym of ∙ is_ip in absurd (cc)
@@ -157,7 +157,7 @@ not_ip (link.Ethernet2 header) packet entry of is_ip = let same = sym of ∙ is_
 not_ip (link.Tagged header both) packet entry of is_ip = let same = sym of ∙ is_ip in absurd (cc)
 not_ip (link.LinuxSll header) packet entry of is_ip = let same = sym of.1 ∙ is_ip in absurd (cc)
 
--- the frame of an ARP packet is read back
+-- The frame of an ARP packet is read back.
 pub arp_read_back : (part : LinkPart) (packet : Arp) → FitsLink part → FitsArp packet → IsArpReadBack part packet
 arp_read_back part packet fits_link fits = λ reading entry of.
     let is_arp : IsArp (arp_bytes packet ++ []) (packet, []) = record { fits = fits; parts = refl } in

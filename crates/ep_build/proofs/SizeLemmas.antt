@@ -1,4 +1,4 @@
--- How many bytes a built frame has.
+-- Length of a built frame in bytes.
 use Rattle.std.proofs.Common.{◌≡◌, ℕ, ◌+◌, List, [], ◌++◌, length, refl, arith}
 use Rattle.std.proofs.lemmas.Grind.{common_steps}
 use Rattle.std.proofs.lemmas.List.{length-append}
@@ -15,7 +15,7 @@ use Rattle.ep_transport.specs.declared.transport_header.TransportHeader.{Transpo
 use Rattle.ep_transport.specs.declared.transport_header.TransportHeader.TheVariants as transport
 use Rattle.ep_link.specs.declared.link_ext.vlan_header.VlanHeader.TheVariants as tags
 use Rattle.ep_build.specs.BuiltFrames.{as_ether_type, built_frame, built_size, held_arp, held_ip, held_transport}
-use Rattle.ep_build.specs.BuiltFrames.{inside_type, ip_frame, ip_packet, link_before, link_part_bytes, link_part_len}
+use Rattle.ep_build.specs.BuiltFrames.{inside_type, ip_frame, ip_packet, link_with_type, link_part_bytes, link_part_len}
 use Rattle.ep_build.specs.BuiltFrames.{transport_between, transport_number}
 use Rattle.ep_build.specs.Fits.{FitsLink}
 use Rattle.ep_packet.specs.IpHeaders.{FitsIpHeader}
@@ -23,10 +23,10 @@ use Rattle.ep_build.specs.declared.link_part.LinkPart.{LinkPart}
 use Rattle.ep_build.specs.declared.link_part.LinkPart.TheVariants as link
 use Rattle.ep_build.proofs.LengthLemmas.{linked_len}
 
--- ---- the parts
+-- ---- parts
 
 pub link_len : (part : LinkPart) (type : EtherType) → FitsLink part
-    → length (link_part_bytes (link_before part type)) ≡ link_part_len part
+    → length (link_part_bytes (link_with_type part type)) ≡ link_part_len part
 link_len link.Absent type fits = refl
 link_len (link.Ethernet2 header) type fits =
     grind (arith, common_steps, fits.source_length, fits.destination_length)
@@ -36,7 +36,7 @@ link_len (link.Tagged header (tags.Double both)) type fits =
     grind (arith, common_steps, fits.0.source_length, fits.0.destination_length)
 link_len (link.LinuxSll header) type fits = grind (arith, common_steps, fits.address_length)
 
--- the bytes of IP headers, as they are written
+-- Written IP headers have their length in bytes.
 pub headers_len : (headers : IpHeaders) → FitsIpHeader headers
     → length (written_headers headers (ip_headers_parts headers)) ≡ ip_headers_len headers
 headers_len (version.Ipv4 header extensions) fits =
@@ -56,7 +56,7 @@ parts_len : (headers : IpHeaders) (last : IpNumber) (len : ℕ)
 parts_len (version.Ipv4 header extensions) last len = linked_len (version.Ipv4 header extensions) last
 parts_len (version.Ipv6 header extensions) last len = linked_len (version.Ipv6 header extensions) last
 
--- IP headers and their content
+-- IP headers and their content have the sum of their lengths.
 ip_len : (headers : IpHeaders) (last : IpNumber) (content : List ℕ) → FitsIpHeader headers
     → length (ip_frame headers last content) ≡ ip_headers_len headers + length content
 ip_len headers last content fits =
@@ -68,7 +68,7 @@ ip_len headers last content fits =
       parts_len headers last (length content),
     )
 
--- a transport header that was filled in is as long as before
+-- Filling in a transport header keeps its length.
 between_bytes : (headers : IpHeaders) (payload : List ℕ) (behind : TransportHeader)
     → length (transport_bytes behind) ≡ transport_header_len behind
     → length (transport_bytes (transport_between headers payload behind)) ≡ transport_header_len behind
@@ -89,7 +89,7 @@ pub ip_size : (part : LinkPart) (headers : IpHeaders) (last : IpNumber) (payload
 ip_size part headers last payload fits_link fits =
     let type = as_ether_type (inside_type (ip_packet headers last)) in omega (
       arith,
-      length-append (link_part_bytes (link_before part type)) (ip_frame headers last payload),
+      length-append (link_part_bytes (link_with_type part type)) (ip_frame headers last payload),
       link_len part type fits_link,
       ip_len headers last payload fits,
     )
@@ -103,7 +103,7 @@ transport_size part headers behind payload fits_link fits len =
     let filled = transport_bytes (transport_between headers payload behind) in
     let type = as_ether_type (inside_type (ip_packet headers last)) in omega (
       arith,
-      length-append (link_part_bytes (link_before part type)) (ip_frame headers last (filled ++ payload)),
+      length-append (link_part_bytes (link_with_type part type)) (ip_frame headers last (filled ++ payload)),
       link_len part type fits_link,
       ip_len headers last (filled ++ payload) fits,
       length-append filled payload,
@@ -115,7 +115,7 @@ pub arp_size : (part : LinkPart) (packet : Arp) → FitsLink part → length (ar
 arp_size part packet fits_link len =
     let type = as_ether_type 0x0806 in omega (
       arith,
-      length-append (link_part_bytes (link_before part type)) (arp_bytes packet ++ []),
+      length-append (link_part_bytes (link_with_type part type)) (arp_bytes packet ++ []),
       link_len part type fits_link,
       length-append {A = ℕ} (arp_bytes packet) [],
       len,

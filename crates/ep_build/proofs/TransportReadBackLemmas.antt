@@ -1,4 +1,4 @@
--- A transport header that was filled in, and its payload, are read back.
+-- A filled in transport header and its payload are read back.
 use Rattle.std.proofs.Common.{◌≡◌, ℕ, ◌+◌, ◌≤◌, false, List, [], ◌++◌, length, Some, None}
 use Rattle.std.proofs.Common.{refl, sym, ap, ◌∙◌, inl, arith}
 use Rattle.std.proofs.lemmas.Grind.{common_steps}
@@ -29,7 +29,7 @@ use Rattle.ep_build.specs.BuiltFrames.{transport_between, transport_number}
 use Rattle.ep_build.specs.Fits.{FitsTransport}
 use Rattle.ep_build.specs.ReadBack.{HasItsLength, SumsUp, message_of}
 
--- the transport layer that a message is
+-- The transport layer of a message.
 pub record TransportOf (reading : Reading) (number : ℕ) (headers : IpHeaders) (message : List ℕ) : Type 0 where
   pub layer : TransportLayer
   pub part : IsTransportPart reading number false message (Some layer)
@@ -65,7 +65,7 @@ without_checksum : (header : TcpHeader) (payload : List ℕ)
     → tcp_bytes_without_checksum (tcp_bytes header ++ payload) ≡ tcp_message header payload
 without_checksum header payload = refl
 
--- the sum of a segment's bytes is that of its header and payload
+-- The checksum of a segment's bytes is that of its header and payload.
 sum_4 : (source destination : List ℕ) (header : TcpHeader) (payload : List ℕ)
     → tcp_checksum_ipv4 source destination header payload
     ≡ segment_checksum_ipv4 source destination (tcp_bytes header ++ payload)
@@ -91,7 +91,7 @@ sum_6 source destination header payload =
 enough : (message : List ℕ) → 8 ≤ length message → first_row (icmpv6_rows message) ≡ None
 enough message fits = grind (arith, common_steps)
 
--- what is no segment has no sum to meet
+-- A message that is no TCP segment has no checksum to match.
 sums_4 : (headers : IpHeaders) (message : List ℕ)
     → SumsUp headers (transport.Icmpv4 (icmpv4_parts message).header) message
 sums_4 (version.Ipv4 ip extensions) message = tt
@@ -155,7 +155,7 @@ tcp_of reading headers header payload fits sums = record {
   sums = sums;
 }
 
--- UDP's header as it is written
+-- The UDP header as it is written.
 abbrev counted : UdpHeader → List ℕ → UdpHeader
 counted header payload = record header { length = 8 + length payload }
 

@@ -1,4 +1,4 @@
--- What the calls that write a frame answer, from what the calls answer that they make.
+-- Results of the functions that write a frame, from those of the functions they call.
 use Rattle.std.proofs.Common.{◌≡◌, ℕ, ◌+◌, ◌-◌, ◌^◌, ◌<◌, ◌≤◌, Bool, true, false, List, [], ◌∷◌, ◌++◌, length}
 use Rattle.std.proofs.Common.{Some, None, Result, Ok, Err, refl, sym, ap, subst, ◌∙◌, inl, inr, arith}
 use Rattle.std.specs.Prelude.{OnOk, OnErr, is_err, ◌↔◌, if◌then◌else◌, nat_lt, slice_index}
@@ -22,7 +22,7 @@ use Rattle.ep_packet.specs.declared.err.headers_write_error.HeadersWriteError.{H
 use Rattle.ep_packet.specs.declared.err.headers_write_error.HeadersWriteError.TheVariants as write_error
 use Rattle.ep_packet.proofs.IpHeadersLemmas.{not_refused, one_way}
 use Rattle.ep_packet.specs.IpHeaders.{headers_for, ip_extensions_len, ip_headers_parts, ip_headers_type, linked_headers}
-use Rattle.ep_packet.specs.IpHeaders.{most_behind_header, payload_len_rows, too_long, written_headers}
+use Rattle.ep_packet.specs.IpHeaders.{most_after_header, payload_len_rows, too_long, written_headers}
 use Rattle.ep_packet.specs.declared.ip_headers.IpHeaders.{IpHeaders}
 use Rattle.ep_packet.specs.declared.ip_headers.IpHeaders.TheVariants as version
 use Rattle.ep_transport.specs.TransportHeaders.{transport_bytes}
@@ -32,8 +32,8 @@ use Rattle.ep_transport.specs.declared.transport_header.TransportHeader.TheVaria
 use Rattle.ep_build.specs.BuildErrors.{IsBuildable, is_icmpv6_in_ipv4}
 use Rattle.ep_build.specs.BuiltFragments.{IsFragmentReadBack}
 use Rattle.ep_build.specs.BuiltFrames.{Held, as_ether_type, built_frame, held_ip, held_transport}
-use Rattle.ep_build.specs.BuiltFrames.{link_before, link_part_bytes, link_part_len, transport_between, transport_number}
-use Rattle.ep_build.specs.BuiltFrames.{with_checksum_behind, with_length}
+use Rattle.ep_build.specs.BuiltFrames.{link_with_type, link_part_bytes, link_part_len, transport_between, transport_number}
+use Rattle.ep_build.specs.BuiltFrames.{with_checksum_after, with_length}
 use Rattle.ep_build.specs.declared.err.build_write_error.BuildWriteError.{BuildWriteError}
 use Rattle.ep_build.specs.declared.err.build_write_error.BuildWriteError.TheVariants as error
 use Rattle.ep_build.specs.declared.link_part.LinkPart.{LinkPart}
@@ -45,28 +45,28 @@ use Rattle.ep_build.proofs.LengthLemmas.{between_len, headers_for_len, linked_le
 use Rattle.ep_build.proofs.SizeLemmas.{headers_len, link_len}
 use Rattle.ep_build.proofs.ReadBackLemmas.{fragment_read_back, read_back}
 
--- what a call ensures that succeeded
+-- The clause of a successful result holds.
 pub on_ok : {A E : Type 0} (answer : Result A E) (P : Type 0) → IsOk answer → OnOk answer P → P
 on_ok (Ok a) P there ok = ok
 on_ok (Err e) P there ok = absurd (cc)
 
--- what a call ensures that failed
+-- The clause of a failed result holds.
 pub on_err : {A E : Type 0} (answer : Result A E) (P : Type 0) → is_err answer ≡ true → OnErr answer P → P
 on_err (Ok a) P failed err = absurd (cc)
 on_err (Err e) P failed err = err
 
--- what a choice is that was made so
+-- A conditional value with a true condition is its first branch.
 pub chosen : {A : Type 0} (choice : Bool) (value one other : A) → choice ≡ true
     → value ≡ (if choice then one else other) → value ≡ one
 chosen choice value one other so is = is ∙ ap (λ (b : Bool). if b then one else other) so
 
--- a call that fails for want of room alone succeeds where there is room
+-- A function that fails only if the capacity is too small succeeds if it is enough.
 pub succeeds : {A E : Type 0} (answer : Result A E) (room needed : ℕ) → OnErr answer (room < needed) → needed ≤ room
     → IsOk answer
 succeeds (Ok a) room needed full enough = refl
 succeeds (Err e) room needed full enough = absurd (omega (arith, full, enough))
 
--- headers that lead through their parts are written where there is room for them
+-- Writing headers that lead through all their parts succeeds if the buffer has the capacity.
 pub headers_succeed : (headers : IpHeaders) (last len room : ℕ) (answer : Result (Unit {0}) HeadersWriteError)
     → LeadThrough headers (ip_headers_parts headers) last → FitsIpHeader headers → len + ip_headers_len headers ≤ room
     → ((error : ExtsWalkError) → RefusesLeading headers error ↔ (answer ≡ Err (of_walk_error error)))
@@ -84,7 +84,7 @@ headers_succeed headers last len room (Err (write_error.Ipv4Exts error)) leads f
 headers_succeed headers last len room (Err (write_error.Ipv6Exts error)) leads fits enough leading full =
     absurd (not_refused headers _ last (walk_error.Ipv6Exts error) leads ((leading (walk_error.Ipv6Exts error)).1 refl))
 
--- what was appended to a buffer in which room was made, a part at a time
+-- The buffer after appending the parts of a frame one by one.
 pub joined : (before front written middle payload first second last : List ℕ) → first ≡ before ++ (front ++ written)
     → second ≡ first ++ middle → last ≡ second ++ payload
     → last ≡ before ++ (front ++ (written ++ (middle ++ payload)))
@@ -99,26 +99,26 @@ pub appended : (new middle old bytes frame : List ℕ) → new ≡ middle ++ byt
 appended new middle old bytes frame is same whole =
     is ∙ ap (λ (b : List ℕ). b ++ bytes) same ∙ ap (λ (b : List ℕ). old ++ b) whole
 
--- each item is a byte, and so is the number that stands for what is past the end
+-- A list is bytes if each item is one; past the end the index returns 0, a byte.
 pub are_bytes : (bytes : List ℕ) → ((i : ℕ) → i < length bytes → slice_index bytes i < 256) → AreBytes bytes
 are_bytes bytes fits = λ i. elim (cases_lt i (length bytes)) [
   | inl there ↦ fits i there
   | inr past ↦ omega (arith, get_or_past bytes i 0 past)
 ]
 
--- ---- the table of lengths
+-- ---- table of lengths
 
--- it is the same of headers that are linked
+-- The table of linked headers is that of the headers.
 pub rows_linked : (headers : IpHeaders) (last : IpNumber) (len : ℕ)
     → payload_len_rows (linked_headers headers last) len ≡ payload_len_rows headers len
 rows_linked (version.Ipv4 header extensions) last len =
     ap (λ (n : ℕ). (
       nat_lt (2 ^ 64 - 1) (len + n),
-      too_long (version.Ipv4 header extensions) len (most_behind_header (version.Ipv4 header extensions) - n),
+      too_long (version.Ipv4 header extensions) len (most_after_header (version.Ipv4 header extensions) - n),
     )
     ∷ (
-      nat_lt (most_behind_header (version.Ipv4 header extensions)) (len + n),
-      too_long (version.Ipv4 header extensions) (len + n) (most_behind_header (version.Ipv4 header extensions)),
+      nat_lt (most_after_header (version.Ipv4 header extensions)) (len + n),
+      too_long (version.Ipv4 header extensions) (len + n) (most_after_header (version.Ipv4 header extensions)),
     )
     ∷ []) (linked_len (version.Ipv4 header extensions) last)
 rows_linked (version.Ipv6 header extensions) last len =
@@ -133,16 +133,16 @@ passes : {E : Type 0} (total most : ℕ) (first second : E) → most ≤ 65535 �
     → first_row ((nat_lt (2 ^ 64 - 1) total, first) ∷ (nat_lt most total, second) ∷ []) ≡ None
 passes total most first second small fits = grind (arith, common_steps)
 
-most_is_small : (headers : IpHeaders) → most_behind_header headers ≤ 65535
+most_is_small : (headers : IpHeaders) → most_after_header headers ≤ 65535
 most_is_small (version.Ipv4 header extensions) = omega arith
 most_is_small (version.Ipv6 header extensions) = omega arith
 
--- it refuses no length that the field can count
-pub counted : (headers : IpHeaders) (len : ℕ) → len + ip_extensions_len headers ≤ most_behind_header headers
+-- The table has no error for a length that the field can count.
+pub counted : (headers : IpHeaders) (len : ℕ) → len + ip_extensions_len headers ≤ most_after_header headers
     → first_row (payload_len_rows headers len) ≡ None
 counted headers len fits = passes
     (len + ip_extensions_len headers)
-    (most_behind_header headers)
+    (most_after_header headers)
     _
     _
     (most_is_small headers)
@@ -152,17 +152,17 @@ second_row : {E : Type 0} (total most : ℕ) (first second : E) → total < 2 ^ 
     → first_row ((nat_lt (2 ^ 64 - 1) total, first) ∷ (nat_lt most total, second) ∷ []) ≡ Some second
 second_row total most first second small long = grind (arith, common_steps)
 
--- of a header alone it refuses what the field cannot count, as that length
+-- For a header without extension headers, the error of a length above the maximum has that length.
 pub too_long_alone : (headers : IpHeaders) (len : ℕ) (error : ValueTooBigError ℕ) → ip_extensions_len headers ≡ 0
-    → len < 2 ^ 64 → most_behind_header headers < len → error ≡ too_long headers len (most_behind_header headers)
+    → len < 2 ^ 64 → most_after_header headers < len → error ≡ too_long headers len (most_after_header headers)
     → Refuses (payload_len_rows headers len) error
 too_long_alone headers len error alone small long is =
-    let most = most_behind_header headers in
+    let most = most_after_header headers in
     let total : len + ip_extensions_len headers ≡ len = omega (arith, alone) in
     second_row (len + ip_extensions_len headers) most _ _ (omega (arith, total, small)) (omega (arith, total, long))
     ∙ ap (λ (n : ℕ). Some (too_long headers n most)) total ∙ ap (λ (e : ValueTooBigError ℕ). Some e) (sym is)
 
--- ---- the table of the builder
+-- ---- table of the builder
 
 abbrev icmpv6_rows : Bool → List (Bool × BuildWriteError)
 icmpv6_rows b = (b, error.Icmpv6InIpv4) ∷ []
@@ -183,7 +183,7 @@ transport_passes link headers behind len none carried =
 
 -- ---- checksums
 
--- filling in the length makes no other header of it
+-- Filling in the length keeps the kind of a transport header.
 pub carried_with_length : (headers : IpHeaders) (len : ℕ) (behind : TransportHeader)
     → is_icmpv6_in_ipv4 headers (with_length len behind) ≡ is_icmpv6_in_ipv4 headers behind
 carried_with_length (version.Ipv4 ip extensions) len (transport.Udp header) = refl
@@ -192,7 +192,7 @@ carried_with_length (version.Ipv4 ip extensions) len (transport.Icmpv4 header) =
 carried_with_length (version.Ipv4 ip extensions) len (transport.Icmpv6 header) = refl
 carried_with_length (version.Ipv6 ip extensions) len behind = refl
 
--- nor does linking the headers before it
+-- Linking the headers before a transport header does not change whether it is ICMPv6 after IPv4.
 pub carried_linked : (headers : IpHeaders) (last : IpNumber) (len : ℕ) (behind : TransportHeader)
     → is_icmpv6_in_ipv4 (headers_for headers last len) behind ≡ is_icmpv6_in_ipv4 headers behind
 carried_linked (version.Ipv4 ip extensions) last len (transport.Udp header) = refl
@@ -201,10 +201,10 @@ carried_linked (version.Ipv4 ip extensions) last len (transport.Icmpv4 header) =
 carried_linked (version.Ipv4 ip extensions) last len (transport.Icmpv6 header) = refl
 carried_linked (version.Ipv6 ip extensions) last len behind = refl
 
--- linked headers have the same addresses
+-- Linked headers have the addresses of the headers.
 pub summed_linked : (headers : IpHeaders) (last : IpNumber) (len : ℕ) (payload : List ℕ) (behind : TransportHeader)
-    → with_checksum_behind (headers_for headers last len) payload behind
-    ≡ with_checksum_behind headers payload behind
+    → with_checksum_after (headers_for headers last len) payload behind
+    ≡ with_checksum_after headers payload behind
 summed_linked (version.Ipv4 ip extensions) last len payload (transport.Udp header) = refl
 summed_linked (version.Ipv4 ip extensions) last len payload (transport.Tcp header) = refl
 summed_linked (version.Ipv4 ip extensions) last len payload (transport.Icmpv4 header) = refl
@@ -214,21 +214,21 @@ summed_linked (version.Ipv6 ip extensions) last len payload (transport.Tcp heade
 summed_linked (version.Ipv6 ip extensions) last len payload (transport.Icmpv4 header) = refl
 summed_linked (version.Ipv6 ip extensions) last len payload (transport.Icmpv6 header) = refl
 
--- ---- the frame
+-- ---- frame
 
--- the frame of content behind headers that lead to a transport header
+-- The frame of content after headers that are linked to a transport header.
 abbrev built_content : LinkPart → IpHeaders → TransportHeader → List ℕ → List ℕ
 built_content link headers behind content =
     let written = headers_for headers (record { 0 = transport_number behind }) (length content) in
-    link_part_bytes (link_before link (as_ether_type (ip_headers_type headers)))
+    link_part_bytes (link_with_type link (as_ether_type (ip_headers_type headers)))
     ++ (written_headers written (ip_headers_parts written) ++ content)
 
--- the same with a transport header between them
+-- Linked headers, a filled in transport header and the payload are the frame.
 pub is_transport_frame : (link : LinkPart) (headers linked : IpHeaders) (behind filled : TransportHeader)
     (last : IpNumber) (len : ℕ) (type : EtherType) (payload : List ℕ) → linked ≡ headers_for headers last len
     → last.0 ≡ transport_number behind → filled ≡ transport_between headers payload behind
     → len ≡ length (transport_bytes filled ++ payload) → type.0 ≡ ip_headers_type headers
-    → link_part_bytes (link_before link type)
+    → link_part_bytes (link_with_type link type)
     ++ (written_headers linked (ip_headers_parts linked) ++ (transport_bytes filled ++ payload))
     ≡ built_frame (held_transport link headers behind) payload
 is_transport_frame link headers linked behind filled last len type payload is number between counts typed =
@@ -236,24 +236,24 @@ is_transport_frame link headers linked behind filled last len type payload is nu
     let whole : linked ≡ headers_for headers (record { 0 = transport_number behind }) (length content) =
     is ∙ ap (λ (n : ℕ). headers_for headers last n) counts
     ∙ ap (λ (n : ℕ). headers_for headers (record { 0 = n }) (length content)) number in
-    ap (λ (n : ℕ). link_part_bytes (link_before link (as_ether_type n))
+    ap (λ (n : ℕ). link_part_bytes (link_with_type link (as_ether_type n))
     ++ (written_headers linked (ip_headers_parts linked) ++ content)) typed
-    ∙ ap (λ (h : IpHeaders). link_part_bytes (link_before link (as_ether_type (ip_headers_type headers)))
+    ∙ ap (λ (h : IpHeaders). link_part_bytes (link_with_type link (as_ether_type (ip_headers_type headers)))
     ++ (written_headers h (ip_headers_parts h) ++ content)) whole
     ∙ ap (λ (t : TransportHeader). built_content link headers behind (transport_bytes t ++ payload)) between
 
--- the same without one
+-- Linked headers and the payload are the frame, without a transport header.
 pub is_ip_frame : (link : LinkPart) (headers linked : IpHeaders) (last : IpNumber) (type : EtherType) (payload : List ℕ)
     → linked ≡ headers_for headers last (length payload) → type.0 ≡ ip_headers_type headers
-    → link_part_bytes (link_before link type) ++ (written_headers linked (ip_headers_parts linked) ++ payload)
+    → link_part_bytes (link_with_type link type) ++ (written_headers linked (ip_headers_parts linked) ++ payload)
     ≡ built_frame (held_ip link headers last) payload
 is_ip_frame link headers linked last type payload is typed =
-    ap (λ (n : ℕ). link_part_bytes (link_before link (as_ether_type n))
+    ap (λ (n : ℕ). link_part_bytes (link_with_type link (as_ether_type n))
     ++ (written_headers linked (ip_headers_parts linked) ++ payload)) typed
-    ∙ ap (λ (h : IpHeaders). link_part_bytes (link_before link (as_ether_type (ip_headers_type headers)))
+    ∙ ap (λ (h : IpHeaders). link_part_bytes (link_with_type link (as_ether_type (ip_headers_type headers)))
     ++ (written_headers h (ip_headers_parts h) ++ payload)) is
 
--- a header has as many bytes as it says
+-- A transport header is as long as its length states.
 pub transport_len : (header : TransportHeader) → FitsTransport header
     → length (transport_bytes header) ≡ transport_header_len header
 transport_len (transport.Udp header) fits = refl
@@ -261,17 +261,17 @@ transport_len (transport.Tcp header) fits = grind (arith, common_steps)
 transport_len (transport.Icmpv4 header) fits = fits
 transport_len (transport.Icmpv6 header) fits = fits
 
--- a transport header that was filled in behind linked headers is the one that is written between headers and payload
+-- A transport header that is filled in after linked headers is the one written between headers and payload.
 between_is : (headers linked : IpHeaders) (behind set filled : TransportHeader) (last : IpNumber) (len : ℕ)
     (payload : List ℕ) → linked ≡ headers_for headers last len → set ≡ with_length (length payload) behind
-    → filled ≡ with_checksum_behind linked payload set → filled ≡ transport_between headers payload behind
+    → filled ≡ with_checksum_after linked payload set → filled ≡ transport_between headers payload behind
 between_is headers linked behind set filled last len payload is sets sums =
     let with_len = with_length (length payload) behind in
-    sums ∙ ap (with_checksum_behind linked payload) sets
-    ∙ ap (λ (h : IpHeaders). with_checksum_behind h payload with_len) is
+    sums ∙ ap (with_checksum_after linked payload) sets
+    ∙ ap (λ (h : IpHeaders). with_checksum_after h payload with_len) is
     ∙ summed_linked headers last len payload with_len
 
--- what the headers were linked for is the length of the content
+-- The length for which the headers were linked is that of the content.
 content_is : (headers : IpHeaders) (behind filled : TransportHeader) (len : ℕ) (payload : List ℕ)
     → filled ≡ transport_between headers payload behind → len ≡ transport_header_len behind + length payload
     → FitsTransport filled → len ≡ length (transport_bytes filled ++ payload)
@@ -280,12 +280,12 @@ content_is headers behind filled len payload between counts fits =
     ap transport_header_len between ∙ between_len headers payload behind in
     omega (arith, counts, same, transport_len filled fits, length-append (transport_bytes filled) payload)
 
--- a transport header that was filled in behind linked headers is prepared
+-- A transport header that is filled in after linked headers is prepared.
 pub are_prepared : (link : LinkPart) (headers linked : IpHeaders) (behind set filled : TransportHeader)
     (last : IpNumber) (len : ℕ) (type : EtherType) (payload : List ℕ) (link_size headers_size : ℕ)
     → linked ≡ headers_for headers last len → last.0 ≡ transport_number behind
     → set ≡ with_length (length payload) behind → is_icmpv6_in_ipv4 linked set ≡ false
-    → filled ≡ with_checksum_behind linked payload set → len ≡ transport_header_len behind + length payload
+    → filled ≡ with_checksum_after linked payload set → len ≡ transport_header_len behind + length payload
     → FitsTransport filled → type.0 ≡ ip_headers_type headers → first_row (payload_len_rows headers len) ≡ None
     → FitsLink link → FitsIpHeader linked → link_size ≡ link_part_len link → headers_size ≡ ip_headers_len linked
     → ArePrepared link headers behind payload linked filled type (link_size + headers_size + len)
@@ -313,11 +313,11 @@ are_prepared link headers linked behind set filled last len type payload link_si
       whole = omega (arith, link_is, headers_is, counts, linked_len);
     }
 
--- prepared headers and the payload are the frame
+-- Prepared headers and the payload are the frame.
 pub prepared_frame : (link : LinkPart) (headers : IpHeaders) (behind : TransportHeader) (payload : List ℕ)
     (linked : IpHeaders) (filled : TransportHeader) (type : EtherType) (size : ℕ)
     → ArePrepared link headers behind payload linked filled type size
-    → link_part_bytes (link_before link type)
+    → link_part_bytes (link_with_type link type)
     ++ (written_headers linked (ip_headers_parts linked) ++ (transport_bytes filled ++ payload))
     ≡ built_frame (held_transport link headers behind) payload
 prepared_frame link headers behind payload linked filled type size made =
@@ -326,13 +326,13 @@ prepared_frame link headers behind payload linked filled type size made =
     made.is_linked refl made.is_filled
     (content_is headers behind filled len payload made.is_filled refl made.fits_transport) made.typed
 
--- and have so many bytes
+-- Prepared headers and the payload have the length of the frame.
 pub prepared_len : (link : LinkPart) (headers : IpHeaders) (behind : TransportHeader) (payload : List ℕ)
     (linked : IpHeaders) (filled : TransportHeader) (type : EtherType) (size : ℕ)
     → ArePrepared link headers behind payload linked filled type size
     → size ≡ length (built_frame (held_transport link headers behind) payload)
 prepared_len link headers behind payload linked filled type size made =
-    let front = link_part_bytes (link_before link type) in
+    let front = link_part_bytes (link_with_type link type) in
     let written = written_headers linked (ip_headers_parts linked) in
     omega (
       arith,
@@ -346,7 +346,7 @@ prepared_len link headers behind payload linked filled type size made =
       transport_len filled made.fits_transport,
     )
 
--- what is appended where the frame of what is held is written
+-- The buffer has the frame of the headers appended.
 abbrev pub Appends : Held → List ℕ → List ℕ → List ℕ → Type 0
 Appends held payload old new = IsBuildable held (length payload) × (new ≡ old ++ built_frame held payload)
 
@@ -356,7 +356,7 @@ fit_both : (headers : IpHeaders) → FitsIpHeader headers → FitParts (ip_heade
 fit_both (version.Ipv4 header extensions) header_fits parts_fit = (header_fits, parts_fit)
 fit_both (version.Ipv6 header extensions) header_fits parts_fit = (header_fits, parts_fit)
 
--- the frame of linked headers is read back as the fragment that it was built from
+-- The frame of linked headers is read back as the fragment it was built from.
 pub fragment_back : (link : LinkPart) (headers linked : IpHeaders) (last : IpNumber) (payload : List ℕ)
     → linked ≡ headers_for headers last (length payload) → FitsLink link → FitsIpHeader linked
     → FitParts (ip_headers_parts linked) → IsFragmentReadBack link headers last payload
@@ -364,11 +364,11 @@ fragment_back link headers linked last payload is fits_link header_fits parts_fi
     fragment_read_back link headers last payload fits_link
     (subst FitIpHeaders is (fit_both linked header_fits parts_fit))
 
--- the frame of prepared headers is read back
+-- The frame of prepared headers is read back.
 pub prepared_back : (link : LinkPart) (headers : IpHeaders) (behind : TransportHeader) (payload : List ℕ)
     (linked : IpHeaders) (filled : TransportHeader) (type : EtherType) (size : ℕ)
     → ArePrepared link headers behind payload linked filled type size → FitParts (ip_headers_parts linked)
-    → AreBytes (link_part_bytes (link_before link type) ++ (written_headers linked (ip_headers_parts linked)
+    → AreBytes (link_part_bytes (link_with_type link type) ++ (written_headers linked (ip_headers_parts linked)
     ++ (transport_bytes filled ++ payload))) → IsReadBack link headers behind payload
 prepared_back link headers behind payload linked filled type size made parts_fit bytes =
     let len = transport_header_len behind + length payload in
@@ -379,7 +379,7 @@ prepared_back link headers behind payload linked filled type size made parts_fit
     made.is_linked ∙ ap (λ (n : ℕ). headers_for headers (record { 0 = transport_number behind }) n)
     (content_is headers behind filled len payload made.is_filled refl made.fits_transport ∙ ap length message_is) in
     let message_bytes = AreBytes-back (written_headers linked (ip_headers_parts linked))
-    (transport_bytes filled ++ payload) (AreBytes-back (link_part_bytes (link_before link type)) _ bytes) in
+    (transport_bytes filled ++ payload) (AreBytes-back (link_part_bytes (link_with_type link type)) _ bytes) in
     read_back link headers behind payload made.fits_link
     (subst FitIpHeaders linked_is (fit_both linked made.fits_header parts_fit))
     (subst FitsTransport made.is_filled made.fits_transport) (subst AreBytes message_is message_bytes)

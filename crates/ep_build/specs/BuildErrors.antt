@@ -1,4 +1,4 @@
--- Why no frame is built.
+-- The errors of building a frame.
 use Rattle.std.specs.Prelude.{◌≡◌, ◌⊎◌, ℕ, ◌+◌, Bool, true, false, List, [], ◌∷◌, ◌++◌, Option, Some, None}
 use Rattle.ep_base.specs.Tables.{Refuses, first_row, rows_as}
 use Rattle.ep_base.specs.declared.err.ipv4_exts.ExtsWalkError.{ExtsWalkError as Ipv4WalkError}
@@ -14,10 +14,9 @@ use Rattle.ep_build.specs.BuiltFrames.{Held, Inside, ip_packet, transport_packet
 use Rattle.ep_build.specs.declared.err.build_write_error.BuildWriteError.{BuildWriteError}
 use Rattle.ep_build.specs.declared.err.build_write_error.BuildWriteError.TheVariants as error
 
--- ---- the refusal table
+-- ---- refusal table
 
--- whether a transport header is ICMPv6's behind headers of IPv4, which have none of the addresses that it is summed
--- with
+-- True if the transport header is ICMPv6 after IPv4 headers, which lack the addresses for its checksum.
 abbrev pub is_icmpv6_in_ipv4 : IpHeaders → TransportHeader → Bool
 is_icmpv6_in_ipv4 (version.Ipv4 header extensions) (transport.Udp datagram) = false
 is_icmpv6_in_ipv4 (version.Ipv4 header extensions) (transport.Tcp segment) = false
@@ -25,7 +24,7 @@ is_icmpv6_in_ipv4 (version.Ipv4 header extensions) (transport.Icmpv4 message) = 
 is_icmpv6_in_ipv4 (version.Ipv4 header extensions) (transport.Icmpv6 message) = true
 is_icmpv6_in_ipv4 (version.Ipv6 header extensions) behind = false
 
--- when no frame is built of what the link part carries and of so many bytes of payload, and with which error
+-- Refusal table of the headers after the link part and `len` bytes of payload.
 abbrev pub inside_rows : Inside → ℕ → List (Bool × BuildWriteError)
 inside_rows (ip_packet headers last) len = rows_as error.PayloadLen (payload_len_rows headers len)
 inside_rows (transport_packet headers behind) len =
@@ -34,26 +33,26 @@ inside_rows (transport_packet headers behind) len =
     ∷ []
 inside_rows (arp_packet packet) len = []
 
--- when no frame is built of headers and so many bytes of payload, and with which error
+-- Refusal table of the headers of a frame and `len` bytes of payload.
 abbrev pub build_rows : Held → ℕ → List (Bool × BuildWriteError)
 build_rows held len = inside_rows held.inside len
 
--- why no frame is built of headers and so many bytes of payload
+-- The error of the headers and `len` bytes of payload, by the table.
 abbrev pub RefusesBuild : Held → ℕ → BuildWriteError → Type 0
 RefusesBuild held len = Refuses (build_rows held len)
 
--- no row of the table refuses
+-- No row of the table is met.
 abbrev pub IsBuildable : Held → ℕ → Type 0
 IsBuildable held len = first_row (build_rows held len) ≡ None
 
--- the error of an attempt to write the frame: that of the table, and memory only where no row refuses
+-- The error of writing the frame: that of the table, or out of memory if no row is met.
 abbrev pub IsBuildError : Held → ℕ → BuildWriteError → Type 0
 IsBuildError held len refusal =
     RefusesBuild held len refusal ⊎ ((refusal ≡ error.OutOfMemory) × IsBuildable held len)
 
--- ---- what an error is
+-- ---- parts of an error
 
--- the length that does not fit, where it is one
+-- The error of the length, if it is one.
 abbrev pub payload_len_in : BuildWriteError → Option (ValueTooBigError ℕ)
 payload_len_in (error.PayloadLen refusal) = Some refusal
 payload_len_in error.Icmpv6InIpv4 = None
@@ -62,7 +61,7 @@ payload_len_in (error.Ipv4Exts refusal) = None
 payload_len_in (error.Ipv6Exts refusal) = None
 payload_len_in error.ArpHeaderNotMatch = None
 
--- the refusal of the extension header of IPv4, where it is one
+-- The error of the IPv4 extension header, if it is one.
 abbrev pub ipv4_exts_in : BuildWriteError → Option Ipv4WalkError
 ipv4_exts_in (error.PayloadLen refusal) = None
 ipv4_exts_in error.Icmpv6InIpv4 = None
@@ -71,7 +70,7 @@ ipv4_exts_in (error.Ipv4Exts refusal) = Some refusal
 ipv4_exts_in (error.Ipv6Exts refusal) = None
 ipv4_exts_in error.ArpHeaderNotMatch = None
 
--- the refusal of the extension headers of IPv6, where it is one
+-- The error of the IPv6 extension headers, if it is one.
 abbrev pub ipv6_exts_in : BuildWriteError → Option Ipv6WalkError
 ipv6_exts_in (error.PayloadLen refusal) = None
 ipv6_exts_in error.Icmpv6InIpv4 = None

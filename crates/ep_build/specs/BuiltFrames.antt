@@ -1,5 +1,5 @@
--- The frame that headers and a payload are built to: the headers from the outside in, each with the types, the numbers,
--- the lengths and the checksums of what stands behind it, and then the payload.
+-- The frame built from headers and a payload: the headers from the outside in, each with the types, numbers, lengths
+-- and checksums of the bytes after it, and then the payload.
 use Rattle.std.specs.Prelude.{ℕ, ◌+◌, List, [], ◌++◌, length}
 use Rattle.ep_base.specs.EtherTypes.{arp_type, provider_bridging_type, vlan_type}
 use Rattle.ep_base.specs.IpNumbers.{icmpv4_number, icmpv6_number, tcp_number, udp_number}
@@ -23,120 +23,123 @@ use Rattle.ep_transport.specs.declared.transport_header.TransportHeader.TheVaria
 use Rattle.ep_build.specs.declared.link_part.LinkPart.{LinkPart}
 use Rattle.ep_build.specs.declared.link_part.LinkPart.TheVariants as link
 
--- ---- the headers of a frame, as plain data
+-- ---- headers of a frame, as plain data
 
--- what the link part carries: IP headers, with the number of the payload or with a transport header, or an ARP packet
+-- The headers after the link part: IP headers with the protocol number of the payload or with a transport header, or an
+-- ARP packet.
 pub data Inside : Type 0 where
   ip_packet : IpHeaders → IpNumber → Inside
   transport_packet : IpHeaders → TransportHeader → Inside
   arp_packet : Arp → Inside
 
--- the link header and the VLAN tags, where there are any, and what they carry
+-- The headers of a frame: link header and VLAN tags, if any, and the headers after them.
 pub record Held : Type 0 where
   pub link : LinkPart
   pub inside : Inside
 
--- IP headers behind a link part, with the number of the payload
+-- IP headers after a link part, with the protocol number of the payload.
 abbrev pub held_ip : LinkPart → IpHeaders → IpNumber → Held
 held_ip part headers last = record { link = part; inside = ip_packet headers last }
 
--- an IP packet with a transport header behind a link part
+-- An IP packet with a transport header after a link part.
 abbrev pub held_transport : LinkPart → IpHeaders → TransportHeader → Held
 held_transport part headers behind = record { link = part; inside = transport_packet headers behind }
 
--- an ARP packet behind a link part
+-- An ARP packet after a link part.
 abbrev pub held_arp : LinkPart → Arp → Held
 held_arp part packet = record { link = part; inside = arp_packet packet }
 
--- ---- the link part
+-- ---- link part
 
--- a number as an ether type
+-- A number as an ether type.
 abbrev pub as_ether_type : ℕ → EtherType
 as_ether_type number = record { 0 = number }
 
--- the type before VLAN tags: that of a customer tag before one, and that of a service tag before two (IEEE 802.1Q, 9.5)
+-- The ether type before VLAN tags: that of a customer tag before one, that of a service tag before two (IEEE 802.1Q,
+-- 9.5).
 abbrev pub tags_type : VlanHeader → ℕ
 tags_type (tags.Single tag) = vlan_type
 tags_type (tags.Double both) = provider_bridging_type
 
--- VLAN tags before what has this type; the outer one of two names the inner one, a customer tag
-abbrev pub tags_before : VlanHeader → EtherType → VlanHeader
-tags_before (tags.Single tag) type = tags.Single (record tag { ether_type = type })
-tags_before (tags.Double both) type = tags.Double (record {
+-- VLAN tags before a payload of this ether type. The outer one of two has the ether type of the inner one, a customer
+-- tag.
+abbrev pub tags_with_type : VlanHeader → EtherType → VlanHeader
+tags_with_type (tags.Single tag) type = tags.Single (record tag { ether_type = type })
+tags_with_type (tags.Double both) type = tags.Double (record {
   outer = record both.outer { ether_type = as_ether_type vlan_type };
   inner = record both.inner { ether_type = type };
 })
 
--- The link part before what has this type, which the last of its headers names. A cooked capture is one of Ethernet.
-abbrev pub link_before : LinkPart → EtherType → LinkPart
-link_before link.Absent type = link.Absent
-link_before (link.Ethernet2 header) type = link.Ethernet2 (record header { ether_type = type })
-link_before (link.Tagged header both) type =
-    link.Tagged (record header { ether_type = as_ether_type (tags_type both) }) (tags_before both type)
-link_before (link.LinuxSll header) type = link.LinuxSll (record header {
+-- The link part before a payload of this ether type, which is in its last header. A cooked capture is one of Ethernet.
+abbrev pub link_with_type : LinkPart → EtherType → LinkPart
+link_with_type link.Absent type = link.Absent
+link_with_type (link.Ethernet2 header) type = link.Ethernet2 (record header { ether_type = type })
+link_with_type (link.Tagged header both) type =
+    link.Tagged (record header { ether_type = as_ether_type (tags_type both) }) (tags_with_type both type)
+link_with_type (link.LinuxSll header) type = link.LinuxSll (record header {
   arp_hrd_type = record { 0 = ethernet_hardware };
   protocol_type = protocol.EtherType type;
 })
 
--- the bytes of a link part
+-- Bytes of a link part.
 abbrev pub link_part_bytes : LinkPart → List ℕ
 link_part_bytes link.Absent = []
 link_part_bytes (link.Ethernet2 header) = ethernet2_bytes header
 link_part_bytes (link.Tagged header both) = ethernet2_bytes header ++ vlan_tags_bytes both
 link_part_bytes (link.LinuxSll header) = linux_sll_bytes header
 
--- the number of these bytes
+-- Length of VLAN tags in bytes.
 abbrev pub tags_len : VlanHeader → ℕ
 tags_len (tags.Single tag) = 4
 tags_len (tags.Double both) = 8
 
--- the number of bytes of a link part
+-- Length of a link part in bytes.
 abbrev pub link_part_len : LinkPart → ℕ
 link_part_len link.Absent = 0
 link_part_len (link.Ethernet2 header) = ethernet2_header_len
 link_part_len (link.Tagged header both) = ethernet2_header_len + tags_len both
 link_part_len (link.LinuxSll header) = linux_sll_header_len
 
--- ---- the transport header
+-- ---- transport header
 
--- the protocol number of a transport header
+-- Protocol number of a transport header.
 abbrev pub transport_number : TransportHeader → ℕ
 transport_number (transport.Udp header) = udp_number
 transport_number (transport.Tcp header) = tcp_number
 transport_number (transport.Icmpv4 header) = icmpv4_number
 transport_number (transport.Icmpv6 header) = icmpv6_number
 
--- a transport header before so many bytes, which the length field of UDP counts behind its own 8
+-- A transport header before a payload of `len` bytes, which the UDP length field counts after its own 8 bytes.
 abbrev pub with_length : ℕ → TransportHeader → TransportHeader
 with_length len (transport.Udp header) = transport.Udp (record header { length = 8 + len })
 with_length len (transport.Tcp header) = transport.Tcp header
 with_length len (transport.Icmpv4 header) = transport.Icmpv4 header
 with_length len (transport.Icmpv6 header) = transport.Icmpv6 header
 
--- a transport header with its checksum between the addresses of IP headers and this payload
-abbrev pub with_checksum_behind : IpHeaders → List ℕ → TransportHeader → TransportHeader
-with_checksum_behind (version.Ipv4 header extensions) payload behind = with_checksum_ipv4 header payload behind
-with_checksum_behind (version.Ipv6 header extensions) payload behind = with_checksum_ipv6 header payload behind
+-- A transport header with its checksum between the addresses of IP headers and this payload.
+abbrev pub with_checksum_after : IpHeaders → List ℕ → TransportHeader → TransportHeader
+with_checksum_after (version.Ipv4 header extensions) payload behind = with_checksum_ipv4 header payload behind
+with_checksum_after (version.Ipv6 header extensions) payload behind = with_checksum_ipv6 header payload behind
 
--- a transport header as it is written between these
+-- A transport header as it is written between IP headers and this payload.
 abbrev pub transport_between : IpHeaders → List ℕ → TransportHeader → TransportHeader
-transport_between headers payload behind = with_checksum_behind headers payload (with_length (length payload) behind)
+transport_between headers payload behind = with_checksum_after headers payload (with_length (length payload) behind)
 
--- ---- the frame
+-- ---- frame
 
--- IP headers that lead to this number and count this content, and then the content
+-- IP headers linked to this protocol number, with the length of this content, and then the content.
 abbrev pub ip_frame : IpHeaders → IpNumber → List ℕ → List ℕ
 ip_frame headers last content =
     let written = headers_for headers last (length content) in
     written_headers written (ip_headers_parts written) ++ content
 
--- the ether type of what the link part carries
+-- The ether type of the headers after the link part.
 abbrev pub inside_type : Inside → ℕ
 inside_type (ip_packet headers last) = ip_headers_type headers
 inside_type (transport_packet headers behind) = ip_headers_type headers
 inside_type (arp_packet packet) = arp_type
 
--- the bytes of what the link part carries, and of the payload
+-- Bytes of the headers after the link part, and of the payload.
 abbrev pub inside_frame : Inside → List ℕ → List ℕ
 inside_frame (ip_packet headers last) payload = ip_frame headers last payload
 inside_frame (transport_packet headers behind) payload = ip_frame
@@ -145,18 +148,18 @@ inside_frame (transport_packet headers behind) payload = ip_frame
     (transport_bytes (transport_between headers payload behind) ++ payload)
 inside_frame (arp_packet packet) payload = arp_bytes packet ++ payload
 
--- the frame of headers and a payload
+-- The frame of headers and a payload.
 abbrev pub built_frame : Held → List ℕ → List ℕ
 built_frame held payload =
-    link_part_bytes (link_before held.link (as_ether_type (inside_type held.inside)))
+    link_part_bytes (link_with_type held.link (as_ether_type (inside_type held.inside)))
     ++ inside_frame held.inside payload
 
--- the number of bytes of what the link part carries, and of so many bytes of payload
+-- Length in bytes of the headers after the link part and `len` bytes of payload.
 abbrev pub inside_size : Inside → ℕ → ℕ
 inside_size (ip_packet headers last) len = ip_headers_len headers + len
 inside_size (transport_packet headers behind) len = ip_headers_len headers + (transport_header_len behind + len)
 inside_size (arp_packet packet) len = arp_len packet + len
 
--- the number of bytes of the frame of headers and so many bytes of payload
+-- Length in bytes of the frame of headers and `len` bytes of payload.
 abbrev pub built_size : Held → ℕ → ℕ
 built_size held len = link_part_len held.link + inside_size held.inside len

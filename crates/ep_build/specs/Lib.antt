@@ -6,7 +6,7 @@ pub mod ReadBack
 pub mod BuiltFragments
 pub mod AppendedFrames
 pub mod Placing
--- what the contracts name of the crates below
+-- Definitions of the crates below that contracts use
 pub use Rattle.ep_base.specs.Bytes
 pub use Rattle.ep_base.specs.Tables
 pub use Rattle.ep_link.specs.ArpSlices

@@ -1,4 +1,4 @@
--- Bytes in a slice, and what building a frame into one answers.
+-- Bytes in a slice, and the result of building a frame into one.
 use Rattle.std.specs.Prelude.{◌≡◌, ℕ, ◌+◌, ◌<◌, ◌≤◌, List, ◌++◌, length, take, drop, Result, MatchResult}
 use Rattle.ep_base.specs.declared.ether_type.EtherType.{EtherType}
 use Rattle.ep_ext.specs.Chains.{FitParts, parts_bytes}
@@ -17,21 +17,21 @@ use Rattle.ep_build.specs.declared.link_part.LinkPart.{LinkPart}
 
 -- ---- bytes
 
--- the bytes stand in the slice from one place up to the other, and around them it is as it was
+-- The bytes are in the slice from offset `at` to `end`, and the rest of the slice is unchanged.
 pub record AreAt (bytes old new : List ℕ) (at end : ℕ) : Type 0 where
   pub fits : at + length bytes ≤ length old
   pub ends : end ≡ at + length bytes
   pub is : new ≡ take at old ++ (bytes ++ drop (at + length bytes) old)
 
--- the same of extension headers, whose fields fit their places
+-- The bytes of extension headers are in the slice from offset `at` to `end`, and their fields fit their widths.
 pub record PartsAreAt (parts : List ExtensionPart) (old new : List ℕ) (at end : ℕ) : Type 0 where
   pub bytes : AreAt (parts_bytes parts) old new at end
   pub fit : FitParts parts
 
--- ---- headers that are about to be written
+-- ---- prepared headers
 
--- The headers are linked, and the transport header has its length and checksum: with the ether type before them, and
--- the number of bytes of the frame.
+-- The headers are linked, and the transport header has its length and checksum. `type` is the ether type before them,
+-- and `size` the length of the frame in bytes.
 pub record ArePrepared (part : LinkPart) (headers : IpHeaders) (behind : TransportHeader) (payload : List ℕ)
     (linked : IpHeaders) (filled : TransportHeader) (type : EtherType) (size : ℕ) : Type 0 where
   pub buildable : IsBuildable (held_transport part headers behind) (length payload)
@@ -47,17 +47,17 @@ pub record ArePrepared (part : LinkPart) (headers : IpHeaders) (behind : Transpo
 
 -- ---- frames
 
--- why a frame was not built into a slice of this length: it has too few bytes, and how many are needed; or a row of the
--- builder's table
+-- The error of building a frame into a slice of `len` bytes: the slice is too short, with the length needed, or a row
+-- of the builder's table is met.
 abbrev pub RefusesFilling : Held → List ℕ → ℕ → BuildSliceWriteError → Type 0
 RefusesFilling held payload len (error.Space needed) =
     IsBuildable held (length payload) × (needed ≡ length (built_frame held payload)) × (len < needed)
 RefusesFilling held payload len (error.Build refusal) = RefusesBuild held (length payload) refusal
 
--- The frame stands at the front of the slice, which behind it is as it was, and its number of bytes is answered. A
--- refusal leaves the slice as it was.
-abbrev pub FillsFront : Held → List ℕ → List ℕ → List ℕ → Result ℕ BuildSliceWriteError → Type 0
-FillsFront held payload old new result =
+-- The frame is at the start of the slice, the bytes after it are unchanged, and its length is returned. On an error the
+-- slice is unchanged.
+abbrev pub FillsStart : Held → List ℕ → List ℕ → List ℕ → Result ℕ BuildSliceWriteError → Type 0
+FillsStart held payload old new result =
     let frame = built_frame held payload in
     MatchResult result
     (λ len. IsBuildable held (length payload) × (len ≡ length frame) × (len ≤ length old)

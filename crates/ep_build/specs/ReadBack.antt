@@ -1,4 +1,4 @@
--- A built frame is read back: in both readings, by each entry of its first layer.
+-- Reading back a built frame: in both readings, by each entry of its first layer.
 use Rattle.std.specs.Prelude.{◌≡◌, ◌⊎◌, ℕ, ◌≤◌, false, List, [], ◌++◌, Some, None}
 use Rattle.ep_base.specs.EtherTypes.{arp_type}
 use Rattle.ep_base.specs.IpPayload.{IpPayload}
@@ -23,9 +23,9 @@ use Rattle.ep_build.specs.BuiltFrames.{held_arp, held_transport, inside_type, tr
 use Rattle.ep_build.specs.declared.link_part.LinkPart.{LinkPart}
 use Rattle.ep_build.specs.declared.link_part.LinkPart.TheVariants as link
 
--- ---- the entries of the first layer
+-- ---- entries of the first layer
 
--- those of a frame without a link part: by its ether type, and of an IP packet by its version
+-- The entries of a frame without a link part: its ether type, and for an IP packet also IP of either version.
 abbrev pub IsBareEntry : Inside → Entry → Type 0
 IsBareEntry (ip_packet headers last) entry =
     (entry ≡ ip) ⊎ (entry ≡ ether_type (as_ether_type (inside_type (ip_packet headers last))))
@@ -33,7 +33,7 @@ IsBareEntry (transport_packet headers behind) entry =
     (entry ≡ ip) ⊎ (entry ≡ ether_type (as_ether_type (inside_type (transport_packet headers behind))))
 IsBareEntry (arp_packet packet) entry = entry ≡ ether_type (as_ether_type arp_type)
 
--- those of a frame; the header of a cooked capture is read where its packet type is one of the known ones
+-- The entries of a frame. A Linux cooked capture header is read back if its packet type is a known one.
 abbrev pub IsEntryOf : LinkPart → Inside → Entry → Type 0
 IsEntryOf link.Absent inside entry = IsBareEntry inside entry
 IsEntryOf (link.Ethernet2 header) inside entry = entry ≡ ethernet
@@ -42,31 +42,31 @@ IsEntryOf (link.LinuxSll header) inside entry = (header.packet_type.0 ≤ 7) × 
 
 -- ---- ARP
 
--- the bytes are a frame in this reading, of this ARP packet
+-- The bytes are a frame in this reading, with this ARP packet.
 pub record HoldsArp (reading : Reading) (entry : Entry) (bytes : List ℕ) (packet : Arp) : Type 0 where
   pub layers : Layers
   pub is : IsFrameIn reading entry bytes layers
   pub net : layers.net ≡ Some (arp packet)
 
--- the frame of an ARP packet is read back
+-- The frame of an ARP packet is read back.
 abbrev pub IsArpReadBack : LinkPart → Arp → Type 0
 IsArpReadBack part packet = (reading : Reading) (entry : Entry) → IsEntryOf part (arp_packet packet) entry
     → HoldsArp reading entry (built_frame (held_arp part packet) []) packet
 
 -- ---- transport layers
 
--- a transport header as it is written, and the payload
+-- Bytes of a transport header as it is written, and of the payload.
 abbrev pub message_of : IpHeaders → TransportHeader → List ℕ → List ℕ
 message_of headers behind payload = transport_bytes (transport_between headers payload behind) ++ payload
 
--- A message of ICMP has the length that its type demands: a timestamp message has 20 bytes.
+-- An ICMPv4 message has the length of its type: a timestamp message has 20 bytes.
 abbrev pub HasItsLength : TransportHeader → List ℕ → Type 0
 HasItsLength (transport.Udp header) message = Unit {0}
 HasItsLength (transport.Tcp header) message = Unit {0}
 HasItsLength (transport.Icmpv4 header) message = first_row (icmpv4_rows message) ≡ None
 HasItsLength (transport.Icmpv6 header) message = Unit {0}
 
--- the checksum of a TCP header is the one of the segment, between the addresses of IP headers
+-- The checksum of a TCP header is that of the segment, between the addresses of IP headers.
 abbrev pub SumsUp : IpHeaders → TransportHeader → List ℕ → Type 0
 SumsUp (version.Ipv4 header extensions) (transport.Tcp segment) message =
     segment.checksum ≡ segment_checksum_ipv4 header.source header.destination message
@@ -76,8 +76,8 @@ SumsUp headers (transport.Udp datagram) message = Unit {0}
 SumsUp headers (transport.Icmpv4 echo) message = Unit {0}
 SumsUp headers (transport.Icmpv6 echo) message = Unit {0}
 
--- The bytes are a frame in this reading, whose transport layer lies in this message: the bytes of its header, up to
--- reserved bits and bytes that it does not use, and its payload. The checksum of TCP is the one of the message.
+-- The bytes are a frame in this reading, with the transport layer of this message: the bytes of its header, except
+-- reserved bits and unused bytes, and its payload. The TCP checksum is that of the message.
 pub record HoldsTransport (reading : Reading) (entry : Entry) (bytes : List ℕ) (headers : IpHeaders)
     (message : List ℕ) : Type 0 where
   pub layers : Layers
@@ -92,8 +92,8 @@ pub record HoldsTransport (reading : Reading) (entry : Entry) (bytes : List ℕ)
   pub parts : message ≡ header ++ transport.payload
   pub sums : SumsUp headers transport.header message
 
--- The frame of a transport header is read back, where it is no fragment, and a message of ICMP has its length. A raw
--- type of ICMP may be read as a known one, so that its header is another, of the same bytes.
+-- The frame of a transport header is read back, if it is no fragment and an ICMPv4 message has the length of its type.
+-- A raw ICMP type may be read as a known one, as another header with equal bytes.
 abbrev pub IsReadBack : LinkPart → IpHeaders → TransportHeader → List ℕ → Type 0
 IsReadBack part headers behind payload =
     headers_fragment headers ≡ false → HasItsLength behind (message_of headers behind payload)

@@ -1,4 +1,4 @@
--- What a step of building holds.
+-- The headers of each builder step.
 use Rattle.std.specs.Prelude.{ℕ, ◌+◌, List, None, false}
 use Rattle.ep_base.specs.declared.ether_type.EtherType.{EtherType}
 use Rattle.ep_base.specs.declared.ip_number.IpNumber.{IpNumber}
@@ -26,109 +26,109 @@ use Rattle.ep_build.specs.declared.link_part.LinkPart.{LinkPart}
 use Rattle.ep_build.specs.declared.link_part.LinkPart.TheVariants as link
 use Rattle.ep_build.specs.declared.packet_builder.PacketBuilderStep.{PacketBuilderStep}
 
--- ---- steps that a net layer may follow: their link part
+-- ---- link part of steps that a network layer can follow
 
--- that of a step whose last header is Ethernet II: this header
+-- Link part of a step whose last header is Ethernet II: this header.
 abbrev pub ethernet2_link : PacketBuilderStep Ethernet2Header (Unit {0}) Ethernet2Header → LinkPart
 ethernet2_link step = link.Ethernet2 step.last
 
--- that of a step whose last header is of a cooked capture: this header
+-- Link part of a step whose last header is of a Linux cooked capture: this header.
 abbrev pub linux_sll_link : PacketBuilderStep LinuxSllHeader (Unit {0}) LinuxSllHeader → LinkPart
 linux_sll_link step = link.LinuxSll step.last
 
--- that of a step whose last headers are VLAN tags: the Ethernet II header before them, and the tags
+-- Link part of a step whose last headers are VLAN tags: the Ethernet II header before them, and the tags.
 abbrev pub vlan_link : PacketBuilderStep VlanHeader Ethernet2Header VlanHeader → LinkPart
 vlan_link step = link.Tagged step.before step.last
 
--- ---- the step of IP headers
+-- ---- step of IP headers
 
--- a header of IPv4 without extension headers
+-- An IPv4 header without extension headers.
 abbrev pub plain_ipv4 : Ipv4Header → IpHeaders
 plain_ipv4 header = version.Ipv4 header (record { auth = None })
 
--- a header of IPv6 without extension headers
+-- An IPv6 header without extension headers.
 abbrev pub plain_ipv6 : Ipv6Header → IpHeaders
 plain_ipv6 header = version.Ipv6 header no_ipv6_extensions
 
--- the headers that a step was given
+-- The headers that were passed to a step.
 abbrev pub part_headers : IpPart → IpHeaders
 part_headers (part.Plain4 header) = plain_ipv4 header
 part_headers (part.Plain6 header) = plain_ipv6 header
 part_headers (part.Any headers) = headers
 
--- its link part
+-- Link part of a step of IP headers.
 abbrev pub ip_link : PacketBuilderStep IpHeaders LinkPart IpPart → LinkPart
 ip_link step = step.before
 
--- its headers
+-- IP headers of a step.
 abbrev pub ip_step_headers : PacketBuilderStep IpHeaders LinkPart IpPart → IpHeaders
 ip_step_headers step = part_headers step.last
 
--- what it holds, with the number of the payload
+-- Headers of the step's frame, with the protocol number of the payload.
 abbrev pub ip_held : PacketBuilderStep IpHeaders LinkPart IpPart → IpNumber → Held
 ip_held step last = held_ip (ip_link step) (ip_step_headers step) last
 
--- the number of bytes of its frame, with so many bytes of payload
+-- Length in bytes of the step's frame with `len` bytes of payload.
 abbrev pub ip_step_size : PacketBuilderStep IpHeaders LinkPart IpPart → ℕ → ℕ
 ip_step_size step len = link_part_len (ip_link step) + (ip_headers_len (ip_step_headers step) + len)
 
--- its frame, with this number and this payload, is read back as the fragment that it is built from
+-- The step's frame, with this protocol number and payload, is read back as the fragment it was built from.
 abbrev pub IpStepReadsBack : PacketBuilderStep IpHeaders LinkPart IpPart → IpNumber → List ℕ → Type 0
 IpStepReadsBack step last payload = IsFragmentReadBack (ip_link step) (ip_step_headers step) last payload
 
 -- ---- steps of a transport header
 
--- the header
+-- Transport header of a step.
 abbrev pub transport_header : {H : Type 0} → PacketBuilderStep H (LinkPart × IpPart) H → H
 transport_header step = step.last
 
--- what the step holds, where its header is this transport header
+-- Headers of the step's frame, with its header as a `TransportHeader`.
 abbrev pub transport_held : {H : Type 0} → (H → TransportHeader) → PacketBuilderStep H (LinkPart × IpPart) H → Held
 transport_held kind step = held_transport step.before.0 (part_headers step.before.1) (kind (transport_header step))
 
--- the frame of the step and a payload is read back
+-- The frame of the step and a payload is read back.
 abbrev pub StepReadsBack : {H : Type 0} → (H → TransportHeader) → PacketBuilderStep H (LinkPart × IpPart) H → List ℕ
     → Type 0
 StepReadsBack kind step payload =
     IsReadBack step.before.0 (part_headers step.before.1) (kind (transport_header step)) payload
 
--- what a transport header makes of the step of IP headers
-abbrev pub held_behind : PacketBuilderStep IpHeaders LinkPart IpPart → TransportHeader → Held
-held_behind step behind = held_transport (ip_link step) (ip_step_headers step) behind
+-- Headers of the frame of a step of IP headers and a transport header.
+abbrev pub held_after : PacketBuilderStep IpHeaders LinkPart IpPart → TransportHeader → Held
+held_after step behind = held_transport (ip_link step) (ip_step_headers step) behind
 
--- the step with another header
+-- The step with another header.
 abbrev pub with_header : {H : Type 0} → PacketBuilderStep H (LinkPart × IpPart) H → H
     → PacketBuilderStep H (LinkPart × IpPart) H
 with_header step header = record step { last = header }
 
--- ---- the step of an ARP packet
+-- ---- step of an ARP packet
 
--- what it holds
+-- Headers of the step's frame.
 abbrev pub arp_held : PacketBuilderStep ArpPacket LinkPart ArpPacket → Held
 arp_held step = held_arp step.before (arp_of step.last)
 
--- its frame is read back
+-- The step's frame is read back.
 abbrev pub ArpStepReadsBack : PacketBuilderStep ArpPacket LinkPart ArpPacket → Type 0
 ArpStepReadsBack step = IsArpReadBack step.before (arp_of step.last)
 
--- ---- headers that are begun
+-- ---- new headers
 
--- an ether type that is not known before the frame is written
+-- An ether type that is unknown until the frame is written.
 abbrev pub no_type : EtherType
 no_type = record { 0 = 0 }
 
--- a VLAN tag of this identifier, whose other fields are 0
+-- A VLAN tag with this identifier, whose other fields are 0.
 abbrev pub tag_of : ℕ → SingleVlanHeader
 tag_of identifier =
     record { pcp = 0; drop_eligible_indicator = false; vlan_id = identifier; ether_type = no_type }
 
--- the default headers of IPv4, with these addresses and this number of hops
+-- The default IPv4 headers, with these addresses and this time to live.
 abbrev pub ipv4_headers_between : List ℕ → List ℕ → ℕ → IpHeaders
 ipv4_headers_between source destination time_to_live = version.Ipv4
     (record default_ipv4_header { time_to_live = time_to_live; source = source; destination = destination })
     (record { auth = None })
 
--- the default headers of IPv6, with these addresses and this number of hops
+-- The default IPv6 headers, with these addresses and this hop limit.
 abbrev pub ipv6_headers_between : List ℕ → List ℕ → ℕ → IpHeaders
 ipv6_headers_between source destination hop_limit = version.Ipv6
     (record default_ipv6_header { hop_limit = hop_limit; source = source; destination = destination })

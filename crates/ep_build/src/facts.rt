@@ -1,5 +1,5 @@
-//! What the types of headers say of their fields, for the proofs: each call does nothing, and its contract holds of
-//! every value.
+//! Ranges of header fields, which their Rust types guarantee, for the proofs. The functions have no effect, and their
+//! contracts hold for every value.
 
 ghost use Rattle.std.specs.Prelude.{◌≡◌, length};
 ghost use Rattle.ep_base.specs.Bytes.{AreBytes};
@@ -20,7 +20,8 @@ use ep_link::{Ethernet2Header, LinuxSllHeader, SingleVlanHeader, VlanHeader};
 use ep_packet::IpHeaders;
 use ep_transport::{Icmpv4Header, Icmpv6Header, TcpHeader, TransportHeader, UdpHeader};
 
-/// The link part.
+/// Proves that each field of a link header and its VLAN tags fits its width on the wire; of a Linux cooked capture
+/// header, each field that writing does not fill in. It has no effect at run time.
 #[inline]
 pub(crate) fn link_fits(link: &LinkPart)
     ensures { FitsLink link.now }
@@ -36,7 +37,7 @@ pub(crate) fn link_fits(link: &LinkPart)
     }
 }
 
-/// The header of IP.
+/// Proves that each field of an IPv4 or IPv6 header fits its width on the wire. It has no effect at run time.
 #[inline]
 pub(crate) fn ip_header_fits(headers: &IpHeaders)
     ensures { FitsIpHeader headers.now }
@@ -47,7 +48,8 @@ pub(crate) fn ip_header_fits(headers: &IpHeaders)
     }
 }
 
-/// The transport header.
+/// Proves that each field of a UDP or TCP header fits its width on the wire, and that an ICMP header is encoded in the
+/// number of bytes that its type has. It has no effect at run time.
 #[inline]
 pub(crate) fn transport_fits(transport: &TransportHeader)
     ensures { FitsTransport transport.now }
@@ -60,7 +62,7 @@ pub(crate) fn transport_fits(transport: &TransportHeader)
     }
 }
 
-/// The bytes of a slice.
+/// Proves that each element of a `u8` slice is below 256. It has no effect at run time.
 #[inline]
 fn are_bytes(slice: &[u8])
     ensures { AreBytes slice.now }
@@ -68,7 +70,7 @@ fn are_bytes(slice: &[u8])
     let _len = slice.len();
 }
 
-/// An Ethernet II header.
+/// Proves that each field of an Ethernet II header fits its width on the wire. It has no effect at run time.
 #[inline]
 fn ethernet2_fits(header: &Ethernet2Header)
     ensures { FitsEthernet2 header.now }
@@ -78,7 +80,7 @@ fn ethernet2_fits(header: &Ethernet2Header)
     are_bytes(&header.destination);
 }
 
-/// VLAN tags.
+/// Proves that each field of one or two VLAN tags fits its width on the wire. It has no effect at run time.
 #[inline]
 fn tags_fit(tags: &VlanHeader)
     ensures { FitTags tags.now }
@@ -92,7 +94,7 @@ fn tags_fit(tags: &VlanHeader)
     }
 }
 
-/// A VLAN tag.
+/// Proves that each field of a VLAN tag fits its width on the wire. It has no effect at run time.
 #[inline]
 fn tag_fits(tag: &SingleVlanHeader)
     ensures { FitsVlan tag.now }
@@ -102,7 +104,8 @@ fn tag_fits(tag: &SingleVlanHeader)
     let _ether_type = tag.ether_type.0;
 }
 
-/// The header of a cooked capture.
+/// Proves that the fields of a Linux cooked capture header that writing does not fill in (packet type, sender address
+/// and its length) fit their widths on the wire. It has no effect at run time.
 #[inline]
 fn linux_sll_fits(header: &LinuxSllHeader)
     ensures { FitsCooked header.now }
@@ -112,7 +115,7 @@ fn linux_sll_fits(header: &LinuxSllHeader)
     are_bytes(&header.sender_address);
 }
 
-/// An IPv4 header.
+/// Proves that each field of an IPv4 header fits its width on the wire. It has no effect at run time.
 #[inline]
 pub(crate) fn ipv4_fits(header: &Ipv4Header)
     ensures { FitsIpv4 header.now }
@@ -131,7 +134,7 @@ pub(crate) fn ipv4_fits(header: &Ipv4Header)
     are_bytes(header.options.as_slice());
 }
 
-/// An IPv6 header.
+/// Proves that each field of an IPv6 header fits its width on the wire. It has no effect at run time.
 #[inline]
 pub(crate) fn ipv6_fits(header: &Ipv6Header)
     ensures { FitsIpv6 header.now }
@@ -145,7 +148,7 @@ pub(crate) fn ipv6_fits(header: &Ipv6Header)
     are_bytes(&header.destination);
 }
 
-/// A UDP header.
+/// Proves that each field of a UDP header fits its width on the wire. It has no effect at run time.
 #[inline]
 fn udp_fits(header: &UdpHeader)
     ensures { FitsUdp header.now }
@@ -156,7 +159,7 @@ fn udp_fits(header: &UdpHeader)
     let _checksum = header.checksum;
 }
 
-/// A TCP header.
+/// Proves that each field of a TCP header fits its width on the wire. It has no effect at run time.
 #[inline]
 fn tcp_fits(header: &TcpHeader)
     ensures { FitsTcp header.now }
@@ -172,7 +175,8 @@ fn tcp_fits(header: &TcpHeader)
     are_bytes(header.options.as_slice());
 }
 
-/// The length of an ICMP header.
+/// Proves that an ICMPv4 header is encoded in the number of bytes that its type has. The encoding is computed only for
+/// the proof.
 #[inline]
 pub(crate) fn icmpv4_fits(header: &Icmpv4Header)
     ensures { length (icmpv4_bytes header.now) ≡ icmpv4_len (icmpv4_kind header.now.icmp_type) }
@@ -180,7 +184,7 @@ pub(crate) fn icmpv4_fits(header: &Icmpv4Header)
     let _bytes = header.to_bytes();
 }
 
-/// The length of an ICMPv6 header.
+/// Proves that an ICMPv6 header is encoded in 8 bytes. The encoding is computed only for the proof.
 #[inline]
 pub(crate) fn icmpv6_fits(header: &Icmpv6Header)
     ensures { length (icmpv6_bytes header.now) ≡ 8 }

@@ -1,4 +1,5 @@
-//! The IP headers of a step, as they were given: a header alone has not the room that extension headers take.
+//! The IP headers of a frame being built, in the form in which the caller passed them: for a header alone, the space of
+//! extension headers is not initialized.
 
 ghost use Rattle.std.specs.Prelude.{◌≡◌, ◌+◌, ◌≤◌, ◌++◌, ℕ, length, None, MatchResult, true, false};
 ghost use Rattle.std.specs.Prelude.{vec_capacity, vec_len};
@@ -9,7 +10,7 @@ ghost use Rattle.ep_packet.specs.IpHeaders.{ip_headers_type, payload_len_rows, w
 ghost use Rattle.ep_packet.specs.declared.ip_headers.IpHeaders.{IpHeaders};
 ghost use Rattle.ep_transport.specs.TransportHeaders.{transport_header_len};
 ghost use Rattle.ep_build.specs.BuildErrors.{is_icmpv6_in_ipv4};
-ghost use Rattle.ep_build.specs.BuiltFrames.{with_checksum_behind};
+ghost use Rattle.ep_build.specs.BuiltFrames.{with_checksum_after};
 ghost use Rattle.ep_build.specs.Placing.{AreAt};
 ghost use Rattle.ep_build.specs.Steps.{part_headers, plain_ipv4, plain_ipv6};
 
@@ -22,19 +23,19 @@ use ep_ip::{Ipv4Header, Ipv6Header};
 use ep_packet::IpHeaders;
 use ep_transport::{TransportChecksumError, TransportHeader};
 
-/// The IP headers of a step.
+/// IP headers of a frame being built, in the form in which the caller passed them.
 #[derive(Drop)]
 pub enum IpPart {
-    /// A header of IPv4, and no extension header.
+    /// IPv4 header without extension headers.
     Plain4(Ipv4Header),
-    /// A header of IPv6, and no extension header.
+    /// IPv6 header without extension headers.
     Plain6(Ipv6Header),
-    /// Any headers.
+    /// IP header of version 4 or 6, with its extension headers.
     Any(IpHeaders),
 }
 
 impl IpPart {
-    /// The number of bytes of the headers: at most 9268.
+    /// Length of the IP header and its extension headers in bytes, at most 9268.
     #[inline(always)]
     pub(crate) fn header_len(&self) -> usize
         ensures value { result ≡ ip_headers_len (part_headers self.now) }
@@ -49,13 +50,14 @@ impl IpPart {
     }
 }
 
-/// IP headers from which a frame is written.
+/// IP headers that a built frame can have: implemented by `Ipv4Header`, `Ipv6Header` and `IpHeaders`.
 pub(crate) trait IsIpHeaders {
-    /// All headers that these are.
+    /// The IP headers as an `IpHeaders`, for contracts.
     ghost headers: { Self → IpHeaders };
 
-    /// Lets the headers lead to this number and count this many bytes behind them, and gives the ether type under which
-    /// a link layer carries them.
+    /// Sets the next header values so that they lead through all extension headers to `last`, the protocol number of
+    /// the IP payload, and the length field for a payload of `len` bytes. Returns the ether type of the IP version. A
+    /// length above the maximum of the length field is an error.
     fn link(&mut self, last: IpNumber, len: usize) -> Result<EtherType, ValueTooBigError<usize>>
         ensures { MatchResult result
             (λ ether_type. (first_row (payload_len_rows (headers self.old) len) ≡ None)
@@ -63,22 +65,24 @@ pub(crate) trait IsIpHeaders {
             × (ether_type.0 ≡ ip_headers_type (headers self.old)))
             (λ error. Refuses (payload_len_rows (headers self.old) len) error) };
 
-    /// Sets the checksum of a transport header between these headers and this payload.
+    /// Sets the checksum of a transport header that follows these IP headers and is followed by `payload`. ICMPv6 after
+    /// IPv4 is an error.
     fn set_checksum(&self, transport: &mut TransportHeader, payload: &[u8]) -> WriteResult
         requires { transport_header_len transport.old + length payload.now ≤ 65535 }
         ensures { MatchResult result
             (λ _. (is_icmpv6_in_ipv4 (headers self.now) transport.old ≡ false)
-            × (transport.new ≡ with_checksum_behind (headers self.now) payload.now transport.old))
+            × (transport.new ≡ with_checksum_after (headers self.now) payload.now transport.old))
             (λ error. (is_icmpv6_in_ipv4 (headers self.now) transport.old ≡ true)
             × (error ≡ BuildWriteError.Icmpv6InIpv4)) };
 
-    /// The number of bytes of the headers: at most 9268.
+    /// Length of the IP header and its extension headers in bytes, at most 9268.
     fn headers_len(&self) -> usize
         ensures value { result ≡ ip_headers_len (headers self.now) }
         ensures bound { result ≤ 9268 }
         ensures fits { FitsIpHeader (headers self.now) };
 
-    /// Appends headers that lead through all of them, for which there is room.
+    /// Appends the bytes of the IP header and its extension headers, whose next header values must lead through all of
+    /// them in the order of RFC 8200, 4.1. The buffer must have the capacity.
     fn append(&self, buf: &mut Vec<u8>)
         requires leads { (last : ℕ) × LeadThrough (headers self.now) (ip_headers_parts (headers self.now)) last }
         requires room { vec_len buf.old + ip_headers_len (headers self.now) ≤ vec_capacity buf.old }
@@ -87,7 +91,8 @@ pub(crate) trait IsIpHeaders {
         ensures capacity { vec_capacity buf.old ≤ vec_capacity buf.new }
         ensures fits { FitParts (ip_headers_parts (headers self.now)) };
 
-    /// Writes the headers to a slice that has room for them, from this place on, and gives the place behind them.
+    /// Writes the IP header and its extension headers to the slice at offset `at`, and returns the offset after them.
+    /// The slice must be long enough. An IPv4 header gets its computed checksum.
     fn place(&mut self, at: usize, slice: &mut [u8]) -> usize
         requires { at + ip_headers_len (headers self.old) ≤ length slice.old }
         ensures bytes { AreAt (written_headers (headers self.old) (ip_headers_parts (headers self.old)))

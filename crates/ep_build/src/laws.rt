@@ -1,4 +1,5 @@
-//! Laws of the definitions that the contracts of this crate cite. Each is the contract of a function that does nothing.
+//! Laws of building frames, and of comparing and cloning the errors. Each law is the contract of a function without
+//! effect.
 
 ghost use Rattle.std.specs.Prelude.{◌≡◌, ◌↔◌, ℕ, ◌<◌, ◌^◌, List, IsTrue, length};
 ghost use Rattle.ep_base.specs.Bytes.{AreBytes};
@@ -13,10 +14,10 @@ ghost use Rattle.ep_build.specs.declared.link_part.LinkPart.{LinkPart};
 
 use crate::err::{BuildSliceWriteError, BuildWriteError};
 
-/// A built fragment is read back as the fragment that it was built from: a frame of IP headers that say a fragment,
-/// with a number that is none of an extension header of their version, carries that fragment, whatever entry of its
-/// first layer reads it, provided that the fields fit and that no row of the builder's table refuses the payload. The
-/// frame of a payload of bytes is bytes.
+/// States that a frame built from IP headers that mark a fragment, and from the fragment's payload, is read back as
+/// that fragment by both parsers. This requires that the header fields fit their widths, that the payload is not too
+/// long, that its protocol number is not that of an extension header, and that a Linux cooked capture header has a
+/// known packet type. If the payload consists of bytes, so does the frame.
 pub fn built_fragments()
     ensures read_back { (part : LinkPart) (headers : IpHeaders) (last : IpNumber) (payload : List ℕ) → FitsLink part
         → FitIpHeaders headers → last.0 < 2 ^ 8 → IsBuildable (held_ip part headers last) (length payload)
@@ -26,21 +27,21 @@ pub fn built_fragments()
         → AreBytes payload → AreBytes (built_frame (held_ip part headers last) payload) }
 {}
 
-/// Errors are equal where they are the same.
+/// States that two errors of building a frame are equal (`==`) if and only if they are identical.
 pub fn comparisons()
     ensures write_errors { (a b : BuildWriteError) → IsTrue (⟦<BuildWriteError as PartialEq>⟧.eq a b) ↔ (a ≡ b) }
     ensures slice_write_errors { (a b : BuildSliceWriteError)
         → IsTrue (⟦<BuildSliceWriteError as PartialEq>⟧.eq a b) ↔ (a ≡ b) }
 {}
 
-/// A clone equals its source.
+/// States that a clone of an error of building a frame equals its source.
 pub fn clones()
     ensures write_errors { (a b : BuildWriteError) → ⟦<BuildWriteError as Clone>⟧.is_clone a b → b ≡ a }
     ensures slice_write_errors { (a b : BuildSliceWriteError)
         → ⟦<BuildSliceWriteError as Clone>⟧.is_clone a b → b ≡ a }
 {}
 
-/// A clone takes no memory, and so is there.
+/// States that cloning an error of building a frame doesn't allocate, and so always succeeds.
 pub fn clones_succeed()
     ensures write_errors { (a : BuildWriteError) → ⟦<BuildWriteError as Clone>⟧.is_infallible a }
     ensures slice_write_errors { (a : BuildSliceWriteError) → ⟦<BuildSliceWriteError as Clone>⟧.is_infallible a }

@@ -1,4 +1,4 @@
-//! Frames that are built header by header.
+//! Building frames header by header, from the link header to the payload.
 #![tactic(auto)]
 
 pub mod err;

@@ -1,8 +1,8 @@
-//! What stands in front of a net layer.
+//! The headers of a frame being built that are before its network layer.
 
 ghost use Rattle.std.specs.Prelude.{◌≡◌, ◌+◌, ◌≤◌, ◌++◌, length, vec_len, vec_capacity};
 ghost use Rattle.ep_build.specs.Placing.{AreAt};
-ghost use Rattle.ep_build.specs.BuiltFrames.{link_before, link_part_bytes, link_part_len, tags_before, tags_len, tags_type};
+ghost use Rattle.ep_build.specs.BuiltFrames.{link_with_type, link_part_bytes, link_part_len, tags_with_type, tags_len, tags_type};
 
 use crate::placing::put;
 use ep_base::EtherType;
@@ -11,22 +11,21 @@ use ep_link::{
     LinuxSllProtocolType, SingleVlanHeader, VlanHeader,
 };
 
-/// The link header in front of a net layer, and the VLAN tags behind it, where there are any. Their ether types are
-/// those of what follows them only once they are written.
+/// Link header and VLAN tags, if any, of a frame being built. Their ether types are set when the frame is written.
 #[derive(Drop)]
 pub enum LinkPart {
-    /// None: the frame begins with the IP header.
+    /// No link header: the frame begins with the network layer.
     Absent,
-    /// An Ethernet II header.
+    /// Ethernet II header, without VLAN tags.
     Ethernet2(Ethernet2Header),
-    /// An Ethernet II header, and one VLAN tag or two.
+    /// Ethernet II header and the one or two VLAN tags after it.
     Tagged(Ethernet2Header, VlanHeader),
-    /// The header of a Linux cooked capture.
+    /// Linux cooked capture header (SLL v1).
     LinuxSll(LinuxSllHeader),
 }
 
 impl LinkPart {
-    /// The number of bytes: at most 22.
+    /// Length of the link header and its VLAN tags in bytes, at most 22.
     #[inline]
     pub(crate) fn header_len(&self) -> usize
         ensures value { result ≡ link_part_len self.now }
@@ -40,87 +39,103 @@ impl LinkPart {
         }
     }
 
-    /// Appends the headers before a net layer of this ether type, for which there is room.
+    /// Appends the link header and its VLAN tags, with `ether_type` as the ether type of the network layer after them.
+    /// The buffer must have the capacity.
     #[inline]
-    pub(crate) fn write_before(&self, ether_type: EtherType, buf: &mut Vec<u8>)
-        requires room { vec_len buf.old + length (link_part_bytes (link_before self.now ether_type))
+    pub(crate) fn append_with_type(&self, ether_type: EtherType, buf: &mut Vec<u8>)
+        requires room { vec_len buf.old + length (link_part_bytes (link_with_type self.now ether_type))
             ≤ vec_capacity buf.old }
-        ensures items { buf.new.items ≡ buf.old.items ++ link_part_bytes (link_before self.now ether_type) }
+        ensures items { buf.new.items ≡ buf.old.items ++ link_part_bytes (link_with_type self.now ether_type) }
         ensures capacity { vec_capacity buf.old ≤ vec_capacity buf.new }
     {
         match self {
             LinkPart::Absent => {}
-            LinkPart::Ethernet2(header) => ethernet2_before(header, ether_type).write(buf).unwrap(),
+            LinkPart::Ethernet2(header) => ethernet2_with_type(header, ether_type)
+                .write(buf)
+                .unwrap(),
             LinkPart::Tagged(header, tags) => write_tagged(header, tags, ether_type, buf),
-            LinkPart::LinuxSll(header) => linux_sll_before(header, ether_type).write(buf).unwrap(),
+            LinkPart::LinuxSll(header) => linux_sll_with_type(header, ether_type)
+                .write(buf)
+                .unwrap(),
         }
     }
 
-    /// Writes these headers to the front of a slice that has room for them, and gives the place behind them.
+    /// Writes the link header and its VLAN tags to the start of the slice, with `ether_type` as the ether type of the
+    /// network layer after them. Returns the offset after them. The slice must be long enough.
     #[inline]
-    pub(crate) fn place_before(&self, ether_type: EtherType, slice: &mut [u8]) -> usize
-        requires { length (link_part_bytes (link_before self.now ether_type)) ≤ length slice.old }
-        ensures { AreAt (link_part_bytes (link_before self.now ether_type)) slice.old slice.new 0 result }
+    pub(crate) fn place_with_type(&self, ether_type: EtherType, slice: &mut [u8]) -> usize
+        requires { length (link_part_bytes (link_with_type self.now ether_type)) ≤ length slice.old }
+        ensures { AreAt (link_part_bytes (link_with_type self.now ether_type)) slice.old slice.new 0 result }
     {
         match self {
             LinkPart::Absent => 0,
             LinkPart::Ethernet2(header) => {
-                put(&ethernet2_before(header, ether_type).to_bytes(), 0, slice)
+                put(
+                    &ethernet2_with_type(header, ether_type).to_bytes(),
+                    0,
+                    slice,
+                )
             }
             LinkPart::Tagged(header, tags) => place_tagged(header, tags, ether_type, slice),
             LinkPart::LinuxSll(header) => {
-                put(&linux_sll_before(header, ether_type).to_bytes(), 0, slice)
+                put(
+                    &linux_sll_with_type(header, ether_type).to_bytes(),
+                    0,
+                    slice,
+                )
             }
         }
     }
 }
 
-/// Appends an Ethernet II header and the tags behind it, before what has this type, for which there is room.
+/// Appends an Ethernet II header and its one or two VLAN tags, with the given ether type of the network layer after
+/// them. The buffer must have the capacity.
 fn write_tagged(
     header: &Ethernet2Header,
     tags: &VlanHeader,
     ether_type: EtherType,
     buf: &mut Vec<u8>,
 )
-    requires room { vec_len buf.old + length (link_part_bytes (link_before (LinkPart.Tagged header.now tags.now)
+    requires room { vec_len buf.old + length (link_part_bytes (link_with_type (LinkPart.Tagged header.now tags.now)
         ether_type)) ≤ vec_capacity buf.old }
     ensures items { buf.new.items ≡ buf.old.items
-        ++ link_part_bytes (link_before (LinkPart.Tagged header.now tags.now) ether_type) }
+        ++ link_part_bytes (link_with_type (LinkPart.Tagged header.now tags.now) ether_type) }
     ensures capacity { vec_capacity buf.old ≤ vec_capacity buf.new }
 {
-    ethernet2_before(header, type_before(tags))
+    ethernet2_with_type(header, tags_ether_type(tags))
         .write(buf)
         .unwrap();
-    tags_before(tags, ether_type).write(buf).unwrap();
+    tags_with_type(tags, ether_type).write(buf).unwrap();
 }
 
-/// Writes an Ethernet II header and the tags behind it to the front of a slice that has room for them.
+/// Writes an Ethernet II header and its one or two VLAN tags to the start of the slice, and returns the offset after
+/// them. The slice must be long enough.
 fn place_tagged(
     header: &Ethernet2Header,
     tags: &VlanHeader,
     ether_type: EtherType,
     slice: &mut [u8],
 ) -> usize
-    requires { length (link_part_bytes (link_before (LinkPart.Tagged header.now tags.now) ether_type))
+    requires { length (link_part_bytes (link_with_type (LinkPart.Tagged header.now tags.now) ether_type))
         ≤ length slice.old }
-    ensures { AreAt (link_part_bytes (link_before (LinkPart.Tagged header.now tags.now) ether_type))
+    ensures { AreAt (link_part_bytes (link_with_type (LinkPart.Tagged header.now tags.now) ether_type))
         slice.old slice.new 0 result }
 {
     let at = put(
-        &ethernet2_before(header, type_before(tags)).to_bytes(),
+        &ethernet2_with_type(header, tags_ether_type(tags)).to_bytes(),
         0,
         slice,
     );
     put(
-        tags_before(tags, ether_type).to_bytes().as_slice(),
+        tags_with_type(tags, ether_type).to_bytes().as_slice(),
         at,
         slice,
     )
 }
 
-/// An Ethernet II header before what has this type.
+/// Returns the Ethernet II header with its ether type replaced by the given one.
 #[inline]
-fn ethernet2_before(header: &Ethernet2Header, ether_type: EtherType) -> Ethernet2Header
+fn ethernet2_with_type(header: &Ethernet2Header, ether_type: EtherType) -> Ethernet2Header
     ensures { result ≡ record header.now { ether_type = ether_type } }
 {
     Ethernet2Header {
@@ -130,10 +145,11 @@ fn ethernet2_before(header: &Ethernet2Header, ether_type: EtherType) -> Ethernet
     }
 }
 
-/// The header of a Linux cooked capture, of Ethernet, before what has this type.
+/// Returns the Linux cooked capture header with its protocol replaced by the given ether type, and its hardware type by
+/// Ethernet.
 #[inline]
-fn linux_sll_before(header: &LinuxSllHeader, ether_type: EtherType) -> LinuxSllHeader
-    ensures { LinkPart.LinuxSll result ≡ link_before (LinkPart.LinuxSll header.now) ether_type }
+fn linux_sll_with_type(header: &LinuxSllHeader, ether_type: EtherType) -> LinuxSllHeader
+    ensures { LinkPart.LinuxSll result ≡ link_with_type (LinkPart.LinuxSll header.now) ether_type }
 {
     LinuxSllHeader {
         packet_type: LinuxSllPacketType(header.packet_type.0),
@@ -144,7 +160,7 @@ fn linux_sll_before(header: &LinuxSllHeader, ether_type: EtherType) -> LinuxSllH
     }
 }
 
-/// The number of bytes of the tags.
+/// Returns the length of one or two VLAN tags in bytes: 4 or 8.
 #[inline]
 fn tags_len(tags: &VlanHeader) -> usize
     ensures value { result ≡ tags_len tags.now }
@@ -156,9 +172,10 @@ fn tags_len(tags: &VlanHeader) -> usize
     }
 }
 
-/// The ether type before the tags: of a customer tag before one, of a service tag before two (IEEE 802.1Q, 9.5).
+/// Returns the ether type in the Ethernet header before VLAN tags (IEEE 802.1Q, 9.5): 0x8100 (customer tag) before one
+/// tag, 0x88A8 (service tag) before two.
 #[inline]
-fn type_before(tags: &VlanHeader) -> EtherType
+fn tags_ether_type(tags: &VlanHeader) -> EtherType
     ensures { result.0 ≡ tags_type tags.now }
 {
     match tags {
@@ -167,23 +184,23 @@ fn type_before(tags: &VlanHeader) -> EtherType
     }
 }
 
-/// The tags before what has this type.
+/// Returns the VLAN tags with their ether types replaced: the innermost tag gets the given one, an outer tag 0x8100.
 #[inline]
-fn tags_before(tags: &VlanHeader, ether_type: EtherType) -> VlanHeader
-    ensures { result ≡ tags_before tags.now ether_type }
+fn tags_with_type(tags: &VlanHeader, ether_type: EtherType) -> VlanHeader
+    ensures { result ≡ tags_with_type tags.now ether_type }
 {
     match tags {
-        VlanHeader::Single(tag) => VlanHeader::Single(tag_before(tag, ether_type)),
+        VlanHeader::Single(tag) => VlanHeader::Single(tag_with_type(tag, ether_type)),
         VlanHeader::Double(tags) => VlanHeader::Double(DoubleVlanHeader {
-            outer: tag_before(&tags.outer, EtherType::VLAN_TAGGED_FRAME),
-            inner: tag_before(&tags.inner, ether_type),
+            outer: tag_with_type(&tags.outer, EtherType::VLAN_TAGGED_FRAME),
+            inner: tag_with_type(&tags.inner, ether_type),
         }),
     }
 }
 
-/// A tag before what has this type.
+/// Returns the VLAN tag with its ether type replaced by the given one.
 #[inline]
-fn tag_before(tag: &SingleVlanHeader, ether_type: EtherType) -> SingleVlanHeader
+fn tag_with_type(tag: &SingleVlanHeader, ether_type: EtherType) -> SingleVlanHeader
     ensures { result ≡ record tag.now { ether_type = ether_type } }
 {
     SingleVlanHeader {

@@ -1,4 +1,4 @@
-//! Frames that are built header by header.
+//! Building frames header by header, from the link header to the payload.
 
 ghost use Rattle.std.specs.Prelude.{◌≡◌};
 ghost use Rattle.ep_build.specs.Steps.{ipv4_headers_between, ipv6_headers_between, part_headers};
@@ -21,16 +21,16 @@ mod transport_steps;
 
 use holds_headers::HoldsHeaders;
 
-/// Begins a frame with its outermost header.
+/// Starts building a frame: its functions return a builder that contains the frame's outermost header.
 pub struct PacketBuilder {}
 
-/// A step of building a frame: its last header, and the headers before it. Types, numbers, lengths and checksums are
-/// filled in where the frame is written, whatever the headers hold.
+/// Builder of a frame that contains its headers so far; `LastStep` is the innermost one. Ether types, protocol numbers,
+/// lengths and checksums are filled in when the frame is written, whatever the headers contain.
 #[derive(Drop)]
 pub struct PacketBuilderStep<LastStep: HoldsHeaders> {
-    /// The headers before the last one.
+    /// Headers of the frame before the innermost one.
     before: LastStep::Before,
-    /// The last header.
+    /// Innermost header of the frame so far.
     last: LastStep::Held,
 }
 
@@ -39,7 +39,7 @@ impl PacketBuilder {
     ghost use Rattle.ep_link.specs.LinuxSll.{ethernet_hardware};
     ghost use Rattle.ep_link.specs.declared.link.linux_sll_protocol_type.LinuxSllProtocolType.TheVariants as protocol;
 
-    /// Begins with an Ethernet II header (IEEE 802.3, clause 3) of these addresses.
+    /// Begins a frame with an Ethernet II header (IEEE 802.3, clause 3) with these MAC addresses.
     #[inline(always)]
     pub fn ethernet2(source: [u8; 6], destination: [u8; 6]) -> PacketBuilderStep<Ethernet2Header>
         ensures { ethernet2_link result ≡ LinkPart.Ethernet2 (record {
@@ -58,8 +58,8 @@ impl PacketBuilder {
         }
     }
 
-    /// Begins with the header of a Linux cooked capture (SLL v1), of a device of Ethernet: which way the packet went,
-    /// and the sender's address with its length in bytes.
+    /// Begins a frame with a Linux cooked capture header (SLL v1) of an Ethernet device, with the given packet type
+    /// (direction), and sender address with its length in bytes.
     #[inline(always)]
     pub fn linux_sll(
         packet_type: LinuxSllPacketType,
@@ -86,8 +86,8 @@ impl PacketBuilder {
         }
     }
 
-    /// Begins with an IPv4 header (RFC 791, 3.1) of these addresses and this number of hops, and else the default's
-    /// fields.
+    /// Begins a frame with an IPv4 header (RFC 791, 3.1) with these addresses and this time to live. "Don't fragment"
+    /// is set, DSCP, ECN, identification and fragment offset are 0, and there are no options.
     #[inline(always)]
     pub fn ipv4(
         source: [u8; 4],
@@ -97,14 +97,14 @@ impl PacketBuilder {
         ensures link { ip_link result ≡ LinkPart.Absent }
         ensures headers { ip_step_headers result ≡ ipv4_headers_between source destination time_to_live }
     {
-        ip_behind(
+        ip_step_after(
             LinkPart::Absent,
             ipv4_between(source, destination, time_to_live),
         )
     }
 
-    /// Begins with an IPv6 header (RFC 8200, 3) of these addresses and this number of hops, with the traffic class and
-    /// the flow label 0.
+    /// Begins a frame with an IPv6 header (RFC 8200, 3) with these addresses and this hop limit. Traffic class and flow
+    /// label are 0.
     #[inline(always)]
     pub fn ipv6(
         source: [u8; 16],
@@ -114,25 +114,25 @@ impl PacketBuilder {
         ensures link { ip_link result ≡ LinkPart.Absent }
         ensures headers { ip_step_headers result ≡ ipv6_headers_between source destination hop_limit }
     {
-        ip_behind(
+        ip_step_after(
             LinkPart::Absent,
             ipv6_between(source, destination, hop_limit),
         )
     }
 
-    /// Begins with these IP headers.
+    /// Begins a frame with the given IP header and its extension headers, without a link header.
     #[inline(always)]
     pub fn ip(ip_headers: IpHeaders) -> PacketBuilderStep<IpHeaders>
         ensures link { ip_link result ≡ LinkPart.Absent }
         ensures headers { ip_step_headers result ≡ ip_headers }
     {
-        ip_behind(LinkPart::Absent, IpPart::Any(ip_headers))
+        ip_step_after(LinkPart::Absent, IpPart::Any(ip_headers))
     }
 }
 
-/// The step of IP headers behind this link part.
+/// Returns the builder of a frame with the given link header and IP headers.
 #[inline(always)]
-fn ip_behind(link: LinkPart, headers: IpPart) -> PacketBuilderStep<IpHeaders>
+fn ip_step_after(link: LinkPart, headers: IpPart) -> PacketBuilderStep<IpHeaders>
     ensures { result ≡ record { before = link; last = headers } }
 {
     PacketBuilderStep {
@@ -141,7 +141,8 @@ fn ip_behind(link: LinkPart, headers: IpPart) -> PacketBuilderStep<IpHeaders>
     }
 }
 
-/// The default headers of IPv4 with these addresses and this number of hops.
+/// Returns an IPv4 header with these addresses and this time to live. "Don't fragment" is set, and the other fields
+/// have their default values.
 #[inline(always)]
 fn ipv4_between(source: [u8; 4], destination: [u8; 4], time_to_live: u8) -> IpPart
     ensures { part_headers result ≡ ipv4_headers_between source destination time_to_live }
@@ -155,7 +156,7 @@ fn ipv4_between(source: [u8; 4], destination: [u8; 4], time_to_live: u8) -> IpPa
     IpPart::Plain4(header)
 }
 
-/// The default headers of IPv6 with these addresses and this number of hops.
+/// Returns an IPv6 header with these addresses and this hop limit. The other fields have their default values.
 #[inline(always)]
 fn ipv6_between(source: [u8; 16], destination: [u8; 16], hop_limit: u8) -> IpPart
     ensures { part_headers result ≡ ipv6_headers_between source destination hop_limit }

@@ -1,16 +1,16 @@
-//! Writing the headers that a step holds, and a payload, to the front of a slice, without memory: all checks first, then
-//! the bytes.
+//! Writing the headers and the payload of a built frame to the start of a slice, without allocation: first all checks,
+//! then the bytes.
 
 ghost use Rattle.std.specs.Prelude.{◌+◌, ◌≤◌, ◌++◌, length, OnOk, option_map};
 ghost use Rattle.ep_packet.specs.IpHeaders.{FitsIpHeader, ip_headers_len, ip_headers_parts, written_headers};
 ghost use Rattle.ep_transport.specs.TransportHeaders.{transport_bytes, transport_header_len};
 ghost use Rattle.ep_ext.specs.Chains.{FitParts, parts_bytes};
-ghost use Rattle.ep_ext.specs.ExtensionParts.{authentication, fragment, hop_by_hop, parts_there, routing};
+ghost use Rattle.ep_ext.specs.ExtensionParts.{authentication, fragment, hop_by_hop, optional_part, routing};
 ghost use Rattle.ep_ext.specs.Ipv6Chains.{final_by, ipv6_parts, routing_header};
 ghost use Rattle.ep_build.specs.BuiltFragments.{IsFragmentReadBack};
-ghost use Rattle.ep_build.specs.BuiltFrames.{held_ip, held_transport, link_before, link_part_bytes, link_part_len};
+ghost use Rattle.ep_build.specs.BuiltFrames.{held_ip, held_transport, link_with_type, link_part_bytes, link_part_len};
 ghost use Rattle.ep_build.specs.Fits.{FitsTransport};
-ghost use Rattle.ep_build.specs.Placing.{AreAt, FillsFront, PartsAreAt};
+ghost use Rattle.ep_build.specs.Placing.{AreAt, FillsStart, PartsAreAt};
 ghost use Rattle.ep_build.specs.ReadBack.{IsReadBack};
 ghost use Rattle.ep_build.specs.Steps.{part_headers};
 
@@ -25,16 +25,17 @@ use ep_ext::{
 };
 use ep_transport::TransportHeader;
 
-/// Writes the frame of the IP headers of a step and a transport header to the front of the slice.
+/// Writes the frame of a link header, IP headers, a transport header and a payload to the start of the slice. Returns
+/// its length in bytes.
 #[inline(always)]
-pub(crate) fn place_behind(
+pub(crate) fn place_transport_step(
     link: LinkPart,
     ip: IpPart,
     mut transport: TransportHeader,
     payload: &[u8],
     slice: &mut [u8],
 ) -> SliceWriteResult
-    ensures filled { FillsFront (held_transport link (part_headers ip) transport) payload.now
+    ensures filled { FillsStart (held_transport link (part_headers ip) transport) payload.now
         slice.old slice.new result }
     ensures read_back { OnOk result (IsReadBack link (part_headers ip) transport payload.now) }
 {
@@ -51,7 +52,8 @@ pub(crate) fn place_behind(
     }
 }
 
-/// Writes the frame of IP headers and a transport header, which is that of what the headers lead to.
+/// Writes the frame of a link header, IP headers, a transport header and a payload to the start of the slice, and
+/// returns its length in bytes. The next header values are set to lead to the transport header.
 #[inline(never)]
 fn place_transport<Headers: IsIpHeaders>(
     link: &LinkPart,
@@ -60,7 +62,7 @@ fn place_transport<Headers: IsIpHeaders>(
     payload: &[u8],
     slice: &mut [u8],
 ) -> SliceWriteResult
-    ensures filled { FillsFront (held_transport link.now (Headers.headers headers.old) transport.old) payload.now
+    ensures filled { FillsStart (held_transport link.now (Headers.headers headers.old) transport.old) payload.now
         slice.old slice.new result }
     ensures read_back { OnOk result (IsReadBack link.now (Headers.headers headers.old) transport.old payload.now) }
 {
@@ -77,16 +79,17 @@ fn place_transport<Headers: IsIpHeaders>(
     Ok(size)
 }
 
-/// Writes the frame of the IP headers of a step, which lead to this number, to the front of the slice.
+/// Writes the frame of a link header, IP headers and a payload of protocol number `last` to the start of the slice, and
+/// returns its length in bytes. The next header values are set to lead to `last`.
 #[inline(always)]
-pub(crate) fn place_ip_part(
+pub(crate) fn place_ip_step(
     link: LinkPart,
     ip: IpPart,
     last: IpNumber,
     payload: &[u8],
     slice: &mut [u8],
 ) -> SliceWriteResult
-    ensures filled { FillsFront (held_ip link (part_headers ip) last) payload.now slice.old slice.new result }
+    ensures filled { FillsStart (held_ip link (part_headers ip) last) payload.now slice.old slice.new result }
     ensures fragment { OnOk result (IsFragmentReadBack link (part_headers ip) last payload.now) }
 {
     match ip {
@@ -96,7 +99,8 @@ pub(crate) fn place_ip_part(
     }
 }
 
-/// Writes the frame of IP headers that lead to this number.
+/// Writes the frame of a link header, IP headers and a payload of protocol number `last` to the start of the slice, and
+/// returns its length in bytes. The next header values are set to lead to `last`.
 #[inline(never)]
 fn place_ip<Headers: IsIpHeaders>(
     link: &LinkPart,
@@ -105,7 +109,7 @@ fn place_ip<Headers: IsIpHeaders>(
     payload: &[u8],
     slice: &mut [u8],
 ) -> SliceWriteResult
-    ensures filled { FillsFront (held_ip link.now (Headers.headers headers.old) last) payload.now
+    ensures filled { FillsStart (held_ip link.now (Headers.headers headers.old) last) payload.now
         slice.old slice.new result }
     ensures fragment { OnOk result (IsFragmentReadBack link.now (Headers.headers headers.old) last payload.now) }
 {
@@ -125,7 +129,8 @@ fn place_ip<Headers: IsIpHeaders>(
     Ok(size)
 }
 
-/// Writes the link part and linked IP headers to the front of a slice that has room for them.
+/// Writes a link header and IP headers, whose lengths and next header values are set already, to the start of the
+/// slice. Returns the offset after them. The slice must be long enough.
 #[inline(always)]
 fn place_headers<Headers: IsIpHeaders>(
     link: &LinkPart,
@@ -135,16 +140,17 @@ fn place_headers<Headers: IsIpHeaders>(
 ) -> usize
     requires room { link_part_len link.now + ip_headers_len (Headers.headers headers.old) ≤ length slice.old }
     requires fits { FitsIpHeader (Headers.headers headers.old) }
-    ensures bytes { AreAt (link_part_bytes (link_before link.now ether_type) ++ written_headers
+    ensures bytes { AreAt (link_part_bytes (link_with_type link.now ether_type) ++ written_headers
         (Headers.headers headers.old) (ip_headers_parts (Headers.headers headers.old))) slice.old slice.new 0 result }
     ensures fits { FitParts (ip_headers_parts (Headers.headers headers.old)) }
 {
     link_fits(link);
-    let at = link.place_before(ether_type, slice);
+    let at = link.place_with_type(ether_type, slice);
     headers.place(at, slice)
 }
 
-/// Writes a transport header to a slice that has room for it, from this place on.
+/// Writes a transport header to the slice at offset `at`, and returns the offset after it. The slice must be long
+/// enough.
 #[inline]
 fn place_header(transport: &TransportHeader, at: usize, slice: &mut [u8]) -> usize
     requires room { at + transport_header_len transport.now ≤ length slice.old }
@@ -159,7 +165,8 @@ fn place_header(transport: &TransportHeader, at: usize, slice: &mut [u8]) -> usi
     }
 }
 
-/// Writes the extension headers of IPv6 to a slice that has room for them, from this place on.
+/// Writes IPv6 extension headers to the slice at offset `at`, in the order of RFC 8200, 4.1, and returns the offset
+/// after them. The slice must be long enough.
 pub(crate) fn place_extensions(extensions: &Ipv6Extensions, at: usize, slice: &mut [u8]) -> usize
     requires { at + length (parts_bytes (ipv6_parts extensions.now)) ≤ length slice.old }
     ensures { PartsAreAt (ipv6_parts extensions.now) slice.old slice.new at result }
@@ -172,11 +179,12 @@ pub(crate) fn place_extensions(extensions: &Ipv6Extensions, at: usize, slice: &m
     place_final(&extensions.routing, at, slice)
 }
 
-/// Writes hop by hop or destination options, where there are any.
+/// Writes an IPv6 hop-by-hop or destination options header, if present, to the slice at offset `at`, and returns the
+/// offset after it.
 #[inline(never)]
 fn place_raw(header: &Option<Ipv6RawExtHeader>, at: usize, slice: &mut [u8]) -> usize
-    requires { at + length (parts_bytes (parts_there hop_by_hop header.now)) ≤ length slice.old }
-    ensures { PartsAreAt (parts_there hop_by_hop header.now) slice.old slice.new at result }
+    requires { at + length (parts_bytes (optional_part hop_by_hop header.now)) ≤ length slice.old }
+    ensures { PartsAreAt (optional_part hop_by_hop header.now) slice.old slice.new at result }
 {
     match header {
         Some(header) => put(header.to_bytes().as_slice(), at, slice),
@@ -184,12 +192,12 @@ fn place_raw(header: &Option<Ipv6RawExtHeader>, at: usize, slice: &mut [u8]) -> 
     }
 }
 
-/// Writes a routing header, where there is one.
+/// Writes an IPv6 routing header, if present, to the slice at offset `at`, and returns the offset after it.
 #[inline(never)]
 fn place_routing(behind: &Option<Ipv6RoutingExtensions>, at: usize, slice: &mut [u8]) -> usize
-    requires { at + length (parts_bytes (parts_there routing (option_map routing_header behind.now)))
+    requires { at + length (parts_bytes (optional_part routing (option_map routing_header behind.now)))
         ≤ length slice.old }
-    ensures { PartsAreAt (parts_there routing (option_map routing_header behind.now)) slice.old slice.new at result }
+    ensures { PartsAreAt (optional_part routing (option_map routing_header behind.now)) slice.old slice.new at result }
 {
     match behind {
         Some(behind) => put(behind.routing.to_bytes().as_slice(), at, slice),
@@ -197,10 +205,11 @@ fn place_routing(behind: &Option<Ipv6RoutingExtensions>, at: usize, slice: &mut 
     }
 }
 
-/// Writes the destination options behind a routing header, where there are any.
+/// Writes the IPv6 destination options header that follows a routing header, if present, to the slice at offset `at`,
+/// and returns the offset after it.
 fn place_final(behind: &Option<Ipv6RoutingExtensions>, at: usize, slice: &mut [u8]) -> usize
-    requires { at + length (parts_bytes (parts_there hop_by_hop (final_by behind.now))) ≤ length slice.old }
-    ensures { PartsAreAt (parts_there hop_by_hop (final_by behind.now)) slice.old slice.new at result }
+    requires { at + length (parts_bytes (optional_part hop_by_hop (final_by behind.now))) ≤ length slice.old }
+    ensures { PartsAreAt (optional_part hop_by_hop (final_by behind.now)) slice.old slice.new at result }
 {
     match behind {
         Some(behind) => place_raw(&behind.final_destination_options, at, slice),
@@ -208,10 +217,10 @@ fn place_final(behind: &Option<Ipv6RoutingExtensions>, at: usize, slice: &mut [u
     }
 }
 
-/// Writes a fragment header, where there is one.
+/// Writes an IPv6 fragment header, if present, to the slice at offset `at`, and returns the offset after it.
 fn place_fragment(header: &Option<Ipv6FragmentHeader>, at: usize, slice: &mut [u8]) -> usize
-    requires { at + length (parts_bytes (parts_there fragment header.now)) ≤ length slice.old }
-    ensures { PartsAreAt (parts_there fragment header.now) slice.old slice.new at result }
+    requires { at + length (parts_bytes (optional_part fragment header.now)) ≤ length slice.old }
+    ensures { PartsAreAt (optional_part fragment header.now) slice.old slice.new at result }
 {
     match header {
         Some(header) => put(&header.to_bytes(), at, slice),
@@ -219,15 +228,15 @@ fn place_fragment(header: &Option<Ipv6FragmentHeader>, at: usize, slice: &mut [u
     }
 }
 
-/// Writes an authentication header, where there is one.
+/// Writes an authentication header, if present, to the slice at the given offset, and returns the offset after it.
 #[inline(never)]
 pub(crate) fn place_authentication(
     header: &Option<IpAuthHeader>,
     at: usize,
     slice: &mut [u8],
 ) -> usize
-    requires { at + length (parts_bytes (parts_there authentication header.now)) ≤ length slice.old }
-    ensures { PartsAreAt (parts_there authentication header.now) slice.old slice.new at result }
+    requires { at + length (parts_bytes (optional_part authentication header.now)) ≤ length slice.old }
+    ensures { PartsAreAt (optional_part authentication header.now) slice.old slice.new at result }
 {
     match header {
         Some(header) => put(header.to_bytes().as_slice(), at, slice),
@@ -235,7 +244,7 @@ pub(crate) fn place_authentication(
     }
 }
 
-/// Writes bytes to a slice that has room for them, from this place on, and gives the place behind them.
+/// Copies `bytes` into the slice at offset `at`, and returns the offset after them. The slice must be long enough.
 #[inline]
 pub(crate) fn put(bytes: &[u8], at: usize, slice: &mut [u8]) -> usize
     requires { at + length bytes.now ≤ length slice.old }

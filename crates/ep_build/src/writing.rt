@@ -1,4 +1,5 @@
-//! Writing the headers that a step holds, and a payload: all checks first, then one reservation, then the bytes.
+//! Appending the headers and the payload of a built frame to a buffer: first all checks, then one reservation, then the
+//! bytes.
 
 ghost use Rattle.std.specs.Prelude.{◌≡◌, ◌≤◌, ◌<◌, ◌+◌, ◌++◌, ℕ, [], length, Err, IfErr, MatchResult, OnOk, OnErr};
 ghost use Rattle.std.specs.Prelude.{vec_capacity, vec_len};
@@ -11,7 +12,7 @@ ghost use Rattle.ep_build.specs.BuiltFragments.{IsFragmentReadBack};
 ghost use Rattle.ep_build.specs.ReadBack.{IsArpReadBack, IsReadBack};
 ghost use Rattle.ep_build.specs.BuildErrors.{IsBuildable, IsBuildError, RefusesBuild};
 ghost use Rattle.ep_build.specs.BuiltFrames.{held_ip, held_transport, held_arp, built_frame, built_size};
-ghost use Rattle.ep_build.specs.BuiltFrames.{link_before, link_part_bytes, link_part_len, transport_number};
+ghost use Rattle.ep_build.specs.BuiltFrames.{link_with_type, link_part_bytes, link_part_len, transport_number};
 ghost use Rattle.ep_build.specs.BuiltFrames.{with_length};
 ghost use Rattle.ep_build.specs.Placing.{ArePrepared};
 ghost use Rattle.ep_build.specs.Steps.{part_headers};
@@ -24,7 +25,8 @@ use ep_base::{EtherType, IpNumber};
 use ep_link::ArpPacket;
 use ep_transport::{TransportHeader, UdpHeader};
 
-/// Appends the frame of IP headers that lead to this number.
+/// Appends the frame of a link header, IP headers and a payload of protocol number `last` to a buffer. The next header
+/// values are set to lead to `last`.
 #[inline(never)]
 pub(crate) fn write_ip<Headers: IsIpHeaders>(
     link: &LinkPart,
@@ -58,10 +60,10 @@ pub(crate) fn write_ip<Headers: IsIpHeaders>(
     Ok(())
 }
 
-/// Appends the frame of the IP headers of a step, which lead to this number. It is inlined and takes the step's parts
-/// by value, so that where the call stands behind `ipv4` or `ipv6` there is no room for other headers.
+/// Appends the frame of a link header, IP headers and a payload of protocol number `last` to a buffer. It is inlined
+/// and takes its arguments owned, so that a frame of a plain IPv4 or IPv6 header has no space for other headers.
 #[inline(always)]
-pub(crate) fn write_ip_part(
+pub(crate) fn append_ip_step(
     link: LinkPart,
     ip: IpPart,
     last: IpNumber,
@@ -85,9 +87,10 @@ pub(crate) fn write_ip_part(
     }
 }
 
-/// The same of the IP headers of a step and a transport header.
+/// Appends the frame of a link header, IP headers, a transport header and a payload to a buffer. It is inlined and
+/// takes its arguments owned, so that a frame of a plain IPv4 or IPv6 header has no space for other headers.
 #[inline(always)]
-pub(crate) fn write_behind(
+pub(crate) fn append_transport_step(
     link: LinkPart,
     ip: IpPart,
     mut transport: TransportHeader,
@@ -118,7 +121,8 @@ pub(crate) fn write_behind(
     }
 }
 
-/// Appends the frame of IP headers and a transport header, which is that of what the headers lead to.
+/// Appends the frame of a link header, IP headers, a transport header and a payload to a buffer. The next header values
+/// are set to lead to the transport header.
 #[inline(never)]
 pub(crate) fn write_transport<Headers: IsIpHeaders>(
     link: &LinkPart,
@@ -148,8 +152,8 @@ pub(crate) fn write_transport<Headers: IsIpHeaders>(
     Ok(())
 }
 
-/// Links the headers of a frame, fills in the length and the checksum of its transport header, and gives the ether type
-/// before them and the number of bytes of the frame.
+/// Sets the next header values and the length field of the IP headers of a frame, and the length (UDP) and checksum of
+/// its transport header. Returns the ether type of the IP version, and the length of the frame in bytes.
 #[inline(always)]
 pub(crate) fn prepared<Headers: IsIpHeaders>(
     link: &LinkPart,
@@ -176,7 +180,7 @@ pub(crate) fn prepared<Headers: IsIpHeaders>(
     Ok((ether_type, size))
 }
 
-/// Appends the frame of an ARP packet.
+/// Appends the frame of a link header and an ARP packet to a buffer.
 pub(crate) fn write_arp(link: &LinkPart, packet: &ArpPacket, buf: &mut Vec<u8>) -> WriteResult
     ensures ok { OnOk result (buf.new.items
         ≡ buf.old.items ++ built_frame (held_arp link.now (arp_of packet.now)) []) }
@@ -192,12 +196,12 @@ pub(crate) fn write_arp(link: &LinkPart, packet: &ArpPacket, buf: &mut Vec<u8>) 
     if buf.reserve(size).is_err() {
         return Err(BuildWriteError::OutOfMemory);
     }
-    link.write_before(EtherType::ARP, buf);
+    link.append_with_type(EtherType::ARP, buf);
     packet.write(buf).unwrap();
     Ok(())
 }
 
-/// The protocol number of a transport header.
+/// Returns the protocol number of a UDP, TCP, ICMPv4 or ICMPv6 header.
 #[inline]
 fn number_of(transport: &TransportHeader) -> IpNumber
     ensures { result.0 ≡ transport_number transport.now }
@@ -210,7 +214,7 @@ fn number_of(transport: &TransportHeader) -> IpNumber
     }
 }
 
-/// Sets the length field of UDP for this many bytes of payload.
+/// Sets the UDP length field for a payload of `len` bytes; does nothing for another transport header.
 #[inline]
 fn set_length(transport: &mut TransportHeader, len: usize)
     requires { transport_header_len transport.old + len ≤ 65535 }
@@ -221,7 +225,8 @@ fn set_length(transport: &mut TransportHeader, len: usize)
     }
 }
 
-/// Appends the link part and linked IP headers, for which there is room.
+/// Appends a link header and IP headers, whose lengths and next header values are set already, to a buffer, which must
+/// have the capacity.
 #[inline]
 fn append_headers<Headers: IsIpHeaders>(
     link: &LinkPart,
@@ -234,7 +239,7 @@ fn append_headers<Headers: IsIpHeaders>(
     requires room { vec_len buf.old + (link_part_len link.now + ip_headers_len (Headers.headers headers.now))
         ≤ vec_capacity buf.old }
     requires fits { FitsIpHeader (Headers.headers headers.now) }
-    ensures items { buf.new.items ≡ buf.old.items ++ (link_part_bytes (link_before link.now ether_type)
+    ensures items { buf.new.items ≡ buf.old.items ++ (link_part_bytes (link_with_type link.now ether_type)
         ++ written_headers (Headers.headers headers.now) (ip_headers_parts (Headers.headers headers.now))) }
     ensures len { vec_len buf.new
         ≡ vec_len buf.old + (link_part_len link.now + ip_headers_len (Headers.headers headers.now)) }
@@ -242,6 +247,6 @@ fn append_headers<Headers: IsIpHeaders>(
     ensures fits { FitParts (ip_headers_parts (Headers.headers headers.now)) }
 {
     link_fits(link);
-    link.write_before(ether_type, buf);
+    link.append_with_type(ether_type, buf);
     headers.append(buf);
 }

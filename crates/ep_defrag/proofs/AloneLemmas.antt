@@ -1,4 +1,4 @@
--- Each stream is answered as if it were alone, and payloads that are given in cuts come out.
+-- Each stream is answered as if it were alone, and payloads that arrive in cuts are reassembled.
 use Rattle.std.proofs.Common.{◌≡◌, ℕ, zero, suc, ◌≤◌, Bool, true, false, List, [], ◌∷◌, ◌++◌, append_assoc, length, map}
 use Rattle.std.proofs.Common.{take, Option, Some, None, option_map, slice_get, sym, refl, ap, ◌∙◌, arith, inl, inr}
 use Rattle.std.specs.List.{filter, AllByRecursion, All, Any}
@@ -23,7 +23,7 @@ use Rattle.ep_defrag.proofs.CutLemmas.{cut_fits_after, assembled-cuts}
 use Rattle.ep_defrag.proofs.CallLemmas.{after_one_more}
 use Rattle.ep_defrag.proofs.OpenLemmas.{drop_keeps, StaysKept, stays_kept}
 
--- ---- what is handed out, where the fragments are cuts
+-- ---- payloads returned when the fragments are cuts
 module _ (payload : List ℕ) where
   handed_cuts : {C : Type 0} (refusal : Option IpDefragError) (name : IpFragId C) (accepted : List IpFragment)
       → AllByRecursion (IsCut payload) accepted
@@ -45,7 +45,7 @@ module _ (payload : List ℕ) where
   handed_at limit table returns_buffer cuts = tt
 
 module _ {T C V : Type 0} (limit : ℕ) (eq : C → C → Bool) (keep : V → T → Bool) where
-  -- the answer at a place is that to the call there
+  -- The answer at an index is the answer to the call at that index.
   answer_at : (earlier calls : List (Call T C V)) (at : ℕ) (call : Call T C V) (answer : Answer)
       → slice_get calls at ≡ Some call → slice_get (answers_after limit eq keep earlier calls) at ≡ Some answer
       → answer ≡ answer_to limit (table_after limit eq keep (earlier ++ take at calls)) call
@@ -76,14 +76,14 @@ module _ {T C V : Type 0} (limit : ℕ) (eq : C → C → Bool) (keep : V → T 
       (handed_at payload limit (table_after limit eq keep (map shown (take at calls))) (shown call)
       (recursion_from_All (IsCut payload) _ cuts))
 
-  -- the answers of a stream, by the calls that concern it alone
+  -- answers to a stream, computed from the calls that concern it alone
   abbrev pub answers_alone : Option (Kept T) → List (Call T C V) → List Answer
   answers_alone kept [] = []
   answers_alone kept (call ∷ calls) =
       answer_to limit (λ name. kept) call ∷ answers_alone (kept_after limit keep kept call) calls
 
   module _ (laws : IsEquivalence eq) where
-    -- names of one stream have one entry
+    -- Equal identifiers have one entry.
     concerned_same : (a b : IpFragId C) → same_stream eq a b ≡ true → (call : Call T C V)
         → concerns eq a call ≡ concerns eq b call
     concerned_same a b alike (gives_frame None timestamp channel) = refl
@@ -100,7 +100,7 @@ module _ {T C V : Type 0} (limit : ℕ) (eq : C → C → Bool) (keep : V → T 
         ap (λ (test : Call T C V → Bool). kept_after_all limit keep None (filter test calls))
         (λ i call. concerned_same a b alike call i)
 
-    -- a call that concerns a stream is answered by what is kept of that stream
+    -- A call that concerns a stream is answered according to the state of that stream.
     pub answer_alone : (earlier : List (Call T C V)) (name : IpFragId C) (call : Call T C V)
         → concerns eq name call ≡ true
         → answer_to limit (table_after limit eq keep earlier) call
@@ -137,7 +137,7 @@ module _ {T C V : Type 0} (limit : ℕ) (eq : C → C → Bool) (keep : V → T 
     alone name a b same =
         answers_of_stream name a ∙ ap (answers_alone None) same ∙ sym (answers_of_stream name b)
 
-  -- ---- a stream that is given cuts
+  -- ---- a stream of cuts
   module _ (payload : List ℕ) (short : length payload ≤ limit) where
     pub all_more : {X : Type 0} (P : X → Type 0) (xs : List X) (x : X) → AllByRecursion P xs → P x
         → AllByRecursion P (xs ++ x ∷ [])
@@ -150,7 +150,7 @@ module _ {T C V : Type 0} (limit : ℕ) (eq : C → C → Bool) (keep : V → T 
     any_later : {X : Type 0} (P : X → Type 0) (x : X) (xs : List X) → Any P xs → Any P (x ∷ xs)
     any_later P x xs later = (suc later.0, later.1, omega (arith, later.2), later.3, later.4)
 
-    -- what a fragment that fits is answered, and what is kept then
+    -- The answer to a cut that fits returns nothing but the payload.
     answer_to_cut : (name : IpFragId C) (accepted : List IpFragment) (refusal : Option IpDefragError)
         → refusal ≡ None → AllByRecursion (IsCut payload) accepted
         → HandsOutAtMost payload (answer_unless refusal name accepted)
@@ -238,7 +238,7 @@ module _ {T C V : Type 0} (limit : ℕ) (eq : C → C → Bool) (keep : V → T 
           (comes_alone (calls_of eq name calls) None tt (recursion_from_All (GivesCut payload) _ gives)
           (stays_kept limit eq keep name calls stays) refl whole)
 
-      -- the fragments that are given are cuts
+      -- The fragments of such calls are cuts.
       given_cuts : (given : List (Call T C V)) → AllByRecursion (GivesCut payload) given
           → AllByRecursion (IsCut payload) (fragments_of given)
       given_cuts [] all = tt

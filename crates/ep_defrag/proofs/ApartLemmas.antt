@@ -1,5 +1,4 @@
--- Ranges that stand apart, in order: what that says of places, of positions and of parts, and that the positions which
--- they fill determine them.
+-- Ranges in order and separated: their indices, positions and sublists. The positions that they fill determine them.
 use Rattle.std.proofs.Common.{◌≡◌, ℕ, zero, suc, ◌+◌, ◌<◌, ◌≤◌, max, Bool, true, false, cond, ◌||◌, List, [], ◌∷◌, ◌++◌}
 use Rattle.std.proofs.Common.{length, get_or, sym, refl, ap, ◌∙◌, inl, inr, arith}
 use Rattle.std.specs.List.{AllByRecursion, list_any, count_by}
@@ -9,15 +8,15 @@ use Rattle.std.proofs.lemmas.Bool.{lt-ltb}
 use Rattle.std.proofs.lemmas.Bool.Decides.{nat_tests}
 use Rattle.std.proofs.lemmas.List.Sums.{sum_by-cons}
 use Rattle.ep_defrag.specs.declared.ip_frag_range.IpFragRange.{IpFragRange}
-use Rattle.ep_defrag.specs.Ranges.{has_byte, touches, are_apart, AreApart}
+use Rattle.ep_defrag.specs.Ranges.{has_byte, touches, are_separate, AreSeparate}
 use Rattle.ep_defrag.proofs.SectionLemmas.{IsOrdered}
 
--- The ranges stand apart in order, and the first starts no earlier than a position.
+-- Holds if the ranges are in order and separated, and the first starts no earlier than a position.
 abbrev pub AreApartFrom : ℕ → List IpFragRange → Type 0
 AreApartFrom least [] = Unit {0}
 AreApartFrom least (range ∷ later) = (least ≤ range.start) × IsOrdered range × AreApartFrom (range.end + 1) later
 
-from_first : (range : IpFragRange) (later : List IpFragRange) → are_apart (range ∷ later) ≡ true
+from_first : (range : IpFragRange) (later : List IpFragRange) → are_separate (range ∷ later) ≡ true
     → IsOrdered range × AreApartFrom (range.end + 1) later
 from_first range [] apart = (leb-true _ _ apart, tt)
 from_first range (next ∷ later) apart =
@@ -27,13 +26,13 @@ from_first range (next ∷ later) apart =
     let rest = from_first next later parts.1 in
     (leb-true _ _ here.0, (omega arith, rest.0, rest.1))
 
-pub from_apart : (ranges : List IpFragRange) → AreApart ranges → AreApartFrom 0 ranges
+pub from_apart : (ranges : List IpFragRange) → AreSeparate ranges → AreApartFrom 0 ranges
 from_apart [] apart = tt
 from_apart (range ∷ later) apart =
     let first = from_first range later apart in
     (omega arith, first.0, first.1)
 
-pub to_apart : (least : ℕ) (ranges : List IpFragRange) → AreApartFrom least ranges → AreApart ranges
+pub to_apart : (least : ℕ) (ranges : List IpFragRange) → AreApartFrom least ranges → AreSeparate ranges
 to_apart least [] apart = refl
 to_apart least (range ∷ []) apart = le-leb range.start range.end apart.1
 to_apart least (range ∷ next ∷ later) apart =
@@ -45,8 +44,8 @@ pub ordered_from : (least : ℕ) (ranges : List IpFragRange) → AreApartFrom le
 ordered_from least [] apart = tt
 ordered_from least (range ∷ later) apart = (apart.1, ordered_from (range.end + 1) later apart.2)
 
--- ---- by place
--- each starts no earlier than the position, and is not reversed
+-- ---- by index
+-- Each range starts no earlier than the position, and is not reversed.
 pub from_at : (least : ℕ) (ranges : List IpFragRange) → AreApartFrom least ranges → (k : ℕ) (d : IpFragRange)
     → k < length ranges → (least ≤ (get_or ranges k d).start) × IsOrdered (get_or ranges k d)
 from_at least [] apart k d within = absurd (omega arith)
@@ -55,7 +54,7 @@ from_at least (range ∷ later) apart (suc k) d within =
     let rest = from_at (range.end + 1) later apart.2 k d (omega arith) in
     (omega (arith, rest.0, apart.0, apart.1), rest.1)
 
--- a later one starts behind the end of an earlier one
+-- A later range starts after the end of an earlier one.
 pub behind_earlier : (least : ℕ) (ranges : List IpFragRange) → AreApartFrom least ranges → (i j : ℕ) (d : IpFragRange)
     → i < j → j < length ranges → (get_or ranges i d).end < (get_or ranges j d).start
 behind_earlier least [] apart i j d before within = absurd (omega arith)
@@ -66,7 +65,7 @@ behind_earlier least (range ∷ later) apart zero (suc j) d before within =
 behind_earlier least (range ∷ later) apart (suc i) (suc j) d before within =
     behind_earlier (range.end + 1) later apart.2 i j d (omega arith) (omega arith)
 
-module _ (ranges : List IpFragRange) (apart : AreApart ranges) where
+module _ (ranges : List IpFragRange) (apart : AreSeparate ranges) where
   pub starts_rise : IsNonDecreasingBy (λ (range : IpFragRange). range.start) ranges
   starts_rise i j d before within = elim (cases_eq i j) [
     | inl same ↦ rw same (omega arith)
@@ -87,14 +86,14 @@ module _ (ranges : List IpFragRange) (apart : AreApart ranges) where
     )
   ]
 
--- ---- in parts
--- ranges behind a bound may be asked to start behind it
+-- ---- sublists
+-- Ranges that all start after a bound have their least position raised to it.
 pub raised : (least bound more : ℕ) (ranges : List IpFragRange) → AreApartFrom least ranges
     → AllByRecursion (λ range. bound < range.start) ranges → more ≤ max least (bound + 1) → AreApartFrom more ranges
 raised least bound more [] apart all within = tt
 raised least bound more (range ∷ later) apart all within = (omega (arith, apart.0, all.0), apart.1, apart.2)
 
--- the position from which ranges may start that stand behind these
+-- least position at which a range after these may start
 abbrev pub least_behind : ℕ → List IpFragRange → ℕ
 least_behind least [] = least
 least_behind least (range ∷ later) = least_behind (range.end + 1) later
@@ -119,7 +118,7 @@ least_behind-le least bound (range ∷ later) low all =
     least_behind-le (range.end + 1) bound later (omega (arith, all.0)) all.1
 
 -- ---- by position
--- a test that holds of no range behind the position, as `touches` and `has_byte` at it
+-- Holds if the test is false for ranges that start after the position, as `touches` and `has_byte` at it are.
 abbrev pub IsAt : ℕ → (IpFragRange → Bool) → Type 0
 IsAt position test = (range : IpFragRange) → position < range.start → test range ≡ false
 
@@ -151,7 +150,7 @@ none_counted position least (range ∷ later) apart before =
       none_counted position (range.end + 1) later apart.2 (omega (arith, apart.0, apart.1)),
     )
 
--- no position touches two of them
+-- No position touches two of them.
 pub at_most_one : (position least : ℕ) (ranges : List IpFragRange) → AreApartFrom least ranges
     → count_by (touches position) ranges ≤ 1
 at_most_one position least [] apart = omega arith
@@ -169,7 +168,7 @@ at_most_one position least (range ∷ later) apart =
 pub touches_start : (range : IpFragRange) → IsOrdered range → touches range.start range ≡ true
 touches_start range ordered = grind (arith, nat_tests, ordered)
 
--- the first starts no later than any position that is touched
+-- The first range starts no later than any touched position.
 first_start : (position least : ℕ) (range : IpFragRange) (later : List IpFragRange) → AreApartFrom least (range ∷ later)
     → list_any (touches position) (range ∷ later) ≡ true → range.start ≤ position
 first_start position least range later apart touched = elim (cases_lt position range.start) [
@@ -181,7 +180,7 @@ first_start position least range later apart touched = elim (cases_lt position r
       ∙ touched))
 ]
 
--- nor does the first end behind that of other ranges with the same first start that have the same bytes
+-- The first range does not end after that of other ranges with an equal first start and equal bytes.
 first_end : (least : ℕ) (range other : IpFragRange) (later others : List IpFragRange)
     → AreApartFrom least (range ∷ later) → other.start ≡ range.start
     → list_any (has_byte range.end) (range ∷ later) ≡ list_any (has_byte range.end) (other ∷ others)
@@ -199,7 +198,7 @@ first_end least range other later others apart same bytes = elim (cases_lt range
       ∙ ap (λ t. t || list_any (has_byte range.end) others) here))
 ]
 
--- a test of positions holds of later ranges alike where it does with the first, which is the same
+-- If a test agrees on two lists of ranges with an equal first range, it agrees on the rest of them.
 rest_alike : (position : ℕ) (test : IpFragRange → Bool) → IsAt position test → (range : IpFragRange)
     (later others : List IpFragRange) → AreApartFrom (range.end + 1) later → AreApartFrom (range.end + 1) others
     → (range.end < position → test range ≡ false)
@@ -219,7 +218,7 @@ past_touches position range past = grind (arith, nat_tests)
 past_has_byte : (position : ℕ) (range : IpFragRange) → range.end < position → has_byte position range ≡ false
 past_has_byte position range past = grind (arith, nat_tests)
 
--- Ranges that stand apart in order are determined by the positions that they touch and those where they have a byte.
+-- Ranges in order and separated are determined by the positions that they touch and those at which they have a byte.
 pub same_from_positions : (least other : ℕ) (xs ys : List IpFragRange) → AreApartFrom least xs → AreApartFrom other ys
     → ((position : ℕ) → list_any (has_byte position) xs ≡ list_any (has_byte position) ys)
     → ((position : ℕ) → list_any (touches position) xs ≡ list_any (touches position) ys) → xs ≡ ys

@@ -1,4 +1,4 @@
--- Frames that are built of cuts of a payload put the payload together.
+-- Frames built from cuts of a payload reassemble to the payload.
 use Rattle.std.proofs.Common.{◌≡◌, ℕ, zero, suc, ◌^◌, ◌<◌, ◌≤◌, Bool, true, false, cond, List, [], ◌∷◌, ◌++◌, length}
 use Rattle.std.proofs.Common.{map, Option, Some, None, option_map, slice_get, refl, ap, ◌∙◌, inl, inr}
 use Rattle.std.specs.List.{AllByRecursion}
@@ -28,7 +28,7 @@ use Rattle.ep_defrag.specs.FragmentRefusals.{refusal_within}
 use Rattle.ep_defrag.specs.PayloadCuts.{IsCut}
 use Rattle.ep_defrag.specs.Streams.{PacketFragment, name_of, packet_fragment, same_stream, same_version, source_of}
 use Rattle.ep_defrag.specs.Calls.{Call, gives_frame, drops_streams, returns_buffer, Kept, accepted_in, kept_of}
-use Rattle.ep_defrag.specs.Calls.{kept_unless, table_after, Payload, payload_of, payload_handed_out, nothing_handed_out}
+use Rattle.ep_defrag.specs.Calls.{kept_unless, table_after, Payload, payload_of, payload_returned, no_payload}
 use Rattle.ep_defrag.specs.Calls.{Answer, answer_unless, answer_to, answers_after}
 use Rattle.ep_defrag.specs.BuiltCuts.{BuiltCut, IsBuiltCut, IsUnder, answers_to_frames, cut_answers, cut_call}
 use Rattle.ep_defrag.specs.BuiltCuts.{cut_fragment, cut_frame, frames_to, gives_to, whole_of}
@@ -37,7 +37,7 @@ use Rattle.ep_defrag.proofs.CallLemmas.{after_one_more}
 use Rattle.ep_defrag.proofs.AloneLemmas.{answer_alone, all_more, kept_cuts}
 use Rattle.ep_defrag.proofs.OpenLemmas.{drop_keeps, StaysAfter, stays_here, stays_later}
 
--- ---- what is handed out has the number and the source of the name
+-- ---- the returned payload has the protocol number and the length source of the identifier
 
 same_source : (a b : IpFragVersionSpecId) → same_version a b ≡ true → source_of a ≡ source_of b
 same_source (Ipv4 source destination number) (Ipv4 source' destination' number') same = refl
@@ -56,32 +56,32 @@ module _ {C : Type 0} (eq : C → C → Bool) (name : IpFragId C) (payload : Lis
       let source : source_of id.ip ≡ source_of name.ip = same_source id.ip name.ip third.1 in
       λ i. record { ip_number = record { 0 = number i }; len_source = source i; bytes = same i }
 
-  -- what a cut that fits is answered
+  -- A cut that fits is answered with the payload if it is then complete, and with nothing otherwise.
   answer_cut : (id : IpFragId C) (accepted : List IpFragment) → same_stream eq id name ≡ true
       → AllByRecursion (IsCut payload) accepted → answer_unless None id accepted
-      ≡ cond (is_complete accepted) (payload_handed_out (whole_of name payload)) nothing_handed_out
+      ≡ cond (is_complete accepted) (payload_returned (whole_of name payload)) no_payload
   answer_cut id accepted alike cuts = elim (cases_Bool (is_complete accepted)) [
     | inl now ↦ rw now
-        (ap (λ (handed : Payload). payload_handed_out handed)
+        (ap (λ (handed : Payload). payload_returned handed)
         (handed_is id accepted alike (assembled-cuts payload accepted cuts now)))
     | inr not_yet ↦ rw not_yet refl
   ]
 
--- ---- a built frame gives the pool the fragment that it was built from
+-- ---- a built frame carries the fragment that it was built from
 
--- built frames are read back
+-- Holds if built frames are read back.
 abbrev AreReadBack : Type 0
 AreReadBack = (part : LinkPart) (headers : IpHeaders) (last : IpNumber) (payload : List ℕ) → FitsLink part
     → FitIpHeaders headers → last.0 < 2 ^ 8 → IsBuildable (held_ip part headers last) (length payload)
     → IsFragmentReadBack part headers last payload
 
--- they are bytes
+-- Holds if built frames consist of bytes.
 abbrev HaveBytes : Type 0
 HaveBytes = (part : LinkPart) (headers : IpHeaders) (last : IpNumber) (payload : List ℕ) → FitsLink part
     → FitIpHeaders headers → last.0 < 2 ^ 8 → IsBuildable (held_ip part headers last) (length payload)
     → AreBytes payload → AreBytes (built_frame (held_ip part headers last) payload)
 
--- and bytes are one frame or none
+-- Holds if bytes are either one frame or rejected with one error.
 abbrev AreDecided : Type 0
 AreDecided = (entry : Entry) (bytes : List ℕ) → AreBytes bytes
     → IsDecided (IsFrame entry bytes) (RefusesFrame entry bytes)
@@ -134,7 +134,7 @@ module _ (read_back : AreReadBack) (have_bytes : HaveBytes) (decided : AreDecide
         (ap (λ (answers : List Answer). answer_to limit (table_after limit eq keep earlier) call ∷ answers)
         (answers_all (earlier ++ call ∷ []) cuts is.1 under.1))
 
-    -- and none of them is a drop
+    -- None of the calls is a drop.
     no_drop : (cuts : List (BuiltCut T C)) (at : ℕ) (value : V)
         → slice_get (map (cut_call {V = V}) cuts) at ≡ Some (drops_streams value) → ⊥
     no_drop [] at value is = cc
@@ -144,9 +144,9 @@ module _ (read_back : AreReadBack) (have_bytes : HaveBytes) (decided : AreDecide
     pub stays_all : (cuts : List (BuiltCut T C)) → StaysAfter limit eq keep name [] (map cut_call cuts)
     stays_all cuts at value is = absurd (no_drop cuts at value is)
 
-    -- ---- other calls stand between them
+    -- ---- other calls between them
     module _ (laws : IsEquivalence eq) (short : length payload ≤ limit) where
-      -- what is expected behind calls that leave this of the stream
+      -- expected answers, after calls that leave the stream in this state
       abbrev expected : Option (Kept T) → List (BuiltCut T C) → List Answer
       expected kept cuts = cut_answers (whole_of name payload) (accepted_in kept) (map cut_fragment cuts)
 
@@ -212,7 +212,7 @@ module _ (read_back : AreReadBack) (have_bytes : HaveBytes) (decided : AreDecide
                 after_one_more limit eq keep earlier call name true does
                 ∙ ap (λ (r : Option IpDefragError). kept_unless r before part timestamp) fits in
                 let answer : answer_to limit (table_after limit eq keep earlier) call
-                ≡ cond (is_complete after) (payload_handed_out (whole_of name payload)) nothing_handed_out =
+                ≡ cond (is_complete after) (payload_returned (whole_of name payload)) no_payload =
                 answer_alone limit eq keep laws earlier name call does
                 ∙ ap (λ (r : Option IpDefragError). answer_unless r (name_of carried channel) after) fits
                 ∙ answer_cut eq name payload (name_of carried channel) after does more in
@@ -224,9 +224,9 @@ module _ (read_back : AreReadBack) (have_bytes : HaveBytes) (decided : AreDecide
                 ≡ cut_answers (whole_of name payload) (accepted_in before) (part ∷ map cut_fragment cuts) =
                 elim (cases_Bool (is_complete after)) [
                   | inl now ↦ rw (does, now, answer) (rw now (ap (λ (answers : List Answer).
-                      payload_handed_out (whole_of name payload) ∷ answers) (rw now at rest)))
+                      payload_returned (whole_of name payload) ∷ answers) (rw now at rest)))
                   | inr not_yet ↦ rw (does, not_yet, answer) (rw not_yet (ap (λ (answers : List Answer).
-                      nothing_handed_out ∷ answers) (rw not_yet at rest)))
+                      no_payload ∷ answers) (rw not_yet at rest)))
                 ] in
                 goal ∙ ap (λ (f : IpFragment).
                 cut_answers (whole_of name payload) (accepted_in before) (f ∷ map cut_fragment cuts)) is_part

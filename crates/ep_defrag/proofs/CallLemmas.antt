@@ -1,4 +1,4 @@
--- A list of calls, from the clauses of the single call alone.
+-- A list of calls, by the clauses of single calls alone.
 use Rattle.std.proofs.Common.{◌≡◌, ℕ, Bool, true, false, cond, List, [], ◌∷◌, ◌++◌, append_assoc, Option, Some, None}
 use Rattle.std.proofs.Common.{refl, ap, ◌∙◌}
 use Rattle.std.proofs.lemmas.List.{append-nil}
@@ -9,14 +9,14 @@ use Rattle.ep_defrag.specs.Calls.{Call, gives_frame, drops_streams, returns_buff
 use Rattle.ep_defrag.specs.Calls.{concerns, calls_of, table_after, answer_to, answers_after, table_with}
 
 module _ {T C V : Type 0} (limit : ℕ) (eq : C → C → Bool) (keep : V → T → Bool) where
-  -- one more call at the end of those that concern a stream
+  -- One more call at the end changes the state of a stream as that call does.
   kept_after_all-push : (kept : Option (Kept T)) (calls : List (Call T C V)) (call : Call T C V)
       → kept_after_all limit keep kept (calls ++ call ∷ [])
       ≡ kept_after limit keep (kept_after_all limit keep kept calls) call
   kept_after_all-push kept [] call = refl
   kept_after_all-push kept (first ∷ calls) call = kept_after_all-push (kept_after limit keep kept first) calls call
 
-  -- what one more call changes: nothing where it doesn't concern the stream
+  -- One more call changes the state of a stream only if it concerns the stream.
   pub after_one_more : (calls : List (Call T C V)) (call : Call T C V) (name : IpFragId C) (does : Bool)
       → concerns eq name call ≡ does → table_after limit eq keep (calls ++ call ∷ []) name
       ≡ cond does (kept_after limit keep (table_after limit eq keep calls name) call)
@@ -39,7 +39,7 @@ module _ {T C V : Type 0} (limit : ℕ) (eq : C → C → Bool) (keep : V → T 
   table_after-push calls (drops_streams value) name = after_one_more calls (drops_streams value) name true refl
   table_after-push calls returns_buffer name = after_one_more calls returns_buffer name false refl
 
-  -- what it is answered
+  -- One more call at the end has one more answer.
   pub answers_after-push : (earlier calls : List (Call T C V)) (call : Call T C V)
       → answers_after limit eq keep earlier (calls ++ call ∷ [])
       ≡ answers_after limit eq keep earlier calls

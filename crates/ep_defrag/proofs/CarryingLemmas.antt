@@ -1,4 +1,4 @@
--- Of each stream of which some frame carries a fragment, frames that carry others.
+-- If some frame carries a fragment of a stream, other frames carry its other fragments.
 use Rattle.std.proofs.Common.{◌≡◌, ℕ, zero, suc, ◌+◌, ◌*◌, ◌/◌, ◌^◌, ◌<◌, ◌≤◌, Bool, true, false, cond, ◌||◌, eqb, ltb}
 use Rattle.std.proofs.Common.{List, [], ◌∷◌, ◌++◌, append_assoc, length, Option, Some, None, sym, refl, ap, ◌∙◌, subst}
 use Rattle.std.proofs.Common.{inl, inr, arith}
@@ -16,7 +16,7 @@ use Rattle.ep_base.specs.declared.len_source.LenSource.TheVariants as by_source
 use Rattle.ep_ext.specs.declared.ip_auth_header.IpAuthHeader.{IpAuthHeader}
 use Rattle.ep_ext.specs.declared.ipv6_fragment_header.Ipv6FragmentHeader.{Ipv6FragmentHeader}
 use Rattle.ep_ext.specs.Chains.{IpVersion, ipv4, ipv6, chain_of, demand_of, ends, takes, misplaced, is_first}
-use Rattle.ep_ext.specs.Chains.{IsChainBehind, IsExtensionChain}
+use Rattle.ep_ext.specs.Chains.{IsChainAfter, IsExtensionChain}
 use Rattle.ep_ext.specs.ExtensionParts.{ExtensionPart, hop_by_hop, destination_options, routing, fragment}
 use Rattle.ep_ext.specs.ExtensionParts.{authentication, part_next, IsExtensionPart}
 use Rattle.ep_ext.specs.FragmentHeader.{FitsFragmentHeader, fragment_header_bytes}
@@ -45,9 +45,9 @@ use Rattle.ep_defrag.specs.IpFragments.{IpFragment}
 use Rattle.ep_defrag.specs.Completing.{CarryingFrame, is_part, CarriesOf}
 use Rattle.ep_build.proofs.ByteListLemmas.{AllBytes, all, none, more, both, both_bytes, word, long}
 
--- ---- what the name of a stream says, of which a frame carries a fragment
+-- ---- the identifier of a stream from a frame that carries a fragment
 
--- what a frame may have as addresses, identification and number
+-- Holds if a frame can have these addresses, this identification and this protocol number.
 abbrev FitsId : FragmentId → ℕ → Type 0
 FitsId (ipv4_id source destination identification) number =
     (length source ≡ 4) × AreBytes source × (length destination ≡ 4) × AreBytes destination
@@ -56,7 +56,7 @@ FitsId (ipv6_id source destination identification) number =
     (length source ≡ 16) × AreBytes source × (length destination ≡ 16) × AreBytes destination
     × (identification < 2 ^ 32) × (number < 2 ^ 8) × (demand_of ipv6 slices (fragment_number ∷ []) number ≡ ends)
 
--- and as identifiers of VLANs
+-- Holds if a frame can have these VLAN identifiers.
 abbrev FitIds : List ℕ → Type 0
 FitIds ids = AllByRecursion (λ id. id < 2 ^ 12) ids
 
@@ -79,19 +79,19 @@ next_fits number bytes (fragment header) rest is = is.1.encodes.fits.next_header
 next_fits number bytes (authentication header) rest is = is.1.encodes.fits.next_header
 
 last_fits : (version : IpVersion) (taken : List ℕ) (number : ℕ) (bytes : List ℕ) (parts : List ExtensionPart)
-    (last : ℕ) (rest : List ℕ) → number < 2 ^ 8 → IsChainBehind version slices taken number bytes parts last rest
+    (last : ℕ) (rest : List ℕ) → number < 2 ^ 8 → IsChainAfter version slices taken number bytes parts last rest
     → last < 2 ^ 8
 last_fits version taken number bytes [] last rest fits chain = omega (arith, fits, chain.1)
 last_fits version taken number bytes (part ∷ parts) last rest fits chain =
     last_fits version (number ∷ taken) (part_next part) chain.1.0 parts last rest
     (next_fits number bytes part chain.1.0 chain.1.1) chain.1.2
 
--- hop by hop options end no chain
+-- The number of the hop-by-hop options does not end a chain.
 goes_on : (taken : List ℕ) → cond (is_first taken) takes misplaced ≡ ends → ⊥
 goes_on [] same = cc
 goes_on (nearest ∷ taken) same = cc
 
--- a number that ends a chain ends it behind whatever headers
+-- A number that ends a chain ends it after any headers.
 ends_behind : (taken other : List ℕ) (number : ℕ) → demand_of ipv6 slices taken number ≡ ends
     → demand_of ipv6 slices other number ≡ ends
 ends_behind taken other number is = elim (cases_Bool (eqb number hop_by_hop_number)) [
@@ -100,7 +100,7 @@ ends_behind taken other number is = elim (cases_Bool (eqb number hop_by_hop_numb
 ]
 
 last_ends : (taken other : List ℕ) (number : ℕ) (bytes : List ℕ) (parts : List ExtensionPart) (last : ℕ)
-    (rest : List ℕ) → IsChainBehind ipv6 slices taken number bytes parts last rest
+    (rest : List ℕ) → IsChainAfter ipv6 slices taken number bytes parts last rest
     → demand_of ipv6 slices other last ≡ ends
 last_ends taken other number bytes [] last rest chain =
     rw (chain.1) (ends_behind taken other number chain.0)
@@ -108,7 +108,7 @@ last_ends taken other number bytes (part ∷ parts) last rest chain =
     last_ends (number ∷ taken) other (part_next part) chain.1.0 parts last rest chain.1.2
 
 header_fits : (taken : List ℕ) (number : ℕ) (bytes : List ℕ) (parts : List ExtensionPart) (last : ℕ)
-    (rest : List ℕ) → IsChainBehind ipv6 slices taken number bytes parts last rest → (found : Ipv6FragmentHeader)
+    (rest : List ℕ) → IsChainAfter ipv6 slices taken number bytes parts last rest → (found : Ipv6FragmentHeader)
     → first_fragment parts ≡ Some found → FitsFragmentHeader found
 header_fits taken number bytes [] last rest chain found first = absurd (cc)
 header_fits taken number bytes (hop_by_hop header ∷ parts) last rest chain found first =
@@ -123,7 +123,7 @@ header_fits taken number bytes (fragment header ∷ parts) last rest chain found
     let same : header ≡ found = cc in
     subst FitsFragmentHeader same chain.1.1.1.encodes.fits
 
--- ---- the net layer
+-- ---- the network layer
 ipv4_named : (ids bytes : List ℕ) (packet : IpPacket Ipv4Header) (found : FrameFragment) → IsIpv4 slices bytes packet
     → net_fragment ids (ipv4_layer packet) ≡ Some found → (found.vlan_ids ≡ ids) × FitsId found.id found.payload_number
 ipv4_named ids bytes packet found is carries =
@@ -178,7 +178,7 @@ net_named ids any_ip bytes layer found (ipv4_part packet, is, same) carries =
 net_named ids any_ip bytes layer found (ipv6_part packet, is, same) carries =
     ipv6_named ids bytes packet found is (rw same at carries)
 
--- ---- the whole frame
+-- ---- the frame
 abbrev IsSomeLayer : NetLayer → Type 0
 IsSomeLayer layer = (kind : NetKind) × ((bytes : List ℕ) × IsNetLayer slices kind bytes layer)
 
@@ -243,18 +243,18 @@ named seen =
     let within = frame_inner seen.entry seen.bytes layers seen.is in
     let there = and_then_some (net_fragment (vlan_ids_in layers.link_exts)) layers.net seen.found seen.carries in
     let layer = within.layer there.0 there.1 in
-    let says = net_named (vlan_ids_in layers.link_exts) layer.0 layer.1.0 there.0 seen.found layer.1.1 there.2 in
+    let stated = net_named (vlan_ids_in layers.link_exts) layer.0 layer.1.0 there.0 seen.found layer.1.1 there.2 in
     record {
-      count = rw (says.0) within.count;
-      fit = rw (says.0) within.fit;
-      id = says.1;
+      count = rw (stated.0) within.count;
+      fit = rw (stated.0) within.fit;
+      id = stated.1;
     }
 
 -- ---- tags
 abbrev type_of : ℕ → EtherType
 type_of number = record { 0 = number }
 
--- the type before tags of these identifiers, behind which stands what has this type
+-- ether type before VLAN tags with these identifiers that are followed by this ether type
 abbrev type_before : List ℕ → ℕ → ℕ
 type_before [] type = type
 type_before (id ∷ ids) type = vlan_type
@@ -314,7 +314,7 @@ inside_tags (id ∷ ids) (suc room) type payload net transport few fit fits no_t
       inside_tags ids room type payload net transport (omega (arith, few)) fit.1 fits no_tag part,
     )
 
--- ---- a frame of tags and a net layer
+-- ---- a frame of tags and a network layer
 frame_of : (ids : List ℕ) (type : ℕ) (packet : List ℕ) (layer : NetLayer) (found : FrameFragment)
     → length ids ≤ 3 → FitIds ids → type < 2 ^ 16 → (¬ BeginsLinkExtension (type_of type)) → AreBytes packet
     → IsNetPart slices (net_kind (type_of type)) packet (Some layer) None → net_fragment ids layer ≡ Some found
@@ -351,7 +351,7 @@ no_extension6 (inl (inr (inl same))) = absurd (omega (arith, same))
 no_extension6 (inl (inr (inr same))) = absurd (omega (arith, same))
 no_extension6 (inr same) = absurd (omega (arith, same))
 
--- ---- the net layer of a fragment
+-- ---- the network layer of a fragment
 module _ (ids : List ℕ) (number offset : ℕ) (follow : Bool) (bytes : List ℕ) where
   abbrev found_of : FragmentId → FrameFragment
   found_of id = record {
@@ -365,7 +365,7 @@ module _ (ids : List ℕ) (number offset : ℕ) (follow : Bool) (bytes : List �
 
   module _ (few : length ids ≤ 3) (fit : FitIds ids) (number_fits : number < 2 ^ 8) (offset_fits : offset < 2 ^ 13)
       (short : length bytes ≤ 32768) (are_bytes : AreBytes bytes) (part : (follow || ltb 0 offset) ≡ true) where
-    -- ---- IPv4: behind the header, and behind an authentication header where the number is that of one
+    -- ---- IPv4: the content after the header, or after an authentication header if the protocol number is 51
     record Content : Type 0 where
       pub protocol : ℕ
       pub protocol_fits : protocol < 2 ^ 8
@@ -515,7 +515,7 @@ module _ (ids : List ℕ) (number offset : ℕ) (follow : Bool) (bytes : List �
           (ipv4_layer packet4, (packet4, is4, refl), refl, inl refl)
           (rw part refl)
 
-    -- ---- IPv6: behind the header and a fragment header
+    -- ---- IPv6: the content after the header and a fragment header
     module _ (sender receiver : List ℕ) (identification : ℕ) (sender_len : length sender ≡ 16)
         (sender_bytes : AreBytes sender) (receiver_len : length receiver ≡ 16) (receiver_bytes : AreBytes receiver)
         (identification_fits : identification < 2 ^ 32)
@@ -638,7 +638,8 @@ number_of : (id : FragmentId) (number : ℕ) → FitsId id number → number < 2
 number_of (ipv4_id sender receiver identification) number fits = fits.5
 number_of (ipv6_id sender receiver identification) number fits = fits.5
 
--- of the stream of a frame there is one for each fragment that a frame has room for
+-- If a frame carries a fragment of a stream, each fragment of the stream that fits into a frame is carried by some
+-- frame.
 pub carrying : (seen : CarryingFrame) (wanted : IpFragment) → wanted.offset < 2 ^ 13
     → length wanted.bytes ≤ 32768 → AreBytes wanted.bytes → is_part wanted ≡ true
     → (frame : CarryingFrame) × CarriesOf seen wanted frame

@@ -1,4 +1,4 @@
--- When a list of fragments is complete, by the sections.
+-- When a list of fragments is complete, in terms of the sections.
 use Rattle.std.proofs.Common.{◌≡◌, ℕ, suc, zero, ◌+◌, ◌<◌, ◌≤◌, Bool, true, false, cond, ◌||◌, ◌&&◌, eqb, List, [], ◌∷◌}
 use Rattle.std.proofs.Common.{length, sym, refl, ap, ◌∙◌, inl, inr, arith, ◌↔◌, Option, Some, None, is_some}
 use Rattle.std.specs.List.{AllByRecursion, list_any, count_by}
@@ -16,8 +16,8 @@ use Rattle.ep_defrag.proofs.ListLemmas.{list_all-range, each_of_range, count_by-
 use Rattle.ep_defrag.proofs.SectionLemmas.{IsOrdered}
 use Rattle.ep_defrag.proofs.DataLemmas.{EndIsGreatest}
 
--- ---- what a list of fragments touches
--- nothing behind its greatest end
+-- ---- positions that a list of fragments touches
+-- No position after the greatest end is touched.
 pub touched_to_reach : (fragments : List IpFragment) (position : ℕ) → is_touched fragments position ≡ true
     → position ≤ reach_of fragments
 touched_to_reach [] position touched = absurd (false≢true touched)
@@ -27,7 +27,7 @@ touched_to_reach (fragment ∷ fragments) position touched =
       | inr later ↦ omega (arith, touched_to_reach fragments position later)
     ]
 
--- its greatest end, where there is one
+-- The greatest end is touched, if it is above 0.
 pub reach_touched : (fragments : List IpFragment) (reach : ℕ) → reach ≡ reach_of fragments → 0 < reach
     → is_touched fragments reach ≡ true
 reach_touched [] reach same some = absurd (omega arith)
@@ -39,12 +39,12 @@ reach_touched (fragment ∷ fragments) reach same some = elim (cases_lt (fragmen
       ap (λ t. t || is_touched fragments reach) here
 ]
 
--- ---- sections that stand apart
+-- ---- separated sections
 -- whether the section starts at the position
 abbrev starts_at : ℕ → IpFragRange → Bool
 starts_at position section = eqb section.start position
 
--- a section with the byte before a position and one that starts there both touch it
+-- A section with the byte before a position and a section that starts there both touch it.
 both_touch : (before : ℕ) (sections : List IpFragRange) → AllByRecursion IsOrdered sections
     → count_by (has_byte before) sections + count_by (starts_at (suc before)) sections
     ≤ count_by (touches (suc before)) sections
@@ -59,7 +59,7 @@ both_touch before (section ∷ sections) all =
     )
     (omega (arith, each, both_touch before sections all.1))
 
--- the sections fill what the fragments do, in order and apart
+-- Holds if the sections fill the positions of the fragments, in order and separated.
 pub record Fill (sections : List IpFragRange) (fragments : List IpFragment) : Type 0 where
   pub ordered : AllByRecursion IsOrdered sections
   pub apart : (position : ℕ) → count_by (touches position) sections ≤ 1
@@ -69,7 +69,7 @@ pub record Fill (sections : List IpFragRange) (fragments : List IpFragment) : Ty
 AllCovered : List IpFragment → Type 0
 AllCovered fragments = (position : ℕ) → position < reach_of fragments → is_covered fragments position ≡ true
 
--- no section starts behind a byte that is covered
+-- No section starts directly after a covered byte.
 no_start_behind : (sections : List IpFragRange) (fragments : List IpFragment) → Fill sections fragments → (before : ℕ)
     → is_covered fragments before ≡ true → list_any (starts_at (suc before)) sections ≡ true → ⊥
 no_start_behind sections fragments fill before covered starts =
@@ -81,7 +81,7 @@ no_start_behind sections fragments fill before covered starts =
       count_by-positive (starts_at (suc before)) sections starts,
     )
 
--- so each section starts at 0, where all positions are covered
+-- Each section starts at 0, if all positions are covered.
 start_zero : (sections : List IpFragRange) (fragments : List IpFragment) → Fill sections fragments
     → AllCovered fragments → (start end : ℕ) → start ≤ end → list_any (starts_at start) sections ≡ true
     → list_any (touches end) sections ≡ true → start ≡ 0
@@ -97,7 +97,7 @@ starts_itself section = eq-eqb section.start section.start refl
 touches_end : (section : IpFragRange) → IsOrdered section → touches section.end section ≡ true
 touches_end section ordered = grind (arith, nat_tests, ordered)
 
--- where all positions are covered, there is one section and it starts at 0
+-- If all positions are covered, there is one section and it starts at 0.
 whole_from_covered : (sections : List IpFragRange) (fragments : List IpFragment) → Fill sections fragments
     → AllCovered fragments → 0 < length sections → is_whole sections ≡ true
 whole_from_covered [] fragments fill covered some = absurd (omega arith)
@@ -119,7 +119,7 @@ whole_from_covered (section ∷ other ∷ others) fragments fill covered some =
     let counted = sum_by-cons count section (other ∷ others) in
     absurd (omega (arith, fill.apart 0, counted, sum_by-cons count other others, here, there))
 
--- and the other way round
+-- If there is one section and it starts at 0, all positions are covered.
 covered_from_whole : (sections : List IpFragRange) (fragments : List IpFragment) → Fill sections fragments
     → is_whole sections ≡ true → AllCovered fragments
 unfolding AllCovered
@@ -131,7 +131,7 @@ covered_from_whole (section ∷ []) fragments fill whole position below =
     sym (fill.bytes position) ∙ grind (arith, nat_tests, zero_start, reached, below)
 covered_from_whole (section ∷ other ∷ others) fragments fill whole position below = absurd (false≢true whole)
 
--- there is a section where there is a fragment
+-- There is a section if there is a fragment.
 some_section : (sections : List IpFragRange) (fragments : List IpFragment) → Fill sections fragments
     → is_some (end_of fragments) ≡ true → 0 < length sections
 some_section sections [] fill known = absurd (false≢true known)
@@ -147,7 +147,7 @@ known_reach : (known : Option ℕ) (reach : ℕ) → unwrap_or known reach ≡ r
 known_reach None reach greatest some = absurd (false≢true some)
 known_reach (Some end) reach greatest some = greatest
 
--- The fragments are complete exactly where their end is known, which is the greatest, and there is one section, which
+-- The fragments are complete exactly if their end is known, which is the greatest, and there is one section, which
 -- starts at 0.
 pub complete_by_sections : (sections : List IpFragRange) (fragments : List IpFragment) → Fill sections fragments
     → EndIsGreatest fragments

@@ -1,4 +1,4 @@
--- Fragments that complete what came.
+-- Fragments that complete a list of accepted ones.
 use Rattle.std.proofs.Common.{◌≡◌, ℕ, ◌^◌, ◌<◌, ◌≤◌, max, true, false, ltb, List, [], ◌∷◌, ◌++◌, append_assoc, length}
 use Rattle.std.proofs.Common.{Option, Some, None, refl, ap, ◌∙◌, inl, inr, arith}
 use Rattle.std.specs.List.{AllByRecursion}
@@ -15,7 +15,7 @@ use Rattle.ep_defrag.proofs.ListLemmas.{list_all-range}
 use Rattle.ep_defrag.proofs.DataLemmas.{reach_of-push, end_of-push, is_covered-push, fits_at, refusal_at-fits}
 use Rattle.ep_defrag.proofs.DataLemmas.{end_is_greatest}
 
--- ---- how far a list reaches
+-- ---- the greatest end of a list
 reach_after : (limit : ℕ) (earlier later : List IpFragment) → reach_of earlier ≤ limit
     → FitAfterWithin limit earlier later → reach_of (earlier ++ later) ≤ limit
 reach_after limit earlier [] short fit = rw (append-nil earlier) short
@@ -30,20 +30,20 @@ pub reach_short : (limit : ℕ) (fragments : List IpFragment) → FitInTurnWithi
 reach_short limit fragments fit = reach_after limit [] fragments (omega arith) fit
 
 -- ---- when ends agree
--- a final fragment that ends at the known end, or else at no place before the greatest one
+-- A final fragment agrees if it ends at the known end, or else not before the greatest end.
 final_agrees : (known : Option ℕ) (reach whole : ℕ) (fragment : IpFragment) → reach ≤ whole
     → fragment_end fragment ≡ unwrap_or known whole → fragment.more ≡ false
     → (end_row known reach fragment).0 ≡ false
 final_agrees None reach whole fragment within end last = grind (arith, nat_tests, within, end)
 final_agrees (Some known) reach whole fragment within end last = grind (arith, nat_tests, end)
 
--- one that more follow, at no place behind the known end
+-- A fragment that is followed by more agrees if it does not end after the known end.
 more_agrees : (known : Option ℕ) (reach whole : ℕ) (fragment : IpFragment)
     → fragment_end fragment ≤ unwrap_or known whole → fragment.more ≡ true → (end_row known reach fragment).0 ≡ false
 more_agrees None reach whole fragment within more = rw more refl
 more_agrees (Some known) reach whole fragment within more = rw more (grind (arith, nat_tests, within))
 
--- the end that a final fragment makes known, or that was known
+-- After such a final fragment the known end is the former one, or else the fragment's.
 known_with : (known : Option ℕ) (whole end : ℕ) → end ≡ unwrap_or known whole
     → option_or known (Some end) ≡ Some (unwrap_or known whole)
 known_with None whole end same = ap (λ (n : ℕ). Some n) same
@@ -58,13 +58,14 @@ none_more : (known : Option ℕ) → option_or known None ≡ known
 none_more None = refl
 none_more (Some end) = refl
 
--- what ends within the known end, or else within the greatest end and 8, reaches no further
+-- A fragment that ends within the known end, or else within the greatest end and 8, does not increase the greatest of
+-- both.
 no_further : (known : Option ℕ) (reach end : ℕ) → unwrap_or known reach ≡ reach → end ≤ unwrap_or known (max reach 8)
     → max reach end ≤ max reach 8
 no_further None reach end same within = omega (arith, within)
 no_further (Some known) reach end same within = omega (arith, same, within)
 
--- an end below 8 is known, and then all before it is covered
+-- An end below 8 is a known end.
 small_known : (known : Option ℕ) (reach : ℕ) → unwrap_or known (max reach 8) < 8
     → known ≡ Some (unwrap_or known (max reach 8))
 small_known None reach small = absurd (omega (arith, small))
@@ -151,7 +152,7 @@ module _ (limit : ℕ) (accepted : List IpFragment) (fit : FitInTurnWithin limit
               front_end refl;
         })
 
-    -- the first fragment makes no end known
+    -- The first fragment does not set the end.
     same_end : end_of with_first ≡ end_of accepted
     same_end = end_of-push accepted first ∙ none_more (end_of accepted)
 
@@ -172,7 +173,7 @@ module _ (limit : ℕ) (accepted : List IpFragment) (fit : FitInTurnWithin limit
               refl);
         })
 
-    -- a frame has room for either
+    -- A frame can carry either fragment.
     pub parts_short : limit ≤ 65535 → (length front ≤ 32768) × (length back ≤ 32768) × (meeting_at whole < 2 ^ 13)
     parts_short most =
         (omega (arith, fill.front_len), omega (arith, fill.front_len, fill.both_len, short, most), omega arith)
@@ -195,7 +196,7 @@ module _ (limit : ℕ) (accepted : List IpFragment) (fit : FitInTurnWithin limit
         ∙ known_with (end_of accepted) (max (reach_of accepted) 8) (fragment_end second) second_end)
         covered)
 
-    -- where the second would begin the payload, the end is known and below 8, and all is there
+    -- If the second fragment would have offset 0, the end is known and below 8, and nothing is missing.
     all_there : whole < 8 → is_complete with_first ≡ true
     all_there small =
         let known : end_of accepted ≡ Some whole = small_known (end_of accepted) (reach_of accepted) small in
@@ -218,7 +219,7 @@ module _ (limit : ℕ) (accepted : List IpFragment) (fit : FitInTurnWithin limit
     }
 
 -- ---- limits below 8
--- a fragment that a frame can carry is then not final
+-- Within such a limit a fragment that a frame can carry is not final.
 small_more : (limit : ℕ) (fragment : IpFragment) → limit < 8 → fragment_end fragment ≤ limit
     → is_part fragment ≡ true → fragment.more ≡ true
 small_more limit fragment small short part = elim (cases_Bool fragment.more) [

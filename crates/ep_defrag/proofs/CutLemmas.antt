@@ -1,4 +1,4 @@
--- Fragments that a payload was cut into.
+-- Fragments that a payload is cut into.
 use Rattle.std.proofs.Common.{◌≡◌, ℕ, ◌+◌, ◌-◌, ◌%◌, ◌<◌, ◌≤◌, true, false, ◌↔◌, eqb, Option, List, [], ◌∷◌, length}
 use Rattle.std.proofs.Common.{get_or, Some, None, is_some, IsTrue, sym, refl, ap, ◌∙◌, ◌⊎◌, inl, inr, arith}
 use Rattle.std.specs.List.{AllByRecursion, Any, list_any}
@@ -17,7 +17,7 @@ use Rattle.ep_defrag.proofs.ListLemmas.{list_all-range, each_of_range}
 use Rattle.ep_defrag.proofs.DataLemmas.{refusal_at-fits}
 
 module _ (payload : List ℕ) where
-  -- the end of cuts, where it is known, is that of the payload
+  -- The known end of cuts, if any, is the end of the payload.
   end_of_cuts : (cuts : List IpFragment) → AllByRecursion (IsCut payload) cuts
       → (end_of cuts ≡ None) ⊎ (end_of cuts ≡ Some (length payload))
   end_of_cuts [] all = inl refl
@@ -31,7 +31,7 @@ module _ (payload : List ℕ) where
   known_end_of_cuts known (inl unknown) some = absurd (false≢true (sym (ap is_some unknown) ∙ some))
   known_end_of_cuts known (inr is) some = ap (λ end. unwrap_or end 0) is
 
-  -- it is known where a final one is among them
+  -- The end is known if a final cut is among them.
   known_from_final : (cuts : List IpFragment) → list_any is_final cuts ≡ true → is_some (end_of cuts) ≡ true
   known_from_final [] final = absurd (false≢true final)
   known_from_final (cut ∷ cuts) final = elim (cases_Bool cut.more) [
@@ -46,12 +46,12 @@ module _ (payload : List ℕ) where
     | inr last ↦ rw last refl
   ]
 
-  -- cuts reach no further than the payload
+  -- Cuts do not end after the payload.
   reach_of_cuts : (cuts : List IpFragment) → AllByRecursion (IsCut payload) cuts → reach_of cuts ≤ length payload
   reach_of_cuts [] all = omega arith
   reach_of_cuts (cut ∷ cuts) all = omega (arith, all.0.within, reach_of_cuts cuts all.1)
 
-  -- a cut that is final or a multiple of 8 long fits after others
+  -- A cut that is final or has a multiple of 8 bytes is not unaligned.
   unaligned_not : (cut : IpFragment) → IsTrue (is_final cut) ⊎ (length cut.bytes % 8 ≡ 0) → is_unaligned cut ≡ false
   unaligned_not cut (inl final) = and_left cut.more _ (not-true cut.more final)
   unaligned_not cut (inr multiple) =
@@ -67,7 +67,7 @@ module _ (payload : List ℕ) where
             (eq-eqb _ _ (is_cut.last (not_from_false cut.more last))))
       ])
 
-  -- a final one ends at its end, which is no place before what came
+  -- A final cut does not end below the greatest end.
   early_not : (reach : ℕ) (cut : IpFragment) → reach ≤ length payload → IsCut payload cut
       → ends_too_early reach cut ≡ false
   early_not reach cut within is_cut = elim (cases_Bool cut.more) [
@@ -90,7 +90,7 @@ module _ (payload : List ℕ) where
         ];
       })
 
-  -- where a position is covered, the byte is that of the payload
+  -- At a covered position the byte is that of the payload.
   byte_of_cuts : (cuts : List IpFragment) → AllByRecursion (IsCut payload) cuts → (position : ℕ)
       → is_covered cuts position ≡ true → byte_at cuts position ≡ get_or payload position 0
   byte_of_cuts [] all position covered = absurd (false≢true covered)
@@ -111,7 +111,7 @@ module _ (payload : List ℕ) where
   ]
 
   module _ (cuts : List IpFragment) (all : AllByRecursion (IsCut payload) cuts) where
-    -- cuts are complete exactly where a final one is among them and they cover the payload
+    -- Cuts are complete exactly if a final one is among them and they cover the payload.
     pub complete_cuts : IsComplete cuts
         ↔ (Any (λ cut. IsTrue (is_final cut)) cuts
         × ((position : ℕ) → position < length payload → IsCovered cuts position))
@@ -131,7 +131,7 @@ module _ (payload : List ℕ) where
           (λ position low high. both.1 position (omega (arith, end, high)))),
     )
 
-    -- and then put the payload together
+    -- Complete cuts reassemble to the payload.
     pub assembled-cuts : IsComplete cuts → assembled cuts ≡ payload
     assembled-cuts complete =
         let parts = and_parts (is_some (end_of cuts)) _ complete in

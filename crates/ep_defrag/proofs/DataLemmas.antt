@@ -1,4 +1,4 @@
--- One more fragment: what a list of fragments covers, how far it reaches, where it ends, and its bytes.
+-- One more fragment: its effect on covered positions, greatest end, known end and bytes of a list of fragments.
 use Rattle.std.proofs.Common.{◌≡◌, ℕ, suc, zero, ◌+◌, ◌-◌, ◌<◌, ◌≤◌, max, Bool, true, false, cond, ◌||◌, ◌&&◌, ltb, leb}
 use Rattle.std.proofs.Common.{List, [], ◌∷◌, ◌++◌, length, get_or, take, drop, replicate, Option, Some, None, sym, refl}
 use Rattle.std.proofs.Common.{ap, ◌∙◌, inl, inr, arith}
@@ -45,7 +45,7 @@ pub reach_of-push : (fragments : List IpFragment) (fragment : IpFragment)
 reach_of-push [] fragment = omega arith
 reach_of-push (first ∷ fragments) fragment = omega (arith, reach_of-push fragments fragment)
 
--- the end that a fragment itself makes known
+-- end of a fragment if it is final
 abbrev pub own_end : IpFragment → Option ℕ
 own_end fragment = cond fragment.more None (Some (fragment_end fragment))
 
@@ -57,7 +57,7 @@ end_of-push (first ∷ fragments) fragment = elim (cases_Bool first.more) [
   | inr last ↦ rw last refl
 ]
 
--- the byte of a fragment at a position of the payload
+-- byte of a fragment at a position of the payload
 abbrev pub own_byte : IpFragment → ℕ → ℕ
 own_byte fragment position = get_or fragment.bytes (position - fragment_start fragment) 0
 
@@ -100,7 +100,7 @@ uncovered_from_reach fragments position past = elim (cases_Bool (is_covered frag
   | inr uncovered ↦ uncovered
 ]
 
--- ---- what it means that a fragment fits
+-- ---- consequences of a fragment's fitting
 not_some : {X : Type 0} (test : Bool) (value : X) (other : Option X) → cond test (Some value) other ≡ None
     → (test ≡ false) × (other ≡ None)
 not_some true value other none = absurd (cc)
@@ -144,11 +144,11 @@ FitAfter-push limit earlier (first ∷ later) fragment fit fits = (
 )
 
 -- ---- a known end is the greatest end
--- how long the bytes are that a list puts together
+-- length of the reassembled bytes of a list
 abbrev pub extent_of : List IpFragment → ℕ
 extent_of fragments = unwrap_or (end_of fragments) (reach_of fragments)
 
--- so these bytes are as long as the fragments reach
+-- Holds if this length is the greatest end of a fragment.
 abbrev pub EndIsGreatest : List IpFragment → Type 0
 EndIsGreatest fragments = extent_of fragments ≡ reach_of fragments
 
@@ -191,7 +191,7 @@ pub get_or-assembled : (fragments : List IpFragment) (position : ℕ) → positi
 get_or-assembled fragments position within =
     get_or-map-range_with_len (byte_at fragments) 0 (extent_of fragments) position position 0 within (omega arith)
 
--- zeros at the end change nothing, since a position past the end reads as 0
+-- Zeros at the end change nothing, since a position past the end reads as 0.
 get_or-zeros : (count position at_end : ℕ) → at_end ≡ 0 → get_or (replicate count at_end) position at_end ≡ at_end
 get_or-zeros count position at_end none = elim (cases_lt position count) [
   | inl within ↦ get_or-replicate count position at_end at_end within

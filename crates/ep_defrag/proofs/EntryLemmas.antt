@@ -1,4 +1,4 @@
--- The streams that a map's entries are, by name: what a name finds, and what it finds after a change of the map.
+-- The streams of a map's entries, looked up by identifier, before and after a change of the map.
 use Rattle.std.proofs.Common.{◌≡◌, ℕ, ◌+◌, Bool, true, false, cond, Bor, List, [], ◌∷◌, map, length, Option, Some, None}
 use Rattle.std.proofs.Common.{refl, ap, sym, ◌∙◌, subst, arith, inl, inr}
 use Rattle.std.specs.Cmp.{IsEquivalence}
@@ -21,11 +21,11 @@ use Rattle.ep_defrag.proofs.LookupLemmas.{counted, find_permuted}
 use Rattle.ep_defrag.proofs.StreamLemmas.{same_stream_laws}
 
 module _ {C : Type 0} (eq : C → C → Bool) (laws : IsEquivalence eq) where
-  -- a name tests an entry as the entry's name tests it
+  -- Comparison of identifiers is symmetric.
   test_flips : (id key : IpFragId C) (b : Bool) → same_stream eq id key ≡ b → same_stream eq key id ≡ b
   test_flips id key b is = (same_stream_laws eq laws).symm key id ∙ is
 
-  -- an entry of a name is tested as the name is
+  -- Equal identifiers compare alike with any other.
   test_of : (id key name : IpFragId C) → same_stream eq id key ≡ true
       → same_stream eq key name ≡ same_stream eq id name
   test_of id key name alike = (same_stream_laws eq laws).congr key id name (test_flips id key true alike)
@@ -50,11 +50,11 @@ held_by_values es shown all =
     ∙ sym (sum_by-map (λ stream. length (data_of stream.buffer)) stream_at es)
 
 module _ {T C : Type 0} (eq : C → C → Bool) (laws : IsEquivalence eq) where
-  -- the test of a name
+  -- whether a stream has this identifier
   abbrev is_of : IpFragId C → Stream T C → Bool
   is_of name stream = same_stream eq stream.id name
 
-  -- ---- names that are the same
+  -- ---- equal identifiers
   tests_same : (a b : IpFragId C) → same_stream eq a b ≡ true → is_of b ≡ is_of a
   tests_same a b alike = λ i stream.
       ((same_stream_laws eq laws).symm stream.id b ∙ sym ((same_stream_laws eq laws).congr a b stream.id alike)
@@ -64,7 +64,7 @@ module _ {T C : Type 0} (eq : C → C → Bool) (laws : IsEquivalence eq) where
       → stream_named eq b pool ≡ stream_named eq a pool
   same_name pool a b alike = ap (λ test. find test (streams_of pool)) (tests_same a b alike)
 
-  -- ---- names of a map differ
+  -- ---- identifiers of a map differ
   count_others : (key name : IpFragId C) (es : Entries T C) → same_stream eq key name ≡ true
       → AllByRecursion (λ other. same_stream eq key other ≡ false) (keys_of es)
       → count_by (is_of name) (map stream_at es) ≡ 0
@@ -99,7 +99,7 @@ module _ {T C : Type 0} (eq : C → C → Bool) (laws : IsEquivalence eq) where
         )
       ]
 
-  -- ---- what a name finds
+  -- ---- look-ups by identifier
   named_none : (limit : ℕ) (pool : Entries T C) (id : IpFragId C) → lookup (same_stream eq id) pool ≡ None
       → stream_named eq id (limit, pool) ≡ None
   named_none limit [] id absent = refl
@@ -110,7 +110,7 @@ module _ {T C : Type 0} (eq : C → C → Bool) (laws : IsEquivalence eq) where
         rw (test_flips eq laws id e.0 false other) (named_none limit es id rest)
   ]
 
-  -- the stream of a name, where the map has this at the name, and what is written there
+  -- The stream of an identifier for which the map has this value, and the streams after the value is replaced.
   pub record IsStreamOf (limit : ℕ) (pool : Entries T C) (id : IpFragId C) (value : OpenStream T) : Type 0 where
     pub key : IpFragId C
     pub named : stream_named eq id (limit, pool) ≡ Some (stream_at (key, value))
@@ -139,7 +139,7 @@ module _ {T C : Type 0} (eq : C → C → Bool) (laws : IsEquivalence eq) where
         }
   ]
 
-  -- ---- the other names
+  -- ---- the other identifiers
   others_written : (es : Entries T C) (id name : IpFragId C) (next : OpenStream T) → same_stream eq id name ≡ false
       → find (is_of name) (map stream_at (set_value (same_stream eq id) es next)) ≡ find (is_of name) (map stream_at es)
   others_written [] id name next other = refl
@@ -157,7 +157,7 @@ module _ {T C : Type 0} (eq : C → C → Bool) (laws : IsEquivalence eq) where
     | inr apart ↦ rw apart (ap (cond (same_stream eq e.0 name) (Some (stream_at e))) (others_removed es id name other))
   ]
 
-  -- ---- one change after another
+  -- ---- two changes in turn
   pub changed_again : (old mid new : IpDefragPool T C) (id : IpFragId C) (stream next : Option (Stream T C))
       → ChangesStream eq old mid id stream → ChangesStream eq mid new id next → ChangesStream eq old new id next
   changed_again old mid new id stream next first second = record {
@@ -167,7 +167,7 @@ module _ {T C : Type 0} (eq : C → C → Bool) (laws : IsEquivalence eq) where
     limit = second.limit ∙ first.limit;
   }
 
-  -- ---- changes of a map, whose keys are compared as names are
+  -- ---- changes of a map whose keys are compared as identifiers
   module _ (key_eq : IpFragId C → IpFragId C → Bool) (is : key_eq ≡ same_stream eq) where
     pub absent_stream : (limit : ℕ) (pool : Entries T C) (id : IpFragId C) → lookup (key_eq id) pool ≡ None
         → stream_named eq id (limit, pool) ≡ None
@@ -183,7 +183,7 @@ module _ {T C : Type 0} (eq : C → C → Bool) (laws : IsEquivalence eq) where
       differ : NamesDiffer eq (limit, new)
       differ = names_differ limit new (subst (λ test. IsDistinct test (keys_of new)) is distinct)
 
-      -- in another order each name finds the same
+      -- After a reordering each identifier finds the same stream.
       moved : (es : Entries T C) → IsPermutation es new → (name : IpFragId C)
           → stream_named eq name (limit, new) ≡ find (is_of name) (map stream_at es)
       moved es reordered name =
@@ -204,7 +204,7 @@ module _ {T C : Type 0} (eq : C → C → Bool) (laws : IsEquivalence eq) where
             limit = refl;
           }
 
-      -- what a name found, and that it finds another stream under the same key
+      -- An identifier found a stream, and now finds another one with an equal key.
       pub record Rewritten (value next : OpenStream T) : Type 0 where
         pub key : IpFragId C
         pub named : stream_named eq id (limit, old) ≡ Some (stream_at (key, value))
@@ -216,7 +216,7 @@ module _ {T C : Type 0} (eq : C → C → Bool) (laws : IsEquivalence eq) where
           let of = present_stream limit old id value found in
           record { key = of.key; named = of.named; now = written_stream value next of now }
 
-      -- where the name had none, what the map says of the entries is that the pair has come
+      -- After an insertion under an identifier that had no stream, the map's entries are the old ones and the new pair.
       pub put_stream : (value : OpenStream T) (had : Option (OpenStream T)) (Kept : OpenStream T → Type 0)
           → had ≡ lookup (key_eq id) old → stream_named eq id (limit, old) ≡ None
           → MatchOption had (IsPermutation ((id, value) ∷ old) new) Kept

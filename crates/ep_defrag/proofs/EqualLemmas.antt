@@ -1,4 +1,4 @@
--- When buffers are equal, by the lists of fragments that they hold.
+-- When buffers are equal, in terms of the lists of fragments that they hold.
 use Rattle.std.proofs.Common.{◌≡◌, ℕ, zero, suc, ◌<◌, Bool, true, false, ◌||◌, List, [], ◌∷◌, length, sym, refl, ap}
 use Rattle.std.proofs.Common.{◌∙◌, arith}
 use Rattle.std.specs.List.{All, AllByRecursion, list_any}
@@ -10,7 +10,7 @@ use Rattle.ep_defrag.specs.IpFragments.{IpFragment, range_of, covers, is_covered
 use Rattle.ep_defrag.specs.Buffers.{HoldsFragments, IsUnchanged, ip_number_of, sections_of}
 use Rattle.ep_defrag.proofs.ApartLemmas.{from_apart, same_from_positions}
 
--- buffers that show the same hold lists that fill and touch alike
+-- Buffers with equal contents hold lists that fill and touch the same positions.
 pub alike_from_same : (a b : IpDefragBuf) (fragments others : List IpFragment) → HoldsFragments a fragments
     → HoldsFragments b others → IsUnchanged a b → FillAlike fragments others × TouchAlike fragments others
 alike_from_same a b fragments others held held' same = (
@@ -28,7 +28,7 @@ alike_from_same a b fragments others held held' same = (
       ∙ held'.points position,
 )
 
--- and the other way round, since the sections are in order
+-- Buffers that hold lists which fill and touch the same positions have equal contents, since the sections are in order.
 pub same_from_alike : (a b : IpDefragBuf) (fragments others : List IpFragment) → ip_number_of a ≡ ip_number_of b
     → HoldsFragments a fragments → HoldsFragments b others → FillAlike fragments others → TouchAlike fragments others
     → IsUnchanged a b
@@ -44,7 +44,7 @@ same_from_alike a b fragments others number held held' alike touched = record {
   end = held'.end ∙ sym alike.end ∙ sym held.end;
 }
 
--- ---- fragments with bytes
+-- ---- fragments that are not empty
 or_pairs : (a b c d : Bool) → ((a || b) || (c || d)) ≡ ((a || c) || (b || d))
 or_pairs true b c d = refl
 or_pairs false true true d = refl
@@ -52,7 +52,7 @@ or_pairs false true false d = refl
 or_pairs false false true d = refl
 or_pairs false false false d = refl
 
--- such fragments touch the positions of their bytes
+-- Fragments that are not empty touch position 0 exactly if they cover it.
 touched_at_start : (fragments : List IpFragment) → AllByRecursion (λ fragment. 0 < length fragment.bytes) fragments
     → is_touched fragments 0 ≡ is_covered fragments 0
 touched_at_start [] all = refl
@@ -61,7 +61,7 @@ touched_at_start (fragment ∷ fragments) all =
     ap (λ t. t || is_touched fragments 0) first
     ∙ ap (λ t. covers 0 fragment || t) (touched_at_start fragments all.1)
 
--- and those behind them
+-- Fragments that are not empty touch any other position exactly if they cover it or the position before it.
 touched_behind : (before : ℕ) (fragments : List IpFragment)
     → AllByRecursion (λ fragment. 0 < length fragment.bytes) fragments
     → is_touched fragments (suc before) ≡ (is_covered fragments (suc before) || is_covered fragments before)
@@ -86,7 +86,7 @@ touch_by_recursion fragments others alike all all' (suc before) =
     ∙ ap (λ t. is_covered others (suc before) || t) (alike.covered before)
     ∙ sym (touched_behind before others all')
 
--- so lists of them touch alike where they fill alike
+-- Lists of such fragments touch the same positions if they fill the same positions.
 pub touch_from_fill : (fragments others : List IpFragment) → FillAlike fragments others
     → All (λ fragment. 0 < length fragment.bytes) fragments → All (λ fragment. 0 < length fragment.bytes) others
     → TouchAlike fragments others

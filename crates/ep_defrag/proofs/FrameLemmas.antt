@@ -1,4 +1,4 @@
--- What calls with frames of bytes are read as, and what lists of them are answered.
+-- How calls with frames of bytes are read, and the answers to lists of them.
 use Rattle.std.proofs.Common.{◌≡◌, ℕ, zero, suc, Bool, List, [], ◌∷◌, ◌++◌, append_assoc, take, map, Some, slice_get}
 use Rattle.std.proofs.Common.{Bor, inl, inr, refl, sym, ap, ◌∙◌}
 use Rattle.std.specs.List.{All, AllZip}
@@ -34,7 +34,7 @@ use Rattle.ep_defrag.proofs.AloneLemmas.{handed_at}
 
 module _ {T C V : Type 0} (entry : Entry) (bytes : Bor (List ℕ)) (timestamp : T) (channel : C)
     (decided : IsDecided (IsFrame entry bytes.now) (RefusesFrame entry bytes.now)) where
-  -- a frame of these layers is read as their fragment, and not otherwise
+  -- A frame of these layers is read as their fragment, and in no other way.
   layers_only : (layers : Layers) → IsFrame entry bytes.now layers → (other : ReadCall T C V)
       → IsReadAs (frame.Frame entry bytes timestamp channel) other
       → other ≡ calls_pool (gives_frame (option_map packet_fragment (fragment_of layers)) timestamp channel)
@@ -50,7 +50,7 @@ module _ {T C V : Type 0} (entry : Entry) (bytes : Bor (List ℕ)) (timestamp : 
       (calls_pool (gives_frame (option_map packet_fragment (fragment_of layers)) timestamp channel))
   layers_read layers is = record { is = (layers, is, refl); only = layers_only layers is }
 
-  -- a frame that is refused is read as refused, and not otherwise
+  -- A rejected frame is read as rejected, and in no other way.
   refused_only : (error : SliceError) → RefusesFrame entry bytes.now error → (other : ReadCall T C V)
       → IsReadAs (frame.Frame entry bytes timestamp channel) other → other ≡ refuses_frame error
   refused_only error refused (calls_pool brought) read = absurd (decided.not_both read.0 error read.1 refused)
@@ -63,7 +63,7 @@ module _ {T C V : Type 0} (entry : Entry) (bytes : Bor (List ℕ)) (timestamp : 
 
 -- ---- lists of calls
 
--- a pair more at the end of two lists
+-- A relation of two lists extends to one more pair at their ends.
 pub AllZip-more : {A B : Type 0} (R : A → B → Type 0) (xs : List A) (ys : List B) (x : A) (y : B)
     → AllZip R xs ys → R x y → AllZip R (xs ++ x ∷ []) (ys ++ y ∷ [])
 AllZip-more R [] [] x y all last = (last, tt)
@@ -72,7 +72,7 @@ AllZip-more R (first ∷ xs) [] x y all last = absurd all
 AllZip-more R (first ∷ xs) (other ∷ ys) x y all last = (all.0, AllZip-more R xs ys x y all.1 last)
 
 module _ {T C V : Type 0} where
-  -- each of bytes is read, as one thing
+  -- Each call whose frame consists of bytes is read in exactly one way.
   pub read_once : ((entry : Entry) (bytes : List ℕ) → AreBytes bytes
       → IsDecided (IsFrame entry bytes) (RefusesFrame entry bytes))
       → (call : FrameCall T C V) → HasBytes call → (read : ReadCall T C V) × IsOnlyRead call read
@@ -105,7 +105,7 @@ module _ {T C V : Type 0} where
   one_reading (call ∷ calls) (read ∷ reads) (other ∷ others) all also =
       rw (all.0.only other also.0, one_reading calls reads others all.1 also.1) refl
 
-  -- one more call of the pool, or a frame that is refused
+  -- One more call at the end adds a call of the pool, or none for a rejected frame.
   pool_calls-push : (reads : List (ReadCall T C V)) (read : ReadCall T C V)
       → pool_calls (reads ++ read ∷ []) ≡ pool_calls reads ++ pool_calls (read ∷ [])
   pool_calls-push [] read = refl
@@ -113,7 +113,7 @@ module _ {T C V : Type 0} where
       ap (λ calls. brought ∷ calls) (pool_calls-push reads read)
   pool_calls-push (refuses_frame error ∷ reads) read = pool_calls-push reads read
 
-  -- the pool's answers are those to its calls alone
+  -- The pool's answers are those to its calls alone.
   pub answers_in : (limit : ℕ) (eq : C → C → Bool) (keep : V → T → Bool) (earlier : List (Call T C V))
       (reads : List (ReadCall T C V)) → pool_answers_in (frame_answers_after limit eq keep earlier reads)
       ≡ answers_after limit eq keep earlier (pool_calls reads)
@@ -124,7 +124,7 @@ module _ {T C V : Type 0} where
   answers_in limit eq keep earlier (refuses_frame error ∷ reads) = answers_in limit eq keep earlier reads
 
 module _ {T C V : Type 0} (limit : ℕ) (eq : C → C → Bool) (keep : V → T → Bool) where
-  -- the table after one more call
+  -- The table after one more call is the former table, changed by that call.
   pub table_after_read : (reads : List (ReadCall T C V)) (read : ReadCall T C V) (name : IpFragId C)
       → table_after limit eq keep (pool_calls (reads ++ read ∷ [])) name
       ≡ table_with_read limit eq keep (table_after limit eq keep (pool_calls reads)) read name
@@ -133,7 +133,7 @@ module _ {T C V : Type 0} (limit : ℕ) (eq : C → C → Bool) (keep : V → T 
   table_after_read reads (refuses_frame error) name =
       rw (pool_calls-push reads (refuses_frame error), append-nil (pool_calls reads)) refl
 
-  -- what one more call is answered
+  -- One more call at the end has one more answer.
   pub frame_answers-push : (earlier : List (Call T C V)) (reads : List (ReadCall T C V)) (read : ReadCall T C V)
       → frame_answers_after limit eq keep earlier (reads ++ read ∷ [])
       ≡ frame_answers_after limit eq keep earlier reads
@@ -149,7 +149,7 @@ module _ {T C V : Type 0} (limit : ℕ) (eq : C → C → Bool) (keep : V → T 
   frame_answers-push earlier (refuses_frame error ∷ reads) read =
       ap (λ answers. not_sliced error ∷ answers) (frame_answers-push earlier reads read)
 
-  -- the answer at a place is that to the call there
+  -- The answer at an index is the answer to the call at that index.
   read_at : (earlier : List (Call T C V)) (reads : List (ReadCall T C V)) (at : ℕ) (brought : Call T C V)
       (answer : ReadAnswer) → slice_get reads at ≡ Some (calls_pool brought)
       → slice_get (frame_answers_after limit eq keep earlier reads) at ≡ Some answer
@@ -184,9 +184,9 @@ module _ {T C V : Type 0} (limit : ℕ) (eq : C → C → Bool) (keep : V → T 
       (handed_at payload limit (table_after limit eq keep (pool_calls (take at reads))) brought
       (recursion_from_All (IsCut payload) _ cuts))
 
--- ---- calls of the pool, read as what they are
+-- ---- calls of the pool, read unchanged
 module _ {T C V : Type 0} where
-  -- a call is read as the one that it is
+  -- Holds if a call is read as itself.
   abbrev pub IsCalled : PoolCall T C V → ReadCall T C V → Type 0
   IsCalled call read = read ≡ calls_pool (plain_call call)
 
@@ -198,7 +198,7 @@ module _ {T C V : Type 0} where
   calls_read (call ∷ calls) (read ∷ reads) all =
       rw all.0 (ap (λ brought. plain_call call ∷ brought) (calls_read calls reads all.1))
 
--- the answer to one
+-- answer of the pool to such a call
 abbrev pub pool_says : PoolAnswer → ReadAnswer
 pool_says answer = pool_answers (plain_answer answer)
 

@@ -1,4 +1,4 @@
--- Frames that complete a stream, with what a pool answers them.
+-- Frames that complete a stream, and the answers of a pool to them.
 use Rattle.std.proofs.Common.{◌≡◌, ◌≤◌, ℕ, Bool, true, false, List, [], ◌∷◌, ◌++◌, append_assoc, length, Option, Some}
 use Rattle.std.proofs.Common.{None, sym, ◌∙◌, inl, inr, arith}
 use Rattle.std.specs.Prelude.{IfSome}
@@ -9,7 +9,7 @@ use Rattle.ep_defrag.specs.declared.ip_frag_id.IpFragId.{IpFragId}
 use Rattle.ep_defrag.specs.IpFragments.{IpFragment, is_complete}
 use Rattle.ep_defrag.specs.FragmentRefusals.{FitsWithin, FitInTurn, FitInTurnWithin}
 use Rattle.ep_defrag.specs.Buffers.{data_of}
-use Rattle.ep_defrag.specs.Calls.{Kept, accepted_in, nothing_handed_out, answer_to_frame, table_with_frame}
+use Rattle.ep_defrag.specs.Calls.{Kept, accepted_in, no_payload, answer_to_frame, table_with_frame}
 use Rattle.ep_defrag.specs.Pools.{Stream, HoldsEntry}
 use Rattle.ep_defrag.specs.Completing.{FillBoth, front_fragment, back_fragment, is_part, CarryingFrame, given_by}
 use Rattle.ep_defrag.specs.Completing.{name_in, CarriesOf, HandsOutAll, FramesComplete}
@@ -19,7 +19,7 @@ use Rattle.ep_defrag.proofs.CompletingLemmas.{reach_short, two_complete, parts_s
 use Rattle.ep_defrag.proofs.HeldLemmas.{data_len}
 use Rattle.ep_defrag.proofs.CarryingLemmas.{carrying}
 
--- what a pool keeps of a stream fits in turn, within the limit of a buffer too
+-- The accepted fragments of a stream fit in turn, within the limit of the pool and within that of a buffer.
 pub entry_in_turn : {T C : Type 0} (limit : ℕ) (stream : Option (Stream T C)) (kept : Option (Kept T))
     → HoldsEntry limit stream kept → FitInTurnWithin limit (accepted_in kept) × FitInTurn (accepted_in kept)
 entry_in_turn limit None None held = (tt, tt)
@@ -27,7 +27,7 @@ entry_in_turn limit None (Some kept) held = absurd held
 entry_in_turn limit (Some stream) None held = absurd held
 entry_in_turn limit (Some stream) (Some kept) held = (held.within, held.buffer.in_turn)
 
--- so its data is no longer than the limit
+-- A stream's data is no longer than the limit.
 pub entry_data : {T C : Type 0} (limit : ℕ) (stream : Option (Stream T C)) (kept : Option (Kept T))
     → HoldsEntry limit stream kept → IfSome stream (λ s. length (data_of s.buffer) ≤ limit)
 entry_data limit None kept held = tt
@@ -37,7 +37,7 @@ entry_data limit (Some stream) (Some kept) held =
 
 module _ {T C : Type 0} (limit : ℕ) (eq : C → C → Bool) (laws : IsEquivalence eq) (seen : CarryingFrame) (channel : C)
   where
-    -- the table has this of the stream
+    -- Given the entry of the stream in the table.
     module _ (table : IpFragId C → Option (Kept T)) (kept : Option (Kept T)) (has : table (name_in seen channel) ≡ kept)
         (wanted : IpFragment) (frame : CarryingFrame) (is : CarriesOf seen wanted frame) where
       hands_out : FitsWithin limit (accepted_in kept) wanted → is_complete (accepted_in kept ++ wanted ∷ []) ≡ true
@@ -47,7 +47,7 @@ module _ {T C : Type 0} (limit : ℕ) (eq : C → C → Bool) (laws : IsEquivale
           (sym (answer_complete limit (name_in seen channel) kept wanted fits whole))
 
       hands_nothing : FitsWithin limit (accepted_in kept) wanted → is_complete (accepted_in kept ++ wanted ∷ []) ≡ false
-          → answer_to_frame limit table (given_by frame) channel ≡ nothing_handed_out
+          → answer_to_frame limit table (given_by frame) channel ≡ no_payload
       hands_nothing fits partly =
           rw (frame.carries, is, has)
           (sym (answer_nothing limit (name_in seen channel) kept wanted fits partly))

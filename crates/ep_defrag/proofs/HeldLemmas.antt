@@ -1,4 +1,4 @@
--- What a buffer holds, before and after a fragment.
+-- The fragments that a buffer holds, before and after one more.
 use Rattle.std.proofs.Common.{◌≡◌, ℕ, ◌≤◌, length, List, ◌∷◌, [], ◌++◌, Bool, true, false, ◌||◌, ◌&&◌, ◌↔◌, Option}
 use Rattle.std.proofs.Common.{Some, None, is_some, sym, ◌∙◌, subst, ap, refl, arith, inl, inr}
 use Rattle.std.specs.List.{All, list_any}
@@ -21,7 +21,7 @@ use Rattle.ep_defrag.proofs.DataLemmas.{FitAfter-push, FitsAt, fits_at, agrees_w
 use Rattle.ep_defrag.proofs.DataLemmas.{assembled-push, is_covered-push, is_touched-push, end_of-push, own_end}
 use Rattle.ep_defrag.proofs.CompleteLemmas.{complete_by_sections}
 
--- a buffer that shows the same holds the same
+-- Buffers with equal contents hold the same fragments.
 pub HoldsFragments-same : (a b : IpDefragBuf) (fragments : List IpFragment) → HoldsFragments a fragments
     → data_of b ≡ data_of a → sections_of b ≡ sections_of a → known_end_of b ≡ known_end_of a
     → HoldsFragments b fragments
@@ -35,7 +35,7 @@ HoldsFragments-same a b fragments held same_data same_sections same_end = record
   points = λ position. rw same_sections (held.points position);
 }
 
--- the known end after a fragment that fits
+-- The known end after a fragment that fits is the former one, or else the fragment's if it is final.
 end_after-fits : (known : Option ℕ) (reach : ℕ) (fragment : IpFragment) → FitsAt 65535 known reach fragment
     → end_after known fragment ≡ option_or known (own_end fragment)
 end_after-fits None reach fragment fits = refl
@@ -50,7 +50,7 @@ or_swap true false = refl
 or_swap false true = refl
 or_swap false false = refl
 
--- A buffer that took a fragment which fits holds it at the end of its list.
+-- A buffer that accepted a fragment holds it at the end of its list.
 pub HoldsFragments-push : (old new : IpDefragBuf) (fragments : List IpFragment) (fragment : IpFragment)
     → HoldsFragments old fragments → Fits fragments fragment → data_of new ≡ data_after (data_of old) fragment
     → IsPermutation (sections_of new) (sections_after (range_of fragment) (sections_of old))
@@ -90,13 +90,13 @@ HoldsFragments-push old new fragments fragment held fits data_now sections_now e
           ∙ sym (is_touched-push fragments fragment position);
     }
 
--- Its data is as long as they reach.
+-- The length of its data is the greatest end of a fragment.
 pub data_len : (buffer : IpDefragBuf) (fragments : List IpFragment) → HoldsFragments buffer fragments
     → length (data_of buffer) ≡ reach_of fragments
 data_len buffer fragments held =
     ap length held.contents ∙ length-assembled fragments ∙ end_is_greatest 65535 fragments held.in_turn
 
--- It shows whether they are complete.
+-- The known end and the sections determine whether the fragments are complete.
 pub complete_when_held : (buffer : IpDefragBuf) (fragments : List IpFragment) → HoldsFragments buffer fragments
     → ((is_some (known_end_of buffer) && is_whole (sections_of buffer)) ≡ true) ↔ IsComplete fragments
 complete_when_held buffer fragments held =
@@ -110,7 +110,7 @@ complete_when_held buffer fragments held =
     })
     (end_is_greatest 65535 fragments held.in_turn))
 
--- a section that touches a position of the range merges with it
+-- A section that touches a position of the range merges with it.
 merging_from_point : (range : IpFragRange) (sections : List IpFragRange) (position : ℕ) → touches position range ≡ true
     → list_any (touches position) sections ≡ true → list_any (merges range) sections ≡ true
 merging_from_point range [] position here there = absurd (false≢true there)
@@ -120,7 +120,7 @@ merging_from_point range (section ∷ sections) position here there =
       | inr later ↦ or_right _ _ (merging_from_point range sections position here later)
     ]
 
--- A fragment in place ends within its data, and merges with one of its sections.
+-- A fragment in place ends within the data, and merges with a section.
 pub in_place_when_held : (buffer : IpDefragBuf) (fragments : List IpFragment) (fragment : IpFragment)
     → HoldsFragments buffer fragments → IsInPlace fragments fragment
     → (fragment_end fragment ≤ length (data_of buffer))

@@ -1,4 +1,4 @@
--- What a pool holds, after one stream changed, went or began, and after a drop.
+-- The table that a pool holds, after one stream changed, ended or began, and after a drop.
 use Rattle.std.proofs.Common.{◌≡◌, ℕ, ◌≤◌, Bool, true, false, List, [], ◌∷◌, map, Bor, Option, Some, None, is_some}
 use Rattle.std.proofs.Common.{cond, if◌then◌else◌, sym, refl, ap, ◌∙◌, subst, arith, inl, inr}
 use Rattle.std.specs.List.{filter, find, count_by, items_where_true}
@@ -20,7 +20,7 @@ use Rattle.ep_defrag.proofs.EntryLemmas.{same_name}
 abbrev Table : Type 0 → Type 0 → Type 0
 Table T C = IpFragId C → Option (Kept T)
 
--- A pool that holds a table holds each table with the same entries.
+-- A pool that holds a table holds each table with equal entries.
 pub HoldsTable-same : {T C : Type 0} (eq : C → C → Bool) (pool : IpDefragPool T C) (a b : Table T C)
     → ((name : IpFragId C) → a name ≡ b name) → HoldsTable eq pool a → HoldsTable eq pool b
 HoldsTable-same eq pool a b same held = record {
@@ -35,8 +35,8 @@ no_entry C limit None entry = refl
 no_entry C limit (Some kept) entry = absurd entry
 
 module _ {T C : Type 0} (eq : C → C → Bool) (laws : IsEquivalence eq) where
-  -- One stream has changed, begun or gone: the pool holds each table in which what is kept of its name is what it has
-  -- now, and all else as it was.
+  -- After one stream changed, began or ended, the pool holds each table whose entry for it matches its new state and
+  -- whose other entries are unchanged.
   pub HoldsTable-changed : (old new : IpDefragPool T C) (table next : Table T C) (id : IpFragId C)
       (stream : Option (Stream T C)) → ChangesStream eq old new id stream → HoldsTable eq old table
       → ((name : IpFragId C) → same_stream eq id name ≡ false → next name ≡ table name)
@@ -50,7 +50,7 @@ module _ {T C : Type 0} (eq : C → C → Bool) (laws : IsEquivalence eq) where
     ];
   }
 
-  -- One stream has gone.
+  -- After one stream ended, the pool holds the table without its entry.
   pub HoldsTable-removed : (old new : IpDefragPool T C) (id : IpFragId C) → ChangesStream eq old new id None
       → (table : Table T C) → HoldsTable eq old table
       → HoldsTable eq new (λ name. if same_stream eq id name then None else table name)
@@ -58,13 +58,13 @@ module _ {T C : Type 0} (eq : C → C → Bool) (laws : IsEquivalence eq) where
       HoldsTable-changed old new table _ id None changed held (λ name other. rw other refl) (λ name alike. rw alike tt)
 
   module _ (pool : IpDefragPool T C) (table : Table T C) (held : HoldsTable eq pool table) (id : IpFragId C) where
-    -- what is kept of a stream that isn't there
+    -- A stream that is not open has no entry.
     pub none_kept : stream_named eq id pool ≡ None
         → (name : IpFragId C) → same_stream eq id name ≡ true → table name ≡ None
     none_kept absent name alike =
         no_entry C (limit_of pool) (table name) (rw (same_name eq laws pool id name alike, absent) at (held.each name))
 
-    -- the stream of a name has what is kept of each name that is the same
+    -- The stream of an identifier matches the entry of each equal identifier.
     pub entry_at : (stream : Stream T C) → stream_named eq id pool ≡ Some stream
         → (name : IpFragId C) → same_stream eq id name ≡ true → HoldsEntry (limit_of pool) (Some stream) (table name)
     entry_at stream found name alike = rw (same_name eq laws pool id name alike, found) at (held.each name)
@@ -101,7 +101,7 @@ HoldsTable-filter eq old new table answers held same now =
           (entry_by (limit_of old) answers (stream_named eq name old) (table name) (held.each name));
     }
 
--- what a drop's answers are, where what the map asks of each entry is what keep answers of its timestamp
+-- The answers of a drop, if the map's test of each entry is the answer of `keep` to its timestamp.
 module _ {F T C : Type 0} (calls : Shared F (Bor T × Unit {0}) Bool) (keep : F) {P : Type 0}
     (step : P → IpFragId C → OpenStream T → Bool → OpenStream T → P → Type 0) (Keeps : P → Type 0)
     (asks : (test : P) (key : IpFragId C) (value : OpenStream T) (answer : Bool) (left : OpenStream T) (next : P)
@@ -148,7 +148,7 @@ told_at : {F T : Type 0} (calls : Shared F (Bor T × Unit {0}) Bool) (keep : F) 
 told_at calls keep answers told timestamp answer returned =
     told returned.shown answer returned.says.met ∙ ap answers returned.shows
 
--- where a drop answers by a function of the timestamp, it is a filter
+-- A drop that answers by a function of the timestamp is a filter.
 module _ {F T C : Type 0} (calls : Shared F (Bor T × Unit {0}) Bool) (keep : F) (answers : T → Bool)
     (told : IsAnsweredBy calls keep answers) where
   answered_filter : (streams : List (Stream T C)) (given : List Bool) → AnswersEach calls keep streams given
@@ -168,8 +168,8 @@ module _ {F T C : Type 0} (calls : Shared F (Bor T × Unit {0}) Bool) (keep : F)
       HoldsTable-filter eq old new table answers held left.limit
       (left.left ∙ answered_filter (streams_of old) left.answers left.each)
 
--- ---- a drop that decides by the timestamp or not
--- what becomes of a stream that was found: an answer of keep decides
+-- ---- a drop that need not decide by the timestamp
+-- Holds if an answer of `keep` decides whether a found stream remains.
 abbrev IsDecided : {F T C : Type 0} → Shared F (Bor T × Unit {0}) Bool → F → Option (Stream T C) → Option (Stream T C)
     → Type 0
 IsDecided calls keep None new = new ≡ None
@@ -243,7 +243,7 @@ module _ {F T C : Type 0} (calls : Shared F (Bor T × Unit {0}) Bool) (keep : F)
   entry_decided limit (Some stream) new decided kept entry =
       rw decided.2 (entry_answered limit decided.0 stream kept entry)
 
-  -- the pool holds the entries of the streams that it shows
+  -- The pool holds the entries of its remaining streams.
   pub holds_answered : (eq : C → C → Bool) (old new : IpDefragPool T C) (table : Table T C) → HoldsTable eq old table
       → LeavesAnswered calls keep old new → HoldsAnswered eq calls keep table new
   holds_answered eq old new table held left =

@@ -1,5 +1,5 @@
--- A range joins sections that stand apart in order: those that share a point with it are neighbours of one another, and
--- with their union at their place the sections stand apart in order again.
+-- Merging of a range into ordered, separated sections: the sections that overlap or touch it are neighbours of one
+-- another, and with their union in their place the sections are ordered and separated again.
 use Rattle.std.proofs.Common.{◌≡◌, ℕ, suc, ◌+◌, ◌-◌, ◌<◌, ◌≤◌, true, false, not, List, [], ◌∷◌, ◌++◌}
 use Rattle.std.proofs.Common.{length, get_or, set, take, drop, sym, refl, ap, subst, ◌∙◌, inl, inr, arith}
 use Rattle.std.specs.List.{All, AllWithin, AllByRecursion, list_any, filter, fold, insert, remove_range}
@@ -11,7 +11,7 @@ use Rattle.std.proofs.lemmas.List.{take-append-drop, drop-drop, drop_more, take_
 use Rattle.std.proofs.lemmas.List.Elements.{filter-append, recursion_from_All}
 use Rattle.std.proofs.lemmas.List.Sorted.{IsPermutation-middle}
 use Rattle.ep_defrag.specs.declared.ip_frag_range.IpFragRange.{IpFragRange}
-use Rattle.ep_defrag.specs.Ranges.{merges, hull, AreApart}
+use Rattle.ep_defrag.specs.Ranges.{merges, hull, AreSeparate}
 use Rattle.ep_defrag.specs.Buffers.{sections_after, AreNeighbours}
 use Rattle.ep_defrag.proofs.ListLemmas.{none_from_filter}
 use Rattle.ep_defrag.proofs.SectionLemmas.{IsOrdered}
@@ -19,7 +19,7 @@ use Rattle.ep_defrag.proofs.ApartLemmas.{AreApartFrom, from_apart, to_apart, ord
 use Rattle.ep_defrag.proofs.ApartLemmas.{least_behind, least_behind-le, apart_parts, apart_append}
 use Rattle.ep_defrag.proofs.ApartLemmas.{starts_rise, ends_rise, behind_earlier}
 
--- ---- a fact of places, of a part
+-- ---- from a property of indices to one of a sublist
 module _ {X : Type 0} (P : X → Type 0) (xs : List X) where
   all_of_take : (n : ℕ) → n ≤ length xs → AllWithin P xs 0 n → All P (take n xs)
   all_of_take n within all k d below =
@@ -47,11 +47,11 @@ abbrev pub last_of : IpFragRange → List IpFragRange → IpFragRange
 last_of first [] = first
 last_of first (next ∷ later) = last_of next later
 
-last_behind : (least : ℕ) (first : IpFragRange) (later : List IpFragRange) → AreApartFrom least (first ∷ later)
+last_after : (least : ℕ) (first : IpFragRange) (later : List IpFragRange) → AreApartFrom least (first ∷ later)
     → (first.start ≤ (last_of first later).start) × (first.end ≤ (last_of first later).end)
-last_behind least first [] apart = (omega arith, omega arith)
-last_behind least first (next ∷ later) apart =
-    let rest = last_behind (first.end + 1) next later apart.2 in
+last_after least first [] apart = (omega arith, omega arith)
+last_after least first (next ∷ later) apart =
+    let rest = last_after (first.end + 1) next later apart.2 in
     (omega (arith, rest.0, apart.1, apart.2.0), omega (arith, rest.1, apart.2.0, apart.2.1))
 
 behind_last : (least : ℕ) (first : IpFragRange) (later : List IpFragRange)
@@ -59,7 +59,7 @@ behind_last : (least : ℕ) (first : IpFragRange) (later : List IpFragRange)
 behind_last least first [] = refl
 behind_last least first (next ∷ later) = behind_last (first.end + 1) next later
 
--- only the first and the last decide it
+-- Only the first and the last section determine the union.
 pub union_of_ends : (least : ℕ) (sofar first : IpFragRange) (later : List IpFragRange)
     → AreApartFrom least (first ∷ later)
     → fold hull sofar (first ∷ later) ≡ hull (hull sofar first) (last_of first later)
@@ -67,7 +67,7 @@ union_of_ends least sofar first [] apart =
     same_range (hull sofar first) (hull (hull sofar first) first) (omega arith) (omega arith)
 union_of_ends least sofar first (next ∷ later) apart =
     let last = last_of next later in
-    let behind = last_behind (first.end + 1) next later apart.2 in
+    let behind = last_after (first.end + 1) next later apart.2 in
     union_of_ends (first.end + 1) (hull sofar first) next later apart.2
     ∙ same_range (hull (hull (hull sofar first) next) last) (hull (hull sofar first) last)
     (omega (arith, apart.1, apart.2.0))
@@ -79,7 +79,7 @@ last_at first [] d = refl
 last_at first (next ∷ later) d = last_at next later d
 
 -- ---- the sections in three parts
--- those before the neighbours of a range, these, and those behind them
+-- Holds if these are the sections before the neighbours of a range, the neighbours, and the sections after them.
 pub record AreParts (range : IpFragRange) (earlier between later : List IpFragRange) : Type 0 where
   pub apart : AreApartFrom 0 (earlier ++ (between ++ later))
   pub before : AllByRecursion (λ section. section.end < range.start) earlier
@@ -148,16 +148,16 @@ module _ (range : IpFragRange) (ordered : IsOrdered range) where
         ∙ (kept_behind later (ordered_from (least_behind (least_behind 0 earlier) between) later (split_behind).1)
         parts.behind).1)
 
-    -- the union at its place, and the others
+    -- The sections after the merge are the union in its place, and the others.
     joined : IsPermutation (earlier ++ fold hull range between ∷ later)
         (sections_after range (earlier ++ (between ++ later)))
     joined = rw (taken, others) (IsPermutation-middle earlier (fold hull range between) later)
 
-    -- where none is between, none merges
+    -- If there are no neighbours, no section merges with the range.
     none_merging : between ≡ [] → list_any (merges range) (earlier ++ (between ++ later)) ≡ false
     none_merging none = none_from_filter (merges range) (earlier ++ (between ++ later)) (taken ∙ none)
 
--- with the union at its place they stand apart in order
+-- With the union in its place the sections are ordered and separated.
 joined_apart : (range : IpFragRange) → IsOrdered range → (earlier between later : List IpFragRange)
     → AreParts range earlier between later → AreApartFrom 0 (earlier ++ fold hull range between ∷ later)
 joined_apart range ordered earlier [] later parts =
@@ -175,7 +175,7 @@ joined_apart range ordered earlier (first ∷ between) later parts =
     let last = last_of first between in
     let union = hull (hull range first) last in
     let low = least_behind-le 0 range.start earlier (omega arith) parts.before in
-    let ends = last_behind least first between rest.0 in
+    let ends = last_after least first between rest.0 in
     let behind : AreApartFrom (last.end + 1) later =
     subst (λ least. AreApartFrom least later) (behind_last least first between) rest.1 in
     rw (union_of_ends least range first between rest.0)
@@ -185,7 +185,7 @@ joined_apart range ordered earlier (first ∷ between) later parts =
       raised (last.end + 1) range.end (union.end + 1) later behind parts.behind (omega (arith, ends.1)),
     ))
 
--- ---- the parts by place
+-- ---- the parts by index
 three_parts : (sections : List IpFragRange) (from to : ℕ) → from ≤ to
     → take from sections ++ (take (to - from) (drop from sections) ++ drop to sections) ≡ sections
 three_parts sections from to order =
@@ -196,7 +196,7 @@ three_parts sections from to order =
     ∙ take-append-drop (to - from) (drop from sections))
     ∙ take-append-drop from sections
 
-module _ (range : IpFragRange) (ordered : IsOrdered range) (sections : List IpFragRange) (apart : AreApart sections)
+module _ (range : IpFragRange) (ordered : IsOrdered range) (sections : List IpFragRange) (apart : AreSeparate sections)
     (from to : ℕ) (near : AreNeighbours range sections from to) where
   abbrev between : List IpFragRange
   between = take (to - from) (drop from sections)
@@ -226,12 +226,12 @@ module _ (range : IpFragRange) (ordered : IsOrdered range) (sections : List IpFr
       split
       (joined range ordered (take from sections) between (drop to sections) parts)
 
-  is_apart : AreApart (take from sections ++ fold hull range between ∷ drop to sections)
+  is_apart : AreSeparate (take from sections ++ fold hull range between ∷ drop to sections)
   is_apart =
       to_apart 0 (take from sections ++ fold hull range between ∷ drop to sections)
       (joined_apart range ordered (take from sections) between (drop to sections) parts)
 
-  -- where a section merges, there is a place between
+  -- If a section merges with the range, the range of indices is not empty.
   pub some_between : list_any (merges range) sections ≡ true → from < to
   some_between merging = elim (cases_lt from to) [
     | inl some ↦ some
@@ -245,13 +245,13 @@ module _ (range : IpFragRange) (ordered : IsOrdered range) (sections : List IpFr
         ∙ merging))
   ]
 
-  -- with no neighbour the range itself is the union
+  -- Without neighbours the union is the range itself.
   alone : from ≡ to → fold hull range between ≡ range
   alone same =
       let none : to - from ≡ 0 = omega arith in
       ap (λ count. fold hull range (take count (drop from sections))) none
 
-  -- else that of the range with the first and the last
+  -- Otherwise it is the union of the range with the first and the last neighbour.
   with_ends : (d : IpFragRange) → from < to
       → fold hull range between ≡ hull (hull range (get_or sections from d)) (get_or sections (to - 1) d)
   with_ends d some =
@@ -279,7 +279,7 @@ module _ (range : IpFragRange) (ordered : IsOrdered range) (sections : List IpFr
       ∙ union_of_ends least range first rest (subst (λ all. AreApartFrom least all) opened here.0)
       ∙ ap (λ last. hull (hull range first) last) last
 
-  -- so the range is inserted at its place
+  -- Inserting the range at its index merges it, if it has no neighbours.
   module _ (items : List IpFragRange) (same : from ≡ to) (inserted : items ≡ insert sections from range) where
     inserted_joins : items ≡ take from sections ++ fold hull range between ∷ drop to sections
     inserted_joins =
@@ -290,10 +290,10 @@ module _ (range : IpFragRange) (ordered : IsOrdered range) (sections : List IpFr
     pub insert_joins : IsPermutation items (sections_after range sections)
     insert_joins = rw inserted_joins is_joined
 
-    pub insert_apart : AreApart items
+    pub insert_apart : AreSeparate items
     insert_apart = rw inserted_joins is_apart
 
-  -- or the union is written over the first neighbour, and the others go
+  -- Otherwise overwriting the first neighbour with the union and removing the others merges it.
   module _ (items : List IpFragRange) (some : from < to) (first last : IpFragRange)
       (at_first : first ≡ get_or sections from first) (at_last : last ≡ get_or sections (to - 1) last)
       (left : items ≡ remove_range (set sections from (hull (hull range first) last)) (from + 1) to) where
@@ -314,13 +314,14 @@ module _ (range : IpFragRange) (ordered : IsOrdered range) (sections : List IpFr
     pub union_joins : IsPermutation items (sections_after range sections)
     union_joins = rw left_joins is_joined
 
-    pub union_apart : AreApart items
+    pub union_apart : AreSeparate items
     union_apart = rw left_joins is_apart
 
--- ---- the places from what stands next to them
--- a place where the sections that end before the range have an end, and one behind it where those have one that start no
--- later than its end
-pub near_from_place : (range : IpFragRange) → (sections : List IpFragRange) → AreApart sections → (from to : ℕ)
+-- ---- the indices from the sections next to them
+-- The indices `from` and `to` enclose the neighbours if the sections before `from` end before the range and the others
+-- do not, and the section before `to` starts no later than the end of the range and the section at `to` starts after
+-- it.
+pub near_from_place : (range : IpFragRange) → (sections : List IpFragRange) → AreSeparate sections → (from to : ℕ)
     → from ≤ to → to ≤ length sections
     → AllWithin (λ section. section.end < range.start) sections 0 from
     → AllWithin (λ section. range.start ≤ section.end) sections from (length sections)
@@ -338,8 +339,8 @@ near_from_place range sections apart from to order within earlier rest starts be
   later = λ k d low high. omega (arith, starts_rise sections apart to k d low high, behind d (omega arith));
 }
 
--- where the range starts behind the end of the last section, none is near
-pub near_at_end : (range : IpFragRange) → (sections : List IpFragRange) → AreApart sections → (d : IpFragRange)
+-- A range that starts after the end of the last section has no neighbours.
+pub near_at_end : (range : IpFragRange) → (sections : List IpFragRange) → AreSeparate sections → (d : IpFragRange)
     → (length sections ≡ 0 → ⊥) → (get_or sections (length sections - 1) d).end < range.start
     → AreNeighbours range sections (length sections) (length sections)
 near_at_end range sections apart d some behind =
@@ -355,8 +356,8 @@ near_at_end range sections apart d some behind =
     (λ e more. absurd (omega arith))
     (λ e more. absurd (omega arith))
 
--- where it starts in the last section, at the end of that too, it alone is near
-pub near_in_last : (range : IpFragRange) → IsOrdered range → (sections : List IpFragRange) → AreApart sections
+-- A range that starts in the last section, or at its end, has that section as its only neighbour.
+pub near_in_last : (range : IpFragRange) → IsOrdered range → (sections : List IpFragRange) → AreSeparate sections
     → (d : IpFragRange) → (length sections ≡ 0 → ⊥) → range.start ≤ (get_or sections (length sections - 1) d).end
     → (get_or sections (length sections - 1) d).start ≤ range.start
     → AreNeighbours range sections (length sections - 1) (length sections)

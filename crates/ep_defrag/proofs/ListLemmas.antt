@@ -1,4 +1,4 @@
--- Lists: tests of a filter's two parts, a run of numbers, and what was taken of a list.
+-- Lists: filters and their complements, ranges of numbers, and elements taken from a list.
 use Rattle.std.proofs.Common.{◌≡◌, ℕ, suc, zero, ◌+◌, ◌<◌, ◌≤◌, Bool, true, false, cond, not, ◌||◌, List, [], ◌∷◌, ◌++◌}
 use Rattle.std.proofs.Common.{length, take, get_or, sym, refl, ap, ◌∙◌, arith, inl, inr}
 use Rattle.std.specs.List.{list_any, list_all, filter, count_by, range_with_len}
@@ -9,7 +9,7 @@ use Rattle.std.proofs.lemmas.List.Sorted.{list_any-IsPermutation, IsPermutation-
 use Rattle.std.proofs.lemmas.List.Sums.{sum_by-cons}
 
 module _ {X : Type 0} (p : X → Bool) where
-  -- none passes where a filter keeps none
+  -- If a filter keeps no element, none passes its test.
   pub none_from_filter : (xs : List X) → filter p xs ≡ [] → list_any p xs ≡ false
   none_from_filter [] none = refl
   none_from_filter (x ∷ xs) none = elim (cases_Bool (p x)) [
@@ -17,14 +17,14 @@ module _ {X : Type 0} (p : X → Bool) where
     | inr fails ↦ rw fails (none_from_filter xs (rw fails at none))
   ]
 
-  -- a test of a list is one of the two parts of a filter
+  -- An element passes a test in a filtered list or in its complement exactly if one does in the list.
   pub list_any-filter_both : (q : X → Bool) (xs : List X)
       → (list_any q (filter p xs) || list_any q (filter (λ x. not (p x)) xs)) ≡ list_any q xs
   list_any-filter_both q xs =
       sym (list_any-append q (filter p xs) (filter (λ x. not (p x)) xs))
       ∙ sym (list_any-IsPermutation q xs _ (IsPermutation-filter_both p (λ x. not (p x)) (λ x. refl) xs))
 
--- a test of each number of a run
+-- A test that each number of a range passes holds of all of them.
 pub list_all-range : (p : ℕ → Bool) (from n : ℕ) → ((k : ℕ) → from ≤ k → k < from + n → p k ≡ true)
     → list_all p (range_with_len from n) ≡ true
 list_all-range p from zero each = refl
@@ -42,7 +42,7 @@ each_of_range p from (suc n) all k low high =
       | inr other ↦ each_of_range p (from + 1) n parts.1 k (omega arith) (omega arith)
     ]
 
--- what passes is counted
+-- If an element passes, the count is at least 1.
 pub count_by-positive : {X : Type 0} (p : X → Bool) (xs : List X) → list_any p xs ≡ true → 1 ≤ count_by p xs
 count_by-positive p [] any = absurd (false≢true any)
 count_by-positive p (x ∷ xs) any = elim (cases_Bool (p x)) [
@@ -51,12 +51,12 @@ count_by-positive p (x ∷ xs) any = elim (cases_Bool (p x)) [
       (omega (arith, count_by-positive p xs (rw fails at any)))
 ]
 
--- where nothing is left, all were taken
+-- If no element is left, all were taken.
 pub all_taken : {X : Type 0} (taken left all : List X) → taken ++ left ≡ all → length left ≡ 0 → taken ≡ all
 all_taken taken [] all whole none = sym (append-nil taken) ∙ whole
 all_taken taken (x ∷ left) all whole none = absurd (omega arith)
 
--- the elements before one, and the one
+-- The elements before the next one are those taken, and the element at that index is the next one.
 pub before_and_at : {X : Type 0} (taken left : List X) (x d : X)
     → (take (length taken) (taken ++ x ∷ left) ≡ taken) × (get_or (taken ++ x ∷ left) (length taken) d ≡ x)
 before_and_at [] left x d = (refl, refl)

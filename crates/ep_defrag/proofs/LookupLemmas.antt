@@ -1,4 +1,4 @@
--- What a test finds in a list of which it holds at most once, and after changes of the list.
+-- Look-ups by a test that at most one element of a list passes, before and after changes of the list.
 use Rattle.std.proofs.Common.{◌≡◌, ℕ, suc, zero, ◌<◌, ◌≤◌, Bool, true, cond, List, [], ◌∷◌, length, get_or, Option}
 use Rattle.std.proofs.Common.{Some, None, refl, ap, sym, ◌∙◌, arith, inl, inr, ◌⊎◌}
 use Rattle.std.specs.List.{find, filter, count_by, Contains}
@@ -28,7 +28,7 @@ module _ {X : Type 0} (p : X → Bool) where
         omega (arith, sum_by-cons counted x xs, ap {B = ℕ} (λ b. cond b 1 0) fails, count_none xs rest)
   ]
 
-  -- what is found is there, and passes
+  -- A found element is in the list, and passes.
   found_at : (xs : List X) (x : X) → find p xs ≡ Some x → Contains xs x × (p x ≡ true)
   found_at [] x found = absurd (cc)
   found_at (y ∷ xs) x found = elim (cases_Bool (p y)) [
@@ -49,7 +49,7 @@ module _ {X : Type 0} (p : X → Bool) where
   at_least_one (y ∷ xs) (suc k) x below is passes =
       omega (arith, sum_by-cons counted y xs, at_least_one xs k x (omega (arith, below)) is passes)
 
-  -- the one that passes is found
+  -- The only element that passes is found.
   find_one : (xs : List X) (k : ℕ) (x : X) → k < length xs → get_or xs k x ≡ x → p x ≡ true → count_by p xs ≤ 1
       → find p xs ≡ Some x
   find_one [] k x below is passes one = absurd (omega (arith, below))
@@ -69,7 +69,7 @@ module _ {X : Type 0} (p : X → Bool) where
             (find_one xs k x later is passes (omega (arith, one, sum_by-cons counted y xs)))
       ]
 
-  -- in another order it finds the same
+  -- After a reordering the same element is found.
   pub find_permuted : (xs ys : List X) → IsPermutation xs ys → count_by p ys ≤ 1 → find p ys ≡ find p xs
   find_permuted xs ys moved one = elim (cases_found (find p xs) refl) [
     | inl none ↦
@@ -99,7 +99,7 @@ module _ {X : Type 0} (p keep : X → Bool) where
     | inr goes ↦ rw goes (omega (arith, sum_by-cons (counted p) x xs, count_filter xs))
   ]
 
-  -- what is found stays where it passes the filter
+  -- found element, if it passes the filter
   unfoldable pub stays_if : Option X → Option X
   stays_if None = None
   stays_if (Some x) = cond (keep x) (Some x) None

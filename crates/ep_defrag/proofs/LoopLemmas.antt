@@ -1,4 +1,4 @@
--- Calls answered in turn, whatever they are given as: what is known after some of them, and after one more.
+-- Calls answered in turn, of whatever type: the state after some of them, and after one more.
 use Rattle.std.proofs.Common.{rules, ◌≡◌, ℕ, ◌<◌, ◌≤◌, Bool, Bor, List, [], ◌∷◌, ◌++◌, append_assoc, Option, None, map}
 use Rattle.std.proofs.Common.{length, take, get_or, IsFalse, sym, ap, ◌∙◌, arith}
 use Rattle.std.specs.Fn.{Shared}
@@ -20,8 +20,8 @@ Table T C = IpFragId C → Option (Kept T)
 
 module _ {F T C V X Y : Type 0} (asks : Shared F (Bor V × (Bor T × Unit {0})) Bool) (keep : F) (eq : C → C → Bool)
     (max : ℕ) (IsRead : X → ReadCall T C V → Type 0) (said : Y → ReadAnswer) (wants : Y → Bool) where
-  -- The calls that were taken are read and answered, none for want of memory, and the pool holds their table; there is
-  -- room for the answers to those that are left.
+  -- The calls so far are read and answered, without an allocation failure, and the pool holds their table; there is
+  -- capacity for the answers to the remaining ones.
   pub record Answered (calls taken left : List X) (answers : List Y) (room : ℕ) (pool : IpDefragPool T C) : Type 0 where
     pub reads : List (ReadCall T C V)
     pub each : AllZip IsRead taken reads
@@ -35,9 +35,9 @@ module _ {F T C V X Y : Type 0} (asks : Shared F (Bor V × (Bor T × Unit {0})) 
     pub counted : length answers ≡ length taken
     pub enough : length calls ≤ room
 
-  -- A call that is read so is answered so.
+  -- A call that is read in this way has this answer.
   pub record Answers (old new : IpDefragPool T C) (read : ReadCall T C V) (answer : Y) : Type 0 where
-    pub says : (table : Table T C) → HoldsTable eq old table → said answer ≡ read_answer_to (limit_of old) table read
+    pub stated : (table : Table T C) → HoldsTable eq old table → said answer ≡ read_answer_to (limit_of old) table read
     pub holds : (decide : V → T → Bool) → IsDecidedBy asks keep decide → (table : Table T C) → HoldsTable eq old table
         → HoldsTable eq new (table_with_read (limit_of old) eq decide table read)
     pub limit : limit_of new ≡ limit_of old
@@ -45,7 +45,7 @@ module _ {F T C V X Y : Type 0} (asks : Shared F (Bor V × (Bor T × Unit {0})) 
 
 module _ {F T C V X Y : Type 0} {asks : Shared F (Bor V × (Bor T × Unit {0})) Bool} {keep : F} {eq : C → C → Bool}
     {max : ℕ} {IsRead : X → ReadCall T C V → Type 0} {said : Y → ReadAnswer} {wants : Y → Bool} where
-  -- before the first call
+  -- The state holds before the first call.
   pub answered_none : {calls left : List X} {answers : List Y} {room : ℕ} {pool : IpDefragPool T C} → answers ≡ []
       → left ≡ calls → length calls ≤ room → HoldsTable eq pool (λ name. None) → limit_of pool ≡ max
       → Answered asks keep eq max IsRead said wants calls [] left answers room pool
@@ -65,7 +65,7 @@ module _ {F T C V X Y : Type 0} {asks : Shared F (Bor V × (Bor T × Unit {0})) 
     {max : ℕ} {IsRead : X → ReadCall T C V → Type 0} {said : Y → ReadAnswer} {wants : Y → Bool}
     {calls taken left : List X} {answers : List Y} {room : ℕ} {pool : IpDefragPool T C}
     (known : Answered asks keep eq max IsRead said wants calls taken left answers room pool) where
-  -- where none is left, all were taken
+  -- If no call is left, all were taken.
   pub answered_all : length left ≡ 0 → taken ≡ calls
   answered_all none = all_taken taken left calls known.whole none
 
@@ -73,19 +73,19 @@ module _ {F T C V X Y : Type 0} {asks : Shared F (Bor V × (Bor T × Unit {0})) 
     all_are : taken ++ call ∷ later ≡ calls
     all_are = ap (λ rest. taken ++ rest) (sym first) ∙ known.whole
 
-    -- fewer are answered than there are
+    -- If a call is left, there are fewer answers than calls.
     pub some_left : length answers < length calls
     some_left = omega (arith, known.counted, ap length all_are, length-append taken (call ∷ later))
 
-    -- so there is room for the answer to the next call
+    -- There is capacity for the answer to the next call.
     pub has_room : length answers < room
     has_room = omega (arith, known.enough, some_left)
 
-    -- the next call stands behind those that were answered
+    -- The next call follows the answered ones.
     pub next_at : (d : X) → (take (length answers) calls ≡ taken) × (get_or calls (length answers) d ≡ call)
     next_at d = rw (known.counted, ← all_are) (before_and_at taken later call d)
 
-    -- one more call
+    -- The state holds after one more call.
     pub answered_more : {read : ReadCall T C V} {answer : Y} {all : List Y} {more : ℕ} {new : IpDefragPool T C}
         → IsRead call read → Answers asks keep eq max IsRead said wants pool new read answer
         → all ≡ answers ++ answer ∷ [] → room ≤ more
@@ -99,7 +99,7 @@ module _ {F T C V X Y : Type 0} {asks : Shared F (Bor V × (Bor T × Unit {0})) 
           ∙ ap (λ before. before ++ said answer ∷ []) (known.answered decide decided)
           ∙ ap (λ last. frame_answers_to max eq decide known.reads ++ last ∷ [])
           (rw known.limit
-          at (step.says (table_after max eq decide (pool_calls known.reads)) (known.held decide decided)))
+          at (step.stated (table_after max eq decide (pool_calls known.reads)) (known.held decide decided)))
           ∙ sym (frame_answers-push max eq decide [] known.reads read);
       held = λ decide decided.
           HoldsTable-same eq new _ _ (λ name. sym (table_after_read max eq decide known.reads read name))

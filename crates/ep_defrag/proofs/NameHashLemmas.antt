@@ -1,5 +1,5 @@
--- A name's writes are read back from the writes that std's hasher is given, so different writes are given as different
--- writes.
+-- The writes of an identifier can be read back from the writes passed to std's hasher, so different writes become
+-- different writes.
 use Rattle.std.proofs.Common.{◌≡◌, ◌∙◌, ℕ, zero, suc, ◌+◌, ◌-◌, ◌*◌, ◌/◌, ◌%◌, ◌^◌, ◌<◌, ◌≤◌, ◌⊎◌, inl, inr, Bool, true, false, List, [], ◌∷◌, ◌++◌, length, if◌then◌else◌, nat_eq, nat_le, bit_or, refl, sym, ap, subst, arith, slice_index}
 use Rattle.std.specs.Int.{w16, w64, to_le_bytes, from_le_bytes}
 use Rattle.std.specs.Hash.{HashWrites}
@@ -11,9 +11,9 @@ use Rattle.std.proofs.lemmas.List.Sums.{fold-append}
 use Rattle.std.proofs.lemmas.Nat.{or_comm, or_shifted, or_block, shl_whole, le_bytes_2, le_bytes_8, from_le_bytes-to_le_bytes_8}
 use Rattle.ep_defrag.specs.declared.name_hasher.NameHasher.{NameHasher}
 use Rattle.ep_base.specs.Bytes.{AreBytes}
-use Rattle.ep_defrag.specs.NameHashes.{Step, word, rest_of, room_step, wait_step, number_step, step_of, initial, stepped, with_bytes, finished, hash_of, given_after, given_for, std_hash}
+use Rattle.ep_defrag.specs.NameHashes.{Step, word, rest_of, capacity_step, wait_step, number_step, step_of, initial, stepped, with_bytes, finished, hash_of, given_after, given_for, std_hash}
 
--- ---- the hash is std's of what it is given
+-- ---- the hash is std's hash of the writes passed on
 
 pub hash_after : (hasher : NameHasher) (writes : HashWrites) → finished (fold with_bytes hasher writes)
     ≡ std_hasher.finish (fold std_hasher.write hasher.state (given_after hasher.waiting hasher.count writes))
@@ -28,9 +28,9 @@ pub hash_is_given : (writes : HashWrites) → hash_of writes ≡ std_hash (given
 unfolding hash_of initial
 hash_is_given writes = hash_after initial writes
 
--- ---- what waits, read back
+-- ---- the pending word, read back
 
--- The writes that a waiting number holds
+-- writes that a pending word contains
 unfoldable unwaited : ℕ → ℕ → HashWrites
 unwaited zero waiting = []
 unwaited (suc more) waiting =
@@ -40,7 +40,7 @@ unwaited (suc more) waiting =
     then unwaited more ((waiting - 2 ^ 40) / 2 ^ 16) ++ (to_le_bytes w16 (waiting % 2 ^ 16) ∷ [])
     else unwaited more (waiting / 256) ++ ((waiting % 256 ∷ []) ∷ [])))
 
--- A number that waits, of some count of bytes, holds these writes
+-- Holds if a pending word with this number of bytes contains these writes.
 record Waits (waiting count : ℕ) (writes : HashWrites) : Type 0 where
   start : (256 ≤ waiting) ⊎ (waiting ≡ 1)
   none : count < 1 → waiting < 2 ^ 10
@@ -143,9 +143,9 @@ two_wait waiting count number writes waits few small = record {
   unwaits = λ more enough. two_is_unwaited waiting count number writes waits few small more enough;
 }
 
--- ---- what was given, read back
+-- ---- the writes passed on, read back
 
--- The writes that were given as others; the first of them as it is, after a mark
+-- original writes of those passed on; after a mark the first one is unchanged
 unfoldable ungiven : Bool → HashWrites → HashWrites
 ungiven plain [] = []
 ungiven true (bytes ∷ writes) = bytes ∷ ungiven false writes
@@ -176,7 +176,7 @@ marked_is_ungiven waiting others small =
     (from_le_bytes-to_le_bytes_8 (2 ^ 63 + waiting) (omega arith)) in
     read ∙ rw (le-leb (2 ^ 63) (2 ^ 63 + waiting) (omega arith), same) refl
 
--- After a step the writes are those that are read back of what was given, and then those that wait
+-- Holds if after a step the writes are those read back from the writes passed on, followed by the pending ones.
 record Keeps (step : Step) (writes : HashWrites) : Type 0 where
   moved : HashWrites
   left : HashWrites
@@ -202,8 +202,8 @@ rest_is_ungiven waiting count writes others waits = elim (cases_lt 1 waiting) [
 ]
 
 room_keeps : (waiting count bytes : ℕ) (writes : HashWrites) → Waits waiting count writes
-    → Keeps (room_step waiting count bytes) writes
-unfolding room_step
+    → Keeps (capacity_step waiting count bytes) writes
+unfolding capacity_step
 room_keeps waiting count bytes writes waits = elim (cases_lt 3 (count + bytes)) [
   | inl many ↦ rw (lt-leb (count + bytes) 3 many) (record {
     moved = writes;
@@ -223,8 +223,8 @@ room_keeps waiting count bytes writes waits = elim (cases_lt 3 (count + bytes)) 
   })
 ]
 
-room_fits : (waiting count bytes : ℕ) → bytes ≤ 3 → (room_step waiting count bytes).count + bytes ≤ 3
-unfolding room_step
+room_fits : (waiting count bytes : ℕ) → bytes ≤ 3 → (capacity_step waiting count bytes).count + bytes ≤ 3
+unfolding capacity_step
 room_fits waiting count bytes within = elim (cases_lt 3 (count + bytes)) [
   | inl many ↦ rw (lt-leb (count + bytes) 3 many) (omega arith)
   | inr few ↦ rw (le-leb (count + bytes) 3 few) (omega arith)
@@ -250,7 +250,7 @@ byte_keeps : (waiting count byte : ℕ) (writes : HashWrites) → Waits waiting 
     → Keeps (wait_step waiting count 1 byte) (writes ++ ((byte ∷ []) ∷ []))
 unfolding wait_step
 byte_keeps waiting count byte writes waits small =
-    let room = room_step waiting count 1 in
+    let room = capacity_step waiting count 1 in
     let kept = room_keeps waiting count 1 writes waits in
     let few : room.count < 3 = omega (arith, room_fits waiting count 1 (omega arith)) in
     record {
@@ -266,7 +266,7 @@ two_keep : (waiting count number : ℕ) (writes : HashWrites) → Waits waiting 
     → Keeps (wait_step waiting count 2 (bit_or (2 ^ 40) number)) (writes ++ (to_le_bytes w16 number ∷ []))
 unfolding wait_step
 two_keep waiting count number writes waits small =
-    let room = room_step waiting count 2 in
+    let room = capacity_step waiting count 2 in
     let kept = room_keeps waiting count 2 writes waits in
     let few : room.count < 2 = omega (arith, room_fits waiting count 2 (omega arith)) in
     record {
@@ -381,7 +381,7 @@ writes_are_ungiven waiting count before (bytes ∷ writes) waits small =
     ∙ joined_whole kept.moved kept.left (before ++ bytes ∷ []) writes kept.whole
     ∙ append_assoc before (bytes ∷ []) writes
 
--- Writes that differ are given as writes that differ
+-- Lists of writes that are passed on alike are equal.
 pub given_alike : (a b : HashWrites) → All AreBytes a → All AreBytes b → given_for a ≡ given_for b → a ≡ b
 given_alike a b bytes others alike =
     sym (writes_are_ungiven 1 0 [] a none_waits bytes) ∙ ap (ungiven false) alike

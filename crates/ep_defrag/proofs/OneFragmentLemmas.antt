@@ -1,4 +1,4 @@
--- One fragment of a stream, by what is kept of the stream.
+-- One fragment of a stream, in terms of the stream's entry.
 use Rattle.std.proofs.Common.{◌≡◌, ℕ, Bool, true, false, ◌↔◌, List, [], ◌∷◌, ◌++◌, Option, Some, None, sym, refl, ap}
 use Rattle.std.proofs.Common.{◌∙◌, ◌⊎◌, inl, inr, arith}
 use Rattle.std.proofs.lemmas.Bool.{false≢true}
@@ -8,39 +8,39 @@ use Rattle.ep_defrag.specs.declared.ip_defrag_error.IpDefragError.TheVariants.{A
 use Rattle.ep_defrag.specs.declared.ip_frag_id.IpFragId.{IpFragId}
 use Rattle.ep_defrag.specs.IpFragments.{IpFragment, fragment_end, reach_of, end_of, is_complete}
 use Rattle.ep_defrag.specs.FragmentRefusals.{refusal_within, RefusesWithin, FitsWithin, MayNeedMemoryWithin}
-use Rattle.ep_defrag.specs.FragmentRefusals.{is_want_of_memory}
+use Rattle.ep_defrag.specs.FragmentRefusals.{is_allocation_failure}
 use Rattle.ep_defrag.specs.Buffers.{HoldsFragments, ip_number_of, data_of}
 use Rattle.ep_defrag.specs.Streams.{source_of}
 use Rattle.ep_defrag.specs.Calls.{Kept, accepted_in, kept_with, answer_with, Payload, payload_of, fragment_refused}
-use Rattle.ep_defrag.specs.Calls.{payload_handed_out, nothing_handed_out}
+use Rattle.ep_defrag.specs.Calls.{payload_returned, no_payload}
 use Rattle.ep_defrag.specs.Pools.{Stream, HoldsEntry, BufferTakes, IsWhole}
 use Rattle.ep_defrag.proofs.DataLemmas.{FitAfter-push}
 use Rattle.ep_defrag.proofs.RunLemmas.{no_memory}
 
--- what a test that is exact answers
+-- Of two equivalent tests the second is false if the first is.
 pub false_from : (r b : Bool) → ((r ≡ true) ↔ (b ≡ true)) → r ≡ false → b ≡ false
 false_from r true exact fails = absurd (false≢true (sym fails ∙ exact.1 refl))
 false_from r false exact fails = refl
 
--- ---- a refusal is not one of memory
+-- ---- an error of the refusal table is no allocation failure
 module _ (limit : ℕ) (accepted : List IpFragment) (fragment : IpFragment) (error : IpDefragError) where
   abbrev RefusedOrWanting : Type 0
   RefusedOrWanting =
       RefusesWithin limit accepted fragment error
       ⊎ (MayNeedMemoryWithin limit accepted fragment × (error ≡ AllocationFailure (fragment_end fragment)))
 
-  pub refused_only : is_want_of_memory error ≡ false → RefusedOrWanting
+  pub refused_only : is_allocation_failure error ≡ false → RefusedOrWanting
       → refusal_within limit accepted fragment ≡ Some error
   refused_only other (inl refused) = refused
-  refused_only other (inr wanting) = absurd (false≢true (sym other ∙ ap is_want_of_memory wanting.1))
+  refused_only other (inr wanting) = absurd (false≢true (sym other ∙ ap is_allocation_failure wanting.1))
 
-  pub wanting_only : is_want_of_memory error ≡ true → RefusedOrWanting
+  pub wanting_only : is_allocation_failure error ≡ true → RefusedOrWanting
       → MayNeedMemoryWithin limit accepted fragment × (error ≡ AllocationFailure (fragment_end fragment))
   wanting_only wants (inl refused) =
       absurd (false≢true (sym (no_memory limit (end_of accepted) (reach_of accepted) fragment error refused) ∙ wants))
   wanting_only wants (inr wanting) = wanting
 
--- ---- the answer, and what is kept
+-- ---- the answer, and the new entry
 module _ {T : Type 0} (limit : ℕ) (kept : Option (Kept T)) (fragment : IpFragment) (timestamp : T) where
   abbrev after : List IpFragment
   after = accepted_in kept ++ fragment ∷ []
@@ -64,22 +64,22 @@ module _ {T C : Type 0} (limit : ℕ) (name : IpFragId C) (kept : Option (Kept T
 
   pub answer_complete : FitsWithin limit (accepted_in kept) fragment
       → is_complete (accepted_in kept ++ fragment ∷ []) ≡ true
-      → payload_handed_out (payload_of name (accepted_in kept ++ fragment ∷ [])) ≡ answer_with limit name kept fragment
+      → payload_returned (payload_of name (accepted_in kept ++ fragment ∷ [])) ≡ answer_with limit name kept fragment
   answer_complete fits whole = rw (fits, whole) refl
 
   pub answer_nothing : FitsWithin limit (accepted_in kept) fragment
       → is_complete (accepted_in kept ++ fragment ∷ []) ≡ false
-      → nothing_handed_out ≡ answer_with limit name kept fragment
+      → no_payload ≡ answer_with limit name kept fragment
   answer_nothing fits partly = rw (fits, partly) refl
 
--- ---- a stream that goes on
+-- ---- a stream that continues
 module _ {T C : Type 0} (limit : ℕ) (stream next : Stream T C) where
   pub holds_in : (kept : Option (Kept T)) → HoldsEntry limit (Some stream) kept
       → HoldsFragments stream.buffer (accepted_in kept)
   holds_in None entry = absurd entry
   holds_in (Some kept) entry = entry.buffer
 
-  -- the stream is as it was
+  -- An unchanged stream matches its old entry.
   pub entry_keeps : (kept : Option (Kept T)) → HoldsEntry limit (Some stream) kept
       → ((accepted : List IpFragment) → HoldsFragments stream.buffer accepted → HoldsFragments next.buffer accepted)
       → ip_number_of next.buffer ≡ ip_number_of stream.buffer → next.id ≡ stream.id
@@ -94,7 +94,7 @@ module _ {T C : Type 0} (limit : ℕ) (stream next : Stream T C) where
   }
 
   module _ (fragment : IpFragment) (timestamp : T) where
-    -- it has one more fragment
+    -- A stream with one more fragment matches its new entry, if it is not complete.
     pub entry_more : (kept : Option (Kept T)) → HoldsEntry limit (Some stream) kept
         → BufferTakes limit stream.buffer next.buffer fragment
         → IsWhole next.buffer false
@@ -112,7 +112,7 @@ module _ {T C : Type 0} (limit : ℕ) (stream next : Stream T C) where
           some = omega (arith, length_push kept.accepted fragment);
         })
 
-    -- it is complete
+    -- A stream that is complete has no new entry.
     pub entry_whole : (kept : Option (Kept T)) → HoldsEntry limit (Some stream) kept
         → BufferTakes limit stream.buffer next.buffer fragment
         → IsWhole next.buffer true
@@ -122,7 +122,7 @@ module _ {T C : Type 0} (limit : ℕ) (stream next : Stream T C) where
         kept_complete limit (Some kept) fragment timestamp (takes.fits kept.accepted entry.buffer)
         (whole (kept.accepted ++ fragment ∷ []) (takes.holds kept.accepted entry.buffer))
 
-    -- the fragment is refused
+    -- If the fragment is rejected, the entry is unchanged.
     pub entry_refused : (kept : Option (Kept T)) (error : IpDefragError) → HoldsEntry limit (Some stream) kept
         → ((accepted : List IpFragment) → HoldsFragments stream.buffer accepted
         → refusal_within limit accepted fragment ≡ Some error)
@@ -134,12 +134,12 @@ module _ {T C : Type 0} (limit : ℕ) (stream next : Stream T C) where
         rw (kept_refused limit (Some kept) fragment timestamp error (refuses kept.accepted entry.buffer))
         (entry_keeps (Some kept) entry keeps number id time)
 
-  -- the answers
+  -- The answers in these cases.
   module _ (name : IpFragId C) (fragment : IpFragment) where
     pub answered_nothing : (kept : Option (Kept T)) → HoldsEntry limit (Some stream) kept
         → BufferTakes limit stream.buffer next.buffer fragment
         → IsWhole next.buffer false
-        → nothing_handed_out ≡ answer_with limit name kept fragment
+        → no_payload ≡ answer_with limit name kept fragment
     answered_nothing None entry takes partly = absurd entry
     answered_nothing (Some kept) entry takes partly =
         answer_nothing limit name (Some kept) fragment (takes.fits kept.accepted entry.buffer)
@@ -151,11 +151,11 @@ module _ {T C : Type 0} (limit : ℕ) (stream next : Stream T C) where
     pub answered_payload : (kept : Option (Kept T)) → HoldsEntry limit (Some stream) kept
         → BufferTakes limit stream.buffer next.buffer fragment
         → IsWhole next.buffer true
-        → payload_handed_out (handed (data_of next.buffer)) ≡ answer_with limit name kept fragment
+        → payload_returned (handed (data_of next.buffer)) ≡ answer_with limit name kept fragment
     answered_payload None entry takes whole = absurd entry
     answered_payload (Some kept) entry takes whole =
         let now = takes.holds kept.accepted entry.buffer in
-        ap (λ bytes. payload_handed_out (handed bytes)) now.contents
+        ap (λ bytes. payload_returned (handed bytes)) now.contents
         ∙ answer_complete limit name (Some kept) fragment (takes.fits kept.accepted entry.buffer)
         (whole (kept.accepted ++ fragment ∷ []) now)
 

@@ -1,4 +1,4 @@
--- A stream that no drop drops where it stands.
+-- A stream that no drop ends while it is open.
 use Rattle.std.proofs.Common.{◌≡◌, ℕ, suc, Bool, true, false, List, [], ◌∷◌, ◌++◌, append_assoc, take, drop, Option}
 use Rattle.std.proofs.Common.{Some, None, IfSome, slice_get, sym, refl, ap, ◌∙◌, inl, inr}
 use Rattle.std.specs.List.{filter_map, AllByRecursion, All}
@@ -16,13 +16,13 @@ use Rattle.ep_defrag.specs.Calls.{kept_unless, kept_by, kept_after, kept_after_a
 use Rattle.ep_defrag.specs.Isolation.{StaysOpen, time_of_call, KeepsTimes, KeepsOwn}
 use Rattle.ep_defrag.proofs.CallLemmas.{after_one_more}
 
--- a drop that keeps the timestamp of what is there, if anything is, changes nothing
+-- A drop that keeps the timestamp of the stream, if it is open, changes nothing.
 pub drop_keeps : {T : Type 0} (answers : T → Bool) (kept : Option (Kept T))
     → IfSome kept (λ k. answers k.timestamp ≡ true) → kept_by answers kept ≡ kept
 drop_keeps answers None stays = refl
 drop_keeps answers (Some kept) stays = rw stays refl
 
--- a predicate on timestamps that some of a list have
+-- A property of all elements holds at each index.
 holds_at : {X : Type 0} (P : X → Type 0) (xs : List X) (at : ℕ) (x : X) → All P xs → slice_get xs at ≡ Some x → P x
 holds_at P xs at x all is =
     rw (get_or_from_slice_get xs at x x is) at (All-get_or P xs at x (slice_get_within xs at x is) all)
@@ -31,7 +31,7 @@ first_part : {X : Type 0} (P : X → Type 0) (xs ys : List X) → AllByRecursion
 first_part P [] ys all = tt
 first_part P (x ∷ xs) ys all = (all.0, first_part P xs ys all.1)
 
--- no drop of the calls that concern a stream drops what is kept of it
+-- Holds if no drop among the calls that concern a stream drops it.
 module _ {T C V : Type 0} (limit : ℕ) (keep : V → T → Bool) where
   abbrev pub StaysKept : Option (Kept T) → List (Call T C V) → Type 0
   StaysKept kept [] = Unit {0}
@@ -42,7 +42,7 @@ module _ {T C V : Type 0} (limit : ℕ) (keep : V → T → Bool) where
   StaysKept kept (returns_buffer ∷ calls) = StaysKept kept calls
 
 module _ {T C V : Type 0} (limit : ℕ) (eq : C → C → Bool) (keep : V → T → Bool) (name : IpFragId C) where
-  -- no drop of the later calls drops the stream, where the earlier ones were made before
+  -- Holds if no drop of the later calls drops the stream, after the earlier calls.
   abbrev pub StaysAfter : List (Call T C V) → List (Call T C V) → Type 0
   StaysAfter earlier calls = (at : ℕ) (value : V) → slice_get calls at ≡ Some (drops_streams value)
       → IfSome (table_after limit eq keep (earlier ++ take at calls) name) (λ kept. keep value kept.timestamp ≡ true)
@@ -107,7 +107,7 @@ module _ {T C V : Type 0} (limit : ℕ) (eq : C → C → Bool) (keep : V → T 
       | inr goes ↦ rw goes tt
     ]
 
-    -- what is kept has the timestamp of one of the fragments
+    -- The stream has the timestamp of one of its fragments.
     time_after : (calls : List (Call T C V)) (kept : Option (Kept T)) → IsKeptAt kept
         → AllByRecursion P (filter_map time_of_call calls) → IsKeptAt (kept_after_all limit keep kept calls)
     time_after [] kept before times = before

@@ -1,4 +1,4 @@
--- How many sections there are: each starts where a fragment does, and so at another multiple of 8.
+-- The number of sections: each starts where a fragment does, at another multiple of 8.
 use Rattle.std.proofs.Common.{◌≡◌, ℕ, zero, suc, ◌+◌, ◌*◌, ◌/◌, ◌<◌, ◌≤◌, true, false, ◌||◌, List, [], ◌∷◌, length}
 use Rattle.std.proofs.Common.{Option, Some, None, sym, ap, ◌∙◌, inl, inr, arith}
 use Rattle.std.specs.Prelude.{IfSome}
@@ -17,7 +17,7 @@ use Rattle.ep_defrag.proofs.ApartLemmas.{AreApartFrom, from_apart, none_before, 
 use Rattle.ep_defrag.proofs.CompleteLemmas.{touched_to_reach}
 use Rattle.ep_defrag.proofs.CompletingLemmas.{reach_short}
 
--- where fragments touch a position, and have no byte before it, one starts there
+-- If fragments touch a position and have no byte before it, one starts there, so the position is a multiple of 8.
 unit_behind : (fragments : List IpFragment) (before : ℕ) → is_touched fragments (suc before) ≡ true
     → is_covered fragments before ≡ false → (units : ℕ) × (suc before ≡ 8 * units)
 unit_behind [] before touched free = absurd (false≢true touched)
@@ -40,8 +40,8 @@ past_end : (position : ℕ) (range : IpFragRange) → range.end ≤ position →
 past_end position range past = grind (arith, nat_tests)
 
 module _ (fragments : List IpFragment) (bound : ℕ) (short : reach_of fragments < 8 * bound) where
-  -- Sections from a position on, before which so many multiples of 8 stand: they touch no other position than the
-  -- fragments, and have each byte that the fragments have there.
+  -- Bounds the number of sections from a position on, given the number of multiples of 8 before it, if they touch no
+  -- other positions than the fragments and have each byte that the fragments have there.
   few : (units least : ℕ) (sections : List IpFragRange) → AreApartFrom least sections → units ≤ bound
       → 8 * units < least + 8
       → ((position : ℕ) → list_any (touches position) sections ≡ true → is_touched fragments position ≡ true)
@@ -72,7 +72,7 @@ module _ (fragments : List IpFragment) (bound : ℕ) (short : reach_of fragments
       ∙ bytes position (omega (arith, apart.0, apart.1, past)) covered) in
       omega (arith, rest, unit.1, behind, apart.0)
 
--- so it is of the sections of a buffer
+-- A buffer has at most limit / 8 + 1 sections.
 pub held_few : (limit : ℕ) (buffer : IpDefragBuf) (accepted : List IpFragment) → HoldsFragments buffer accepted
     → FitInTurnWithin limit accepted → length (sections_of buffer) ≤ limit / 8 + 1
 held_few limit buffer accepted held fit =
@@ -84,7 +84,7 @@ held_few limit buffer accepted held fit =
           (λ position past covered. held.bytes position ∙ covered),
     )
 
--- and of a stream of a pool
+-- A stream of a pool has at most limit / 8 + 1 sections.
 pub entry_few : {T C : Type 0} (limit : ℕ) (stream : Option (Stream T C)) (kept : Option (Kept T))
     → HoldsEntry limit stream kept → IfSome stream (λ s. length (sections_of s.buffer) ≤ limit / 8 + 1)
 entry_few limit None kept held = tt

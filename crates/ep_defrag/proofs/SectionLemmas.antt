@@ -1,4 +1,4 @@
--- A range joins the sections: what the sections fill then.
+-- The positions that the sections fill after a range is merged in.
 use Rattle.std.proofs.Common.{◌≡◌, ℕ, ◌≤◌, Bool, true, false, not, ◌||◌, List, [], ◌∷◌, refl, ap, ◌∙◌, inl, inr, arith}
 use Rattle.std.specs.List.{AllByRecursion, list_any, filter, fold}
 use Rattle.std.proofs.lemmas.Bool.{cases_Bool}
@@ -8,31 +8,32 @@ use Rattle.ep_defrag.specs.Ranges.{has_byte, touches, merges, hull}
 use Rattle.ep_defrag.specs.Buffers.{sections_after}
 use Rattle.ep_defrag.proofs.ListLemmas.{list_any-filter_both}
 
--- the range's start is not behind its end
+-- Holds if the range does not start after its end.
 abbrev pub IsOrdered : IpFragRange → Type 0
 IsOrdered range = range.start ≤ range.end
 
--- ranges with a common point merge
+-- Ranges with a common point merge.
 pub merges-from_point : (a b : IpFragRange) (position : ℕ) → touches position a ≡ true → touches position b ≡ true
     → merges a b ≡ true
 merges-from_point a b position in_a in_b = grind (arith, nat_tests)
 
--- ordered ranges that merge: each starts before the other ends
+-- Of two ordered ranges that merge each starts no later than the other ends.
 pub overlap-from_merges : (a b : IpFragRange) → IsOrdered a → IsOrdered b → merges a b ≡ true
     → (a.start ≤ b.end) × (b.start ≤ a.end)
 overlap-from_merges a b ordered_a ordered_b merged = grind (arith, nat_tests)
 
--- the hull of two ordered ranges that overlap or touch has the points of both, and no others
+-- The hull of two ordered ranges that overlap or touch has the points of both, and no others.
 pub touches-hull : (position : ℕ) (a b : IpFragRange) → IsOrdered a → IsOrdered b → a.start ≤ b.end → b.start ≤ a.end
     → touches position (hull a b) ≡ (touches position a || touches position b)
 touches-hull position a b ordered_a ordered_b left right = grind (arith, nat_tests)
 
--- and the bytes
+-- It also has the bytes of both, and no others.
 pub has_byte-hull : (position : ℕ) (a b : IpFragRange) → IsOrdered a → IsOrdered b → a.start ≤ b.end → b.start ≤ a.end
     → has_byte position (hull a b) ≡ (has_byte position a || has_byte position b)
 has_byte-hull position a b ordered_a ordered_b left right = grind (arith, nat_tests)
 
--- A test that holds of a hull exactly where it holds of one of the two, as `touches` and `has_byte` at a position.
+-- Holds if the test is true for a hull exactly if it is for one of the two ranges, as `touches` and `has_byte` at a
+-- position are.
 abbrev pub SplitsHull : (IpFragRange → Bool) → Type 0
 SplitsHull test =
     (a b : IpFragRange) → IsOrdered a → IsOrdered b → a.start ≤ b.end → b.start ≤ a.end
@@ -47,7 +48,7 @@ or_false true = refl
 or_false false = refl
 
 module _ (test : IpFragRange → Bool) (splits : SplitsHull test) (range : IpFragRange) (ordered : IsOrdered range) where
-  -- it holds of the union exactly where it holds of the range or of a section that merges with it
+  -- Such a test is true for the union exactly if it is for the range or for a section that merges with it.
   test-union : (sofar : IpFragRange) (sections : List IpFragRange) → sofar.start ≤ range.start → range.end ≤ sofar.end
       → AllByRecursion IsOrdered sections
       → test (fold hull sofar (filter (merges range) sections))
@@ -64,7 +65,7 @@ module _ (test : IpFragRange → Bool) (splits : SplitsHull test) (range : IpFra
     | inr apart ↦ rw apart (test-union sofar sections left right all.1)
   ]
 
-  -- and of a section after the range joined exactly where it holds of the range or of a section before
+  -- Such a test is true for a section after the merge exactly if it is for the range or for a section before.
   pub test-sections_after : (sections : List IpFragRange) → AllByRecursion IsOrdered sections
       → list_any test (sections_after range sections) ≡ (test range || list_any test sections)
   test-sections_after sections all =

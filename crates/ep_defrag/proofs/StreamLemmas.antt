@@ -1,4 +1,4 @@
--- Names of streams are compared by an equivalence, where channels are.
+-- Equality of stream identifiers is an equivalence, if that of channels is.
 use Rattle.std.proofs.Common.{◌≡◌, Bool, true, ◌&&◌, eqb, List, ℕ, refl}
 use Rattle.std.specs.Cmp.{IsEquivalence}
 use Rattle.std.proofs.lemmas.Bool.{and_parts, false≢true}

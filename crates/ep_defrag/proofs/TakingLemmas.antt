@@ -1,4 +1,4 @@
--- What a fragment does to a pool, in each case of its processing.
+-- The effect of a fragment on a pool, in each case of its processing.
 use Rattle.std.proofs.Common.{◌≡◌, ℕ, Bool, true, false, cond, [], ◌∷◌, Option, Some, None, Result, Ok, Err, sym, refl}
 use Rattle.std.proofs.Common.{ap, ◌∙◌, subst, arith, ◌⊎◌}
 use Rattle.std.specs.Option.{option_map}
@@ -15,11 +15,11 @@ use Rattle.ep_defrag.specs.FragmentRefusals.{RefusesWithin, MayNeedMemoryWithin}
 use Rattle.ep_defrag.specs.Buffers.{HoldsFragments, ip_number_of, data_of, sections_of, known_end_of, data_after}
 use Rattle.ep_defrag.specs.Buffers.{end_after}
 use Rattle.ep_defrag.specs.Streams.{PacketFragment, same_stream, source_of}
-use Rattle.ep_defrag.specs.Calls.{Kept, Payload, accepted_in, kept_with, payload_handed_out, answer_to_frame}
+use Rattle.ep_defrag.specs.Calls.{Kept, Payload, accepted_in, kept_with, payload_returned, answer_to_frame}
 use Rattle.ep_defrag.specs.Calls.{table_with_fragment, table_with_frame, FrameMayNeedMemory}
 use Rattle.ep_defrag.specs.Pools.{Stream, limit_of, stream_named, HoldsEntry, HoldsTable, TakesFragment, TakesFrame}
 use Rattle.ep_defrag.specs.Pools.{ChangesStream, BufferTakes, BufferRefuses, IsWhole, plain_payload, plain_frame_answer}
-use Rattle.ep_defrag.specs.Pools.{payload_in, wants_memory}
+use Rattle.ep_defrag.specs.Pools.{payload_in, is_allocation_failure_in}
 use Rattle.ep_defrag.proofs.StreamLemmas.{same_stream_laws}
 use Rattle.ep_defrag.proofs.HeldStreamLemmas.{HoldsTable-same, HoldsTable-changed, none_kept, entry_at}
 use Rattle.ep_defrag.proofs.OneFragmentLemmas.{refused_only, wanting_only, kept_refused, kept_complete, kept_more}
@@ -27,13 +27,13 @@ use Rattle.ep_defrag.proofs.OneFragmentLemmas.{answer_refused, answer_complete, 
 use Rattle.ep_defrag.proofs.OneFragmentLemmas.{entry_more, entry_whole, entry_refused, answered_nothing}
 use Rattle.ep_defrag.proofs.OneFragmentLemmas.{answered_payload, answered_refused}
 
--- a test, and what a table has for it
+-- A property of a table's entry, by cases of the test of its identifier.
 chosen : {T : Type 0} (alike : Bool) (kept next : Option (Kept T)) (P : Option (Kept T) → Type 0)
     → (alike ≡ true → P next) → (alike ≡ false → P kept) → P (cond alike next kept)
 chosen true kept next P here there = here refl
 chosen false kept next P here there = there refl
 
--- an answer is a payload where it shows one
+-- An answer returns a payload if its plain data does.
 pub if_payload : (answer : Option IpDefragPayloadVec) (payload : Payload)
     (P : Option IpDefragPayloadVec → Type 0) → option_map plain_payload answer ≡ Some payload
     → ((given : IpDefragPayloadVec) → plain_payload given ≡ payload → P (Some given)) → P answer
@@ -58,7 +58,7 @@ module _ {T C : Type 0} (eq : C → C → Bool) (laws : IsEquivalence eq) (old n
         → same_stream eq id name ≡ true → HoldsEntry limit (Some stream) (table name)
     entry_of table held name alike = entry_at eq laws old table held id stream there_is name alike
 
-    -- the fragment is refused, or lacks memory
+    -- The fragment is rejected, or an allocation for it fails.
     pub goes_on_refused : ChangesStream eq old new id (Some next) → next.timestamp ≡ stream.timestamp
         → (error : IpDefragError) → BufferRefuses limit stream.buffer next.buffer fragment error
         → TakesFragment eq old new id fragment timestamp (Err error)
@@ -94,7 +94,7 @@ module _ {T C : Type 0} (eq : C → C → Bool) (laws : IsEquivalence eq) (old n
           others = now.others;
         }
 
-    -- the fragment joins, and more are missing
+    -- The fragment is accepted, and more are missing.
     pub goes_on_more : ChangesStream eq old new id (Some next) → next.timestamp ≡ timestamp
         → BufferTakes limit stream.buffer next.buffer fragment → IsWhole next.buffer false
         → TakesFragment eq old new id fragment timestamp (Ok None)
@@ -118,7 +118,7 @@ module _ {T C : Type 0} (eq : C → C → Bool) (laws : IsEquivalence eq) (old n
       others = now.others;
     }
 
-    -- the fragment joins, and nothing is missing
+    -- The fragment is accepted, and nothing is missing.
     pub goes_on_whole : ChangesStream eq old new id None → BufferTakes limit stream.buffer next.buffer fragment
         → IsWhole next.buffer true → (answer : Option IpDefragPayloadVec)
         → option_map plain_payload answer ≡ Some (payload_in id next)
@@ -128,7 +128,7 @@ module _ {T C : Type 0} (eq : C → C → Bool) (laws : IsEquivalence eq) (old n
         shows
         (λ payload is_payload. record {
           answer = λ other table held.
-              ap payload_handed_out is_payload
+              ap payload_returned is_payload
               ∙ answered_payload limit stream next id fragment (table id) (entry_of table held id (names.refl id)) taken
               whole;
           holds = λ other table held.
@@ -153,14 +153,14 @@ module _ {T C : Type 0} (eq : C → C → Bool) (laws : IsEquivalence eq) (old n
         → same_stream eq id name ≡ true → table name ≡ None
     none_of table held = none_kept eq laws old table held id absent
 
-    -- a pool whose streams are as they were holds each table in which what is kept of this stream is nothing
+    -- An unchanged pool holds each table that is equal to its old one.
     stays : new ≡ old → (table next : IpFragId C → Option (Kept T)) → HoldsTable eq old table
         → ((name : IpFragId C) → next name ≡ table name) → HoldsTable eq new next
     stays now table next held same =
         HoldsTable-same eq new table next (λ name. sym (same name))
         (subst (λ pool. HoldsTable eq pool table) (sym now) held)
 
-    -- the fragment is refused, or lacks memory
+    -- The fragment is rejected, or an allocation for it fails.
     pub begins_refused : new ≡ old → (error : IpDefragError)
         → RefusesWithin limit [] fragment error
         ⊎ (MayNeedMemoryWithin limit [] fragment × (error ≡ AllocationFailure (fragment_end fragment)))
@@ -186,7 +186,7 @@ module _ {T C : Type 0} (eq : C → C → Bool) (laws : IsEquivalence eq) (old n
       others = λ name apart. ap (stream_named eq name) now;
     }
 
-    -- the fragment is the whole payload
+    -- The fragment is the complete payload.
     pub begins_whole : new ≡ old → (buffer : IpDefragBuf) (payload : IpDefragPayloadVec)
         → plain_payload payload ≡ payload_in id (record { id = id; buffer = buffer; timestamp = timestamp })
         → data_of empty ≡ [] → BufferTakes limit empty buffer fragment → IsWhole buffer true
@@ -197,7 +197,7 @@ module _ {T C : Type 0} (eq : C → C → Bool) (laws : IsEquivalence eq) (old n
         record {
           answer = λ other table held.
               rw (none_of table held id (names.refl id))
-              (ap payload_handed_out (is_payload ∙ ap (λ bytes. record {
+              (ap payload_returned (is_payload ∙ ap (λ bytes. record {
                 ip_number = id.payload_ip_number;
                 len_source = source_of id.ip;
                 bytes = bytes;
@@ -222,7 +222,7 @@ module _ {T C : Type 0} (eq : C → C → Bool) (laws : IsEquivalence eq) (old n
           others = λ name apart. ap (stream_named eq name) now;
         }
 
-    -- the stream begins
+    -- The stream begins.
     pub begins : (stream : Stream T C) → ChangesStream eq old new id (Some stream) → stream.id ≡ id
         → stream.timestamp ≡ timestamp → ip_number_of empty ≡ id.payload_ip_number → data_of empty ≡ []
         → sections_of empty ≡ [] → known_end_of empty ≡ None → BufferTakes limit empty stream.buffer fragment
@@ -268,22 +268,22 @@ module _ {T C : Type 0} (eq : C → C → Bool) (laws : IsEquivalence eq) (old n
 module _ {T C : Type 0} (eq : C → C → Bool) (old new : IpDefragPool T C) (timestamp : T) (channel : C)
     (result : Result (Option IpDefragPayloadVec) IpDefragError) where
   pub frame_answer : (packet : Option PacketFragment) → TakesFrame eq old new packet timestamp channel result
-      → wants_memory result ≡ false → (table : IpFragId C → Option (Kept T)) → HoldsTable eq old table
+      → is_allocation_failure_in result ≡ false → (table : IpFragId C → Option (Kept T)) → HoldsTable eq old table
       → plain_frame_answer result ≡ answer_to_frame (limit_of old) table packet channel
   frame_answer None takes other table held = ap plain_frame_answer takes.0
   frame_answer (Some carried) takes other table held = takes.answer other table held
 
   pub frame_holds : (packet : Option PacketFragment) → TakesFrame eq old new packet timestamp channel result
-      → wants_memory result ≡ false → (table : IpFragId C → Option (Kept T)) → HoldsTable eq old table
+      → is_allocation_failure_in result ≡ false → (table : IpFragId C → Option (Kept T)) → HoldsTable eq old table
       → HoldsTable eq new (table_with_frame (limit_of old) eq table packet timestamp channel)
   frame_holds None takes other table held = subst (λ pool. HoldsTable eq pool table) (sym takes.1) held
   frame_holds (Some carried) takes other table held = takes.holds other table held
 
   pub frame_memory : (packet : Option PacketFragment) → TakesFrame eq old new packet timestamp channel result
-      → wants_memory result ≡ true → (table : IpFragId C → Option (Kept T)) → HoldsTable eq old table
+      → is_allocation_failure_in result ≡ true → (table : IpFragId C → Option (Kept T)) → HoldsTable eq old table
       → FrameMayNeedMemory (limit_of old) table packet channel
   frame_memory None takes wants table held =
-      false≢true (sym (ap {B = Bool} wants_memory takes.0) ∙ wants)
+      false≢true (sym (ap {B = Bool} is_allocation_failure_in takes.0) ∙ wants)
   frame_memory (Some carried) takes wants table held = (takes.memory wants table held).0
 
   pub frame_limit : (packet : Option PacketFragment) → TakesFrame eq old new packet timestamp channel result

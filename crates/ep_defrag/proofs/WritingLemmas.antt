@@ -1,4 +1,4 @@
--- A fragment's bytes, put on data in parts: what lies within the data is overwritten, and what lies behind is appended.
+-- Writing of a fragment's bytes in two parts: the part within the data is overwritten, and the rest is appended.
 use Rattle.std.proofs.Common.{◌≡◌, ℕ, ◌+◌, ◌-◌, ◌≤◌, min, List, [], ◌++◌, append_assoc, length, take, drop, replicate}
 use Rattle.std.proofs.Common.{sym, ap, ◌∙◌, refl, arith, inl, inr}
 use Rattle.std.proofs.lemmas.Bool.{cases_lt}
@@ -8,13 +8,13 @@ use Rattle.std.proofs.lemmas.List.{length-take-le}
 use Rattle.ep_defrag.specs.Buffers.{extended, overwritten}
 use Rattle.ep_defrag.proofs.DataLemmas.{length-extended}
 
--- data that reaches as far is not extended
+-- Data that reaches the end is not extended.
 extended-within : (contents : List ℕ) (end : ℕ) → end ≤ length contents → extended contents end ≡ contents
 extended-within contents end within =
     let none : end - length contents ≡ 0 = omega arith in
     rw none (append-nil contents)
 
--- what stands before a place is the same, however far behind it the data is extended
+-- The bytes before a position do not depend on how far after it the data is extended.
 take-extended : (contents : List ℕ) (start end : ℕ) → start ≤ end
     → take start (extended contents start) ≡ take start (extended contents end)
 take-extended contents start end before = elim (cases_lt (length contents) start) [

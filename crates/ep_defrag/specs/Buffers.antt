@@ -1,4 +1,4 @@
--- What a buffer shows, and the list of fragments that it holds.
+-- The contents of a reassembly buffer, and the list of fragments that it holds.
 use Rattle.std.specs.Prelude.{◌≡◌, ℕ, ◌+◌, ◌-◌, ◌<◌, ◌≤◌, Bool, false, not, ◌==◌, Option, Some, List, [], ◌∷◌, ◌++◌}
 use Rattle.std.specs.Prelude.{length, take, drop, replicate, if◌then◌else◌}
 use Rattle.std.specs.List.{All, AllWithin, list_any, count_by, filter, fold}
@@ -9,38 +9,38 @@ use Rattle.ep_defrag.specs.Ranges.{has_byte, touches, merges, hull}
 use Rattle.ep_defrag.specs.IpFragments.{IpFragment, fragment_end, range_of, is_covered, is_touched, end_of, assembled}
 use Rattle.ep_defrag.specs.FragmentRefusals.{FitInTurn}
 
--- what `ip_number` answers
+-- protocol number of the payload, which `ip_number` returns
 abbrev pub ip_number_of : IpDefragBuf → IpNumber
 ip_number_of buffer = buffer.ip_number
 
--- what `data` answers: the bytes put together so far
+-- bytes reassembled so far, which `data` returns
 abbrev pub data_of : IpDefragBuf → List ℕ
 data_of buffer = buffer.bytes.items
 
--- what `sections` answers: the ranges that came
+-- filled ranges, which `sections` returns
 abbrev pub sections_of : IpDefragBuf → List IpFragRange
 sections_of buffer = buffer.sections.items
 
--- what `end` answers: the number of bytes of the payload, where a final fragment came
+-- length of the payload once a final fragment was accepted, which `end` returns
 abbrev pub known_end_of : IpDefragBuf → Option ℕ
 known_end_of buffer = buffer.end
 
--- the buffer shows what it showed before
+-- Holds if the two buffers have equal contents.
 pub record IsUnchanged (old new : IpDefragBuf) : Type 0 where
   pub ip_number : ip_number_of new ≡ ip_number_of old
   pub contents : data_of new ≡ data_of old
   pub sections : sections_of new ≡ sections_of old
   pub end : known_end_of new ≡ known_end_of old
 
--- Data after a fragment: extended with zeros up to its end, and overwritten on its range.
+-- contents extended with zeros up to an end
 abbrev pub extended : List ℕ → ℕ → List ℕ
 extended contents end = contents ++ replicate (end - length contents) 0
 
--- contents with these bytes from a position on, in the place of what was there
+-- contents with the bytes from a position on overwritten
 abbrev pub overwritten : List ℕ → ℕ → List ℕ → List ℕ
 overwritten contents start bytes = take start contents ++ bytes ++ drop (start + length bytes) contents
 
--- contents after bytes of this range
+-- contents after bytes are written to a range, with zeros in a gap before it
 abbrev pub data_with : List ℕ → IpFragRange → List ℕ → List ℕ
 data_with contents range bytes = overwritten (extended contents range.end) range.start bytes
 
@@ -48,20 +48,20 @@ data_with contents range bytes = overwritten (extended contents range.end) range
 abbrev pub data_after : List ℕ → IpFragment → List ℕ
 data_after contents fragment = data_with contents (range_of fragment) fragment.bytes
 
--- The known end after a fragment.
+-- known end after a fragment
 abbrev pub end_after : Option ℕ → IpFragment → Option ℕ
 end_after end fragment = if fragment.more then end else Some (fragment_end fragment)
 
--- Sections after a range joins them: the union of the range and the sections that merge with it, and the other ones.
+-- union of a range and the sections that merge with it
 abbrev pub union_of : IpFragRange → List IpFragRange → IpFragRange
 union_of range sections = fold hull range (filter (merges range) sections)
 
--- that union, and the sections that do not merge with the range
+-- sections after a range is merged in: its union, and the sections that do not merge with it
 abbrev pub sections_after : IpFragRange → List IpFragRange → List IpFragRange
 sections_after range sections = union_of range sections ∷ filter (λ section. not (merges range section)) sections
 
--- The sections that share a point with a range are those from one place on and before another; the earlier ones end
--- before its start, and the later ones start behind its end.
+-- Holds if exactly the sections of the indices `from` to before `to` overlap or touch the range: the earlier ones end
+-- before its start, and the later ones start after its end.
 pub record AreNeighbours (range : IpFragRange) (sections : List IpFragRange) (from to : ℕ) : Type 0 where
   pub order : from ≤ to
   pub within : to ≤ length sections
@@ -69,21 +69,22 @@ pub record AreNeighbours (range : IpFragRange) (sections : List IpFragRange) (fr
   pub between : AllWithin (λ section. (range.start ≤ section.end) × (section.start ≤ range.end)) sections from to
   pub later : AllWithin (λ section. range.end < section.start) sections to (length sections)
 
--- there is one section, and it starts at 0
+-- whether there is exactly one section, and it starts at 0
 abbrev pub is_whole : List IpFragRange → Bool
 is_whole [] = false
 is_whole (section ∷ []) = section.start == 0
 is_whole (section ∷ other ∷ others) = false
 
--- The buffer holds the list of fragments that it accepted, in their order.
+-- Holds if the buffer's contents are those after it accepted these fragments, in their order. Other lists of fragments
+-- can have equal contents.
 pub record HoldsFragments (buffer : IpDefragBuf) (fragments : List IpFragment) : Type 0 where
-  -- each fits after those before it
+  -- Each fits after the earlier ones.
   pub in_turn : FitInTurn fragments
   pub contents : data_of buffer ≡ assembled fragments
   pub end : known_end_of buffer ≡ end_of fragments
-  -- no section is reversed, and no position touches two of them
+  -- No section is reversed, and no position touches two of them.
   pub ordered : All (λ section. section.start ≤ section.end) (sections_of buffer)
   pub apart : (position : ℕ) → count_by (touches position) (sections_of buffer) ≤ 1
-  -- a section has a byte exactly where a fragment has one, and touches a position exactly where a fragment does
+  -- A section has a byte exactly where a fragment has one, and touches a position exactly where a fragment does.
   pub bytes : (position : ℕ) → list_any (has_byte position) (sections_of buffer) ≡ is_covered fragments position
   pub points : (position : ℕ) → list_any (touches position) (sections_of buffer) ≡ is_touched fragments position

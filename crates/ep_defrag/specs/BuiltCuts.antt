@@ -1,4 +1,4 @@
--- Frames that are built of cuts of a payload, and what a pool that is given them answers.
+-- Frames built from cuts of a payload, and the answers of a pool to them.
 use Rattle.std.specs.Prelude.{◌≡◌, ◌⊎◌, ℕ, ◌%◌, ◌<◌, ◌^◌, Bool, false, IsTrue, if◌then◌else◌, Some, None, option_map}
 use Rattle.std.specs.Prelude.{List, [], ◌∷◌, ◌++◌, length, map}
 use Rattle.std.specs.List.{filter, items_where_true}
@@ -20,14 +20,14 @@ use Rattle.ep_defrag.specs.declared.ip_frag_id.IpFragId.{IpFragId}
 use Rattle.ep_defrag.specs.IpFragments.{IpFragment, is_final, is_complete}
 use Rattle.ep_defrag.specs.PayloadCuts.{IsCut}
 use Rattle.ep_defrag.specs.Streams.{name_of, packet_fragment, same_stream, source_of}
-use Rattle.ep_defrag.specs.Calls.{Call, gives_frame, drops_streams, returns_buffer, Payload, Answer, payload_handed_out}
-use Rattle.ep_defrag.specs.Calls.{nothing_handed_out}
+use Rattle.ep_defrag.specs.Calls.{Call, gives_frame, drops_streams, returns_buffer, Payload, Answer, payload_returned}
+use Rattle.ep_defrag.specs.Calls.{no_payload}
 
--- ---- a frame that is built of a cut
+-- ---- a frame built from a cut
 
--- What a frame is built from: what stands before the net layer, IP headers, the number of what the payload is, and the
--- bytes of the cut. The fragment that these are. How the frame is read: the entry, and the layers. And the timestamp
--- and the channel with which it is given to a pool.
+-- A frame built from a cut of a payload: the layers before the network layer, the IP headers, the protocol number of
+-- the payload, and the bytes of the cut; the fragment that they form; the entry of the frame and the layers read from
+-- it; and the timestamp and the channel that are passed to a pool with it.
 pub record BuiltCut (T C : Type 0) : Type 0 where
   pub link : LinkPart
   pub headers : IpHeaders
@@ -39,59 +39,59 @@ pub record BuiltCut (T C : Type 0) : Type 0 where
   pub timestamp : T
   pub channel : C
 
--- the bytes of the frame
+-- bytes of the frame
 abbrev pub cut_frame : {T C : Type 0} → BuiltCut T C → List ℕ
 cut_frame cut = built_frame (held_ip cut.link cut.headers cut.last) cut.bytes
 
--- the fragment, as the pool sees it
+-- fragment of the frame, as the pool sees it
 abbrev pub cut_fragment : {T C : Type 0} → BuiltCut T C → IpFragment
 cut_fragment cut = (packet_fragment cut.found).fragment
 
--- the call that gives the frame to a pool, which knows of it what its layers say
+-- call that passes the frame's layers to a pool
 abbrev pub cut_call : {T C V : Type 0} → BuiltCut T C → Call T C V
 cut_call cut = gives_frame (option_map packet_fragment (fragment_of cut.layers)) cut.timestamp cut.channel
 
--- It is a frame that is built of a cut of the payload.
+-- Holds if the frame is built from a cut of the payload.
 pub record IsBuiltCut {T C : Type 0} (payload : List ℕ) (cut : BuiltCut T C) : Type 0 where
-  -- the fields fit their places, and the frame is not refused
+  -- The fields fit their widths, and the builder accepts the frame.
   pub fits_link : FitsLink cut.link
   pub fit : FitIpHeaders cut.headers
   pub number : cut.last.0 < 2 ^ 8
   pub are_bytes : AreBytes cut.bytes
   pub buildable : IsBuildable (held_ip cut.link cut.headers cut.last) (length cut.bytes)
-  -- the headers say a fragment, and the number is none of an extension header
+  -- The headers mark a fragment, and the protocol number is not that of an extension header.
   pub built : built_fragment cut.link cut.headers cut.last cut.bytes ≡ Some cut.found
   pub ends : EndsExtensions cut.headers cut.last.0
-  -- the layers are those of the frame's bytes, by an entry of its first layer
+  -- The layers are those of the frame's bytes, read by an entry of its first layer.
   pub of : IsEntryOf cut.link (ip_packet cut.headers cut.last) cut.entry
   pub is : IsFrame cut.entry (cut_frame cut) cut.layers
-  -- the fragment is a cut of the payload, and final or a multiple of 8 bytes long
+  -- The fragment is a cut of the payload, and it is final or its length is a multiple of 8.
   pub is_cut : IsCut payload (cut_fragment cut)
   pub shape : IsTrue (is_final (cut_fragment cut)) ⊎ (length (cut_fragment cut).bytes % 8 ≡ 0)
 
--- The fragment is of the stream of this name.
+-- Holds if the fragment belongs to the stream of this identifier.
 abbrev pub IsUnder : {T C : Type 0} → (C → C → Bool) → IpFragId C → BuiltCut T C → Type 0
 IsUnder eq name cut = IsTrue (same_stream eq (name_of (packet_fragment cut.found) cut.channel) name)
 
--- ---- the calls and the answers
+-- ---- calls and answers
 
--- whether a call gives a frame with a fragment of a stream
+-- whether a call passes a frame with a fragment of a stream
 abbrev pub gives_to : {T C V : Type 0} → (C → C → Bool) → IpFragId C → Call T C V → Bool
 gives_to eq name (gives_frame None timestamp channel) = false
 gives_to eq name (gives_frame (Some carried) timestamp channel) = same_stream eq (name_of carried channel) name
 gives_to eq name (drops_streams value) = false
 gives_to eq name returns_buffer = false
 
--- the calls of a list that do
+-- calls of a list that pass frames with a fragment of a stream
 abbrev pub frames_to : {T C V : Type 0} → (C → C → Bool) → IpFragId C → List (Call T C V) → List (Call T C V)
 frames_to eq name calls = filter (gives_to eq name) calls
 
--- of the answers to a list of calls, those to these frames
+-- answers to these calls, among the answers to all calls
 abbrev pub answers_to_frames : {T C V : Type 0} → (C → C → Bool) → IpFragId C → List (Call T C V) → List Answer
     → List Answer
 answers_to_frames eq name calls answers = items_where_true (map (gives_to eq name) calls) answers
 
--- the whole payload, as it is handed out under a name
+-- complete payload, as a pool returns it for an identifier
 abbrev pub whole_of : {C : Type 0} → IpFragId C → List ℕ → Payload
 whole_of name payload = record {
   ip_number = name.payload_ip_number;
@@ -99,11 +99,11 @@ whole_of name payload = record {
   bytes = payload;
 }
 
--- The answers to cuts that are given in turn, behind those that were given since the payload was last handed out: the
--- payload exactly at each cut with which they are complete, after which they begin anew.
+-- answers to cuts in turn, after the cuts `given` since the payload was last returned: the payload exactly at each cut
+-- that completes it, and then the list of cuts starts anew
 abbrev pub cut_answers : Payload → List IpFragment → List IpFragment → List Answer
 cut_answers whole given [] = []
 cut_answers whole given (cut ∷ cuts) =
     if is_complete (given ++ cut ∷ [])
-    then payload_handed_out whole ∷ cut_answers whole [] cuts
-    else nothing_handed_out ∷ cut_answers whole (given ++ cut ∷ []) cuts
+    then payload_returned whole ∷ cut_answers whole [] cuts
+    else no_payload ∷ cut_answers whole (given ++ cut ∷ []) cuts

@@ -1,4 +1,4 @@
--- Fragments that complete what came, and frames that carry them: no stream gets stuck.
+-- Fragments that complete a stream, and frames that carry them: no stream gets stuck.
 use Rattle.std.specs.Prelude.{◌≡◌, ◌⊎◌, ℕ, ◌+◌, ◌*◌, ◌/◌, ◌≤◌, min, max, Bool, true, false, ◌||◌, nat_lt, IsTrue}
 use Rattle.std.specs.Prelude.{unwrap_or, Option, Some, List, [], ◌∷◌, ◌++◌, length}
 use Rattle.std.specs.Option.{option_map}
@@ -11,39 +11,39 @@ use Rattle.ep_defrag.specs.declared.ip_frag_id.IpFragId.{IpFragId}
 use Rattle.ep_defrag.specs.IpFragments.{IpFragment, fragment_with, reach_of, end_of, is_complete, IsComplete}
 use Rattle.ep_defrag.specs.FragmentRefusals.{FitsWithin}
 use Rattle.ep_defrag.specs.Streams.{PacketFragment, packet_fragment, name_of}
-use Rattle.ep_defrag.specs.Calls.{Kept, payload_of, payload_handed_out, nothing_handed_out, answer_to_frame}
+use Rattle.ep_defrag.specs.Calls.{Kept, payload_of, payload_returned, no_payload, answer_to_frame}
 use Rattle.ep_defrag.specs.Calls.{table_with_frame}
 
 -- ---- two fragments
 
--- where a list is completed: at its known end, or else at its greatest end, and not below 8
+-- end at which a list is completed: its known end, or if there is none, the greater of its greatest end and 8
 abbrev pub whole_end : List IpFragment → ℕ
 whole_end accepted = unwrap_or (end_of accepted) (max (reach_of accepted) 8)
 
--- Where the first of two fragments meets the second, in units of 8 bytes: as far as it can reach below that end, but at
--- 32768 bytes at most, so that a frame has room for either.
+-- offset in units of 8 bytes at which the first of two fragments ends and the second starts: as close to that end as
+-- possible, but at most at 32768 bytes, so that a frame can carry either
 abbrev pub meeting_at : ℕ → ℕ
 meeting_at end = min 4096 (end / 8)
 
--- bytes that fill both
+-- Holds if the bytes have the lengths of the two fragments.
 pub record FillBoth (accepted : List IpFragment) (front back : List ℕ) : Type 0 where
   pub front_len : length front ≡ 8 * meeting_at (whole_end accepted)
   pub both_len : length front + length back ≡ whole_end accepted
 
--- the first of the two, which more fragments follow
+-- first of the two fragments, which is followed by more
 abbrev pub front_fragment : List ℕ → IpFragment
 front_fragment front = fragment_with 0 true front
 
--- the second, which is final
+-- second of the two fragments, which is final
 abbrev pub back_fragment : List IpFragment → List ℕ → IpFragment
 back_fragment accepted back = fragment_with (meeting_at (whole_end accepted)) false back
 
--- whether a frame can carry it as a fragment: more follow, or it does not begin the payload
+-- whether a frame can carry it as a fragment: more fragments follow, or it does not begin the payload
 abbrev pub is_part : IpFragment → Bool
 is_part fragment = fragment.more || nat_lt 0 fragment.offset
 
--- Both fragments fit in turn, and complete the list. A frame can carry the first as a fragment, and the second too,
--- unless the first alone completes the list. Within a limit of at most 65535 neither has more than 32768 bytes.
+-- Holds if both fragments fit in turn and complete the list. A frame can carry the first as a fragment, and the second
+-- too, unless the first alone completes the list. Within a limit of at most 65535 neither has more than 32768 bytes.
 pub record CompleteInTurn (limit : ℕ) (accepted : List IpFragment) (first second : IpFragment) : Type 0 where
   pub first_fits : FitsWithin limit accepted first
   pub second_fits : FitsWithin limit (accepted ++ first ∷ []) second
@@ -64,35 +64,35 @@ pub record CarryingFrame : Type 0 where
   pub found : FrameFragment
   pub carries : fragment_of layers ≡ Some found
 
--- what a pool is given of it
+-- fragment of the frame, as passed to a pool
 abbrev pub given_by : CarryingFrame → Option PacketFragment
 given_by frame = option_map packet_fragment (fragment_of frame.layers)
 
--- the name of its stream on a channel
+-- identifier of the frame's stream on a channel
 abbrev pub name_in : {C : Type 0} → CarryingFrame → C → IpFragId C
 name_in frame channel = name_of (packet_fragment frame.found) channel
 
--- a frame carries this fragment of the stream of another frame
+-- Holds if `frame` carries this fragment of the stream of `seen`.
 abbrev pub CarriesOf : CarryingFrame → IpFragment → CarryingFrame → Type 0
 CarriesOf seen fragment frame =
     frame.found ≡ record seen.found { offset = fragment.offset; more = fragment.more; bytes = fragment.bytes }
 
--- the answer to a frame is what these fragments of its stream put together
+-- Holds if the answer to a frame is the payload reassembled from these fragments of its stream.
 abbrev pub HandsOutAll : {T C : Type 0} → ℕ → (IpFragId C → Option (Kept T)) → CarryingFrame → C → List IpFragment
     → Type 0
 HandsOutAll limit table frame channel fragments =
     answer_to_frame limit table (given_by frame) channel
-    ≡ payload_handed_out (payload_of (name_in frame channel) fragments)
+    ≡ payload_returned (payload_of (name_in frame channel) fragments)
 
--- A frame that carries the first fragment hands the payload out; or it hands nothing out, and then one that carries the
--- second does. The bytes are those that came, with those of the two on top.
+-- Holds if a frame that carries the first fragment returns the payload, or returns nothing and a frame that carries the
+-- second does. The payload is the accepted bytes, overwritten by those of the first fragment, or of both in turn.
 pub record FramesComplete {T C : Type 0} (limit : ℕ) (eq : C → C → Bool) (table : IpFragId C → Option (Kept T))
     (seen : CarryingFrame) (channel : C) (timestamp : T) (accepted : List IpFragment) (first second : IpFragment)
     : Type 0 where
   pub frame : CarryingFrame
   pub is_first : CarriesOf seen first frame
   pub hands_out : HandsOutAll limit table frame channel (accepted ++ first ∷ [])
-      ⊎ ((answer_to_frame limit table (given_by frame) channel ≡ nothing_handed_out)
+      ⊎ ((answer_to_frame limit table (given_by frame) channel ≡ no_payload)
       × ((last : CarryingFrame) × CarriesOf seen second last
       × HandsOutAll limit (table_with_frame limit eq table (given_by frame) timestamp channel) last channel
       (accepted ++ first ∷ second ∷ [])))

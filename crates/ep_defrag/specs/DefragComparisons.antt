@@ -1,4 +1,4 @@
--- How the public types are ordered: by their fields as declared, where the first that differs decides.
+-- The order of the public types: by their fields as declared, the first that differs decides.
 use Rattle.std.specs.Prelude.{ℕ, List, [], ◌∷◌}
 use Rattle.std.specs.declared.cmp.Ordering.{Ordering}
 use Rattle.std.specs.Ordering.{nat_cmp, ordering_then}
@@ -12,11 +12,11 @@ use Rattle.ep_defrag.specs.declared.ip_defrag_error.IpDefragError.TheVariants.{S
 use Rattle.ep_defrag.specs.declared.ip_defrag_error.IpDefragError.TheVariants.{AllocationFailure}
 use Rattle.ep_defrag.specs.Buffers.{ip_number_of, data_of, sections_of, known_end_of}
 
--- ranges by the start, then by the end
+-- order of ranges: by start, then by end
 abbrev pub range_cmp : IpFragRange → IpFragRange → Ordering
 range_cmp a b = ordering_then (nat_cmp a.start b.start) (nat_cmp a.end b.end)
 
--- buffers by what they show: the number, the data, the sections and the known end, none before any
+-- order of buffers: by protocol number, data, sections and known end, no end before any
 abbrev pub buffer_cmp : IpDefragBuf → IpDefragBuf → Ordering
 buffer_cmp a b =
     ordering_then (nat_cmp (ip_number_of a).0 (ip_number_of b).0)
@@ -24,13 +24,13 @@ buffer_cmp a b =
     (ordering_then (slice_cmp range_cmp (sections_of a) (sections_of b))
     (option_cmp nat_cmp (known_end_of a) (known_end_of b))))
 
--- an error's place among the errors, then its fields
+-- number of an error among the errors, followed by its fields
 abbrev pub error_numbers : IpDefragError → List ℕ
 error_numbers (UnalignedFragmentPayloadLen offset payload_len) = 0 ∷ offset ∷ payload_len ∷ []
 error_numbers (SegmentTooBig offset payload_len max) = 1 ∷ offset ∷ payload_len ∷ max ∷ []
 error_numbers (ConflictingEnd previous_end conflicting_end) = 2 ∷ previous_end ∷ conflicting_end ∷ []
 error_numbers (AllocationFailure len) = 3 ∷ len ∷ []
 
--- errors by these
+-- order of errors: by these numbers
 abbrev pub error_cmp : IpDefragError → IpDefragError → Ordering
 error_cmp a b = slice_cmp nat_cmp (error_numbers a) (error_numbers b)

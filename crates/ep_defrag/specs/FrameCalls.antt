@@ -1,5 +1,5 @@
--- Frames of bytes among the calls on a pool: what each call is read as, and what each is answered. A frame is read by
--- its entry and its bytes alone, as a packet's layers or as bytes that are none.
+-- Frames of bytes among the calls on a pool: how each call is read, and the answer to it. A frame is read by its entry
+-- and its bytes alone, as the layers of a packet or as a slice error.
 use Rattle.std.specs.Prelude.{◌≡◌, ℕ, Bool, false, Option, Result, Ok, Err, List, [], ◌∷◌, ◌++◌}
 use Rattle.std.specs.List.{AllZip}
 use Rattle.std.specs.Option.{option_map}
@@ -20,12 +20,12 @@ use Rattle.ep_defrag.specs.Calls.{Call, gives_frame, drops_streams, returns_buff
 use Rattle.ep_defrag.specs.Calls.{Answer, answer_to, CallMayNeedMemory, Payload, IfHandedOut}
 use Rattle.ep_defrag.specs.Pools.{plain_call, plain_answer, answer_wants_memory}
 
--- What a call is read as: a call on the pool, or a frame whose bytes are refused with this error.
+-- A call after its frame is read: a call on the pool, or a frame that is rejected with this error.
 pub data ReadCall (T C V : Type 0) : Type 0 where
   calls_pool : Call T C V → ReadCall T C V
   refuses_frame : SliceError → ReadCall T C V
 
--- A frame is read as the frame of its layers, with the fragment that they carry, or refused; all else as what it is.
+-- Holds if a frame is read as its layers, with the fragment that they carry, or as rejected; other calls are unchanged.
 abbrev pub IsReadAs : {T C V : Type 0} → FrameCall T C V → ReadCall T C V → Type 0
 IsReadAs (call.Frame entry bytes timestamp channel) (calls_pool brought) =
     (layers : Layers) × IsFrame entry bytes.now layers
@@ -34,31 +34,31 @@ IsReadAs (call.Frame entry bytes timestamp channel) (refuses_frame error) = Refu
 IsReadAs (call.Drop value) read = read ≡ calls_pool (drops_streams value)
 IsReadAs (call.Return buffer) read = read ≡ calls_pool returns_buffer
 
--- each call of a list is read so
+-- Holds if each call of the first list is read as the call of the second.
 abbrev pub AreReadAs : {T C V : Type 0} → List (FrameCall T C V) → List (ReadCall T C V) → Type 0
 AreReadAs calls reads = AllZip IsReadAs calls reads
 
--- each call of a list is read
+-- Holds if each call of a list is read in some way.
 abbrev pub AreRead : {T C V : Type 0} → List (FrameCall T C V) → Type 0
 AreRead {T} {C} {V} calls = (reads : List (ReadCall T C V)) × AreReadAs calls reads
 
--- the calls on the pool, in their order: a frame that is refused is none
+-- calls on the pool, in their order, without rejected frames
 abbrev pub pool_calls : {T C V : Type 0} → List (ReadCall T C V) → List (Call T C V)
 pool_calls [] = []
 pool_calls (calls_pool brought ∷ reads) = brought ∷ pool_calls reads
 pool_calls (refuses_frame error ∷ reads) = pool_calls reads
 
--- What a call is answered: the error of a frame that is refused, or the pool's answer.
+-- answer to a call: the error of a rejected frame, or the pool's answer
 pub data ReadAnswer : Type 0 where
   not_sliced : SliceError → ReadAnswer
   pool_answers : Answer → ReadAnswer
 
--- the answer to a call, on a pool with this table
+-- answer to a call on a pool with this table
 abbrev pub read_answer_to : {T C V : Type 0} → ℕ → (IpFragId C → Option (Kept T)) → ReadCall T C V → ReadAnswer
 read_answer_to limit table (calls_pool brought) = pool_answers (answer_to limit table brought)
 read_answer_to limit table (refuses_frame error) = not_sliced error
 
--- the answer to each call, where the earlier ones were made on a new pool
+-- answer to each call, after the earlier ones on a new pool
 abbrev pub frame_answers_after : {T C V : Type 0} → ℕ → (C → C → Bool) → (V → T → Bool) → List (Call T C V)
     → List (ReadCall T C V) → List ReadAnswer
 frame_answers_after limit eq keep earlier [] = []
@@ -68,7 +68,7 @@ frame_answers_after limit eq keep earlier (calls_pool brought ∷ reads) =
 frame_answers_after limit eq keep earlier (refuses_frame error ∷ reads) =
     not_sliced error ∷ frame_answers_after limit eq keep earlier reads
 
--- the answer to each of a list of calls on a new pool
+-- answer to each of a list of calls on a new pool
 abbrev pub frame_answers_to : {T C V : Type 0} → ℕ → (C → C → Bool) → (V → T → Bool) → List (ReadCall T C V)
     → List ReadAnswer
 frame_answers_to limit eq keep reads = frame_answers_after limit eq keep [] reads
@@ -79,45 +79,45 @@ pool_answers_in [] = []
 pool_answers_in (not_sliced error ∷ answers) = pool_answers_in answers
 pool_answers_in (pool_answers given ∷ answers) = given ∷ pool_answers_in answers
 
--- if a payload is handed out, this holds of it
+-- Holds if the answer returns no payload, or its payload has the property.
 abbrev pub IfPoolHandsOut : ReadAnswer → (Payload → Type 0) → Type 0
 IfPoolHandsOut (not_sliced error) holds = Unit {0}
 IfPoolHandsOut (pool_answers given) holds = IfHandedOut given holds
 
--- Memory may be wanting for a call only where it is read as a call on the pool for which it may.
+-- Holds if an allocation for a call may fail: it is read as such a call on the pool.
 abbrev pub FrameCallMayNeedMemory : {T C V : Type 0} → ℕ → (IpFragId C → Option (Kept T)) → FrameCall T C V → Type 0
 FrameCallMayNeedMemory {T} {C} {V} limit table call =
     (brought : Call T C V) × IsReadAs call (calls_pool brought) × CallMayNeedMemory limit table brought
 
--- what an answer shows
+-- an answer as plain data
 abbrev pub read_answer : FrameAnswer → ReadAnswer
 read_answer (answer.NotSliced error) = not_sliced error
 read_answer (answer.Pool given) = pool_answers (plain_answer given)
 
--- whether the pool lacked memory
+-- whether an answer is an allocation failure of the pool
 abbrev pub frame_answer_wants_memory : FrameAnswer → Bool
 frame_answer_wants_memory (answer.NotSliced error) = false
 frame_answer_wants_memory (answer.Pool given) = answer_wants_memory given
 
 -- ---- one call
 
--- the bytes of a frame are bytes
+-- Holds if each byte of a call's frame is below 256.
 abbrev pub HasBytes : {T C V : Type 0} → FrameCall T C V → Type 0
 HasBytes (call.Frame entry bytes timestamp channel) = AreBytes bytes.now
 HasBytes (call.Drop value) = Unit {0}
 HasBytes (call.Return buffer) = Unit {0}
 
--- a call is read so, and not otherwise
+-- Holds if a call is read in this way, and in no other.
 pub record IsOnlyRead {T C V : Type 0} (call : FrameCall T C V) (read : ReadCall T C V) : Type 0 where
   pub is : IsReadAs call read
   pub only : (other : ReadCall T C V) → IsReadAs call other → other ≡ read
 
--- what is made of a call
+-- call that the result of slicing its frame is read as
 abbrev pub read_of : {T C V : Type 0} → Result (PoolCall T C V) SliceError → ReadCall T C V
 read_of (Ok brought) = calls_pool (plain_call brought)
 read_of (Err error) = refuses_frame error
 
--- the table after one more call
+-- table after one more call
 abbrev pub table_with_read : {T C V : Type 0} → ℕ → (C → C → Bool) → (V → T → Bool)
     → (IpFragId C → Option (Kept T)) → ReadCall T C V → IpFragId C → Option (Kept T)
 table_with_read limit eq keep table (calls_pool brought) = table_with limit eq keep table brought

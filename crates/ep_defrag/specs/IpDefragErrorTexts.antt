@@ -7,7 +7,7 @@ use Rattle.ep_defrag.specs.declared.ip_defrag_error.IpDefragError.TheVariants.{U
 use Rattle.ep_defrag.specs.declared.ip_defrag_error.IpDefragError.TheVariants.{SegmentTooBig, ConflictingEnd}
 use Rattle.ep_defrag.specs.declared.ip_defrag_error.IpDefragError.TheVariants.{AllocationFailure}
 
--- the pieces of an error's text; an offset is in units of 8 bytes
+-- parts of an error's text; an offset is in units of 8 bytes
 abbrev pub error_pieces : IpDefragError → List (List ℕ)
 error_pieces (UnalignedFragmentPayloadLen offset payload_len) =
     codes "Payload length " ∷ decimal payload_len
@@ -26,6 +26,6 @@ error_pieces (AllocationFailure len) =
     codes "Failed to allocate " ∷ decimal len
     ∷ codes " bytes of memory to reconstruct the fragmented IP packets." ∷ []
 
--- the bytes of an error's text
+-- bytes of an error's text
 abbrev pub error_text : IpDefragError → List ℕ
 error_text error = concat (error_pieces error)

@@ -2,7 +2,7 @@ pub mod Ranges
 pub mod IpFragments
 pub mod FragmentRefusals
 pub mod Buffers
-pub mod Rooms
+pub mod Capacities
 pub mod Runs
 pub mod PayloadCuts
 pub mod IpDefragErrorTexts
@@ -15,7 +15,7 @@ pub mod BuiltCuts
 pub mod FrameCalls
 pub mod Completing
 pub mod NameHashes
--- what the contracts name of the crates below
+-- definitions of lower crates that the contracts use
 pub use Rattle.ep_base.specs.Bytes
 pub use Rattle.ep_base.specs.Tables
 pub use Rattle.ep_ext.specs.FragmentHeaderSlices

@@ -1,4 +1,5 @@
-//! The fragment that a packet carries.
+//! Extraction of the IP fragment that a sliced packet carries: its offset, flag and bytes, and the fields that identify
+//! its datagram.
 
 ghost use Rattle.std.specs.Prelude.{◌≡◌};
 ghost use Rattle.std.specs.Option.{option_map, option_and_then};
@@ -20,20 +21,22 @@ use ep_ext::{Ipv6ExtensionSlice, Ipv6ExtensionsSlice, Ipv6FragmentHeaderSlice};
 use ep_ip::{Ipv4Slice, Ipv6Slice};
 use ep_packet::{NetSlice, SlicedPacket};
 
-/// A fragment, and what its packet says of its stream.
+/// An IP fragment taken from a packet, together with the fields of the packet that identify the datagram the fragment
+/// belongs to.
 #[derive(Debug, Drop)]
 pub(crate) struct CarriedFragment<'a> {
-    /// The VLAN identifiers of the packet, the outermost first.
+    /// VLAN identifiers of the packet that carries the fragment, at most three, outermost first.
     pub(crate) vlan_ids: ArrayVec<VlanId, 3>,
-    /// What the IP header says.
+    /// IP version, source and destination address and fragment identification of the packet that carries the fragment.
     pub(crate) ip: IpFragVersionSpecId,
-    /// What the payload is.
+    /// IP protocol number of the fragmented payload: what the reassembled bytes contain (17 for UDP).
     pub(crate) payload_ip_number: IpNumber,
-    /// The fragment itself.
+    /// The fragment itself: its fragment offset, its more-fragments flag and its bytes.
     pub(crate) fragment: Fragment<'a>,
 }
 
-/// The fragment that a packet carries, if its payload is one.
+/// Returns the fragment that a sliced packet carries, or `None` if the packet is not IP or its payload is not
+/// fragmented.
 pub(crate) fn carried_fragment<'a>(packet: &SlicedPacket<'a>) -> Option<CarriedFragment<'a>>
     ensures { option_map shown_fragment result ≡ fragment_in packet.now }
 {
@@ -44,7 +47,8 @@ pub(crate) fn carried_fragment<'a>(packet: &SlicedPacket<'a>) -> Option<CarriedF
     }
 }
 
-/// The fragment that the IPv4 packet of a packet carries, if its header says so.
+/// Returns the fragment that an IPv4 packet carries, or `None` if its offset is 0 and its more-fragments flag is not
+/// set.
 fn ipv4_fragment<'a>(packet: &SlicedPacket<'a>, ip: &Ipv4Slice<'a>) -> Option<CarriedFragment<'a>>
     ensures { option_map shown_fragment result ≡ option_map packet_fragment
         (fragment_of_ipv4 (vlan_ids_in (layers_of packet.now).link_exts)
@@ -71,7 +75,8 @@ fn ipv4_fragment<'a>(packet: &SlicedPacket<'a>, ip: &Ipv4Slice<'a>) -> Option<Ca
     })
 }
 
-/// The fragment that the IPv6 packet of a packet carries, if its first fragment header says so.
+/// Returns the fragment that an IPv6 packet carries. It returns `None` if the packet has no fragment header, or if its
+/// first fragment header has offset 0 and no more-fragments flag.
 fn ipv6_fragment<'a>(packet: &SlicedPacket<'a>, ip: &Ipv6Slice<'a>) -> Option<CarriedFragment<'a>>
     ensures { option_map shown_fragment result ≡ option_map packet_fragment (option_and_then
         (fragment_of_ipv6 (vlan_ids_in (layers_of packet.now).link_exts)
@@ -99,7 +104,8 @@ fn ipv6_fragment<'a>(packet: &SlicedPacket<'a>, ip: &Ipv6Slice<'a>) -> Option<Ca
     })
 }
 
-/// The first fragment header among extension headers.
+/// Returns the first fragment header among the IPv6 extension headers of a packet, or `None` if there is no fragment
+/// header.
 fn first_fragment_header<'a>(
     extensions: Ipv6ExtensionsSlice<'a>,
 ) -> Option<Ipv6FragmentHeaderSlice<'a>>

@@ -1,16 +1,16 @@
-//! A fragment of an IP payload.
+//! A fragment of an IP payload: offset, more-fragments flag and bytes.
 
 use ep_base::IpFragOffset;
 use std::marker::Model;
 
-/// A fragment of an IP payload, as its header and its bytes say (RFC 791, 3.1 and RFC 8200, 4.5).
+/// A fragment of an IP payload: its offset, its more-fragments flag and its bytes (RFC 791, 3.1 and RFC 8200, 4.5).
 #[derive(Debug, Drop)]
 pub struct Fragment<'a> {
-    /// Where its first byte stands in the payload, in units of 8 bytes.
+    /// Fragment offset: position of the fragment's first byte in the reassembled payload, in units of 8 bytes.
     pub offset: IpFragOffset,
-    /// Whether more fragments follow it. The one that no more follow is the final one.
+    /// More-fragments flag of the fragment: true if more fragments of the payload follow, false for the final fragment.
     pub more_fragments: bool,
-    /// Its bytes.
+    /// Bytes of the fragment, without headers.
     pub payload: &'a [u8],
 }
 

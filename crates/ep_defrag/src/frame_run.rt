@@ -1,4 +1,5 @@
-//! A list of frames and other calls on a pool, in one call.
+//! Running of a whole list of calls (frames as bytes, drops, returned payloads) on a new reassembly pool, by one
+//! function.
 
 ghost use Rattle.std.specs.Prelude.{◌≡◌, ◌<◌, ℕ, Bool, List, take, map, length, slice_get, Option, Some, IsFalse, IfOk, IfErr, OnOk, OnErr, MatchResult};
 ghost use Rattle.std.specs.List.{All, HoldsAt};
@@ -21,42 +22,53 @@ use ep_packet::{Entry, SlicedPacket};
 use std::alloc::{AllocError, Global};
 use std::hash::Hash;
 
-/// A call of a pool, whose frames are bytes.
+/// One call on a reassembly pool in a list that `run_frames` makes: a frame given as bytes, a drop of streams, or the
+/// return of a payload's memory.
 #[derive(Debug, Drop)]
 pub enum FrameCall<'a, Timestamp, CustomChannelId, V> {
-    /// A frame.
+    /// A frame that is to be sliced, and whose fragment, if it carries one, is added to its stream in the reassembly
+    /// pool.
     Frame {
-        /// What stands at the front of its bytes.
+        /// Header that the bytes of the frame start with, at which slicing begins.
         entry: Entry,
-        /// Its bytes.
+        /// Bytes of the frame, starting with the header that `entry` names.
         bytes: &'a [u8],
-        /// When it came.
+        /// Time at which the frame arrived, in the caller's own type. A stream keeps the timestamp of its last accepted
+        /// fragment.
         timestamp: Timestamp,
-        /// What the user tells streams apart by.
+        /// Caller's own value that keeps fragments of different sources apart, for example the number of a capture
+        /// device.
         channel_id: CustomChannelId,
     },
-    /// A drop of streams by their timestamps and this value.
+    /// Drops streams (datagrams that are incomplete): `run_frames` passes this value and the timestamp of each stream
+    /// to its function `keep`, and drops the streams for which it returns false.
     Drop(V),
-    /// A payload whose memory is given back.
+    /// Gives a reassembled payload back to the reassembly pool, which uses its memory for later streams.
     Return(IpDefragPayloadVec),
 }
 
-/// The answer to a call of a pool whose frames are bytes.
+/// The result of one [`FrameCall`] on a reassembly pool.
 #[derive(Debug, PartialEq, Eq, Drop)]
 pub enum FrameAnswer {
-    /// To a frame that can't be sliced.
+    /// The bytes of the frame can't be sliced, with the slicing error. The reassembly pool did not see the frame.
     NotSliced(SliceError),
-    /// To any other call: the pool's.
+    /// Result that the reassembly pool returned for a frame that was sliced, for a drop of streams, or for a returned
+    /// payload.
     Pool(PoolAnswer),
 }
 
-/// Makes calls in turn on a new pool of the limit 65535, and answers it with the answer to each call. A frame is sliced
-/// by its entry. One that is refused is answered the error of the slice, and the pool is not asked. A drop keeps the
-/// streams whose timestamp `keep` answers true of the drop's value and the timestamp. `RunStop` comes only for want of
-/// memory.
+/// Makes a list of calls one after the other on a new reassembly pool with a limit of 65535 bytes per payload. It
+/// returns the result of each call, in order, and the pool. A frame is sliced from the header that its `entry` names.
+/// If slicing fails, the result of the call is the slicing error, and the pool does not see the frame. A drop keeps the
+/// streams for which `keep`, called with the value of the drop and the timestamp of the stream, returns true. A stream
+/// is the fragments of one IP datagram.
 ///
-/// Each stream is answered as if it were alone. None of the streams gets stuck
+/// The results for a stream don't depend on other streams. Every open stream can still be completed
 /// ([`two_frames_complete`](crate::laws::two_frames_complete)).
+///
+/// # Errors
+///
+/// `RunStop`, only if an allocation fails.
 pub fn run_frames<
     Timestamp: Drop,
     CustomChannelId: Eq + Hash + Drop,
@@ -68,11 +80,11 @@ pub fn run_frames<
     keep: F,
 ) -> Result<(Vec<FrameAnswer>, IpDefragPool<Timestamp, CustomChannelId>), RunStop>
     requires { F.IsAlwaysCallable keep }
-    // Each call that was made is read as a call on the pool, or is a frame that is refused.
+    // Each call made was read as a call on the pool, or is a frame that is rejected.
     ensures read { MatchResult result
         (λ _. AreRead calls.entry.items) (λ stop. AreRead (take stop.at calls.entry.items)) }
 
-    // The answers, and what the pool holds, where those of drops are a function of value and timestamp.
+    // The answers and the contents of the pool, if drops are decided by a function of value and timestamp.
     ensures answers { IfOk result (λ run. (reads : List (ReadCall Timestamp CustomChannelId V)) →
         AreReadAs calls.entry.items reads → (decide : V → Timestamp → Bool) → IsDecidedBy F.Fn keep decide →
         map read_answer run.0.items ≡ frame_answers_to 65535 CustomChannelId.eq decide reads) }
@@ -81,7 +93,7 @@ pub fn run_frames<
         AreReadAs calls.entry.items reads → (decide : V → Timestamp → Bool) → IsDecidedBy F.Fn keep decide →
         HoldsTable CustomChannelId.eq run.1 (table_after 65535 CustomChannelId.eq decide (pool_calls reads))) }
 
-    // Where the fragments of a stream since it last began are cuts of a payload, what is handed out is the payload.
+    // If all fragments of a stream since it last began are cuts of one payload, the payload returned is that payload.
     ensures cuts { IfOk result (λ run. (reads : List (ReadCall Timestamp CustomChannelId V)) →
         AreReadAs calls.entry.items reads → (decide : V → Timestamp → Bool) → IsDecidedBy F.Fn keep decide →
         (at : ℕ) (brought : Call Timestamp CustomChannelId V) (answer : FrameAnswer) →
@@ -90,8 +102,8 @@ pub fn run_frames<
         (table_after 65535 CustomChannelId.eq decide (pool_calls (take at reads))) brought) →
         IfPoolHandsOut (read_answer answer) (λ handed. handed.bytes ≡ payload)) }
 
-    // No answer is one of memory, and a run that stops past the first call stops at a frame whose fragment fits and is
-    // not in place.
+    // No answer is an allocation failure, and a run that stops after the first call stops at a frame whose fragment
+    // fits and is not in place.
     ensures no_memory { IfOk result (λ run. All (λ answer. IsFalse (frame_answer_wants_memory answer)) run.0.items) }
     ensures within { IfErr result (λ stop. stop.at < length calls.entry.items) }
     ensures stopped { IfErr result (λ stop. 0 < stop.at →
@@ -114,7 +126,8 @@ pub fn run_frames<
     Ok((answers, pool))
 }
 
-/// The answer to one more call, but for an answer of memory.
+/// Makes one call on the reassembly pool and returns its result, a slicing error of the frame included. It returns
+/// `Err` only if an allocation failed.
 fn answer_frame<
     Timestamp: Drop,
     CustomChannelId: Eq + Hash + Drop,
@@ -146,7 +159,8 @@ fn answer_frame<
     }
 }
 
-/// The call on the pool that a call is, or the error of a frame that is refused.
+/// Slices the frame of a call, if the call has one, and returns the call with the sliced packet in place of the bytes.
+/// It returns an error if the frame can't be sliced. A drop or a returned payload stays unchanged.
 fn read<'a, Timestamp: Drop, CustomChannelId: Drop, V>(
     call: FrameCall<'a, Timestamp, CustomChannelId, V>,
 ) -> Result<PoolCall<'a, Timestamp, CustomChannelId, V>, SliceError>
@@ -171,7 +185,7 @@ fn read<'a, Timestamp: Drop, CustomChannelId: Drop, V>(
     }
 }
 
-/// The packet that begins with what `entry` says, for which the law of frames stands.
+/// Slices a frame whose bytes start with the header that `entry` names.
 fn slice_at<'a>(entry: Entry, bytes: &'a [u8]) -> Result<SlicedPacket<'a>, SliceError>
     ensures ok { IfOk result (λ packet. IsFrame entry bytes.now (layers_of packet)) }
     ensures err { IfErr result (RefusesFrame entry bytes.now) }

@@ -1,39 +1,42 @@
-//! The buffer that puts one payload together.
+//! The buffer that reassembles the payload of one fragmented IP datagram.
 
 ghost use Rattle.std.specs.Prelude.{◌≡◌, ◌≢◌, ◌↔◌, ◌⊎◌, ℕ, ◌+◌, ◌<◌, ◌≤◌, List, [], ◌∷◌, ◌++◌, length, if◌then◌else◌, ◌&&◌, is_some, IsTrue, IsFalse, IfOk, IfErr, OnOk, OnErr, IsOk, MatchResult, MatchOption, None, Some, Err, vec_len, vec_capacity};
 ghost use Rattle.std.specs.List.{list_any, Any};
 ghost use Rattle.std.specs.List.Sorted.{IsPermutation};
-ghost use Rattle.ep_defrag.specs.Ranges.{merges, SharePoint, AreApart};
+ghost use Rattle.ep_defrag.specs.Ranges.{merges, SharePoint, AreSeparate};
 ghost use Rattle.ep_defrag.specs.IpFragments.{IpFragment, fragment_with, fragment_end, range_of, IsComplete};
-ghost use Rattle.ep_defrag.specs.FragmentRefusals.{Fits, RefusesFragment, MayNeedMemory, refusal_at, is_want_of_memory};
+ghost use Rattle.ep_defrag.specs.FragmentRefusals.{Fits, RefusesFragment, MayNeedMemory, refusal_at, is_allocation_failure};
 
 use crate::MAX_IP_DEFRAG_LEN_U16;
-use crate::ip_defrag_bytes::{put, reserve_to};
+use crate::ip_defrag_bytes::{reserve_to, write_fragment};
 use crate::ip_defrag_error::IpDefragError;
 use crate::ip_defrag_sections::{is_whole, join, neighbours};
 use crate::ip_frag_range::IpFragRange;
 use ep_base::{IpFragOffset, IpNumber};
 use std::alloc::AllocError;
 
-/// Puts one fragmented payload together, from fragments in any order.
+/// Reassembles the payload of one IP datagram from its fragments, which may come in any order.
 #[derive(Debug, PartialEq, Eq, PartialOrd, Ord, Hash, Drop)]
 pub struct IpDefragBuf {
     ip_number: IpNumber,
-    /// The bytes put together so far.
+    /// Payload bytes reassembled so far, from position 0 to the greatest end of the accepted fragments. Missing bytes
+    /// are 0.
     bytes: Vec<u8>,
-    /// What is filled of the payload.
+    /// Byte ranges of the payload that accepted fragments fill, in ascending order and with gaps between them.
     sections: Vec<IpFragRange>,
-    /// Where the payload ends, once a final fragment came.
+    /// Length of the whole payload in bytes, or `None` until a final fragment (without the more-fragments flag) was
+    /// accepted.
     end: Option<u16>,
-    ghost in_order: { AreApart sections.items },
+    ghost in_order: { AreSeparate sections.items },
     ghost short: { vec_len bytes ≤ 65535 },
 }
 
 impl IpDefragBuf {
     ghost use Rattle.ep_defrag.specs.Buffers.{ip_number_of, data_of, sections_of, known_end_of, IsUnchanged, HoldsFragments, data_after, data_with, end_after, sections_after, is_whole};
-    ghost use Rattle.ep_defrag.specs.Rooms.{data_room_of, sections_room_of, KeepsRoom, LacksRoom};
+    ghost use Rattle.ep_defrag.specs.Capacities.{data_capacity_of, sections_capacity_of, KeepsCapacity, LacksCapacity};
 
-    /// A new buffer for a payload of this kind. It uses the memory of both vectors, whatever they hold.
+    /// Returns an empty reassembly buffer for a payload of the protocol `ip_number`. It uses the memory of the two
+    /// vectors that are passed, and discards their contents.
     pub fn new(
         ip_number: IpNumber,
         mut bytes: Vec<u8>,
@@ -44,8 +47,8 @@ impl IpDefragBuf {
         ensures data { data_of result ≡ [] }
         ensures sections { sections_of result ≡ [] }
         ensures end { known_end_of result ≡ None }
-        ensures data_room { data_room_of result ≡ vec_capacity bytes }
-        ensures sections_room { sections_room_of result ≡ vec_capacity sections }
+        ensures data_room { data_capacity_of result ≡ vec_capacity bytes }
+        ensures sections_room { sections_capacity_of result ≡ vec_capacity sections }
     {
         bytes.clear();
         sections.clear();
@@ -57,7 +60,7 @@ impl IpDefragBuf {
         }
     }
 
-    /// What the payload is.
+    /// IP protocol number of the payload that is reassembled, as given when the buffer was created.
     #[inline]
     pub fn ip_number(&self) -> IpNumber
         ensures { result ≡ ip_number_of self.now }
@@ -65,7 +68,8 @@ impl IpDefragBuf {
         self.ip_number
     }
 
-    /// The bytes put together so far, 0 where none came yet.
+    /// Payload bytes reassembled so far, from position 0 to the greatest end of the accepted fragments. Bytes that are
+    /// still missing are 0.
     #[inline]
     pub fn data(&self) -> &Vec<u8>
         ensures { result.now.items ≡ data_of self.now }
@@ -73,16 +77,18 @@ impl IpDefragBuf {
         &self.bytes
     }
 
-    /// What is filled of the payload: ranges in order, each of which starts above the end of the one before it.
+    /// Byte ranges of the payload that accepted fragments fill, in ascending order. Ranges that overlap or touch are
+    /// merged, so each range starts above the end of the range before it.
     #[inline]
     pub fn sections(&self) -> &Vec<IpFragRange>
         ensures shown { result.now.items ≡ sections_of self.now }
-        ensures apart { AreApart result.now.items }
+        ensures apart { AreSeparate result.now.items }
     {
         &self.sections
     }
 
-    /// Where the payload ends, in bytes, if a final fragment came.
+    /// Length of the whole payload in bytes, or `None` until a final fragment (without the more-fragments flag) was
+    /// accepted.
     #[inline]
     pub fn end(&self) -> Option<u16>
         ensures { result ≡ known_end_of self.now }
@@ -90,7 +96,7 @@ impl IpDefragBuf {
         self.end
     }
 
-    /// Whether the payload's end is known and nothing is missing before it.
+    /// Returns whether the payload is complete: a final fragment was accepted, and no byte before its end is missing.
     pub fn is_complete(&self) -> bool
         ensures complete { (accepted : List IpFragment) → HoldsFragments self.now accepted →
             IsTrue result ↔ IsComplete accepted }
@@ -99,17 +105,18 @@ impl IpDefragBuf {
         is_whole(self.end, &self.sections)
     }
 
-    /// The vectors of the data and of the sections, with their room.
+    /// Returns the reassembled bytes and the list of the filled ranges, both as vectors with their capacity, and
+    /// consumes the buffer.
     pub fn take_bufs(self) -> (Vec<u8>, Vec<IpFragRange>)
         ensures data { result.0.items ≡ data_of self }
         ensures sections { result.1.items ≡ sections_of self }
-        ensures data_room { vec_capacity result.0 ≡ data_room_of self }
-        ensures sections_room { vec_capacity result.1 ≡ sections_room_of self }
+        ensures data_room { vec_capacity result.0 ≡ data_capacity_of self }
+        ensures sections_room { vec_capacity result.1 ≡ sections_capacity_of self }
     {
         (self.bytes, self.sections)
     }
 
-    /// A buffer that shows the same.
+    /// Returns a copy of the reassembly buffer: equal bytes, filled ranges, end and protocol number. It allocates.
     pub fn clone(&self) -> Result<IpDefragBuf, AllocError>
         ensures same { IfOk result (λ copy. IsUnchanged self.now copy) }
         ensures holds { IfOk result (λ copy. (accepted : List IpFragment) →
@@ -123,26 +130,30 @@ impl IpDefragBuf {
         })
     }
 
-    /// Adds a fragment: its offset, whether more fragments follow it, and its bytes. Where fragments overlap, the bytes
-    /// of the last one count. A final fragment, one that no more follow, sets the payload's end. It is never below the
-    /// end of a fragment that came, so no byte is cut away, and what came can be completed by one more fragment
-    /// ([`one_fragment_completes`](crate::laws::one_fragment_completes)).
+    /// Adds a fragment, given by its offset, its more-fragments flag and its bytes. Where fragments overlap, the bytes
+    /// of the last one are kept. A final fragment (`more_fragments` is false) sets the end of the payload. This end is
+    /// never below the end of an accepted fragment, so no byte is discarded. Whatever fragments were accepted, one more
+    /// can complete the payload ([`one_fragment_completes`](crate::laws::one_fragment_completes)).
     ///
-    /// The first of these that holds is the error, and it changes nothing:
+    /// # Errors
     ///
-    /// - `SegmentTooBig`: the fragment ends above 65535.
-    /// - `UnalignedFragmentPayloadLen`: more follow, and its length is no multiple of 8.
-    /// - `ConflictingEnd`: it ends behind the known end, or is final and ends elsewhere; or no end is known, and it is
-    ///   final and ends below the greatest end of a fragment.
-    /// - `AllocationFailure`: there is no memory for it.
+    /// The conditions are checked in this order, and the first that holds is returned. An error leaves the buffer
+    /// unchanged.
+    ///
+    /// - `SegmentTooBig`: the end of the fragment, its offset in bytes plus its length, is above 65535.
+    /// - `UnalignedFragmentPayloadLen`: more fragments follow, and the length of this fragment is not a multiple of 8.
+    /// - `ConflictingEnd`: the end of the payload is known, and the fragment ends after it, or is final and ends
+    ///   elsewhere. Or the end is not known, and the fragment is final and ends below the greatest end of the accepted
+    ///   fragments.
+    /// - `AllocationFailure`: an allocation for the fragment fails.
     pub fn add(
         &mut self,
         offset: IpFragOffset,
         more_fragments: bool,
         payload: &[u8],
     ) -> Result<(), IpDefragError>
-        // For every list of fragments that the buffer holds: the fragment is accepted exactly where it fits after them,
-        // and memory may be wanting only where it is not in place.
+        // For every list of fragments that the buffer holds: a fragment that does not fit after them is rejected. One
+        // that fits is accepted, unless an allocation fails, which is possible only if the fragment is not in place.
         ensures fits { OnOk result ((accepted : List IpFragment) → HoldsFragments self.old accepted →
             let fragment = fragment_with offset more_fragments payload.now in Fits accepted fragment) }
         ensures holds { OnOk result ((accepted : List IpFragment) → HoldsFragments self.old accepted →
@@ -155,14 +166,14 @@ impl IpDefragBuf {
         ensures keeps { OnErr result ((accepted : List IpFragment) →
             HoldsFragments self.old accepted → HoldsFragments self.new accepted) }
 
-        // An error changes nothing, and where nothing has to grow it is none of memory.
+        // An error changes nothing, and is no allocation failure if nothing has to grow.
         ensures err { OnErr result (IsUnchanged self.old self.new) }
         ensures in_place { let fragment = fragment_with offset more_fragments payload.now in
             fragment_end fragment ≤ length (data_of self.old)
             → Any (SharePoint (range_of fragment)) (sections_of self.old)
             → (len : ℕ) → result ≢ Err (IpDefragError.AllocationFailure len) }
 
-        // The same by what it shows, and what it shows afterwards.
+        // The answer and the new contents, expressed by the known end, the data and the sections.
         ensures answer { let fragment = fragment_with offset more_fragments payload.now in
             MatchResult result
             (λ _. refusal_at (known_end_of self.old) (length (data_of self.old)) fragment ≡ None)
@@ -178,10 +189,10 @@ impl IpDefragBuf {
             OnOk result (known_end_of self.new ≡ end_after (known_end_of self.old) fragment) }
         ensures ip_number { ip_number_of self.new ≡ ip_number_of self.old }
 
-        // Whatever is answered, the vectors keep their room. Memory is wanting only where they have too little.
-        ensures room { KeepsRoom self.old self.new }
+        // In all cases no capacity becomes smaller. An allocation fails only if the capacity is too small.
+        ensures room { KeepsCapacity self.old self.new }
         ensures lacks_room { let fragment = fragment_with offset more_fragments payload.now in
-            IfErr result (λ error. IsTrue (is_want_of_memory error) → LacksRoom self.old fragment) }
+            IfErr result (λ error. IsTrue (is_allocation_failure error) → LacksCapacity self.old fragment) }
     {
         let range = checked_range(self.end, self.reach(), offset, more_fragments, payload)?;
         if self.accept(range, more_fragments, payload).is_err() {
@@ -192,7 +203,8 @@ impl IpDefragBuf {
         Ok(())
     }
 
-    /// How far the accepted fragments reach, in bytes: the data ends at their greatest end.
+    /// Greatest end of the accepted fragments, in bytes from the start of the payload. It is the length of the bytes
+    /// reassembled so far.
     #[inline]
     fn reach(&self) -> u16
         ensures { result ≡ length (data_of self.now) }
@@ -200,7 +212,8 @@ impl IpDefragBuf {
         self.bytes.len() as u16
     }
 
-    /// Takes a fragment that fits, if there is memory for it.
+    /// Stores the bytes of a fragment that was checked, merges its range into the filled ranges and, if it is final,
+    /// sets the end of the payload. It changes nothing if an allocation fails.
     fn accept(
         &mut self,
         range: IpFragRange,
@@ -215,17 +228,17 @@ impl IpDefragBuf {
             (known_end_of self.new ≡ (if more_fragments then known_end_of self.old else Some range.end)) }
         ensures ip_number { ip_number_of self.new ≡ ip_number_of self.old }
         ensures err { OnErr result (IsUnchanged self.old self.new) }
-        ensures room { KeepsRoom self.old self.new }
+        ensures room { KeepsCapacity self.old self.new }
         ensures in_place { range.end ≤ length (data_of self.old) →
             IsTrue (list_any (merges range) (sections_of self.old)) → IsOk result }
-        ensures lacks_room { OnErr result ((data_room_of self.old < range.end)
-            ⊎ ((sections_room_of self.old ≤ length (sections_of self.old))
+        ensures lacks_room { OnErr result ((data_capacity_of self.old < range.end)
+            ⊎ ((sections_capacity_of self.old ≤ length (sections_of self.old))
             × IsFalse (list_any (merges range) (sections_of self.old)))) }
     {
         let near = neighbours(&self.sections, range);
         self.sections.reserve(usize::from(near.is_empty()))?;
         reserve_to(&mut self.bytes, range.end)?;
-        put(&mut self.bytes, range, payload);
+        write_fragment(&mut self.bytes, range, payload);
         join(&mut self.sections, range, near);
         if !more_fragments {
             self.end = Some(range.end);
@@ -234,7 +247,8 @@ impl IpDefragBuf {
     }
 }
 
-/// The range that a fragment fills, where it fits a payload whose end is known or not, and of which so much came.
+/// Returns the byte range of a fragment in the payload. It returns an error if the fragment ends above 65535, has a
+/// wrong length, or contradicts the known end or `reach`, the greatest end of the accepted fragments.
 fn checked_range(
     known_end: Option<u16>,
     reach: u16,
@@ -276,7 +290,7 @@ fn checked_range(
     Ok(IpFragRange { start, end })
 }
 
-/// Where a fragment ends, if a payload may be so long.
+/// Returns the position after the last byte of a fragment, or `None` if this position is above 65535.
 fn end_within_limit(start: u16, payload_len: usize) -> Option<u16>
     ensures { MatchOption result (65535 < start + payload_len) (λ end. (end ≡ start + payload_len) × (end ≤ 65535)) }
 {

@@ -1,4 +1,4 @@
-//! A fragment's bytes, put into a payload.
+//! Writing of a fragment's bytes into the vector of a payload that is reassembled.
 
 ghost use Rattle.std.specs.Prelude.{◌≡◌, ◌+◌, ◌*◌, ◌<◌, ◌≤◌, max, length, OnOk, OnErr, IsOk, vec_len, vec_capacity};
 ghost use Rattle.ep_defrag.specs.Buffers.{extended, overwritten};
@@ -6,8 +6,8 @@ ghost use Rattle.ep_defrag.specs.Buffers.{extended, overwritten};
 use crate::ip_frag_range::IpFragRange;
 use std::alloc::AllocError;
 
-/// Room for data up to `end`. Where it has to grow it doubles, so that data in order is moved seldom, and it grows to
-/// no more than twice the end.
+/// Reserves capacity for the payload bytes up to position `end`. A growing vector at least doubles its capacity, so
+/// fragments in order seldom move the bytes; the new capacity is at most twice `end`.
 #[inline]
 pub(crate) fn reserve_to(bytes: &mut Vec<u8>, end: u16) -> Result<(), AllocError>
     ensures items { bytes.new.items ≡ bytes.old.items }
@@ -25,8 +25,9 @@ pub(crate) fn reserve_to(bytes: &mut Vec<u8>, end: u16) -> Result<(), AllocError
     bytes.reserve_exact(end.max(2 * room) - bytes.len())
 }
 
-/// Puts a fragment's bytes on its range, behind zeros where the data ends before it. No byte is written twice.
-pub(crate) fn put(bytes: &mut Vec<u8>, range: IpFragRange, payload: &[u8])
+/// Writes the bytes of a fragment at their range of the payload, and fills a gap between the end of the bytes so far
+/// and the fragment with zeros. Each byte is written only once.
+pub(crate) fn write_fragment(bytes: &mut Vec<u8>, range: IpFragRange, payload: &[u8])
     requires len { range.end ≡ range.start + length payload.now }
     requires room { range.end ≤ vec_capacity bytes.old }
     ensures items { bytes.new.items ≡ overwritten (extended bytes.old.items range.end) range.start payload.now }
@@ -39,7 +40,7 @@ pub(crate) fn put(bytes: &mut Vec<u8>, range: IpFragRange, payload: &[u8])
     overwrite(bytes, start, within);
 }
 
-/// Extends the bytes with zeros up to `start`.
+/// Extends the payload bytes with zeros up to position `start`, if they are shorter.
 fn fill_gap(bytes: &mut Vec<u8>, start: usize)
     requires { start ≤ vec_capacity bytes.old }
     ensures items { bytes.new.items ≡ extended bytes.old.items start }
@@ -50,8 +51,8 @@ fn fill_gap(bytes: &mut Vec<u8>, start: usize)
     }
 }
 
-/// Puts a part of a fragment's bytes on those that begin at `start`. In a stream in order that is no part, for which
-/// the copy would cost a call.
+/// Overwrites payload bytes from position `start` on with `part`. If `part` is empty, as it is for fragments that
+/// arrive in order, it returns at once and saves the copying call.
 fn overwrite(bytes: &mut Vec<u8>, start: usize, part: &[u8])
     requires { start + length part.now ≤ vec_len bytes.old }
     ensures items { bytes.new.items ≡ overwritten bytes.old.items start part.now }

@@ -1,4 +1,4 @@
-//! Why a fragment is refused.
+//! Errors that reassembly returns for a rejected IP fragment.
 
 ghost use Rattle.std.specs.Prelude.{◌≡◌, Some};
 ghost use Rattle.ep_defrag.specs.IpDefragErrorTexts.{error_text};
@@ -6,46 +6,48 @@ ghost use Rattle.ep_defrag.specs.IpDefragErrorTexts.{error_text};
 use ep_base::IpFragOffset;
 use std::fmt;
 
-/// Why a fragment is refused.
+/// Reason why reassembly rejects an IP fragment.
 #[derive(Clone, Debug, PartialEq, Eq, PartialOrd, Ord, Hash, Drop)]
 pub enum IpDefragError {
-    /// More fragments follow, and the length is no multiple of 8.
+    /// The more-fragments flag of the fragment is set, and its length is not a multiple of 8.
     UnalignedFragmentPayloadLen {
-        /// The fragment's offset, in units of 8 bytes.
+        /// Fragment offset of the rejected fragment, in units of 8 bytes.
         offset: IpFragOffset,
-        /// The fragment's length in bytes.
+        /// Length of the rejected fragment in bytes, without headers.
         payload_len: usize,
     },
-    /// The fragment is longer than a payload may be, or ends behind that.
+    /// The fragment ends above the greatest allowed length of a reassembled payload.
     SegmentTooBig {
-        /// The fragment's offset, in units of 8 bytes.
+        /// Fragment offset of the rejected fragment, in units of 8 bytes.
         offset: IpFragOffset,
-        /// The fragment's length in bytes.
+        /// Length of the rejected fragment in bytes, without headers.
         payload_len: usize,
-        /// The greatest length of a payload in bytes: 65535, or the limit of the pool.
+        /// Greatest allowed length of a reassembled payload in bytes: 65535, or the lower limit of the reassembly pool.
         max: u16,
     },
-    /// The fragment ends behind the known end, or is final and ends elsewhere; or no end is known, and it is final and
-    /// ends below the greatest end of a fragment.
+    /// The end of the fragment contradicts earlier fragments. If the end of the payload is known, the fragment ends
+    /// after it, or is final and ends elsewhere. If it is not known, the fragment is final and ends below the greatest
+    /// end of the accepted fragments.
     ConflictingEnd {
-        /// The known end, or else the greatest one, in bytes.
+        /// Known end of the payload in bytes. If it is not known, the greatest end of the fragments accepted before.
         previous_end: u16,
-        /// The end of the refused fragment, in bytes.
+        /// End of the rejected fragment: the position after its last byte, in bytes from the start of the payload.
         conflicting_end: u16,
     },
-    /// There is no memory for the fragment.
+    /// An allocation for the bytes of the fragment, for the filled ranges or for its stream fails.
     AllocationFailure {
-        /// The end of the refused fragment, in bytes: what the data would have to hold.
+        /// End of the fragment in bytes from the start of the payload. The buffer may already hold more bytes.
         len: usize,
     },
 }
 
 impl IpDefragError {
-    ghost use Rattle.ep_defrag.specs.FragmentRefusals.{is_want_of_memory};
+    ghost use Rattle.ep_defrag.specs.FragmentRefusals.{is_allocation_failure};
 
-    /// Whether the fragment was refused for want of memory.
-    pub(crate) fn is_want_of_memory(&self) -> bool
-        ensures { result ≡ is_want_of_memory self.now }
+    /// Returns true if the error is an allocation failure, and false for the other errors, which the fragment itself
+    /// causes.
+    pub(crate) fn is_allocation_failure(&self) -> bool
+        ensures { result ≡ is_allocation_failure self.now }
     {
         matches!(self, IpDefragError::AllocationFailure { .. })
     }

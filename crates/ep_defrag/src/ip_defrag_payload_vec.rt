@@ -1,14 +1,15 @@
-//! A payload that was put together.
+//! An IP payload that was reassembled from fragments.
 
 use ep_base::{IpNumber, LenSource};
 
-/// A payload that was put together from fragments.
+/// An IP payload that was reassembled from its fragments, in a vector of its own.
 #[derive(Debug, PartialEq, Eq, Drop)]
 pub struct IpDefragPayloadVec {
-    /// What it is.
+    /// IP protocol number of the reassembled payload: what its bytes contain (17 for UDP).
     pub ip_number: IpNumber,
-    /// What gave the lengths of its fragments.
+    /// Length field of the fragments' IP version: the IPv4 total length, or the IPv6 payload length, even if it was 0
+    /// and the fragments ended with their slices.
     pub len_source: LenSource,
-    /// Its bytes.
+    /// Bytes of the reassembled payload, without headers.
     pub payload: Vec<u8>,
 }

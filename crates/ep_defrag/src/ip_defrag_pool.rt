@@ -1,4 +1,4 @@
-//! The pool that puts many payloads together at a time.
+//! The reassembly pool, which reassembles the payloads of many IP datagrams at once.
 
 ghost use Rattle.std.specs.Prelude.{◌≡◌, ◌<◌, ◌↔◌, [], length, min, if◌then◌else◌, Bool, Option, None, IsTrue, IfOk, IfErr, OnOk};
 ghost use Rattle.std.specs.Fn.{FnReturnsAt};
@@ -25,40 +25,41 @@ use std::hash::{BuildHasherDefault, Hash};
 use std::marker::Model;
 use std::mem::replace;
 
-/// A stream whose payload isn't complete yet.
+/// State of one IP datagram in a reassembly pool, as long as its payload is incomplete.
 #[derive(Drop)]
 struct OpenStream<Timestamp> {
     buffer: IpDefragBuf,
-    /// That of the last fragment that was accepted.
+    /// Timestamp that came with the last accepted fragment of the datagram.
     timestamp: Timestamp,
 }
 
-/// Puts the fragmented payloads of many streams together, each as if it were alone.
+/// Reassembles the fragmented payloads of many streams, each independently of the others. A stream is the fragments of
+/// one IP datagram.
 ///
-/// A stream is named by an [`IpFragId`]. It begins with the first fragment that is accepted, and ends when its payload
-/// is handed out or when [`retain`](IpDefragPool::retain) or [`remove`](IpDefragPool::remove) drops it.
+/// A stream is identified by an [`IpFragId`]. It begins with its first accepted fragment. It ends when its payload is
+/// returned, or when [`retain`](IpDefragPool::retain) or [`remove`](IpDefragPool::remove) drops it.
 ///
-/// A pool has a limit of bytes for each stream: no fragment is accepted that ends behind it, so no stream's data is
-/// longer ([`data_within_limit`](crate::laws::data_within_limit)), and none has more sections than the limit / 8 + 1
-/// ([`sections_within_limit`](crate::laws::sections_within_limit)). It is what bounds the cost of a stream of hostile
-/// traffic; the number of streams is bounded by [`retain`](IpDefragPool::retain) and [`remove`](IpDefragPool::remove)
-/// alone.
+/// A pool has a limit in bytes for the payload of each stream. A fragment that ends above the limit is rejected, so no
+/// stream holds more bytes ([`data_within_limit`](crate::laws::data_within_limit)) and no stream has more than limit /
+/// 8 + 1 filled ranges ([`sections_within_limit`](crate::laws::sections_within_limit)). The limit bounds the cost of a
+/// stream of hostile traffic. The number of streams is bounded only by calls of [`retain`](IpDefragPool::retain) and
+/// [`remove`](IpDefragPool::remove).
 ///
-/// Streams are found by their names in a hash map. Its hash has a fixed seed, so whoever chooses the names can choose
-/// ones that hash alike, and a look-up takes time in proportion to their number. What a stream took is used again by
-/// those that begin after its end: of each kind at most as many vectors lie there as streams were active at once, up to
-/// the doubling of `Vec`. Only dropping the pool frees them.
+/// Streams are found by their identifiers in a hash map. Its hash has a fixed seed, so a sender who chooses identifiers
+/// can choose keys that collide, and a look-up takes time in proportion to their number. The memory of a stream that
+/// ended is used again by later streams. At most as many vectors of each type are kept as streams were open at once, up
+/// to the doubling of `Vec`. Only dropping the pool frees them.
 #[derive(Drop)]
 pub struct IpDefragPool<Timestamp, CustomChannelId: Eq + Hash> {
     alloc: Global,
-    /// The greatest end of a fragment, in bytes.
+    /// Greatest allowed length of a reassembled payload, in bytes. A fragment that ends above it is rejected.
     limit: u16,
     streams: HashMap<
         IpFragId<CustomChannelId>,
         OpenStream<Timestamp>,
         BuildHasherDefault<NameHasher>,
     >,
-    /// What the streams that ended leave to those that begin.
+    /// Vectors of datagrams that were completed or dropped, whose memory new datagrams use.
     spare: SpareBuffers,
 }
 
@@ -73,7 +74,7 @@ impl<Timestamp, CustomChannelId: Eq + Hash> Model for IpDefragPool<Timestamp, Cu
 }
 
 impl<Timestamp: Drop, CustomChannelId: Eq + Hash + Drop> IpDefragPool<Timestamp, CustomChannelId> {
-    /// A pool without streams, which takes its memory from `alloc`, and whose limit is 65535.
+    /// Returns an empty reassembly pool that allocates from `alloc` and accepts payloads of up to 65535 bytes.
     pub fn new(alloc: Global) -> IpDefragPool<Timestamp, CustomChannelId>
         ensures holds { HoldsTable CustomChannelId.eq result (λ name. None) }
         ensures streams { streams_of result ≡ [] }
@@ -82,8 +83,8 @@ impl<Timestamp: Drop, CustomChannelId: Eq + Hash + Drop> IpDefragPool<Timestamp,
         IpDefragPool::with_limit(alloc, MAX_IP_DEFRAG_LEN_U16)
     }
 
-    /// A pool without streams, which takes its memory from `alloc`, and in which no stream's data is longer than `max`
-    /// bytes. Below 8 it completes no stream that comes in frames
+    /// Returns an empty reassembly pool that allocates from `alloc` and rejects each fragment that ends above `max`
+    /// bytes, so no payload gets longer. If `max` is below 8, fragments that packets carry never complete a payload
     /// ([`small_limits_complete_nothing`](crate::laws::small_limits_complete_nothing)).
     pub fn with_limit(alloc: Global, max: u16) -> IpDefragPool<Timestamp, CustomChannelId>
         ensures holds { HoldsTable CustomChannelId.eq result (λ name. None) }
@@ -98,7 +99,7 @@ impl<Timestamp: Drop, CustomChannelId: Eq + Hash + Drop> IpDefragPool<Timestamp,
         }
     }
 
-    /// How many streams are open.
+    /// Number of open streams of a reassembly pool: IP datagrams with accepted fragments that are still incomplete.
     #[inline]
     pub fn stream_count(&self) -> usize
         ensures { result ≡ length (streams_of self.now) }
@@ -106,8 +107,9 @@ impl<Timestamp: Drop, CustomChannelId: Eq + Hash + Drop> IpDefragPool<Timestamp,
         self.streams.len()
     }
 
-    /// How many bytes of payloads the open streams hold: of each those from 0 to its greatest end, where gaps count
-    /// too. It looks at each stream. A payload that was handed out is its caller's, and not counted.
+    /// Number of payload bytes that a reassembly pool holds for incomplete datagrams. For each datagram it counts the
+    /// greatest end of the accepted fragments, gaps included. Payloads that were returned to the caller are not
+    /// counted. It visits every datagram.
     pub fn held_bytes(&self) -> usize
         ensures { result ≡ min (held_bytes_of self.now) usize.MAX }
     {
@@ -118,12 +120,13 @@ impl<Timestamp: Drop, CustomChannelId: Eq + Hash + Drop> IpDefragPool<Timestamp,
         held
     }
 
-    /// The timestamp of a stream's last accepted fragment, if the stream is open.
+    /// Timestamp that came with the last accepted fragment of the stream `id`, or `None` if the pool holds no open
+    /// stream of this identifier.
     pub fn timestamp(&self, id: &IpFragId<CustomChannelId>) -> Option<&Timestamp>
         ensures { option_copied result
             ≡ option_map (λ stream. stream.timestamp) (stream_named CustomChannelId.eq id.now self.now) }
     {
-        // Keys are equal where they name one stream.
+        // Keys are equal exactly if they identify the same stream.
         names::<CustomChannelId>();
         match self.streams.get(id) {
             Some(stream) => Some(&stream.timestamp),
@@ -131,10 +134,11 @@ impl<Timestamp: Drop, CustomChannelId: Eq + Hash + Drop> IpDefragPool<Timestamp,
         }
     }
 
-    /// Takes a packet, which may carry a fragment, and answers the payload that is complete with it, if any. A packet
-    /// without a fragment changes nothing.
+    /// Adds the fragment that a sliced packet carries to its stream in the reassembly pool, and returns the payload if
+    /// this fragment completes it. It returns `Ok(None)` if the payload is still incomplete, or if the packet carries
+    /// no fragment, which changes nothing.
     ///
-    /// None of the streams gets stuck, if the limit is at least 8
+    /// Every open stream can still be completed, if the limit of the pool is at least 8
     /// ([`two_frames_complete`](crate::laws::two_frames_complete)).
     pub fn process_sliced_packet(
         &mut self,
@@ -157,11 +161,15 @@ impl<Timestamp: Drop, CustomChannelId: Eq + Hash + Drop> IpDefragPool<Timestamp,
         self.process_fragment(id, &carried.fragment, timestamp)
     }
 
-    /// Takes a fragment of a stream, and answers the payload if it is complete with it.
+    /// Adds a fragment to the stream `id` of the reassembly pool. It returns the reassembled payload if this fragment
+    /// completes it, and `Ok(None)` if bytes are still missing.
     ///
-    /// The first fragment that is accepted begins the stream. A fragment that is refused changes nothing, and so does
-    /// want of memory, which comes after all refusals. The refusals are those of [`IpDefragBuf::add`], with the pool's
-    /// limit for 65535.
+    /// The first accepted fragment begins the stream. A rejected fragment changes nothing.
+    ///
+    /// # Errors
+    ///
+    /// The errors of [`IpDefragBuf::add`], with the limit of the pool in place of 65535. `AllocationFailure` is
+    /// returned only if no other error holds, and it changes nothing either.
     pub fn process_fragment(
         &mut self,
         id: IpFragId<CustomChannelId>,
@@ -170,10 +178,10 @@ impl<Timestamp: Drop, CustomChannelId: Eq + Hash + Drop> IpDefragPool<Timestamp,
     ) -> Result<Option<IpDefragPayloadVec>, IpDefragError>
         ensures { TakesFragment CustomChannelId.eq self.old self.new id fragment.now timestamp result }
     {
-        // Keys are equal where they name one stream.
+        // Keys are equal exactly if they identify the same stream.
         names::<CustomChannelId>();
         let Some(stream) = self.streams.get_mut(&id) else {
-            return self.begin(id, fragment, timestamp);
+            return self.begin_stream(id, fragment, timestamp);
         };
         let is_whole = match add(self.limit, &mut stream.buffer, fragment) {
             Ok(is_whole) => is_whole,
@@ -183,11 +191,12 @@ impl<Timestamp: Drop, CustomChannelId: Eq + Hash + Drop> IpDefragPool<Timestamp,
         if !is_whole {
             return Ok(None);
         }
-        Ok(self.hand_out(&id))
+        Ok(self.complete_stream(&id))
     }
 
-    /// A fragment of a stream that has not begun.
-    fn begin(
+    /// Begins a stream with its first fragment. It returns the payload at once if this fragment alone is complete, and
+    /// `Ok(None)` otherwise.
+    fn begin_stream(
         &mut self,
         id: IpFragId<CustomChannelId>,
         fragment: &Fragment,
@@ -196,7 +205,7 @@ impl<Timestamp: Drop, CustomChannelId: Eq + Hash + Drop> IpDefragPool<Timestamp,
         requires { stream_named CustomChannelId.eq id self.old ≡ None }
         ensures { TakesFragment CustomChannelId.eq self.old self.new id fragment.now timestamp result }
     {
-        // Keys are equal where they name one stream.
+        // Keys are equal exactly if they identify the same stream.
         names::<CustomChannelId>();
         let mut buffer = self.spare.take(id.payload_ip_number);
         let is_whole = match add(self.limit, &mut buffer, fragment) {
@@ -224,13 +233,14 @@ impl<Timestamp: Drop, CustomChannelId: Eq + Hash + Drop> IpDefragPool<Timestamp,
         Ok(None)
     }
 
-    /// What a stream put together. The stream ends.
-    fn hand_out(&mut self, id: &IpFragId<CustomChannelId>) -> Option<IpDefragPayloadVec>
+    /// Removes a stream from the reassembly pool and returns its bytes as the reassembled payload, or `None` if the
+    /// pool has no such stream.
+    fn complete_stream(&mut self, id: &IpFragId<CustomChannelId>) -> Option<IpDefragPayloadVec>
         ensures payload { option_map plain_payload result
             ≡ option_map (payload_in id.now) (stream_named CustomChannelId.eq id.now self.old) }
         ensures ends { ChangesStream CustomChannelId.eq self.old self.new id.now None }
     {
-        // Keys are equal where they name one stream.
+        // Keys are equal exactly if they identify the same stream.
         names::<CustomChannelId>();
         let stream = self.streams.remove(id)?;
         let (payload, sections) = stream.buffer.take_bufs();
@@ -238,14 +248,16 @@ impl<Timestamp: Drop, CustomChannelId: Eq + Hash + Drop> IpDefragPool<Timestamp,
         Some(payload_of(id, payload))
     }
 
-    /// Keeps the streams of which `keep` answers the timestamp true. It is asked once for each stream.
+    /// Keeps the streams (incomplete datagrams) of a reassembly pool for whose timestamp `keep` returns true, and drops
+    /// all others. It calls `keep` once for each stream.
     pub fn retain<F: Fn(&Timestamp) -> bool + Drop>(&mut self, keep: F)
         requires { F.IsAlwaysCallable keep }
         ensures holds { (table : IpFragId CustomChannelId → Option (Kept Timestamp)) →
             HoldsTable CustomChannelId.eq self.old table → (answers : Timestamp → Bool) →
             IsAnsweredBy F.Fn keep answers →
             HoldsTable CustomChannelId.eq self.new (λ name. kept_by answers (table name)) }
-        // The same whatever `keep` answers: some answer of it decides each entry, and each stream that the pool shows.
+        // For any `keep`, even if its answers are no function of the timestamp: one of its answers decides each entry
+        // and each stream of the pool.
         ensures entries { (table : IpFragId CustomChannelId → Option (Kept Timestamp)) →
             HoldsTable CustomChannelId.eq self.old table →
             HoldsAnswered CustomChannelId.eq F.Fn keep table self.new }
@@ -273,7 +285,8 @@ impl<Timestamp: Drop, CustomChannelId: Eq + Hash + Drop> IpDefragPool<Timestamp,
         );
     }
 
-    /// Drops one stream, if it is open, and answers its timestamp. All others stay as they are.
+    /// Drops the stream `id` from the reassembly pool and returns the timestamp of its last accepted fragment, or
+    /// `None` if it is not open. All other streams stay unchanged.
     pub fn remove(&mut self, id: &IpFragId<CustomChannelId>) -> Option<Timestamp>
         ensures timestamp { result
             ≡ option_map (λ stream. stream.timestamp) (stream_named CustomChannelId.eq id.now self.old) }
@@ -282,14 +295,15 @@ impl<Timestamp: Drop, CustomChannelId: Eq + Hash + Drop> IpDefragPool<Timestamp,
             (λ name. if same_stream CustomChannelId.eq id.now name then None else table name) }
         ensures ends { ChangesStream CustomChannelId.eq self.old self.new id.now None }
     {
-        // Keys are equal where they name one stream.
+        // Keys are equal exactly if they identify the same stream.
         names::<CustomChannelId>();
         let stream = self.streams.remove(id)?;
         self.spare.keep(stream.buffer);
         Some(stream.timestamp)
     }
 
-    /// Takes a payload's memory back, for a stream that begins later. The streams stay as they are.
+    /// Takes back a reassembled payload that the pool returned earlier, so that a later stream can use its memory. The
+    /// memory is freed if the pool already keeps as many vectors as it can. The open streams stay unchanged.
     pub fn return_buf(&mut self, buf: IpDefragPayloadVec)
         ensures holds { (table : IpFragId CustomChannelId → Option (Kept Timestamp)) →
             HoldsTable CustomChannelId.eq self.old table → HoldsTable CustomChannelId.eq self.new table }
@@ -300,7 +314,8 @@ impl<Timestamp: Drop, CustomChannelId: Eq + Hash + Drop> IpDefragPool<Timestamp,
     }
 }
 
-/// Adds a fragment to a buffer, if it ends within the limit, and answers whether the payload is complete with it.
+/// Adds a fragment to a reassembly buffer, and returns whether the payload is now complete. A fragment that ends above
+/// `limit` bytes is rejected with `SegmentTooBig`.
 fn add(limit: u16, buffer: &mut IpDefragBuf, fragment: &Fragment) -> Result<bool, IpDefragError>
     ensures takes { OnOk result (BufferTakes limit buffer.old buffer.new fragment.now) }
     ensures whole { IfOk result (IsWhole buffer.new) }
@@ -319,14 +334,15 @@ fn add(limit: u16, buffer: &mut IpDefragBuf, fragment: &Fragment) -> Result<bool
     Ok(buffer.is_complete())
 }
 
-/// Whether a fragment ends behind the limit.
+/// Returns whether a fragment ends above `limit` bytes from the start of the payload.
 fn is_too_long(limit: u16, fragment: &Fragment) -> bool
     ensures { IsTrue result ↔ (limit < fragment_end fragment.now) }
 {
     usize::from(limit) < usize::from(fragment.offset.byte_offset()) + fragment.payload.len()
 }
 
-/// A payload, as it is handed out.
+/// Returns the reassembled payload for a vector of bytes. The protocol number and the limiting length field are taken
+/// from the identifier of its stream.
 fn payload_of<CustomChannelId>(
     id: &IpFragId<CustomChannelId>,
     payload: Vec<u8>,

@@ -1,4 +1,4 @@
-//! What names the stream of a fragment.
+//! Identifier of the IP datagram that a fragment belongs to.
 
 ghost use Rattle.std.specs.Prelude.{◌≡◌};
 ghost use Rattle.std.specs.Option.{option_map};
@@ -10,32 +10,33 @@ use arrayvec::ArrayVec;
 use ep_base::{IpNumber, LenSource, VlanId};
 use ep_packet::SlicedPacket;
 
-/// What the IP header of a fragment says of its stream: the version, the addresses and the identification (RFC 791, 3.1
-/// and RFC 8200, 4.5).
+/// Fields of a packet's IP and fragment headers that identify the datagram of a fragment: version, source, destination
+/// and identification (RFC 791, 3.1 and RFC 8200, 4.5).
 #[derive(Clone, Debug, PartialEq, Eq, Hash, Drop)]
 pub enum IpFragVersionSpecId {
-    /// Of an IPv4 packet.
+    /// Fields of an IPv4 header that identify the datagram of a fragment.
     Ipv4 {
-        /// The source address.
+        /// Source address of the IPv4 header.
         source: [u8; 4],
-        /// The destination address.
+        /// Destination address of the IPv4 header.
         destination: [u8; 4],
-        /// The identification, in the IPv4 header.
+        /// Identification field of the IPv4 header, equal in all fragments of a datagram.
         identification: u16,
     },
-    /// Of an IPv6 packet.
+    /// Fields of an IPv6 packet that identify the datagram of a fragment.
     Ipv6 {
-        /// The source address.
+        /// Source address of the IPv6 header.
         source: [u8; 16],
-        /// The destination address.
+        /// Destination address of the IPv6 header.
         destination: [u8; 16],
-        /// The identification, in the fragment header.
+        /// Identification field of the IPv6 fragment header, equal in all fragments of a datagram.
         identification: u32,
     },
 }
 
 impl IpFragVersionSpecId {
-    /// What gave the lengths of the payloads that are put together.
+    /// Length field of the IP version: the total length for IPv4, the payload length for IPv6. It limits the bytes of a
+    /// fragment, unless it is an IPv6 payload length of 0.
     pub(crate) fn len_source(&self) -> LenSource
         ensures { result ≡ source_of self.now }
     {
@@ -46,22 +47,24 @@ impl IpFragVersionSpecId {
     }
 }
 
-/// The name of a stream: fragments with equal names are put together.
+/// Identifier of a stream (the fragments of one IP datagram). Fragments with equal identifiers are reassembled into one
+/// payload.
 #[derive(Debug, PartialEq, Eq, Hash, Drop)]
 pub struct IpFragId<CustomChannelId> {
-    /// The VLAN identifiers of the packet, the outermost first.
+    /// VLAN identifiers of the packets that carry the fragments, at most three, outermost first.
     pub vlan_ids: ArrayVec<VlanId, 3>,
-    /// What the IP header says.
+    /// IP version, source and destination address and fragment identification of the datagram.
     pub ip: IpFragVersionSpecId,
-    /// What the payload is.
+    /// IP protocol number of the fragmented payload: what the reassembled bytes contain (17 for UDP).
     pub payload_ip_number: IpNumber,
-    /// What the user tells streams apart by, as a device's number.
+    /// Caller's own value that keeps fragments of different sources apart, for example the number of a capture device.
     pub channel_id: CustomChannelId,
 }
 
 impl<CustomChannelId: Drop> IpFragId<CustomChannelId> {
-    /// The name of the stream whose fragment a packet carries, if it carries one: that by which
-    /// [`process_sliced_packet`](crate::IpDefragPool::process_sliced_packet) finds the stream.
+    /// Returns the identifier of the stream that the fragment in a packet belongs to, or `None` if the packet carries
+    /// no fragment. [`process_sliced_packet`](crate::IpDefragPool::process_sliced_packet) finds the stream by this
+    /// identifier.
     pub fn of_packet(
         packet: &SlicedPacket<'_>,
         channel_id: CustomChannelId,

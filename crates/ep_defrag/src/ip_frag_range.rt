@@ -1,26 +1,27 @@
-//! A range of bytes in a payload.
+//! A range of byte positions in a reassembled payload.
 
 ghost use Rattle.std.specs.Prelude.{◌≡◌};
 ghost use Rattle.ep_defrag.specs.Ranges.{touches, merges, hull, merge_of};
 
-/// A range of positions in a payload, in bytes.
+/// A range of byte positions in a payload that is reassembled, for example the range that a fragment fills.
 #[derive(Clone, Copy, Debug, PartialEq, Eq, PartialOrd, Ord, Hash)]
 pub struct IpFragRange {
-    /// The position of the first byte.
+    /// Position of the range's first byte, counted from the start of the payload.
     pub start: u16,
-    /// The position after the last byte.
+    /// Position after the range's last byte, counted from the start of the payload.
     pub end: u16,
 }
 
 impl IpFragRange {
-    /// Whether the position lies between the start and the end, these included.
+    /// Returns whether a position is between the start and the end of the range, both included.
     fn touches(&self, position: u16) -> bool
         ensures { result ≡ touches position self.now }
     {
         self.start <= position && position <= self.end
     }
 
-    /// Whether `merge` makes one range of both.
+    /// Returns whether [`merge`](IpFragRange::merge) makes one range of the two: a start or end of one is between start
+    /// and end of the other, both included.
     fn merges_with(&self, other: IpFragRange) -> bool
         ensures { result ≡ merges self.now other }
     {
@@ -30,7 +31,7 @@ impl IpFragRange {
             || other.touches(self.end)
     }
 
-    /// From the least start to the greatest end.
+    /// Returns the range from the lesser start to the greater end of two ranges, even if there is a gap between them.
     pub(crate) fn hull(&self, other: IpFragRange) -> IpFragRange
         ensures { result ≡ hull self.now other }
     {
@@ -40,8 +41,9 @@ impl IpFragRange {
         }
     }
 
-    /// Both ranges as one, from the least start to the greatest end, where a start or end of one lies between start and
-    /// end of the other, these included. For ranges that aren't reversed: where they overlap or touch.
+    /// Merges two ranges into one, from the lesser start to the greater end, or returns `None` if there is a gap
+    /// between them. Ranges with start <= end merge exactly if they overlap or touch. In general, they merge if a start
+    /// or end of one is between start and end of the other, both included.
     pub fn merge(&self, other: IpFragRange) -> Option<IpFragRange>
         ensures { result ≡ merge_of self.now other }
     {

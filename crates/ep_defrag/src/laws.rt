@@ -1,4 +1,5 @@
-//! Laws of the definitions that the contracts of this crate cite. Each is the contract of a function that does nothing.
+//! Laws of reassembly: theorems about the definitions in this crate's contracts. Each is the contract of a function
+//! that does nothing.
 
 ghost use Rattle.std.specs.Prelude.{◌≡◌, ◌↔◌, ◌⊎◌, ℕ, ◌+◌, ◌/◌, ◌%◌, ◌^◌, ◌<◌, ◌≤◌, ◌||◌, Bool, false, Option, Some, List, [], ◌∷◌, ◌++◌, length, map, IsTrue, IsFalse, IsSome, IfSome};
 ghost use Rattle.std.specs.Hash.{HashWrites};
@@ -32,12 +33,12 @@ use crate::pool_run::PoolAnswer;
 use crate::run::RunStop;
 use std::hash::Hash;
 
-/// Which of two ranges is asked to merge with the other makes no difference.
+/// The result of merging two byte ranges of a payload does not depend on their order.
 pub fn merge_is_symmetric()
     ensures { (a b : IpFragRange) → merge_of a b ≡ merge_of b a }
 {}
 
-/// Ranges that aren't reversed merge exactly where they have a common point, and then into their union.
+/// Two byte ranges (start <= end) merge exactly if they overlap or touch, and the merged range is their union.
 pub fn merge_is_union()
     ensures some { (a b : IpFragRange) → a.start ≤ a.end → b.start ≤ b.end → IsSome (merge_of a b) ↔ SharePoint a b }
     ensures union { (a b : IpFragRange) → a.start ≤ a.end → b.start ≤ b.end →
@@ -45,16 +46,17 @@ pub fn merge_is_union()
         touches position range ≡ (touches position a || touches position b)) }
 {}
 
-/// A cut of a payload that is no longer than the limit fits after other cuts of it, if it is final or a multiple of 8
-/// bytes long. A final cut ends where the payload does, and so not below what came. The limit of a buffer is 65535.
+/// A cut is a consecutive part of a payload, as a fragment carries it. If the payload is no longer than the limit of
+/// the buffer or pool (65535 for a buffer), a cut is never rejected after other cuts of this payload, provided that it
+/// is final or its length is a multiple of 8. A final cut ends at the end of the payload, so not below any earlier cut.
 pub fn cut_fits()
     ensures { (limit : ℕ) (payload : List ℕ) (cuts : List IpFragment) (cut : IpFragment) → length payload ≤ limit
         → All (IsCut payload) cuts → IsCut payload cut
         → IsTrue (is_final cut) ⊎ (length cut.bytes % 8 ≡ 0) → FitsWithin limit cuts cut }
 {}
 
-/// Cuts of a payload are complete exactly where a final one is among them and each position of the payload is covered,
-/// and what they put together is then the payload.
+/// If all fragments are consecutive parts of one payload, they are complete exactly if a final fragment is among them
+/// and they cover each position of the payload. The reassembled bytes are then this payload.
 pub fn complete_cuts_are_the_payload()
     ensures complete { (payload : List ℕ) (cuts : List IpFragment) → All (IsCut payload) cuts →
         IsComplete cuts ↔ (Any (λ cut. IsTrue (is_final cut)) cuts
@@ -63,8 +65,9 @@ pub fn complete_cuts_are_the_payload()
         IsComplete cuts → assembled cuts ≡ payload }
 {}
 
-/// Where each fragment fits after those before it, as in every list that a buffer holds, a known end is the greatest
-/// end of a fragment. So the bytes put together are as long as the fragments reach, and no accepted byte is cut away.
+/// Once a final fragment was accepted, its end is the greatest end of all accepted fragments. The reassembled bytes
+/// then reach to the greatest end, so no accepted byte is discarded. This holds for every buffer, since it rejects
+/// fragments that contradict earlier ones.
 pub fn known_end_is_greatest()
     ensures end { (accepted : List IpFragment) (end : ℕ) → FitInTurn accepted → end_of accepted ≡ Some end →
         end ≡ reach_of accepted }
@@ -73,8 +76,8 @@ pub fn known_end_is_greatest()
         length (data_of buffer) ≡ reach_of accepted }
 {}
 
-/// Whatever fits in turn within a limit reaches no further. So no data of a stream is longer than the limit of its
-/// pool.
+/// No stream of a reassembly pool (the fragments of one IP datagram) holds more payload bytes than the limit of the
+/// pool, since a fragment that ends above the limit is rejected.
 pub fn data_within_limit<Timestamp, CustomChannelId: Eq + Hash>()
     ensures reach { (limit : ℕ) (accepted : List IpFragment) → FitInTurnWithin limit accepted →
         reach_of accepted ≤ limit }
@@ -85,8 +88,9 @@ pub fn data_within_limit<Timestamp, CustomChannelId: Eq + Hash>()
         (λ stream. length (data_of stream.buffer) ≤ limit_of pool) }
 {}
 
-/// What fits in turn within a limit is held in at most limit / 8 + 1 sections: each begins where a fragment does, and
-/// so at another multiple of 8. So it is of a stream and the limit of its pool.
+/// The bytes of a payload that is reassembled within a limit form at most limit / 8 + 1 filled ranges, since each range
+/// begins where a fragment does, at a multiple of 8. This holds for each stream of a reassembly pool and the limit of
+/// the pool.
 pub fn sections_within_limit<Timestamp, CustomChannelId: Eq + Hash>()
     ensures buffer { (limit : ℕ) (buffer : IpDefragBuf) (accepted : List IpFragment) →
         HoldsFragments buffer accepted → FitInTurnWithin limit accepted →
@@ -98,8 +102,8 @@ pub fn sections_within_limit<Timestamp, CustomChannelId: Eq + Hash>()
         (λ stream. length (sections_of stream.buffer) ≤ limit_of pool / 8 + 1) }
 {}
 
-/// Whatever a buffer or a stream holds can be completed by one fragment: the final one from 0 to the greatest end, of
-/// whatever bytes. The limit of a buffer is 65535.
+/// One more fragment completes any incomplete payload: a final fragment from offset 0 to the greatest end of the
+/// accepted fragments, whatever its bytes are. It is within the limit of the pool (65535 for a buffer).
 pub fn one_fragment_completes()
     ensures { (limit : ℕ) (accepted : List IpFragment) (bytes : List ℕ) → FitInTurnWithin limit accepted →
         length bytes ≡ reach_of accepted →
@@ -107,27 +111,30 @@ pub fn one_fragment_completes()
         FitsWithin limit accepted fragment × IsComplete (accepted ++ fragment ∷ []) }
 {}
 
-/// And by at most two that frames can carry as fragments, of whatever bytes, if the limit is at least 8. Within a limit
-/// of at most 65535 neither has more than 32768 bytes.
+/// At most two fragments complete any incomplete payload, whatever their bytes are, if the limit of the buffer or pool
+/// is at least 8 bytes. Frames can carry them, since none of them is a final fragment at offset 0. If the limit is at
+/// most 65535, neither has more than 32768 bytes.
 pub fn two_fragments_complete()
     ensures { (limit : ℕ) (accepted : List IpFragment) (front back : List ℕ) → 8 ≤ limit →
         FitInTurnWithin limit accepted → FillBoth accepted front back →
         CompleteInTurn limit accepted (front_fragment front) (back_fragment accepted back) }
 {}
 
-/// Below 8 no fragments that frames can carry complete anything: a final one would have to begin the payload.
+/// In a pool with a limit below 8 bytes no payload is ever completed by fragments that frames can carry. The final
+/// fragment would have to start at offset 0, and a packet with offset 0 and no more-fragments flag is not fragmented.
 pub fn small_limits_complete_nothing()
     ensures { (limit : ℕ) (accepted : List IpFragment) → limit < 8 → FitInTurnWithin limit accepted →
         All (λ fragment. IsTrue (is_part fragment)) accepted → IsFalse (is_complete accepted) }
 {}
 
-/// No stream gets stuck, in a pool whose limit is at least 8: of each stream of which some frame carries a fragment
-/// there are frames, at most two, the last of which hands the payload out: what was accepted, with the bytes of these
-/// frames on top, whatever they are. So it is of the pool that `run_calls`, `run_calls_with_limit` and `run_frames`
-/// answer, and of each call of `process_sliced_packet`, since their contracts name the table that the pool holds.
+/// No stream gets stuck in a reassembly pool whose limit is at least 8. If some frame can carry a fragment of the
+/// stream (the fragments of one IP datagram), at most two more frames complete its payload, whatever bytes they have.
+/// The payload returned is the accepted bytes, overwritten by the bytes of these two frames. This holds for the pool
+/// that `run_calls`, `run_calls_with_limit` and `run_frames` return, and for each call of `process_sliced_packet`,
+/// since their contracts name the table that the pool holds.
 pub fn two_frames_complete<Timestamp, CustomChannelId: Eq + Hash>()
-    // Of a stream of which some frame carries a fragment, frames carry every fragment of at most 32768 bytes that more
-    // fragments follow or that does not begin the payload.
+    // If some frame carries a fragment of a stream, frames can carry each of its fragments of at most 32768 bytes that
+    // is followed by more fragments or does not begin the payload.
     ensures some { (seen : CarryingFrame) (fragment : IpFragment) → fragment.offset < 2 ^ 13 →
         length fragment.bytes ≤ 32768 → AreBytes fragment.bytes → IsTrue (is_part fragment) →
         (frame : CarryingFrame) × CarriesOf seen fragment frame }
@@ -141,8 +148,9 @@ pub fn two_frames_complete<Timestamp, CustomChannelId: Eq + Hash>()
         (back_fragment accepted back) }
 {}
 
-/// Each stream is answered as if it were alone: two lists of calls on a new pool that agree on the calls of a stream
-/// give that stream the same answers, whatever the limit.
+/// The results that a reassembly pool returns for a stream (the fragments of one IP datagram) don't depend on other
+/// streams. If two lists of calls on a new pool agree in the calls that concern the stream, its results are equal,
+/// whatever the limit.
 pub fn streams_are_alone<Timestamp, CustomChannelId: Eq, V>()
     ensures { (limit : ℕ) (keep : V → Timestamp → Bool) (name : IpFragId CustomChannelId)
         (a b : List (Call Timestamp CustomChannelId V)) →
@@ -151,8 +159,8 @@ pub fn streams_are_alone<Timestamp, CustomChannelId: Eq, V>()
         ≡ answers_of CustomChannelId.eq name b (answers_to limit CustomChannelId.eq keep b) }
 {}
 
-/// A call at the end of a list makes of what was kept of each stream what it makes of it alone. So who makes calls one
-/// by one, by the contract of each, knows what the list of them made.
+/// A call at the end of a list of calls on a reassembly pool changes each stream (the fragments of one IP datagram) as
+/// the call alone does. The contracts of single calls therefore determine the result of the whole list.
 pub fn one_more_call<Timestamp, CustomChannelId: Eq, V>()
     ensures { (limit : ℕ) (keep : V → Timestamp → Bool) (calls : List (Call Timestamp CustomChannelId V))
         (call : Call Timestamp CustomChannelId V) (name : IpFragId CustomChannelId) →
@@ -160,11 +168,12 @@ pub fn one_more_call<Timestamp, CustomChannelId: Eq, V>()
         ≡ table_with limit CustomChannelId.eq keep (table_after limit CustomChannelId.eq keep calls) call name }
 {}
 
-/// Where all fragments of a stream are cuts of a payload that is no longer than the limit, in whatever order and with
-/// whatever repeats, none is refused, and nothing but the payload is handed out. It is handed out if the cuts cover it
-/// and a final one is among them. No drop of the list may drop the stream where it stands, and it is enough that each
-/// keeps the timestamps of the stream's own fragments.
-pub fn cuts_come_out<Timestamp, CustomChannelId: Eq, V>()
+/// If all fragments of a stream (the fragments of one IP datagram) are consecutive parts of one payload that is no
+/// longer than the limit of the pool, and each part is final or its length is a multiple of 8, none is rejected, and
+/// the pool returns no other payload for the stream. This holds in any order and with any repeats. The payload is
+/// returned if the fragments cover it and a final fragment is among them. No drop may remove the stream while it is
+/// incomplete; it is enough that each drop keeps the timestamps of the stream's own fragments.
+pub fn cuts_are_reassembled<Timestamp, CustomChannelId: Eq, V>()
     ensures only { (limit : ℕ) (keep : V → Timestamp → Bool) (name : IpFragId CustomChannelId)
         (calls : List (Call Timestamp CustomChannelId V)) (payload : List ℕ) → length payload ≤ limit →
         StaysOpen limit CustomChannelId.eq keep name calls →
@@ -185,7 +194,8 @@ pub fn cuts_come_out<Timestamp, CustomChannelId: Eq, V>()
         KeepsOwn CustomChannelId.eq keep name calls → StaysOpen limit CustomChannelId.eq keep name calls }
 {}
 
-/// A call whose frame is of bytes is read as one call on the pool or as one refusal. It follows from the law of frames.
+/// A call on a reassembly pool whose frame is given as bytes is read in exactly one way: as a call with a sliced
+/// packet, or as a slicing error. It follows from the law `frames` of `ep_packet`.
 pub fn frame_calls<Timestamp, CustomChannelId, V>()
     ensures { (call : FrameCall Timestamp CustomChannelId V) → HasBytes call →
         (read : ReadCall Timestamp CustomChannelId V) × IsOnlyRead call read }
@@ -193,21 +203,23 @@ pub fn frame_calls<Timestamp, CustomChannelId, V>()
     ep_packet::laws::frames();
 }
 
-/// Frames that are refused change nothing: the pool's answers to a list of calls with frames are those to its own calls
-/// alone, of which the laws above speak.
+/// Frames that can't be sliced change nothing in a reassembly pool. The pool returns the same results for a list of
+/// calls with such frames as for the list without them, so the laws on lists of calls hold for both.
 pub fn refused_frames_change_nothing<Timestamp, CustomChannelId: Eq, V>()
     ensures { (limit : ℕ) (keep : V → Timestamp → Bool) (reads : List (ReadCall Timestamp CustomChannelId V)) →
         pool_answers_in (frame_answers_to limit CustomChannelId.eq keep reads)
         ≡ answers_to limit CustomChannelId.eq keep (pool_calls reads) }
 {}
 
-/// The greatest length of a payload is what 16 bits can say, under either name.
+/// The constants `MAX_IP_DEFRAG_LEN_U16` and `MAX_IP_DEFRAG_LEN`, the greatest length of a reassembled payload, are
+/// both 65535, the greatest value of 16 bits.
 pub fn constants()
     ensures { (constant.MAX_IP_DEFRAG_LEN_U16 ≡ 65535) × (constant.MAX_IP_DEFRAG_LEN ≡ 65535) }
 {}
 
-/// Ranges are equal where start and end are, buffers where they show the same, and errors and stops where they are the
-/// same. The orders go by the fields as declared.
+/// Two byte ranges are equal if their starts and ends are equal. Two reassembly buffers are equal if their bytes,
+/// filled ranges, ends and protocol numbers are equal. Two errors (`IpDefragError` or `RunStop`) are equal if they are
+/// identical. The orders compare the fields as declared.
 pub fn comparisons()
     ensures equal_ranges { (a b : IpFragRange) →
         IsTrue (⟦<IpFragRange as PartialEq>⟧.eq a b) ↔ ((a.start ≡ b.start) × (a.end ≡ b.end)) }
@@ -220,9 +232,9 @@ pub fn comparisons()
     ensures errors { (a b : IpDefragError) → ⟦<IpDefragError as Ord>⟧.cmp a b ≡ error_cmp a b }
 {}
 
-/// Two buffers of one number that hold lists of fragments are equal exactly where the lists fill the same positions
-/// with the same bytes, say the same known end, and touch the same positions: however they were filled. Of lists
-/// without empty fragments touching need not be asked.
+/// Two reassembly buffers of one protocol are equal exactly if their accepted fragments, in any order, fill the same
+/// positions with the same bytes, have the same known end, and touch the same positions (a fragment touches its bytes
+/// and the position after them). If no fragment is empty, the last condition follows from the others.
 pub fn equal_buffers()
     ensures held { (a b : IpDefragBuf) (fragments others : List IpFragment) → ip_number_of a ≡ ip_number_of b →
         HoldsFragments a fragments → HoldsFragments b others →
@@ -235,22 +247,23 @@ pub fn equal_buffers()
     comparisons();
 }
 
-/// A clone equals its source.
+/// A clone of a byte range, of the IP part of a stream identifier, or of a reassembly error is equal to its source.
 pub fn clones()
     ensures ranges { (a b : IpFragRange) → ⟦<IpFragRange as Clone>⟧.is_clone a b → b ≡ a }
     ensures versions { (a b : IpFragVersionSpecId) → ⟦<IpFragVersionSpecId as Clone>⟧.is_clone a b → b ≡ a }
     ensures errors { (a b : IpDefragError) → ⟦<IpDefragError as Clone>⟧.is_clone a b → b ≡ a }
 {}
 
-/// A clone takes no memory, and so is there.
+/// Cloning a byte range, the IP part of a stream identifier, or a reassembly error does not allocate, so it always
+/// succeeds.
 pub fn clones_succeed()
     ensures ranges { (a : IpFragRange) → ⟦<IpFragRange as Clone>⟧.is_infallible a }
     ensures versions { (a : IpFragVersionSpecId) → ⟦<IpFragVersionSpecId as Clone>⟧.is_infallible a }
     ensures errors { (a : IpDefragError) → ⟦<IpDefragError as Clone>⟧.is_infallible a }
 {}
 
-/// The parts of names are equal where they are the same. Payloads, answers of the pool and answers to frames are equal
-/// where they show the same.
+/// States what `==` compares: the IP parts of stream identifiers by version, addresses and identification; reassembled
+/// payloads and the results of calls on a reassembly pool by all values that they contain.
 pub fn pool_comparisons()
     ensures versions { (a b : IpFragVersionSpecId) → IsTrue (⟦<IpFragVersionSpecId as PartialEq>⟧.eq a b) ↔ (a ≡ b) }
     ensures payloads { (a b : IpDefragPayloadVec) →
@@ -263,28 +276,33 @@ pub fn pool_comparisons()
     ep_packet::laws::comparisons();
 }
 
-/// Two names are equal where they are one stream's, the channels by their own equality.
+/// Two `IpFragId` are equal exactly if they identify the same stream (the fragments of one IP datagram). Their
+/// channels, the caller's own values, are compared by the equality of their type.
 pub fn names<CustomChannelId: Eq>()
     ensures { (a b : IpFragId CustomChannelId) →
         ⟦<IpFragId<CustomChannelId> as PartialEq>⟧.eq a b ≡ same_stream CustomChannelId.eq a b }
 {}
 
-/// The hash of a stream's name is std's hash of other writes. Names that write differently are given to std's hasher as
-/// different writes, so their hashes collide only if its own products do.
+/// The hash of a stream identifier is the hash that std's `FoldHasher` computes for regrouped writes. Different writes
+/// are regrouped into different writes, so two identifiers collide only if `FoldHasher` computes equal hashes of two
+/// different regrouped lists.
 pub fn name_hashes()
     ensures std { (writes : HashWrites) → hash_of writes ≡ std_hash (given_for writes) }
     ensures apart { (a b : HashWrites) → All AreBytes a → All AreBytes b → given_for a ≡ given_for b → a ≡ b }
 {}
 
-/// Frames that are built of cuts of a payload under one name, no longer than the limit, in whatever order and with
-/// whatever repeats, hand the payload out at exactly those frames with which the cuts that were given since it was last
-/// handed out are complete, and nothing at the others. Among other calls the frames of that stream are answered so too:
-/// frames without a fragment, frames of other streams, buffers that are given back and drops may stand between them. No
-/// drop may drop the stream where it stands, and it is enough that each keeps the timestamps of the stream's own
-/// fragments. The stream is given no other fragments. A built frame is what the builder's step of IP headers writes,
-/// and a pool is given the layers that its bytes have. No cut is refused: a final one ends where the payload does, and
-/// so not below what came.
-pub fn built_cuts_come_out<Timestamp, CustomChannelId: Eq, V>()
+/// Frames that the builder made from consecutive parts (cuts) of one payload are reassembled to this payload, in any
+/// order and with any repeats. The payload must not be longer than the limit of the pool, each part must be final or
+/// have a length that is a multiple of 8, and all frames must have one stream identifier. The pool returns the payload
+/// exactly at the frames that complete the parts passed since it was last returned, and nothing at the others.
+///
+/// Other calls may be made between them: frames without a fragment, frames of other streams, returned buffers and
+/// drops. No drop may remove the stream while it is incomplete; it is enough that each drop keeps the timestamps of the
+/// stream's own fragments. The stream must get no other fragments.
+///
+/// A built frame is written by the builder's step of IP headers, and the pool is given the layers of its bytes. No part
+/// is rejected: a final one ends at the end of the payload, so not below any earlier part.
+pub fn built_cuts_are_reassembled<Timestamp, CustomChannelId: Eq, V>()
     ensures alone { (limit : ℕ) (keep : V → Timestamp → Bool) (name : IpFragId CustomChannelId) (payload : List ℕ)
         (cuts : List (BuiltCut Timestamp CustomChannelId)) → length payload ≤ limit →
         All (IsBuiltCut payload) cuts → All (IsUnder CustomChannelId.eq name) cuts →
@@ -302,7 +320,7 @@ pub fn built_cuts_come_out<Timestamp, CustomChannelId: Eq, V>()
         frames_to CustomChannelId.eq name calls ≡ map cut_call cuts →
         answers_to_frames CustomChannelId.eq name calls (answers_to limit CustomChannelId.eq keep calls)
         ≡ cut_answers (whole_of name payload) [] (map cut_fragment cuts) }
-    // Of calls with frames as bytes, whatever they are read as; refused frames may stand between too.
+    // For calls with frames as bytes, however they are read; rejected frames may be among them too.
     ensures read { (limit : ℕ) (keep : V → Timestamp → Bool) (name : IpFragId CustomChannelId) (payload : List ℕ)
         (cuts : List (BuiltCut Timestamp CustomChannelId)) (reads : List (ReadCall Timestamp CustomChannelId V)) →
         length payload ≤ limit → All (IsBuiltCut payload) cuts →

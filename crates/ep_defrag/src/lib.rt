@@ -1,4 +1,4 @@
-//! Putting fragmented IP payloads together again (RFC 791, 3.2 and RFC 8200, 4.5).
+//! Reassembly of fragmented IP payloads (RFC 791, 3.2 and RFC 8200, 4.5).
 #![tactic(auto)]
 
 mod carried_fragment;
@@ -43,8 +43,8 @@ pub use ip_frag_range::IpFragRange;
 pub use pool_run::{PoolAnswer, PoolCall, run_calls, run_calls_with_limit};
 pub use run::{RunStop, add_all};
 
-/// The greatest length of a payload that is put together, in bytes.
+/// Greatest length of a reassembled payload in bytes, as `u16`.
 pub const MAX_IP_DEFRAG_LEN_U16: u16 = u16::MAX;
 
-/// The greatest length of a payload that is put together, in bytes.
+/// Greatest length of a reassembled payload in bytes, as `usize`.
 pub const MAX_IP_DEFRAG_LEN: usize = 65535;

@@ -1,8 +1,9 @@
-//! A list of calls on a pool, in one call.
+//! Running of a whole list of calls (sliced packets, drops, returned payloads) on a new reassembly pool, by one
+//! function.
 
 ghost use Rattle.std.specs.Prelude.{◌≡◌, Bool, Option, IsFalse, IfOk, OnOk, OnErr};
 ghost use Rattle.ep_defrag.specs.Calls.{Kept, table_with, answer_to, CallMayNeedMemory};
-ghost use Rattle.ep_defrag.specs.Pools.{limit_of, HoldsTable, IsDecidedBy, RunsCalls, plain_call, plain_answer, wants_memory, answer_wants_memory};
+ghost use Rattle.ep_defrag.specs.Pools.{limit_of, HoldsTable, IsDecidedBy, RunsCalls, plain_call, plain_answer, is_allocation_failure_in, answer_wants_memory};
 
 use crate::MAX_IP_DEFRAG_LEN_U16;
 use crate::ip_defrag_error::IpDefragError;
@@ -14,41 +15,50 @@ use ep_packet::SlicedPacket;
 use std::alloc::{AllocError, Global};
 use std::hash::Hash;
 
-/// A call of a pool.
+/// One call on a reassembly pool in a list that `run_calls` makes: a sliced packet, a drop of streams, or the return of
+/// a payload's memory.
 #[derive(Debug, Drop)]
 pub enum PoolCall<'a, Timestamp, CustomChannelId, V> {
-    /// A packet.
+    /// A sliced packet whose fragment, if it carries one, is added to its stream in the reassembly pool.
     Frame {
-        /// Its layers.
+        /// Layers of the packet, as slicing returned them.
         packet: SlicedPacket<'a>,
-        /// When it came.
+        /// Time at which the packet arrived, in the caller's own type. A stream keeps the timestamp of its last
+        /// accepted fragment.
         timestamp: Timestamp,
-        /// What the user tells streams apart by.
+        /// Caller's own value that keeps fragments of different sources apart, for example the number of a capture
+        /// device.
         channel_id: CustomChannelId,
     },
-    /// A drop of streams by their timestamps and this value.
+    /// Drops streams (datagrams that are incomplete): `run_calls` passes this value and the timestamp of each stream to
+    /// its function `keep`, and drops the streams for which it returns false.
     Drop(V),
-    /// A payload whose memory is given back.
+    /// Gives a reassembled payload back to the reassembly pool, which uses its memory for later streams.
     Return(IpDefragPayloadVec),
 }
 
-/// The answer to a call of a pool.
+/// The result of one [`PoolCall`] on a reassembly pool.
 #[derive(Debug, PartialEq, Eq, Drop)]
 pub enum PoolAnswer {
-    /// To a packet.
+    /// Result of a sliced packet: the reassembled payload if its fragment completes it, `None` if not, or the error
+    /// that rejects the fragment.
     Frame(Result<Option<IpDefragPayloadVec>, IpDefragError>),
-    /// To a drop.
+    /// Result of a call that drops streams, which always succeeds.
     Dropped,
-    /// To a payload that was given back.
+    /// Result of a call that gives a payload back to the pool, which always succeeds.
     Returned,
 }
 
-/// Makes calls in turn on a new pool of the limit 65535, and answers it with the answer to each call. A drop keeps the
-/// streams whose timestamp `keep` answers true of the drop's value and the timestamp. `RunStop` comes only for want of
-/// memory.
+/// Makes a list of calls one after the other on a new reassembly pool with a limit of 65535 bytes per payload. It
+/// returns the result of each call, in order, and the pool. A drop keeps the streams for which `keep`, called with the
+/// value of the drop and the timestamp of the stream, returns true. A stream is the fragments of one IP datagram.
 ///
-/// Each stream is answered as if it were alone. None of the streams gets stuck
+/// The results for a stream don't depend on other streams. Every open stream can still be completed
 /// ([`two_frames_complete`](crate::laws::two_frames_complete)).
+///
+/// # Errors
+///
+/// `RunStop`, only if an allocation fails.
 pub fn run_calls<
     Timestamp: Drop,
     CustomChannelId: Eq + Hash + Drop,
@@ -65,8 +75,8 @@ pub fn run_calls<
     run_calls_with_limit(alloc, MAX_IP_DEFRAG_LEN_U16, calls, keep)
 }
 
-/// The same calls on a new pool of this limit ([`IpDefragPool::with_limit`]). None of its streams gets stuck, if it is
-/// at least 8.
+/// Makes a list of calls one after the other, as [`run_calls`] does, on a new reassembly pool with a limit of `max`
+/// bytes per payload ([`IpDefragPool::with_limit`]). Every open stream can still be completed, if `max` is at least 8.
 pub fn run_calls_with_limit<
     Timestamp: Drop,
     CustomChannelId: Eq + Hash + Drop,
@@ -95,7 +105,7 @@ pub fn run_calls_with_limit<
     Ok((answers, pool))
 }
 
-/// The answer to one more call, but for an answer of memory.
+/// Makes one call on the reassembly pool and returns its result. It returns `Err` only if an allocation failed.
 pub(crate) fn answer_next<
     Timestamp: Drop,
     CustomChannelId: Eq + Hash + Drop,
@@ -127,7 +137,7 @@ pub(crate) fn answer_next<
             channel_id,
         } => {
             let answer = pool.process_sliced_packet(&packet, timestamp, channel_id);
-            if lacks_memory(&answer) {
+            if is_out_of_memory(&answer) {
                 return Err(AllocError);
             }
             Ok(PoolAnswer::Frame(answer))
@@ -143,9 +153,9 @@ pub(crate) fn answer_next<
     }
 }
 
-/// Whether a frame lacked memory.
-fn lacks_memory(answer: &Result<Option<IpDefragPayloadVec>, IpDefragError>) -> bool
-    ensures { result ≡ wants_memory answer.now }
+/// Returns whether the pool's result for a packet is the error that an allocation failed.
+fn is_out_of_memory(answer: &Result<Option<IpDefragPayloadVec>, IpDefragError>) -> bool
+    ensures { result ≡ is_allocation_failure_in answer.now }
 {
-    matches!(answer, Err(error) if error.is_want_of_memory())
+    matches!(answer, Err(error) if error.is_allocation_failure())
 }

@@ -1,4 +1,4 @@
-//! A list of fragments, put together in one call.
+//! Reassembly of a whole list of fragments of one payload, by one function.
 
 ghost use Rattle.std.specs.Prelude.{◌≡◌, ◌≢◌, ◌<◌, ℕ, List, [], take, length, IfOk, IfErr, OnOk, OnErr, Err};
 ghost use Rattle.std.specs.List.{All, HoldsAt};
@@ -15,19 +15,25 @@ use crate::ip_frag_range::IpFragRange;
 use ep_base::IpNumber;
 use std::alloc::{AllocError, Global};
 
-/// A run that stopped for want of memory.
+/// The error of a run over a list of fragments or of calls on a reassembly pool: an allocation failed.
 #[derive(Debug, PartialEq, Eq, Drop)]
 pub struct RunStop {
-    /// The index of the fragment or call at which it stopped; also 0 where the answers' vector was refused.
+    /// Index of the fragment or call at which the run stopped. It is 0, too, if the vector of the results could not be
+    /// allocated.
     pub at: usize,
 }
 
-/// Adds fragments in turn to a new buffer, which uses the memory of both vectors, and answers it with the answer to
-/// each fragment. The limit of the payload is 65535. `RunStop` comes only for want of memory.
+/// Adds a list of fragments one after the other to a new reassembly buffer. It returns the buffer and the result of
+/// each fragment, in order. The buffer uses the memory of the vectors `bytes` and `sections`, and the payload may have
+/// up to 65535 bytes.
 ///
-/// Whatever the buffer holds, one fragment completes it, and so do two that frames can carry
+/// Whatever fragments were accepted, one more fragment can complete the payload, and so can two that frames can carry
 /// ([`one_fragment_completes`](crate::laws::one_fragment_completes),
 /// [`two_fragments_complete`](crate::laws::two_fragments_complete)).
+///
+/// # Errors
+///
+/// `RunStop`, only if an allocation fails.
 pub fn add_all(
     alloc: Global,
     ip_number: IpNumber,
@@ -39,8 +45,8 @@ pub fn add_all(
     ensures answers { IfOk result (λ run. run.1.items ≡ answers_after [] fragments.now) }
     ensures ip_number { IfOk result (λ run. ip_number_of run.0 ≡ ip_number) }
 
-    // No answer is one of memory, and a run that stops past the first fragment stops at one that fits and is not in
-    // place.
+    // No answer is an allocation failure, and a run that stops after the first fragment stops at a fragment that fits
+    // and is not in place.
     ensures no_memory { IfOk result (λ run.
         All (λ answer. (len : ℕ) → answer ≢ Err (defrag_error.AllocationFailure len)) run.1.items) }
     ensures within { IfErr result (λ stop. stop.at < length fragments.now) }
@@ -60,7 +66,8 @@ pub fn add_all(
     Ok((buffer, answers))
 }
 
-/// The answer to one more fragment, but for an answer of memory.
+/// Adds one fragment to the reassembly buffer and returns its result: accepted, or the error that rejects it. It
+/// returns the outer `Err` only if an allocation failed.
 fn answer_next(
     buffer: &mut IpDefragBuf,
     fragment: &Fragment,
@@ -76,7 +83,7 @@ fn answer_next(
     match buffer.add(fragment.offset, fragment.more_fragments, fragment.payload) {
         Ok(()) => Ok(Ok(())),
         Err(error) => {
-            if error.is_want_of_memory() {
+            if error.is_allocation_failure() {
                 Err(AllocError)
             } else {
                 Ok(Err(error))

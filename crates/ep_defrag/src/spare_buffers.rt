@@ -1,4 +1,4 @@
-//! Memory of streams that ended, for those that begin.
+//! Memory of completed or dropped datagrams that a reassembly pool keeps for new ones.
 
 ghost use Rattle.std.specs.Prelude.{◌≡◌, ◌⊎◌, ◌+◌, ◌<◌, ◌≤◌, [], ◌∷◌, ◌++◌, None, OnOk, OnErr, vec_len, vec_capacity};
 ghost use Rattle.ep_defrag.specs.Buffers.{HoldsFragments, ip_number_of, data_of, sections_of, known_end_of};
@@ -8,18 +8,18 @@ use crate::ip_frag_range::IpFragRange;
 use ep_base::IpNumber;
 use std::alloc::{AllocError, Global};
 
-/// How many places a list has at least, once it has any.
+/// Least number of vectors for which a list of kept vectors has capacity, once the list is allocated.
 const FEWEST_PLACES: usize = 4;
 
-/// Vectors whose memory is used again. What they hold has no meaning.
+/// Vectors of completed or dropped datagrams, kept so that their memory is used again. Their contents have no meaning.
 ///
-/// Only [`reserve`](SpareBuffers::reserve) takes memory. A vector that finds no place is freed.
+/// Only [`reserve`](SpareBuffers::reserve) allocates. A vector that is returned while its list is full is freed.
 #[derive(Drop)]
 pub(crate) struct SpareBuffers {
     alloc: Global,
-    /// For the bytes of a payload.
+    /// Vectors whose memory new datagrams use for the bytes of their payloads.
     bytes: Vec<Vec<u8>>,
-    /// For the sections of a payload.
+    /// Vectors whose memory new datagrams use for the lists of filled byte ranges.
     sections: Vec<Vec<IpFragRange>>,
 }
 
@@ -32,7 +32,7 @@ impl SpareBuffers {
         }
     }
 
-    /// Room in both lists for so many vectors, with those that lie there.
+    /// Reserves capacity so that each of the two lists can keep `count` vectors, including those that it already keeps.
     pub(crate) fn reserve(&mut self, count: usize) -> Result<(), AllocError>
         ensures bytes { self.new.bytes.items ≡ self.old.bytes.items }
         ensures sections { self.new.sections.items ≡ self.old.sections.items }
@@ -41,11 +41,12 @@ impl SpareBuffers {
         ensures full { OnErr result
             ((vec_capacity self.old.bytes < count) ⊎ (vec_capacity self.old.sections < count)) }
     {
-        reserve_places(self.alloc, &mut self.bytes, count)?;
-        reserve_places(self.alloc, &mut self.sections, count)
+        reserve_capacity(self.alloc, &mut self.bytes, count)?;
+        reserve_capacity(self.alloc, &mut self.sections, count)
     }
 
-    /// An empty buffer, which uses memory that lies here, if any.
+    /// Returns an empty reassembly buffer for a payload of the protocol `ip_number`. The buffer uses kept vectors, if
+    /// there are any.
     pub(crate) fn take(&mut self, ip_number: IpNumber) -> IpDefragBuf
         ensures holds { HoldsFragments result [] }
         ensures ip_number { ip_number_of result ≡ ip_number }
@@ -58,7 +59,8 @@ impl SpareBuffers {
         IpDefragBuf::new(ip_number, bytes, sections)
     }
 
-    /// Keeps both vectors of a buffer.
+    /// Keeps both vectors of a reassembly buffer (payload bytes and filled ranges) for later use. A vector whose list
+    /// is full is freed.
     pub(crate) fn keep(&mut self, buffer: IpDefragBuf)
         ensures bytes { vec_len self.old.bytes < vec_capacity self.old.bytes →
             vec_len self.new.bytes ≡ vec_len self.old.bytes + 1 }
@@ -91,9 +93,9 @@ impl SpareBuffers {
     }
 }
 
-/// Room in a list for so many vectors, with those that lie there. An empty list is made anew: to let it grow would copy
-/// its places, none of which was used, and so make them take memory.
-fn reserve_places<T: Drop>(
+/// Reserves capacity for `count` vectors in a list of kept vectors. A list that is empty and too small is allocated
+/// anew, since growing it would copy its unused places and so touch memory that was never used.
+fn reserve_capacity<T: Drop>(
     alloc: Global,
     list: &mut Vec<Vec<T>>,
     count: usize,

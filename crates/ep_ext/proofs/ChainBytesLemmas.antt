@@ -1,9 +1,9 @@
--- The bytes of a chain of extension headers.
+-- Lemmas about the bytes of a chain of extension headers.
 use Rattle.std.proofs.Common.{◌≡◌, ℕ, ◌+◌, List, [], ◌∷◌, ◌++◌, length, refl, sym, ap, ◌∙◌, arith, append_assoc, length-append}
 use Rattle.ep_base.specs.Readings.{Reading}
 use Rattle.ep_ext.specs.ExtensionParts.{ExtensionPart, hop_by_hop, destination_options, routing, fragment, authentication, part_next, part_bytes, EncodesPart, IsExtensionPart}
 use Rattle.ep_ext.specs.RawExtension.{raw_extension_bytes}
-use Rattle.ep_ext.specs.Chains.{IpVersion, ExtensionChain, IsChainBehind, IsExtensionChain, EncodesParts, parts_bytes}
+use Rattle.ep_ext.specs.Chains.{IpVersion, ExtensionChain, IsChainAfter, IsExtensionChain, EncodesParts, parts_bytes}
 use Rattle.ep_ext.proofs.PartLemmas.{auth_len}
 
 part_encoded : (number : ℕ) (bytes : List ℕ) (part : ExtensionPart) (behind : List ℕ)
@@ -18,7 +18,7 @@ part_encoded number bytes (routing header) behind is =
 part_encoded number bytes (fragment header) behind is = (is.1.encoded, is.1.encodes, is.1.parts)
 part_encoded number bytes (authentication header) behind is = (is.1.encoded, is.1.encodes, is.1.parts)
 
--- bytes that encode a header are as many as those that are written
+-- Bytes that encode a header have the length of its wire format.
 encoded_len : (bytes : List ℕ) (part : ExtensionPart) → EncodesPart bytes part
     → length bytes ≡ length (part_bytes part)
 encoded_len bytes (hop_by_hop header) encodes = ap length encodes.1
@@ -42,7 +42,7 @@ encoded_lens bytes (part ∷ parts) encodes = omega (
 
 behind_encoded : (version : IpVersion) (reading : Reading) (taken : List ℕ) (number : ℕ) (bytes : List ℕ)
     (parts : List ExtensionPart) (last : ℕ) (rest : List ℕ)
-    → IsChainBehind version reading taken number bytes parts last rest
+    → IsChainAfter version reading taken number bytes parts last rest
     → (encoded : List ℕ) × EncodesParts encoded parts × (bytes ≡ encoded ++ rest)
 behind_encoded version reading taken number bytes [] last rest is = ([], refl, sym is.2)
 behind_encoded version reading taken number bytes (part ∷ parts) last rest is =
@@ -53,7 +53,7 @@ behind_encoded version reading taken number bytes (part ∷ parts) last rest is 
       here.2 ∙ ap (λ (s : List ℕ). here.0 ++ s) more.2 ∙ sym (append_assoc here.0 more.0 rest),
     )
 
--- the bytes of a chain are those of its headers, and the rest
+-- The bytes of a chain are the bytes of its headers, followed by the rest.
 pub chain_encoded : (version : IpVersion) (reading : Reading) (number : ℕ) (bytes : List ℕ) (chain : ExtensionChain)
     → IsExtensionChain version reading number bytes chain
     → (encoded : List ℕ) × EncodesParts encoded chain.parts × (bytes ≡ encoded ++ chain.rest)

@@ -1,4 +1,5 @@
--- That a chain of extension headers is decided, and what the two readings have to do with one another.
+-- Bytes are either exactly one chain of extension headers or rejected with exactly one error; the relation of the two
+-- readings.
 use Rattle.std.proofs.Common.{◌≡◌, ◌⊎◌, add-zero, ℕ, zero, suc, ◌+◌, ◌<◌, ◌==◌, Bool, true, false, not, List, [], ◌∷◌, length, refl, sym, ap, subst, ◌∙◌, inl, inr, arith}
 use Rattle.std.proofs.lemmas.Grind.{common_steps}
 use Rattle.std.proofs.lemmas.Bool.{cases_eq}
@@ -14,25 +15,25 @@ use Rattle.ep_base.specs.declared.err.ipv6_exts.HeaderSliceError.TheVariants as 
 use Rattle.ep_ext.specs.declared.ip_auth_header.IpAuthHeader.{IpAuthHeader}
 use Rattle.ep_ext.specs.ExtensionParts.{ExtensionPart, authentication, part_next, part_len, RefusesExtensionPart, auth_refusal}
 use Rattle.ep_ext.specs.IpAuth.{IsIpAuth, RefusesIpAuth, ip_auth_rows}
-use Rattle.ep_ext.specs.Chains.{IpVersion, ipv4, ipv6, ExtensionChain, chain_of, Demand, ends, takes, misplaced, demand_of, is_taken, IsChainBehind, IsExtensionChain, RefusesChainBehind, RefusesExtensionChain, NoKindTwice, further_in}
+use Rattle.ep_ext.specs.Chains.{IpVersion, ipv4, ipv6, ExtensionChain, chain_of, Demand, ends, takes, misplaced, demand_of, is_taken, IsChainAfter, IsExtensionChain, RefusesChainAfter, RefusesExtensionChain, NoKindTwice, with_offset_in}
 use Rattle.ep_ext.proofs.PartLemmas.{HeaderLaws, ReadPart, IsReadPart, IsKind, is_hop_by_hop, is_routing, is_fragment, is_authentication, is_destination, part_decided, part_lens, part_behind_fits, part_numbered}
 
--- bytes of a number are a chain behind the headers that were taken
+-- The bytes, starting with the header of this IP number, are a chain that continues after the visited headers.
 abbrev pub IsBehind : IpVersion → Reading → List ℕ → ℕ → List ℕ → ExtensionChain → Type 0
-IsBehind version reading taken number bytes chain = IsChainBehind version reading taken number bytes chain.parts
+IsBehind version reading taken number bytes chain = IsChainAfter version reading taken number bytes chain.parts
     chain.last chain.rest
 
--- they are refused there
+-- The bytes are rejected with this error after the visited headers.
 abbrev pub RefusesBehind : IpVersion → Reading → List ℕ → ℕ → ℕ → List ℕ → HeaderSliceError → Type 0
 RefusesBehind version reading taken offset number bytes error =
-    (parts : List ExtensionPart) × RefusesChainBehind version reading taken offset number bytes parts error
+    (parts : List ExtensionPart) × RefusesChainAfter version reading taken offset number bytes parts error
 
 pub demand_cases : (demand : Demand) → (demand ≡ ends) ⊎ ((demand ≡ takes) ⊎ (demand ≡ misplaced))
 demand_cases ends = inl refl
 demand_cases takes = inr (inl refl)
 demand_cases misplaced = inr (inr refl)
 
--- what is taken is of a kind
+-- An IP number that demands a header is the number of a kind of extension header.
 pub taken_is_kind : (version : IpVersion) (reading : Reading) (taken : List ℕ) (number : ℕ)
     → demand_of version reading taken number ≡ takes → IsKind number
 taken_is_kind version reading taken number demand =
@@ -59,12 +60,12 @@ taken_is_kind version reading taken number demand =
     none_taken ipv4 reading taken number a b c d e demand = grind (arith, common_steps)
     none_taken ipv6 reading taken number a b c d e demand = grind (arith, common_steps)
 
--- ---- each demand decides
+-- ---- each demand decides between chain and error
 
 only_end : (version : IpVersion) (reading : Reading) (taken : List ℕ) (number : ℕ) (bytes : List ℕ)
     → demand_of version reading taken number ≡ ends
     → (parts : List ExtensionPart) (last : ℕ) (rest : List ℕ)
-    → IsChainBehind version reading taken number bytes parts last rest
+    → IsChainAfter version reading taken number bytes parts last rest
     → chain_of parts last rest ≡ chain_of [] number bytes
 only_end version reading taken number bytes end [] last rest is = λ i. chain_of [] (is.1 i) (is.2 i)
 only_end version reading taken number bytes end (part ∷ parts) last rest is = absurd (let one = sym end ∙ is.0 in cc)
@@ -72,7 +73,7 @@ only_end version reading taken number bytes end (part ∷ parts) last rest is = 
 end_not_refused : (version : IpVersion) (reading : Reading) (taken : List ℕ) (offset number : ℕ) (bytes : List ℕ)
     → demand_of version reading taken number ≡ ends
     → (parts : List ExtensionPart) (error : HeaderSliceError)
-    → RefusesChainBehind version reading taken offset number bytes parts error → ⊥
+    → RefusesChainAfter version reading taken offset number bytes parts error → ⊥
 end_not_refused version reading taken offset number bytes end [] error (inl refused) = let one = sym end
     ∙ refused.0 in cc
 end_not_refused version reading taken offset number bytes end [] error (inr refused) = let one = sym end
@@ -83,7 +84,7 @@ end_not_refused version reading taken offset number bytes end (part ∷ parts) e
 misplaced_is_none : (version : IpVersion) (reading : Reading) (taken : List ℕ) (number : ℕ) (bytes : List ℕ)
     → demand_of version reading taken number ≡ misplaced
     → (parts : List ExtensionPart) (last : ℕ) (rest : List ℕ)
-    → IsChainBehind version reading taken number bytes parts last rest → ⊥
+    → IsChainAfter version reading taken number bytes parts last rest → ⊥
 misplaced_is_none version reading taken number bytes wrong [] last rest is = let one = sym wrong ∙ is.0 in cc
 misplaced_is_none version reading taken number bytes wrong (part ∷ parts) last rest is = let one = sym wrong
     ∙ is.0 in cc
@@ -91,7 +92,7 @@ misplaced_is_none version reading taken number bytes wrong (part ∷ parts) last
 only_misplaced : (version : IpVersion) (reading : Reading) (taken : List ℕ) (offset number : ℕ) (bytes : List ℕ)
     → demand_of version reading taken number ≡ misplaced
     → (parts : List ExtensionPart) (error : HeaderSliceError)
-    → RefusesChainBehind version reading taken offset number bytes parts error
+    → RefusesChainAfter version reading taken offset number bytes parts error
     → error ≡ header_error.Content content.HopByHopNotAtStart
 only_misplaced version reading taken offset number bytes wrong [] error (inl refused) = refused.1
 only_misplaced version reading taken offset number bytes wrong [] error (inr refused) = absurd (let one = sym wrong
@@ -99,11 +100,11 @@ only_misplaced version reading taken offset number bytes wrong [] error (inr ref
 only_misplaced version reading taken offset number bytes wrong (part ∷ parts) error refused = absurd
     (let one = sym wrong ∙ refused.0 in cc)
 
--- a header and a chain behind it
+-- A header and the chain after it, as one chain.
 abbrev with_part : ReadPart × ExtensionChain → ExtensionChain
 with_part read = chain_of (read.0.0 ∷ read.1.parts) read.1.last read.1.rest
 
--- what follows the first header
+-- The chain after the first header.
 abbrev IsNext : IpVersion → Reading → List ℕ → ℕ → ReadPart → ExtensionChain → Type 0
 IsNext version reading taken number read chain = IsBehind version reading (number ∷ taken)
     (part_next read.0) read.1 chain
@@ -112,15 +113,15 @@ abbrev RefusesNext : IpVersion → Reading → List ℕ → ℕ → ℕ → Read
 RefusesNext version reading taken offset number read error =
     RefusesBehind version reading (number ∷ taken) (offset + part_len read.0) (part_next read.0) read.1 error
 
--- the first header is refused
+-- The first header is rejected with this error.
 abbrev RefusesFirst : ℕ → ℕ → List ℕ → HeaderSliceError → Type 0
 RefusesFirst offset number bytes error = (refusal : HeaderSliceError) × RefusesExtensionPart number bytes refusal ×
-    (error ≡ further_in offset refusal)
+    (error ≡ with_offset_in offset refusal)
 
 taken_back : (version : IpVersion) (reading : Reading) (taken : List ℕ) (number : ℕ) (bytes : List ℕ)
     → demand_of version reading taken number ≡ takes
     → (parts : List ExtensionPart) (last : ℕ) (rest : List ℕ)
-    → IsChainBehind version reading taken number bytes parts last rest
+    → IsChainAfter version reading taken number bytes parts last rest
     → (read : ReadPart × ExtensionChain) × IsBoth (IsReadPart number bytes)
     (IsNext version reading taken number) read × (chain_of parts last rest ≡ with_part read)
 taken_back version reading taken number bytes demand [] last rest is = absurd (let one = sym demand ∙ is.0 in cc)
@@ -130,7 +131,7 @@ taken_back version reading taken number bytes demand (part ∷ parts) last rest 
 refused_back : (version : IpVersion) (reading : Reading) (taken : List ℕ) (offset number : ℕ) (bytes : List ℕ)
     → demand_of version reading taken number ≡ takes
     → (parts : List ExtensionPart) (error : HeaderSliceError)
-    → RefusesChainBehind version reading taken offset number bytes parts error
+    → RefusesChainAfter version reading taken offset number bytes parts error
     → RefusesEither (IsReadPart number bytes) (RefusesFirst offset number bytes)
     (RefusesNext version reading taken offset number) error
 refused_back version reading taken offset number bytes demand [] error (inl refused) = absurd (let one = sym demand
@@ -148,7 +149,7 @@ refused_there version reading taken offset number bytes demand error (inl refuse
 refused_there version reading taken offset number bytes demand error (inr refused) =
     (refused.0.0 ∷ refused.2.0, (demand, (refused.0.1, refused.1, refused.2.1)))
 
--- bytes of a number are a chain, or are refused, with at most so many bytes
+-- Bytes shorter than `most` are either exactly one chain after the visited headers or rejected with exactly one error.
 pub behind_decided : HeaderLaws → (most : ℕ) (version : IpVersion) (reading : Reading) (taken : List ℕ)
     (offset number : ℕ) (bytes : List ℕ) → length bytes < most → AreBytes bytes
     → IsDecided (IsBehind version reading taken number bytes) (RefusesBehind version reading taken offset number bytes)
@@ -159,7 +160,7 @@ behind_decided laws (suc most) version reading taken offset number bytes within 
           (λ chain is. only_end version reading taken number bytes end chain.parts chain.last chain.rest is)
           (λ error refused. end_not_refused version reading taken offset number bytes end refused.0 error refused.1)
       | inr (inl demand) ↦ decided_as with_part (λ error. error)
-          (decided_then (refused_as (further_in offset) (part_decided laws number bytes fits
+          (decided_then (refused_as (with_offset_in offset) (part_decided laws number bytes fits
           (taken_is_kind version reading taken number demand)))
           (λ read is. behind_decided laws most version reading (number ∷ taken) (offset + part_len read.0)
           (part_next read.0) read.1
@@ -182,7 +183,7 @@ behind_decided laws (suc most) version reading taken offset number bytes within 
       }
     ]
 
--- a chain is decided
+-- Bytes are either exactly one chain or rejected with exactly one error.
 pub chain_decided : HeaderLaws → (version : IpVersion) (reading : Reading) (number : ℕ) (bytes : List ℕ)
     → AreBytes bytes
     → IsDecided (IsExtensionChain version reading number bytes) (RefusesExtensionChain version reading number bytes)
@@ -191,24 +192,25 @@ chain_decided laws version reading number bytes fits =
 
 -- ---- the two readings
 
--- a number that is taken as a slice, of a kind that was not taken, is taken by value
+-- A chain of owned headers continues with the same header as a chain of slices, if its kind has not been visited
+-- before.
 takes_as_header : (version : IpVersion) (taken : List ℕ) (number : ℕ)
     → demand_of version slices taken number ≡ takes → is_taken taken number ≡ false
     → demand_of version headers taken number ≡ takes
 takes_as_header ipv4 taken number demand none = demand
 takes_as_header ipv6 taken number demand none = grind (arith, common_steps)
 
--- a number that ends a chain of slices ends one of headers
+-- An IP number that ends a chain of slices ends a chain of owned headers.
 ends_as_header : (version : IpVersion) (taken : List ℕ) (number : ℕ) → demand_of version slices taken number ≡ ends
     → demand_of version headers taken number ≡ ends
 ends_as_header ipv4 taken number demand = demand
 ends_as_header ipv6 taken number demand = grind (arith, common_steps)
 
--- a chain of slices in which no kind stands twice is one of headers
+-- A chain of slices without a repeated kind is a chain of owned headers.
 pub once_each : (version : IpVersion) (taken : List ℕ) (number : ℕ) (bytes : List ℕ) (parts : List ExtensionPart)
     (last : ℕ) (rest : List ℕ)
-    → IsChainBehind version slices taken number bytes parts last rest → NoKindTwice taken parts
-    → IsChainBehind version headers taken number bytes parts last rest
+    → IsChainAfter version slices taken number bytes parts last rest → NoKindTwice taken parts
+    → IsChainAfter version headers taken number bytes parts last rest
 once_each version taken number bytes [] last rest is once = (ends_as_header version taken number is.0, is.1, is.2)
 once_each version taken number bytes (part ∷ parts) last rest is once =
     let same = part_numbered number bytes part is.1.0 is.1.1 in (
@@ -221,9 +223,9 @@ once_each version taken number bytes (part ∷ parts) last rest is once =
       ),
     )
 
--- ---- what a call that reads a chain owes
+-- ---- contracts of calls that read a chain
 
--- the chain is the only one
+-- Two chains of the same bytes are equal.
 pub one_chain : HeaderLaws → (version : IpVersion) (reading : Reading) (number : ℕ) (bytes : List ℕ)
     → AreBytes bytes → (chain other : ExtensionChain)
     → IsExtensionChain version reading number bytes chain → IsExtensionChain version reading number bytes other
@@ -231,7 +233,7 @@ pub one_chain : HeaderLaws → (version : IpVersion) (reading : Reading) (number
 one_chain laws version reading number bytes fits chain other a b =
     (chain_decided laws version reading number bytes fits).one_value chain other a b
 
--- what is refused is no chain
+-- Rejected bytes are not a chain.
 pub refused_no_chain : HeaderLaws → (version : IpVersion) (reading : Reading) (number : ℕ) (bytes : List ℕ)
     → AreBytes bytes → (error : HeaderSliceError)
     → RefusesExtensionChain version reading number bytes error → (chain : ExtensionChain)
@@ -239,13 +241,13 @@ pub refused_no_chain : HeaderLaws → (version : IpVersion) (reading : Reading) 
 refused_no_chain laws version reading number bytes fits error refused chain is =
     (chain_decided laws version reading number bytes fits).not_both chain error is refused
 
--- a refusal at the start is the same
-pub further_zero : (error : HeaderSliceError) → error ≡ further_in 0 error
+-- Adding an offset of 0 does not change an error.
+pub further_zero : (error : HeaderSliceError) → error ≡ with_offset_in 0 error
 further_zero (header_error.Len error) = ap header_error.Len (sym
     (λ i. record error { layer_start_offset = add-zero error.layer_start_offset i }))
 further_zero (header_error.Content error) = refl
 
--- the refusal of the authentication header of IPv4
+-- A rejected authentication header makes the IPv4 chain rejected with its error.
 pub auth_refused : (reading : Reading) (number : ℕ) (bytes : List ℕ) (error : AuthSliceError) → number ≡ 51
     → RefusesIpAuth bytes error
     → RefusesExtensionChain ipv4 reading number bytes (auth_refusal error)
@@ -263,14 +265,14 @@ auth_refused reading number bytes error is refused =
       ),
     )
 
--- ---- the chains of IPv4
+-- ---- chains of IPv4
 
--- a number that isn't the authentication header's ends the chain
+-- An IP number other than that of the authentication header ends the chain.
 pub ends_at_once : (reading : Reading) (number : ℕ) (bytes : List ℕ) → (number ≡ 51 → ⊥)
     → IsExtensionChain ipv4 reading number bytes (chain_of [] number bytes)
 ends_at_once reading number bytes other = (grind (arith, common_steps), refl, refl)
 
--- an authentication header is the whole chain
+-- An authentication header is a complete IPv4 chain.
 pub one_authentication : (reading : Reading) (number : ℕ) (bytes : List ℕ) (header : IpAuthHeader) (rest : List ℕ)
     → number ≡ 51 → IsIpAuth bytes (header, rest)
     → IsExtensionChain ipv4 reading number bytes (chain_of (authentication header ∷ []) header.next_header.0 rest)
@@ -279,10 +281,10 @@ one_authentication reading number bytes header rest is header_is =
     (authentication header ∷ []) header.next_header.0 rest)) (sym is)
     (refl, (rest, (refl, header_is), (refl, refl, refl)))
 
--- a test of two numbers that are not the same
+-- If the test that two numbers differ is true, they differ.
 pub number_other : (test : Bool) (n m : ℕ) → test ≡ not (n == m) → test ≡ true → n ≡ m → ⊥
 number_other test n m is true_is same = grind (arith, common_steps)
 
--- or are
+-- If the test that two numbers differ is false, they are equal.
 pub number_same : (test : Bool) (n m : ℕ) → test ≡ not (n == m) → test ≡ false → n ≡ m
 number_same test n m is false_is = grind (arith, common_steps)

@@ -1,4 +1,4 @@
--- That the comparisons of headers see each field, and of bytes in a fixed array those that are used.
+-- Comparison of headers compares all fields; of a padded array it compares the used bytes.
 use Rattle.std.proofs.Common.{◌≡◌, ◌/◌, ◌&&◌, Bool, List, [], ◌∷◌, ◌++◌, length, Option, Some, None, refl, ap, subst, arith}
 use Rattle.std.specs.Bool.{Decides}
 use Rattle.std.specs.Option.{option_eq, option_map}
@@ -17,7 +17,7 @@ use Rattle.ep_ext.specs.IpAuth.{FitsIpAuth}
 use Rattle.ep_ext.specs.RawExtension.{FitsRawExtension}
 use Rattle.ep_ext.specs.declared.ipv6_exts.Ipv6Extensions.{Ipv6Extensions}
 use Rattle.ep_ext.specs.declared.ipv6_routing_exts.Ipv6RoutingExtensions.{Ipv6RoutingExtensions}
-use Rattle.ep_ext.specs.ExtensionParts.{ExtensionPart, hop_by_hop, destination_options, routing, fragment, authentication, FitsPart, parts_there}
+use Rattle.ep_ext.specs.ExtensionParts.{ExtensionPart, hop_by_hop, destination_options, routing, fragment, authentication, FitsPart, optional_part}
 use Rattle.ep_ext.specs.Chains.{FitParts}
 use Rattle.ep_ext.specs.Ipv6Chains.{FitRouting, ipv6_parts, routing_header, final_by}
 
@@ -33,7 +33,7 @@ same_ip_auth a b fits other =
     (two_same (Decides-eqb a.sequence_number b.sequence_number)
     (stored_same 1016 (λ n. n / 4) a.icv b.icv (λ words. omega (arith, words, fits.icv_words, other.icv_words))))))
 
--- the comparison of headers whose payload is left as bytes
+-- Comparison of options or routing headers.
 abbrev raw_extension_eq : Ipv6RawExtHeader → Ipv6RawExtHeader → Bool
 raw_extension_eq a b = nat_eq a.next_header.0 b.next_header.0
     && (pointwise nat_eq (padded 2046 a.payload) (padded 2046 b.payload)
@@ -64,9 +64,9 @@ same_fragment a b =
     (two_same (Decides-eqb a.fragment_offset b.fragment_offset)
     (two_same (booleans_Decides a.more_fragments b.more_fragments) (Decides-eqb a.identification b.identification))))
 
--- headers that fit, where they are there
+-- A present header of a list that fits also fits.
 pub there_fits : {H : Type 0} (kind : H → ExtensionPart) (there : Option H) (header : H)
-    → FitParts (parts_there kind there) → there ≡ Some header → FitsPart (kind header)
+    → FitParts (optional_part kind there) → there ≡ Some header → FitsPart (kind header)
 there_fits kind None header fit same = absurd (none-some header same)
 there_fits kind (Some other) header fit same =
     let one : other ≡ header = cc in subst (λ h. FitsPart (kind h)) one fit.0
@@ -92,31 +92,31 @@ fit_back : (parts more : List ExtensionPart) → FitParts (parts ++ more) → Fi
 fit_back [] more fit = fit
 fit_back (part ∷ parts) more fit = fit_back parts more fit.1
 
--- each header of a value fits
+-- Each header of the value fits.
 pub record FitEach (extensions : Ipv6Extensions) : Type 0 where
-  pub hop : FitParts (parts_there hop_by_hop extensions.hop_by_hop_options)
-  pub destination : FitParts (parts_there destination_options extensions.destination_options)
-  pub behind : FitParts (parts_there routing (option_map routing_header extensions.routing))
-  pub auth : FitParts (parts_there authentication extensions.auth)
-  pub final : FitParts (parts_there destination_options (final_by extensions.routing))
+  pub hop : FitParts (optional_part hop_by_hop extensions.hop_by_hop_options)
+  pub destination : FitParts (optional_part destination_options extensions.destination_options)
+  pub behind : FitParts (optional_part routing (option_map routing_header extensions.routing))
+  pub auth : FitParts (optional_part authentication extensions.auth)
+  pub final : FitParts (optional_part destination_options (final_by extensions.routing))
 
--- and so a routing header and the destination options behind it
+-- If each header of a value fits, so do its routing header and the destination options after it.
 pub fit_routing : (extensions : Ipv6Extensions) (behind : Ipv6RoutingExtensions) → FitEach extensions
     → extensions.routing ≡ Some behind → FitRouting behind
 fit_routing extensions behind fit is = (
   there_fits routing (option_map routing_header extensions.routing) behind.routing fit.behind
       (ap (option_map routing_header) is),
-  subst (λ (r : Option Ipv6RoutingExtensions). FitParts (parts_there destination_options (final_by r))) is fit.final,
+  subst (λ (r : Option Ipv6RoutingExtensions). FitParts (optional_part destination_options (final_by r))) is fit.final,
 )
 
 pub fit_each : (extensions : Ipv6Extensions) → FitParts (ipv6_parts extensions) → FitEach extensions
 fit_each extensions fit =
-    let a = parts_there hop_by_hop extensions.hop_by_hop_options in
-    let b = parts_there destination_options extensions.destination_options in
-    let c = parts_there routing (option_map routing_header extensions.routing) in
-    let d = parts_there fragment extensions.fragment in
-    let e = parts_there authentication extensions.auth in
-    let f = parts_there destination_options (final_by extensions.routing) in
+    let a = optional_part hop_by_hop extensions.hop_by_hop_options in
+    let b = optional_part destination_options extensions.destination_options in
+    let c = optional_part routing (option_map routing_header extensions.routing) in
+    let d = optional_part fragment extensions.fragment in
+    let e = optional_part authentication extensions.auth in
+    let f = optional_part destination_options (final_by extensions.routing) in
     let to_e = fit_front (a ++ b ++ c ++ d ++ e) f fit in
     let to_c = fit_front (a ++ b ++ c) d (fit_front (a ++ b ++ c ++ d) e to_e) in
     let to_b = fit_front (a ++ b) c to_c in

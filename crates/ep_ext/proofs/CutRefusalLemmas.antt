@@ -1,10 +1,10 @@
--- That the front of an extension header, or of a chain, is refused for want of what the cut took, and that what stands
--- on the front also stands on the whole.
+-- A prefix of an extension header or chain is rejected only for its missing bytes, and a header or chain stays valid
+-- when bytes are appended.
 use Rattle.std.proofs.Common.{◌≡◌, ℕ, ◌+◌, ◌*◌, ◌==◌, List, [], ◌∷◌, ◌++◌, length, refl, sym, ap, subst, ◌∙◌, inl, inr, arith, length-append}
 use Rattle.ep_base.specs.Bytes.{AreBytes}
 use Rattle.ep_base.specs.IpNumbers.{authentication_number, fragment_number}
 use Rattle.ep_base.specs.Readings.{Reading}
-use Rattle.ep_base.specs.Missing.{IsCutRefusal, TellsCut, slice_end}
+use Rattle.ep_base.specs.Missing.{IsTruncationError, ReportsTruncation, slice_end}
 use Rattle.ep_base.specs.Tables.{rows_as}
 use Rattle.ep_base.proofs.CutRefusalLemmas.{BesideRows, byte_beside, cut_first, cut_then, either_beside, further_short, longer_rest, mapped_beside, named_beside, refused_beside, renamed_cut, same_then, stands_unrefused}
 use Rattle.ep_base.specs.declared.err.len_error.LenError.{LenError}
@@ -13,7 +13,7 @@ use Rattle.ep_base.specs.declared.err.ip_auth.HeaderSliceError.{HeaderSliceError
 use Rattle.ep_base.specs.declared.err.ip_auth.HeaderSliceError.TheVariants as auth_error
 use Rattle.ep_base.specs.declared.err.ipv6_exts.HeaderSliceError.{HeaderSliceError}
 use Rattle.ep_base.specs.declared.err.ipv6_exts.HeaderSliceError.TheVariants as header_error
-use Rattle.ep_ext.specs.Chains.{ExtensionChain, IpVersion, IsChainBehind, IsExtensionChain, RefusesChainBehind, RefusesExtensionChain, ends, further_in, misplaced, takes}
+use Rattle.ep_ext.specs.Chains.{ExtensionChain, IpVersion, IsChainAfter, IsExtensionChain, RefusesChainAfter, RefusesExtensionChain, ends, with_offset_in, misplaced, takes}
 use Rattle.ep_ext.specs.ExtensionParts.{ExtensionPart, IsExtensionPart, authentication, auth_refusal, destination_options, extension_part_rows, fragment, hop_by_hop, part_len, part_next, routing}
 use Rattle.ep_ext.specs.FragmentHeader.{IsFragmentHeader, RefusesFragmentHeader, fragment_header_rows}
 use Rattle.ep_ext.specs.IpAuth.{IsIpAuth, RefusesIpAuth, ip_auth_len_of, ip_auth_rows}
@@ -26,9 +26,9 @@ use Rattle.ep_ext.proofs.RawExtensionLemmas.{raw_extension_is_read}
 use Rattle.ep_ext.proofs.HeaderLawLemmas.{header_laws}
 use Rattle.ep_ext.proofs.PartLemmas.{ReadPart, part_behind_fits, part_decided, part_lens}
 
--- a refusal for want of what the cut took, of which the end of the bytes at hand is the limit
+-- The error is caused by the bytes missing from the prefix, and its limit is the end of the slice.
 abbrev pub IsCut : ℕ → ℕ → HeaderSliceError → Type 0
-IsCut = IsCutRefusal header_error.Len slice_end
+IsCut = IsTruncationError header_error.Len slice_end
 
 -- ---- single headers
 
@@ -36,7 +36,7 @@ abbrev Beside : List ℕ → List ℕ → HeaderSliceError → Type 0
 Beside front back = IsCut (length front) (length (front ++ back))
 
 auth_rows_beside : (front back : List ℕ)
-    → BesideRows (IsCutRefusal auth_error.Len slice_end (length front) (length (front ++ back))) (ip_auth_rows front)
+    → BesideRows (IsTruncationError auth_error.Len slice_end (length front) (length (front ++ back))) (ip_auth_rows front)
     (ip_auth_rows (front ++ back))
 auth_rows_beside front back =
     cut_first auth_error.Len slice_end front back 12 layer.IpAuthHeader refl (λ there.
@@ -49,15 +49,15 @@ auth_beside : (front back : List ℕ) → BesideRows (Beside front back) (rows_a
     (rows_as auth_refusal (ip_auth_rows (front ++ back)))
 auth_beside front back =
     named_beside (Beside front back) auth_refusal (ip_auth_rows front) (ip_auth_rows (front ++ back))
-    (mapped_beside (IsCutRefusal auth_error.Len slice_end (length front) (length (front ++ back)))
+    (mapped_beside (IsTruncationError auth_error.Len slice_end (length front) (length (front ++ back)))
     (λ (error : AuthSliceError). Beside front back (auth_refusal error))
     (λ error is. renamed_cut auth_refusal auth_error.Len slice_end (length front) (length (front ++ back)) error
     (auth_refusal error) is refl)
     (ip_auth_rows front) (ip_auth_rows (front ++ back)) (auth_rows_beside front back))
 
--- a refusal under this name
+-- The error, wrapped by `named`, is caused by the bytes missing from the prefix.
 abbrev BesideAs : {E : Type 0} → (LenError → E) → List ℕ → List ℕ → LenError → Type 0
-BesideAs named front back error = IsCutRefusal named slice_end (length front) (length (front ++ back)) (named error)
+BesideAs named front back error = IsTruncationError named slice_end (length front) (length (front ++ back)) (named error)
 
 fragment_beside : {E : Type 0} (named : LenError → E) (front back : List ℕ)
     → BesideRows (BesideAs named front back) (fragment_header_rows front) (fragment_header_rows (front ++ back))
@@ -71,21 +71,21 @@ raw_beside named front back =
     cut_then named slice_end front back (raw_extension_len_of front) (raw_extension_len_of (front ++ back))
     layer.Ipv6ExtHeader refl (ap (λ (b : ℕ). 8 * (b + 1)) field) tt)
 
-pub ip_auth_cut : TellsCut IsIpAuth RefusesIpAuth auth_error.Len (λ read. slice_end)
+pub ip_auth_cut : ReportsTruncation IsIpAuth RefusesIpAuth auth_error.Len (λ read. slice_end)
 ip_auth_cut front back fits read is error refused =
-    refused_beside (IsCutRefusal auth_error.Len slice_end (length front) (length (front ++ back))) (ip_auth_rows front)
+    refused_beside (IsTruncationError auth_error.Len slice_end (length front) (length (front ++ back))) (ip_auth_rows front)
     (ip_auth_rows (front ++ back)) (auth_rows_beside front back) (ip_auth_is_read.is_read (front ++ back) read is).0
     error
     refused
 
-pub fragment_header_cut : TellsCut IsFragmentHeader RefusesFragmentHeader (λ (error : LenError). error)
+pub fragment_header_cut : ReportsTruncation IsFragmentHeader RefusesFragmentHeader (λ (error : LenError). error)
     (λ read. slice_end)
 fragment_header_cut front back fits read is error refused =
     refused_beside (BesideAs (λ (e : LenError). e) front back) (fragment_header_rows front)
     (fragment_header_rows (front ++ back)) (fragment_beside (λ (e : LenError). e) front back)
     (fragment_header_is_read.is_read (front ++ back) read is).0 error refused
 
-pub raw_extension_cut : TellsCut IsRawExtension RefusesRawExtension (λ (error : LenError). error) (λ read. slice_end)
+pub raw_extension_cut : ReportsTruncation IsRawExtension RefusesRawExtension (λ (error : LenError). error) (λ read. slice_end)
 raw_extension_cut front back fits read is error refused =
     refused_beside (BesideAs (λ (e : LenError). e) front back) (raw_extension_rows front)
     (raw_extension_rows (front ++ back)) (raw_beside (λ (e : LenError). e) front back)
@@ -102,7 +102,7 @@ part_beside number front back =
     (named_beside (Beside front back) header_error.Len (raw_extension_rows front) (raw_extension_rows (front ++ back))
     (raw_beside header_error.Len front back)))
 
--- a header stands with any bytes behind it
+-- A header stays a header when bytes are appended.
 longer_raw : (bytes more : List ℕ) (header : Ipv6RawExtHeader) (behind : List ℕ) → IsRawExtension bytes (header, behind)
     → IsRawExtension (bytes ++ more) (header, behind ++ more)
 longer_raw bytes more header behind is = record {
@@ -134,11 +134,11 @@ longer_part number bytes more (authentication header) behind is = (
 
 -- ---- chains
 
--- a chain stands with any bytes behind it
+-- A chain stays a chain when bytes are appended.
 longer_behind : (version : IpVersion) (reading : Reading) (taken : List ℕ) (number : ℕ) (bytes more : List ℕ)
     (parts : List ExtensionPart) (last : ℕ) (rest : List ℕ)
-    → IsChainBehind version reading taken number bytes parts last rest
-    → IsChainBehind version reading taken number (bytes ++ more) parts last (rest ++ more)
+    → IsChainAfter version reading taken number bytes parts last rest
+    → IsChainAfter version reading taken number (bytes ++ more) parts last (rest ++ more)
 longer_behind version reading taken number bytes more [] last rest is =
     (is.0, is.1, ap (λ (l : List ℕ). l ++ more) is.2)
 longer_behind version reading taken number bytes more (part ∷ parts) last rest is = (
@@ -157,25 +157,26 @@ pub longer_chain : (version : IpVersion) (reading : Reading) (number : ℕ) (byt
 longer_chain version reading number bytes more chain is =
     longer_behind version reading [] number bytes more chain.parts chain.last chain.rest is
 
--- the same refusal, seen from further in front
+-- An error for missing bytes stays one when an offset is added.
 further_cut : (offset cut whole : ℕ) (error : HeaderSliceError) → IsCut cut whole error
-    → IsCut (offset + cut) (offset + whole) (further_in offset error)
+    → IsCut (offset + cut) (offset + whole) (with_offset_in offset error)
 further_cut offset cut whole error is =
     let missing = is.missing in
     record {
       missing = record missing { layer_start_offset = missing.layer_start_offset + offset };
-      is = ap (further_in offset) is.is;
+      is = ap (with_offset_in offset) is.is;
       short = further_short offset cut whole missing.len_source missing is.short;
       source = is.source;
     }
 
--- behind the headers that were taken, the whole is a chain, and the front is refused
+-- If all bytes are a chain after the visited headers and a prefix is rejected, the error is caused by the missing
+-- bytes.
 cut_behind : (version : IpVersion) (reading : Reading) (taken : List ℕ) (offset number : ℕ) (front back : List ℕ)
     → AreBytes (front ++ back)
     → (stand : List ExtensionPart) (last : ℕ) (rest : List ℕ)
-    → IsChainBehind version reading taken number (front ++ back) stand last rest
+    → IsChainAfter version reading taken number (front ++ back) stand last rest
     → (parts : List ExtensionPart) (error : HeaderSliceError)
-    → RefusesChainBehind version reading taken offset number front parts error
+    → RefusesChainAfter version reading taken offset number front parts error
     → IsCut (offset + length front) (offset + length (front ++ back)) error
 cut_behind version reading taken offset number front back fits [] last rest is [] error (inl refused) =
     absurd (let wrong : ends ≡ misplaced = sym is.0 ∙ refused.0 in cc)
@@ -201,7 +202,7 @@ cut_behind version reading taken offset number front back fits (next ∷ stand) 
     let same = (part_decided header_laws number (front ++ back) fits kind).one_value (next, is.1.0)
     (part, behind ++ back)
     is.1.1 longer in
-    let stands = subst (λ (read : ReadPart). IsChainBehind version reading (number ∷ taken) (part_next read.0) read.1
+    let stands = subst (λ (read : ReadPart). IsChainAfter version reading (number ∷ taken) (part_next read.0) read.1
     stand
     last rest) same is.1.2 in
     let len = part_lens number front part behind refused.1.1 in
@@ -215,7 +216,7 @@ cut_behind version reading taken offset number front back fits (next ∷ stand) 
     refused.1.2))
 
 pub chain_cut : (version : IpVersion) (reading : Reading) (number : ℕ)
-    → TellsCut (IsExtensionChain version reading number) (RefusesExtensionChain version reading number) header_error.Len
+    → ReportsTruncation (IsExtensionChain version reading number) (RefusesExtensionChain version reading number) header_error.Len
     (λ chain. slice_end)
 chain_cut version reading number front back fits chain is error refused =
     let cut : 0 + length front ≡ length front = omega arith in

@@ -1,4 +1,4 @@
--- The bytes of a fragment header, and what is read from them.
+-- The wire format of a fragment header, and how it is parsed.
 use Rattle.std.proofs.Common.{◌≡◌, ℕ, ◌+◌, ◌*◌, ◌/◌, ◌%◌, ◌^◌, ◌<◌, ◌≤◌, ◌==◌, List, None, [], ◌∷◌, ◌++◌, length, get_or, take, drop, refl, sym, ap, ◌∙◌, arith}
 use Rattle.std.proofs.lemmas.Grind.{common_steps}
 use Rattle.std.proofs.lemmas.List.{length-take, length-append, take-append-drop}
@@ -11,11 +11,11 @@ use Rattle.ep_base.proofs.TableLemmas.{IsReadBy, cut_at, cut_same}
 use Rattle.ep_ext.specs.declared.ipv6_fragment_header.Ipv6FragmentHeader.{Ipv6FragmentHeader}
 use Rattle.ep_ext.specs.FragmentHeader.{FitsFragmentHeader, EncodesFragmentHeader, IsFragmentHeader, fragment_header_bytes_with, fragment_header_of, fragment_header_rows}
 
--- the header that bytes are, and what is behind it
+-- The header that consists of all of the bytes, and the bytes after it.
 abbrev pub fragment_header_parts : List ℕ → List ℕ → Ipv6FragmentHeader × List ℕ
 fragment_header_parts bytes rest = (fragment_header_of bytes, rest)
 
--- ---- 8 bytes are those of the header that is read from them
+-- ---- 8 bytes are the wire format of the header parsed from them
 
 eight_fits : (a b c d e f g h : ℕ) → AreBytes (a ∷ b ∷ c ∷ d ∷ e ∷ f ∷ g ∷ h ∷ [])
     → FitsFragmentHeader (fragment_header_of (a ∷ b ∷ c ∷ d ∷ e ∷ f ∷ g ∷ h ∷ []))
@@ -47,9 +47,9 @@ pub whole_encodes : (e : List ℕ) → AreBytes e → length e ≡ 8 → Encodes
 whole_encodes (a ∷ b ∷ c ∷ d ∷ e ∷ f ∷ g ∷ h ∷ []) fits whole = eight_encodes a b c d e f g h fits
 whole_encodes _ fits whole = absurd (omega arith)
 
--- ---- the bytes of a header are read as this header
+-- ---- the wire format of a header is parsed as the header
 
--- the offset and the flag in bytes 2 and 3
+-- The fragment offset and the M flag are read back from bytes 2 and 3.
 offset_read : (offset bits flag : ℕ) → offset < 2 ^ 13 → bits < 2 ^ 2 → flag ≤ 1
     → word_at (to_be_bytes w16 (2 ^ 3 * offset + 2 * bits + flag)) 0 / 8 ≡ offset
 offset_read offset bits flag a b c = omega arith
@@ -77,7 +77,7 @@ encoded_read e h a =
 pub encoded_len : (e : List ℕ) (h : Ipv6FragmentHeader) → EncodesFragmentHeader e h → length e ≡ 8
 encoded_len e h a = ap length a.same
 
--- ---- headers, read from their bytes
+-- ---- parsing headers
 
 abbrev pub fragment_header_len_of : List ℕ → ℕ
 fragment_header_len_of bytes = 8
@@ -88,7 +88,7 @@ fragment_header_read bytes = cut_at fragment_header_len_of fragment_header_parts
 stands : (bytes : List ℕ) → first_row (fragment_header_rows bytes) ≡ None → 8 ≤ length bytes
 stands bytes none = grind (arith, common_steps)
 
--- the front of 8 bytes is a header
+-- The first 8 bytes are a header.
 pub front_is : (bytes : List ℕ) (n : ℕ) → n ≡ 8 → AreBytes bytes → n ≤ length bytes
     → IsFragmentHeader bytes (fragment_header_parts (take n bytes) (drop n bytes))
 front_is bytes n eight fits there = record {

@@ -1,4 +1,4 @@
--- The headers of a chain that stand, where the next one may be refused: how they are read, and that there is one way.
+-- Chains read up to the first invalid header: how they are read, and that the result is unique.
 use Rattle.std.proofs.Common.{◌≡◌, ℕ, ◌+◌, ◌-◌, ◌≤◌, ◌<◌, ◌==◌, Bool, true, false, ◌||◌, List, [], ◌∷◌, ◌++◌, length, take, Option, Some, None, refl, sym, ap, subst, ◌∙◌, inl, inr, arith, append_assoc, length-append}
 use Rattle.std.proofs.lemmas.Bool.{eq-eqb, ne_eqb}
 use Rattle.std.proofs.lemmas.List.{append-nil, take_at}
@@ -14,8 +14,8 @@ use Rattle.ep_base.specs.declared.err.ipv6_exts.HeaderSliceError.{HeaderSliceErr
 use Rattle.ep_base.specs.declared.err.ipv6_exts.HeaderSliceError.TheVariants as header_error
 use Rattle.ep_ext.specs.IpAuth.{RefusesIpAuth, ip_auth_rows}
 use Rattle.ep_ext.specs.ExtensionParts.{ExtensionPart, auth_refusal, part_next, part_len, part_fragments, IsExtensionPart, RefusesExtensionPart}
-use Rattle.ep_ext.specs.Chains.{IpVersion, ipv4, ipv6, ExtensionChain, chain_of, chain_fragments, takes, demand_of, is_first, is_ipv6_extension, IsChainBehind, RefusesChainBehind, further_in}
-use Rattle.ep_ext.specs.FrontChains.{AreInFront, IsFrontChain}
+use Rattle.ep_ext.specs.Chains.{IpVersion, ipv4, ipv6, ExtensionChain, chain_of, chain_fragments, takes, demand_of, is_first, is_ipv6_extension, IsChainAfter, RefusesChainAfter, with_offset_in}
+use Rattle.ep_ext.specs.FrontChains.{BeginWithParts, IsLaxChain}
 use Rattle.ep_ext.specs.ShownChains.{shown_parts}
 use Rattle.ep_ext.proofs.ChainLemmas.{chain_decided, further_zero, taken_is_kind}
 use Rattle.ep_ext.proofs.HeaderLawLemmas.{header_laws}
@@ -23,13 +23,13 @@ use Rattle.ep_ext.proofs.PartLemmas.{ReadPart, part_behind_fits, part_cut, part_
 use Rattle.ep_ext.proofs.ReadLemmas.{fragments_more, front_len, misplaced_0, slices_end, slices_take}
 use Rattle.ep_ext.proofs.ShownLemmas.{no_bytes, part_moved, shown_next, shown_none}
 
--- ---- there is one front
+-- ---- the result is unique
 
--- two refusals of the same bytes stand behind the same headers, and the same stands behind those
+-- Two errors of the same bytes are those of the same header, and the headers and bytes around it are equal.
 one_front : (version : IpVersion) (taken : List ℕ) (offset number : ℕ) (bytes : List ℕ) → AreBytes bytes
     → (parts others : List ExtensionPart) (error other : HeaderSliceError) (last end : ℕ) (rest after : List ℕ)
-    → RefusesChainBehind version slices taken offset number bytes parts error → AreInFront number bytes parts last rest
-    → RefusesChainBehind version slices taken offset number bytes others other → AreInFront number bytes others end after
+    → RefusesChainAfter version slices taken offset number bytes parts error → BeginWithParts number bytes parts last rest
+    → RefusesChainAfter version slices taken offset number bytes others other → BeginWithParts number bytes others end after
     → chain_of parts last rest ≡ chain_of others end after
 one_front version taken offset number bytes fits [] [] error other last end rest after a front b behind =
     λ i. chain_of [] ((front.0 ∙ sym behind.0) i) ((front.1 ∙ sym behind.1) i)
@@ -54,38 +54,38 @@ one_front version taken offset number bytes fits (part ∷ parts) (second ∷ ot
     let same = decided.one_value (part, a.1.0) here a.1.1 b.1.1 in
     let same_front = decided.one_value (part, front.0) here front.1 b.1.1 in
     let same_behind = decided.one_value (second, behind.0) here behind.1 b.1.1 in
-    let refused = subst (λ (r : ReadPart). RefusesChainBehind version slices (number ∷ taken) (offset + part_len r.0)
+    let refused = subst (λ (r : ReadPart). RefusesChainAfter version slices (number ∷ taken) (offset + part_len r.0)
     (part_next r.0) r.1 parts error) same a.1.2 in
-    let stand = subst (λ (r : ReadPart). AreInFront (part_next r.0) r.1 parts last rest) same_front front.2 in
+    let stand = subst (λ (r : ReadPart). BeginWithParts (part_next r.0) r.1 parts last rest) same_front front.2 in
     let others_stand =
-    subst (λ (r : ReadPart). AreInFront (part_next r.0) r.1 others end after) same_behind behind.2 in
+    subst (λ (r : ReadPart). BeginWithParts (part_next r.0) r.1 others end after) same_behind behind.2 in
     let more = one_front version (number ∷ taken) (offset + part_len second) (part_next second) b.1.0
     (part_behind_fits number bytes second b.1.0 b.1.1 fits) parts others error other last end rest after refused stand
     b.1.2 others_stand in
     λ i. chain_of ((same i).0 ∷ (more i).parts) (more i).last (more i).rest
 
--- behind the headers before a refusal something stands
+-- For the headers before a rejected one there are a next IP number and remaining bytes.
 front_there : (version : IpVersion) (taken : List ℕ) (offset number : ℕ) (bytes : List ℕ) (parts : List ExtensionPart)
-    (error : HeaderSliceError) → RefusesChainBehind version slices taken offset number bytes parts error
-    → (last : ℕ) × (rest : List ℕ) × AreInFront number bytes parts last rest
+    (error : HeaderSliceError) → RefusesChainAfter version slices taken offset number bytes parts error
+    → (last : ℕ) × (rest : List ℕ) × BeginWithParts number bytes parts last rest
 front_there version taken offset number bytes [] error refused = (number, bytes, (refl, refl))
 front_there version taken offset number bytes (part ∷ parts) error refused =
     let more = front_there version (number ∷ taken) (offset + part_len part) (part_next part) refused.1.0 parts error
     refused.1.2 in
     (more.0, more.1, (refused.1.0, refused.1.1, more.2))
 
--- a front and what stopped it
+-- The result of lax parsing: a chain and the error, if any, that stopped it.
 abbrev pub Front : Type 0
 Front = ExtensionChain × Option HeaderSliceError
 
--- bytes of a number have this front
+-- The bytes have this result of lax parsing.
 abbrev pub HasFront : IpVersion → ℕ → List ℕ → Front → Type 0
-HasFront version number bytes front = IsFrontChain version number bytes front.0 front.1
+HasFront version number bytes front = IsLaxChain version number bytes front.0 front.1
 
--- there is one
+-- The result of lax parsing is unique.
 pub one_front_chain : (version : IpVersion) (number : ℕ) (bytes : List ℕ) → AreBytes bytes
-    → (chain other : ExtensionChain) (stop end : Option HeaderSliceError) → IsFrontChain version number bytes chain stop
-    → IsFrontChain version number bytes other end → (chain ≡ other) × (stop ≡ end)
+    → (chain other : ExtensionChain) (stop end : Option HeaderSliceError) → IsLaxChain version number bytes chain stop
+    → IsLaxChain version number bytes other end → (chain ≡ other) × (stop ≡ end)
 one_front_chain version number bytes fits chain other None None a b =
     ((chain_decided header_laws version slices number bytes fits).one_value chain other a b, refl)
 one_front_chain version number bytes fits chain other None (Some error) a b =
@@ -113,7 +113,7 @@ front_is_one version number bytes fits =
       | inr refused ↦
           let there = front_there version [] 0 number bytes refused.1.0 refused.0 refused.1.1 in
           let chain = chain_of refused.1.0 there.0 there.1 in
-          let here : IsFrontChain version number bytes chain (Some refused.0) = (refused.1.1, there.2) in
+          let here : IsLaxChain version number bytes chain (Some refused.0) = (refused.1.1, there.2) in
           record {
             value = (chain, Some refused.0);
             is = here;
@@ -123,13 +123,13 @@ front_is_one version number bytes fits =
           }
     ]
 
--- ---- the authentication header of IPv4
+-- ---- authentication header of IPv4
 
--- that is refused
+-- Lax parsing of IPv4 stops before a rejected authentication header.
 pub auth_stops : (number : ℕ) (bytes : List ℕ) (error : AuthSliceError) → number ≡ 51 → RefusesIpAuth bytes error
-    → IsFrontChain ipv4 number bytes (chain_of [] number bytes) (Some (auth_refusal error))
+    → IsLaxChain ipv4 number bytes (chain_of [] number bytes) (Some (auth_refusal error))
 auth_stops number bytes error is refused = (
-  subst (λ (n : ℕ). RefusesChainBehind ipv4 slices [] 0 n bytes [] (auth_refusal error)) (sym is)
+  subst (λ (n : ℕ). RefusesChainAfter ipv4 slices [] 0 n bytes [] (auth_refusal error)) (sym is)
       (inr (
         refl,
         (
@@ -141,7 +141,7 @@ auth_stops number bytes error is refused = (
   (refl, refl),
 )
 
--- two authentication headers are refused alike
+-- Errors of authentication headers that are equal as errors of extension headers are equal.
 same_auth : (error other : AuthSliceError) → auth_refusal error ≡ auth_refusal other → error ≡ other
 same_auth (auth_error.Len error) (auth_error.Len other) same = cc
 same_auth (auth_error.Len error) (auth_error.Content other) same = cc
@@ -155,9 +155,9 @@ same_auth_stop None (Some other) same = cc
 same_auth_stop (Some error) None same = cc
 same_auth_stop (Some error) (Some other) same = ap Some (same_auth error other cc)
 
--- ---- how far a chain of IPv6 was read
+-- ---- state while a chain of IPv6 is parsed
 
--- Bytes of a number begin with these headers, and then comes the rest of this number.
+-- The headers parsed so far, which are followed by the rest, with this IP number.
 pub record FrontRead (first : ℕ) (bytes : List ℕ) (number : ℕ) (rest : List ℕ) (fragmented : Bool) : Type 0 where
   pub taken : List ℕ
   pub parts : List ExtensionPart
@@ -165,16 +165,16 @@ pub record FrontRead (first : ℕ) (bytes : List ℕ) (number : ℕ) (rest : Lis
   pub split : bytes ≡ front ++ rest
   pub start : is_first taken ≡ (length front == 0)
   pub chain : (more : List ExtensionPart) (last : ℕ) (behind : List ℕ)
-      → IsChainBehind ipv6 slices taken number rest more last behind
-      → IsChainBehind ipv6 slices [] first bytes (parts ++ more) last behind
+      → IsChainAfter ipv6 slices taken number rest more last behind
+      → IsChainAfter ipv6 slices [] first bytes (parts ++ more) last behind
   pub refused : (more : List ExtensionPart) (error : HeaderSliceError)
-      → RefusesChainBehind ipv6 slices taken (length front) number rest more error
-      → RefusesChainBehind ipv6 slices [] 0 first bytes (parts ++ more) error
-  pub stand : (more : List ExtensionPart) (last : ℕ) (behind : List ℕ) → AreInFront number rest more last behind
-      → AreInFront first bytes (parts ++ more) last behind
+      → RefusesChainAfter ipv6 slices taken (length front) number rest more error
+      → RefusesChainAfter ipv6 slices [] 0 first bytes (parts ++ more) error
+  pub stand : (more : List ExtensionPart) (last : ℕ) (behind : List ℕ) → BeginWithParts number rest more last behind
+      → BeginWithParts first bytes (parts ++ more) last behind
   pub fragments : fragmented ≡ chain_fragments parts
 
--- nothing was read
+-- Initially, no header is parsed.
 pub front_nothing : (first : ℕ) (bytes : List ℕ) → FrontRead first bytes first bytes false
 front_nothing first bytes = record {
   taken = [];
@@ -188,7 +188,7 @@ front_nothing first bytes = record {
   fragments = refl;
 }
 
--- how many bytes are before the rest tells whether a header was taken
+-- If no byte is before the rest, no header has been visited.
 front_start : (first : ℕ) (bytes : List ℕ) (number : ℕ) (rest : List ℕ) (fragmented : Bool)
     → (read : FrontRead first bytes number rest fragmented) → length bytes - length rest ≤ 0
     → is_first read.taken ≡ true
@@ -201,14 +201,14 @@ front_past : (first : ℕ) (bytes : List ℕ) (number : ℕ) (rest : List ℕ) (
 front_past first bytes number rest fragmented read some =
     read.start ∙ ne_eqb (length read.front) 0 (λ none. omega (arith, front_len bytes read.front rest read.split))
 
--- the number takes a header
+-- The IP number is that of a header that parsing continues with.
 front_takes : (first : ℕ) (bytes : List ℕ) (number : ℕ) (rest : List ℕ) (fragmented : Bool)
     → (read : FrontRead first bytes number rest fragmented) → is_ipv6_extension number ≡ true
     → (number ≡ 0 → length bytes - length rest ≤ 0) → demand_of ipv6 slices read.taken number ≡ takes
 front_takes first bytes number rest fragmented read kind start =
     slices_take read.taken number kind (λ zero_is. front_start first bytes number rest fragmented read (start zero_is))
 
--- a header more
+-- The state after one more header is parsed.
 front_part : (first : ℕ) (bytes : List ℕ) (number : ℕ) (rest : List ℕ) (fragmented : Bool) (part : ExtensionPart)
     (behind : List ℕ) → (read : FrontRead first bytes number rest fragmented)
     → demand_of ipv6 slices read.taken number ≡ takes → IsExtensionPart number rest part behind
@@ -228,26 +228,26 @@ front_part first bytes number rest fragmented part behind read demand is =
           ∙ sym (append_assoc read.front cut.front behind);
       start = sym (ne_eqb (length front) 0 (λ none. omega (arith, len, cut.least)));
       chain = λ more last after more_is.
-          subst (λ (all : List ExtensionPart). IsChainBehind ipv6 slices [] first bytes all last after) (joined more)
+          subst (λ (all : List ExtensionPart). IsChainAfter ipv6 slices [] first bytes all last after) (joined more)
           (read.chain (part ∷ more) last after (demand, (behind, is, more_is)));
       refused = λ more error refused.
-          subst (λ (all : List ExtensionPart). RefusesChainBehind ipv6 slices [] 0 first bytes all error) (joined more)
+          subst (λ (all : List ExtensionPart). RefusesChainAfter ipv6 slices [] 0 first bytes all error) (joined more)
           (read.refused (part ∷ more) error (
             demand,
             (
               behind,
               is,
-              subst (λ (n : ℕ). RefusesChainBehind ipv6 slices (number ∷ read.taken) n (part_next part) behind more error)
+              subst (λ (n : ℕ). RefusesChainAfter ipv6 slices (number ∷ read.taken) n (part_next part) behind more error)
                   len refused,
             ),
           ));
       stand = λ more last after more_is.
-          subst (λ (all : List ExtensionPart). AreInFront first bytes all last after) (joined more)
+          subst (λ (all : List ExtensionPart). BeginWithParts first bytes all last after) (joined more)
           (read.stand (part ∷ more) last after (behind, is, more_is));
       fragments = ap (λ (b : Bool). b || part_fragments part) read.fragments ∙ sym (fragments_more read.parts part);
     }
 
--- with what the calls say of it
+-- The state after one more header, stated with the contracts of the calls.
 pub front_more : (first : ℕ) (bytes : List ℕ) (number : ℕ) (rest : List ℕ) (fragmented : Bool) (part : ExtensionPart)
     (behind : List ℕ) (next : ℕ) (after : List ℕ) (fragments : Bool)
     → FrontRead first bytes number rest fragmented → is_ipv6_extension number ≡ true
@@ -262,11 +262,11 @@ front_more first bytes number rest fragmented part behind next after fragments r
     (subst (λ (f : Bool). FrontRead first bytes (part_next part) behind f) (sym fragments_is)
     (front_part first bytes number rest fragmented part behind read demand is)))
 
--- ---- where it ends
+-- ---- end of parsing
 
--- the bytes of headers show these headers, whatever stood behind them
+-- The headers found in the bytes of headers do not depend on the bytes after them.
 front_shows : (number : ℕ) (bytes : List ℕ) (parts : List ExtensionPart) (last : ℕ) (rest : List ℕ)
-    → AreInFront number bytes parts last rest
+    → BeginWithParts number bytes parts last rest
     → (front : List ℕ) × (bytes ≡ front ++ rest) × (shown_parts number front ≡ parts)
 front_shows number bytes [] last rest stand =
     ([], sym stand.1, shown_none number [] (no_bytes number [] (omega arith)))
@@ -279,12 +279,12 @@ front_shows number bytes (part ∷ parts) last rest stand =
           ∙ ap (λ (all : List ExtensionPart). part ∷ all) more.2,
     )
 
--- the bytes before the rest show the headers that were read
+-- The headers found in the bytes before the rest are those parsed so far.
 shown_before : (first : ℕ) (bytes : List ℕ) (number : ℕ) (rest : List ℕ) (fragmented : Bool)
     → (read : FrontRead first bytes number rest fragmented)
     → shown_parts first (take (length bytes - length rest) bytes) ≡ read.parts
 shown_before first bytes number rest fragmented read =
-    let stand = subst (λ (all : List ExtensionPart). AreInFront first bytes all number rest) (append-nil read.parts)
+    let stand = subst (λ (all : List ExtensionPart). BeginWithParts first bytes all number rest) (append-nil read.parts)
     (read.stand [] number rest (refl, refl)) in
     let shows = front_shows first bytes read.parts number rest stand in
     let before : take (length bytes - length rest) bytes ≡ shows.0 =
@@ -292,15 +292,15 @@ shown_before first bytes number rest fragmented read =
     ∙ take_at shows.0 rest (length bytes - length rest) (front_len bytes shows.0 rest shows.1) in
     ap (shown_parts first) before ∙ shows.2
 
--- what was read, and what stopped it
+-- The parsed headers and the error that stopped parsing.
 pub record FrontSlices (first : ℕ) (bytes : List ℕ) (number : ℕ) (rest : List ℕ) (fragmented : Bool)
     (stop : Option HeaderSliceError) : Type 0 where
   pub split : bytes ≡ take (length bytes - length rest) bytes ++ rest
-  pub chain : IsFrontChain ipv6 first bytes
+  pub chain : IsLaxChain ipv6 first bytes
       (chain_of (shown_parts first (take (length bytes - length rest) bytes)) number rest) stop
   pub fragments : fragmented ≡ chain_fragments (shown_parts first (take (length bytes - length rest) bytes))
 
--- the bytes before the rest and the rest are all bytes
+-- The bytes before the rest, followed by the rest, are all bytes.
 front_split : (bytes front rest : List ℕ) → bytes ≡ front ++ rest
     → bytes ≡ take (length bytes - length rest) bytes ++ rest
 front_split bytes front rest split =
@@ -309,55 +309,55 @@ front_split bytes front rest split =
     ap (take n) split ∙ take_at front rest n (front_len bytes front rest split) in
     split ∙ ap (λ (s : List ℕ). s ++ rest) (sym same)
 
--- with the headers that the bytes show in place of those that were read
+-- The parsed headers can be replaced by the headers found in the bytes.
 front_as_shown : (first : ℕ) (bytes : List ℕ) (number : ℕ) (rest : List ℕ) (fragmented : Bool)
     (stop : Option HeaderSliceError) → (read : FrontRead first bytes number rest fragmented)
-    → IsFrontChain ipv6 first bytes (chain_of read.parts number rest) stop
+    → IsLaxChain ipv6 first bytes (chain_of read.parts number rest) stop
     → FrontSlices first bytes number rest fragmented stop
 front_as_shown first bytes number rest fragmented stop read chain =
     let shown = sym (shown_before first bytes number rest fragmented read) in
     record {
       split = front_split bytes read.front rest read.split;
-      chain = subst (λ (all : List ExtensionPart). IsFrontChain ipv6 first bytes (chain_of all number rest) stop) shown
+      chain = subst (λ (all : List ExtensionPart). IsLaxChain ipv6 first bytes (chain_of all number rest) stop) shown
           chain;
       fragments = read.fragments ∙ ap chain_fragments shown;
     }
 
--- the chain ends
+-- Parsing ends without error at a number that is not that of an extension header.
 pub front_ends : (first : ℕ) (bytes : List ℕ) (number : ℕ) (rest : List ℕ) (fragmented : Bool)
     → FrontRead first bytes number rest fragmented → is_ipv6_extension number ≡ false
     → FrontSlices first bytes number rest fragmented None
 front_ends first bytes number rest fragmented read none =
     front_as_shown first bytes number rest fragmented None read
-    (subst (λ (all : List ExtensionPart). IsChainBehind ipv6 slices [] first bytes all number rest)
+    (subst (λ (all : List ExtensionPart). IsChainAfter ipv6 slices [] first bytes all number rest)
     (append-nil read.parts) (read.chain [] number rest (slices_end read.taken number none, refl, refl)))
 
--- a header is refused
+-- Parsing stops at a rejected header.
 stopped : (first : ℕ) (bytes : List ℕ) (number : ℕ) (rest : List ℕ) (fragmented : Bool) (error : HeaderSliceError)
     → (read : FrontRead first bytes number rest fragmented)
-    → RefusesChainBehind ipv6 slices read.taken (length read.front) number rest [] error
+    → RefusesChainAfter ipv6 slices read.taken (length read.front) number rest [] error
     → FrontSlices first bytes number rest fragmented (Some error)
 stopped first bytes number rest fragmented error read refused =
     front_as_shown first bytes number rest fragmented (Some error) read (
-      subst (λ (all : List ExtensionPart). RefusesChainBehind ipv6 slices [] 0 first bytes all error)
+      subst (λ (all : List ExtensionPart). RefusesChainAfter ipv6 slices [] 0 first bytes all error)
           (append-nil read.parts) (read.refused [] error refused),
-      subst (λ (all : List ExtensionPart). AreInFront first bytes all number rest) (append-nil read.parts)
+      subst (λ (all : List ExtensionPart). BeginWithParts first bytes all number rest) (append-nil read.parts)
           (read.stand [] number rest (refl, refl)),
     )
 
--- the next header is refused
+-- Parsing stops if the next header is rejected.
 pub front_refused : (first : ℕ) (bytes : List ℕ) (number : ℕ) (rest : List ℕ) (fragmented : Bool)
     (error shown : HeaderSliceError)
     → FrontRead first bytes number rest fragmented → is_ipv6_extension number ≡ true
     → (number ≡ 0 → length bytes - length rest ≤ 0) → RefusesExtensionPart number rest error
-    → shown ≡ further_in (length bytes - length rest) error
+    → shown ≡ with_offset_in (length bytes - length rest) error
     → FrontSlices first bytes number rest fragmented (Some shown)
 front_refused first bytes number rest fragmented error shown read kind start refused same =
-    let here = ap (λ (n : ℕ). further_in n error) (front_len bytes read.front rest read.split) ∙ sym same in
+    let here = ap (λ (n : ℕ). with_offset_in n error) (front_len bytes read.front rest read.split) ∙ sym same in
     let demand = front_takes first bytes number rest fragmented read kind start in
     stopped first bytes number rest fragmented shown read (inr (demand, (error, refused, sym here)))
 
--- hop by hop options come that are not first
+-- Parsing stops at Hop-by-Hop options that are not first.
 pub front_misplaced : (first : ℕ) (bytes : List ℕ) (number : ℕ) (rest : List ℕ) (fragmented : Bool)
     → FrontRead first bytes number rest fragmented → number ≡ 0 → 0 < length bytes - length rest
     → FrontSlices first bytes number rest fragmented (Some (header_error.Content content.HopByHopNotAtStart))
@@ -365,34 +365,34 @@ front_misplaced first bytes number rest fragmented read zero_is some =
     stopped first bytes number rest fragmented (header_error.Content content.HopByHopNotAtStart) read
     (inl (misplaced_0 slices read.taken number zero_is (front_past first bytes number rest fragmented read some), refl))
 
--- ---- what a call owes
+-- ---- contracts of the calls
 
--- the bytes before the rest show the headers that say whether the packet is a fragment
+-- Whether the packet carries a fragment is decided by the headers in the bytes before the rest.
 pub front_fragments : (first : ℕ) (bytes : List ℕ) (number : ℕ) (rest : List ℕ) (fragmented : Bool)
     → FrontRead first bytes number rest fragmented
     → fragmented ≡ chain_fragments (shown_parts first (take (length bytes - length rest) bytes))
 front_fragments first bytes number rest fragmented read =
     read.fragments ∙ ap chain_fragments (sym (shown_before first bytes number rest fragmented read))
 
--- the rest is no longer than all bytes
+-- The rest is not longer than all bytes.
 pub front_within : (first : ℕ) (bytes : List ℕ) (number : ℕ) (rest : List ℕ) (fragmented : Bool)
     → FrontRead first bytes number rest fragmented → length rest ≤ length bytes
 front_within first bytes number rest fragmented read =
     omega (arith, ap length read.split, length-append read.front rest)
 
--- the bytes are those that are shown and the rest, which are the front that there is
+-- The bytes are those of the parsed headers, followed by the rest, and this result is unique.
 pub front_answered : (first : ℕ) (bytes : List ℕ) (number : ℕ) (rest : List ℕ) (fragmented : Bool)
     (stop : Option HeaderSliceError) → AreBytes bytes → FrontSlices first bytes number rest fragmented stop
     → (shown : List ℕ) → shown ≡ take (length bytes - length rest) bytes → (from : ℕ) → from ≡ first
-    → (bytes ≡ shown ++ rest) × IsFrontChain ipv6 first bytes (chain_of (shown_parts from shown) number rest) stop
-    × ((chain : ExtensionChain) (end : Option HeaderSliceError) → IsFrontChain ipv6 first bytes chain end
+    → (bytes ≡ shown ++ rest) × IsLaxChain ipv6 first bytes (chain_of (shown_parts from shown) number rest) stop
+    × ((chain : ExtensionChain) (end : Option HeaderSliceError) → IsLaxChain ipv6 first bytes chain end
     → (chain_of (shown_parts from shown) number rest ≡ chain) × (stop ≡ end))
 front_answered first bytes number rest fragmented stop fits front shown shown_is from from_is =
     let before = take (length bytes - length rest) bytes in
     let parts : shown_parts first before ≡ shown_parts from shown =
     ap (shown_parts first) (sym shown_is) ∙ ap (λ (n : ℕ). shown_parts n shown) (sym from_is) in
-    let here : IsFrontChain ipv6 first bytes (chain_of (shown_parts from shown) number rest) stop =
-    subst (λ (all : List ExtensionPart). IsFrontChain ipv6 first bytes (chain_of all number rest) stop) parts
+    let here : IsLaxChain ipv6 first bytes (chain_of (shown_parts from shown) number rest) stop =
+    subst (λ (all : List ExtensionPart). IsLaxChain ipv6 first bytes (chain_of all number rest) stop) parts
     front.chain in (
       front.split ∙ ap (λ (s : List ℕ). s ++ rest) (sym shown_is),
       here,

@@ -1,4 +1,4 @@
--- The laws of the single headers.
+-- Laws of the single headers.
 use Rattle.ep_base.proofs.TableLemmas.{decided}
 use Rattle.ep_ext.proofs.FragmentHeaderLemmas.{fragment_header_is_read}
 use Rattle.ep_ext.proofs.IpAuthLemmas.{ip_auth_is_read}

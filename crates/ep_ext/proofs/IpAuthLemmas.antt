@@ -1,4 +1,4 @@
--- The bytes of an authentication header, and what is read from them.
+-- The wire format of an authentication header, and how it is parsed.
 use Rattle.std.proofs.Common.{◌≡◌, ℕ, ◌+◌, ◌-◌, ◌/◌, ◌^◌, ◌<◌, ◌≤◌, List, None, [], ◌∷◌, ◌++◌, length, get_or, slice_range, take, drop, refl, sym, ap, subst, ◌∙◌, arith}
 use Rattle.std.proofs.lemmas.Grind.{common_steps}
 use Rattle.std.proofs.lemmas.List.{get_or-take, length-take, length-drop, length-append, take-append-drop}
@@ -11,23 +11,23 @@ use Rattle.ep_base.proofs.TableLemmas.{IsReadBy, cut_at, cut_same}
 use Rattle.ep_ext.specs.declared.ip_auth_header.IpAuthHeader.{IpAuthHeader}
 use Rattle.ep_ext.specs.IpAuth.{FitsIpAuth, EncodesIpAuth, IsIpAuth, ip_auth_bytes_with, ip_auth_len_of, ip_auth_of, ip_auth_rows}
 
--- the header that bytes are, and what is behind it
+-- The header that consists of all of the bytes, and the bytes after it.
 abbrev pub ip_auth_parts : List ℕ → List ℕ → IpAuthHeader × List ℕ
 ip_auth_parts bytes rest = (ip_auth_of bytes, rest)
 
--- the bytes are a whole header: as long as their length field, which is not 0, says
+-- The bytes are exactly one header: they have the length that their length field states, which is not 0.
 pub record IsWholeIpAuth (bytes : List ℕ) : Type 0 where
   pub field : 0 < get_or bytes 1 0
   pub whole : length bytes ≡ ip_auth_len_of bytes
 
--- ---- whole bytes are those of the header that is read from them
+-- ---- complete bytes are the wire format of the header parsed from them
 
--- the number of 4 bytes has 32 bits
+-- A number of 4 bytes has 32 bits.
 pub four_below : (xs : List ℕ) → length xs ≡ 4 → AreBytes xs → from_be_bytes w32 xs < 2 ^ 32
 four_below (a ∷ b ∷ c ∷ d ∷ []) len fits = omega (arith, fits 0, fits 1, fits 2, fits 3)
 four_below _ len fits = absurd (omega arith)
 
--- 4 bytes within others are as many
+-- A chunk of 4 bytes within bytes has length 4.
 pub four_len : (e : List ℕ) (i : ℕ) → i + 4 ≤ length e → length (take 4 (drop i e)) ≡ 4
 four_len e i within = omega (arith, length-take 4 (drop i e), length-drop i e)
 
@@ -45,13 +45,13 @@ whole_fits e fits a = record {
   icv = AreBytes-drop 12 e fits;
 }
 
--- the number in 4 bytes of others has these bytes
+-- Encoding the number of a chunk of 4 bytes returns these bytes.
 number_again : (e : List ℕ) (i : ℕ) → AreBytes e → i + 4 ≤ length e
     → take 4 (drop i e) ≡ to_be_bytes w32 (from_be_bytes w32 (take 4 (drop i e)))
 number_again e i fits within =
     sym (be_bytes_4 (take 4 (drop i e)) _ (four_len e i within) (AreBytes-four e i fits) refl)
 
--- the bytes of a whole header, its fields one by one
+-- Bytes of at least 12 are their first 4 bytes, two chunks of 4 and the remaining bytes.
 twelve : (e : List ℕ) → 12 ≤ length e
     → e ≡ get_or e 0 0 ∷ get_or e 1 0 ∷ get_or e 2 0 ∷ get_or e 3 0
     ∷ (take 4 (drop 4 e) ++ take 4 (drop 8 e) ++ drop 12 e)
@@ -71,7 +71,7 @@ whole_encodes e fits a =
           ∙ (λ i. get_or e 0 0 ∷ second i ∷ (word_cells e fits 2 refl i ++ spi i ++ sequence_number i ++ drop 12 e));
     }
 
--- ---- the bytes of a header are read as this header
+-- ---- the wire format of a header is parsed as the header
 
 pub encoded_read : (e : List ℕ) (h : IpAuthHeader) → EncodesIpAuth e h → h ≡ ip_auth_of e
 encoded_read e h a =
@@ -89,12 +89,12 @@ encoded_whole e h a =
     } in
     subst IsWholeIpAuth (sym a.same) whole
 
--- ---- headers, read from their bytes
+-- ---- parsing headers
 
 abbrev pub ip_auth_read : List ℕ → IpAuthHeader × List ℕ
 ip_auth_read bytes = cut_at ip_auth_len_of ip_auth_parts bytes
 
--- what begins with a header has a whole one as its front
+-- If the bytes begin with a header, the prefix of its length is exactly one header.
 pub front_whole : (bytes : List ℕ) → 0 < get_or bytes 1 0 → ip_auth_len_of bytes ≤ length bytes
     → IsWholeIpAuth (take (ip_auth_len_of bytes) bytes)
 front_whole bytes field there =
@@ -116,7 +116,7 @@ reads bytes fits none =
       parts = sym (take-append-drop n bytes);
     }
 
--- the length field counts the header's bytes, and is not 0
+-- The length field of the first header does not depend on the bytes after it.
 front_field : (e rest : List ℕ) → IsWholeIpAuth e → get_or (e ++ rest) 1 0 ≡ get_or e 1 0
 front_field e rest a = grind (arith, common_steps)
 

@@ -1,4 +1,4 @@
--- That linked headers are walked, all of them, and that written headers are a chain.
+-- Linked headers are visited by a walk, all of them, and written headers are a chain.
 use Rattle.std.proofs.Common.{◌≡◌, ℕ, ◌==◌, ◌&&◌, Bool, true, false, not, if◌then◌else◌, List, [], ◌∷◌, ◌++◌, Option, Some, None, refl, sym, ap, subst, ◌∙◌, arith, append_assoc}
 use Rattle.std.specs.Option.{option_map, is_some}
 use Rattle.std.specs.Prelude.{Ok}
@@ -14,20 +14,20 @@ use Rattle.ep_ext.specs.declared.ipv6_raw_ext_header.Ipv6RawExtHeader.{Ipv6RawEx
 use Rattle.ep_ext.specs.declared.ipv4_exts.Ipv4Extensions.{Ipv4Extensions}
 use Rattle.ep_ext.specs.declared.ipv6_exts.Ipv6Extensions.{Ipv6Extensions}
 use Rattle.ep_ext.specs.declared.ipv6_routing_exts.Ipv6RoutingExtensions.{Ipv6RoutingExtensions}
-use Rattle.ep_ext.specs.declared.ipv6_exts_walk.Marks.{Marks}
+use Rattle.ep_ext.specs.declared.ipv6_exts_walk.VisitedHeaders.{VisitedHeaders}
 use Rattle.ep_ext.specs.IpAuth.{ip_auth_bytes}
 use Rattle.ep_ext.specs.FragmentHeader.{fragment_header_bytes}
-use Rattle.ep_ext.specs.ExtensionParts.{ExtensionPart, hop_by_hop, destination_options, routing, fragment, authentication, part_number, part_next, part_bytes, parts_there, FitsPart, IsExtensionPart}
-use Rattle.ep_ext.specs.Chains.{ipv4, ipv6, is_first, is_ipv6_extension, parts_bytes, chain_of, FitParts, IsChainBehind, IsExtensionChain}
+use Rattle.ep_ext.specs.ExtensionParts.{ExtensionPart, hop_by_hop, destination_options, routing, fragment, authentication, part_number, part_next, part_bytes, optional_part, FitsPart, IsExtensionPart}
+use Rattle.ep_ext.specs.Chains.{ipv4, ipv6, is_first, is_ipv6_extension, parts_bytes, chain_of, FitParts, IsChainAfter, IsExtensionChain}
 use Rattle.ep_ext.specs.Ipv4Chains.{ip_auth_leading_to, ipv4_first, ipv4_linked, ipv4_parts, ipv4_walk}
-use Rattle.ep_ext.specs.Ipv6Chains.{no_ipv6_extensions, extensions_of, with_part, with_parts, with_destination, final_by, routing_header, header_for, IsWalkBehind, missing_number, WalksAll, number_before, raw_leading_to, fragment_leading_to, routing_leading_to, after_routing, ipv6_first, ipv6_linked, ipv6_parts}
+use Rattle.ep_ext.specs.Ipv6Chains.{no_ipv6_extensions, extensions_of, with_part, with_parts, with_destination, final_by, routing_header, header_for, IsWalkAfter, missing_number, WalksAll, number_before, raw_leading_to, fragment_leading_to, routing_leading_to, after_routing, ipv6_first, ipv6_linked, ipv6_parts}
 use Rattle.ep_ext.specs.Walks.{marked, header_at, missing_at}
 use Rattle.ep_ext.proofs.ChainLemmas.{ends_at_once, one_authentication}
 use Rattle.ep_ext.proofs.ValueLemmas.{HasTaken, value_of, headers_take, headers_end, first_none_taken}
 use Rattle.ep_ext.proofs.WalkLemmas.{IsMarked, marked_none, mark_more, found_is, found_kind, left_is}
 use Rattle.ep_ext.proofs.WalkMarkLemmas.{no_marks}
 
--- ---- where all headers were taken, no further one is
+-- ---- no header is left after all are visited
 
 pub no_row : (test : Bool) (number : ℕ) (rest : Option ℕ) → (if test then Some number else rest) ≡ None
     → (test ≡ false) × (rest ≡ None)
@@ -58,7 +58,7 @@ hop_spent None false mark first none = refl
 hop_spent (Some header) false true first none = absurd (true≢false (first refl))
 hop_spent (Some header) false false first none = absurd (true≢false none)
 
-pub all_taken : (extensions : Ipv6Extensions) (taken : List ℕ) (walked : Ipv6Extensions) (marks : Marks)
+pub all_taken : (extensions : Ipv6Extensions) (taken : List ℕ) (walked : Ipv6Extensions) (marks : VisitedHeaders)
     (number : ℕ) → IsMarked taken walked marks → missing_at extensions marks ≡ None
     → header_at extensions marks number ≡ None
 all_taken extensions taken walked marks number m none =
@@ -82,7 +82,7 @@ and_not : (test : Bool) → (test && not test) ≡ false
 and_not true = refl
 and_not false = refl
 
--- nothing is missing of a value
+-- No header of a value is missing from the value itself.
 nothing_left : (extensions : Ipv6Extensions) → missing_number extensions extensions ≡ None
 nothing_left extensions = λ i.
     if and_not (is_some extensions.hop_by_hop_options) i then Some 0
@@ -93,31 +93,31 @@ nothing_left extensions = λ i.
     else if and_not (is_some (final_by extensions.routing)) i then Some 60
     else None
 
--- ---- headers in slots, linked one to the next
+-- ---- slots: headers linked to the next ones
 
--- A slot in the order of linking: the number of its kind, its kind, how its header leads to a number, the value of the
--- headers up to it, and the header, where there is one.
+-- A slot of the order of linking: the IP number of its kind, its kind, how a next header field is set, the value of the
+-- headers up to it, and the header, if present.
 data Slot : Type 1 where
   slot : {H : Type 0} → ℕ → (H → ExtensionPart) → (IpNumber → H → H) → (Option H → Ipv6Extensions) → Option H → Slot
 
--- the number of the first header, where the slots lead to the last number
+-- The first IP number of the slots, if the payload has the number `last`.
 abbrev slots_first : List Slot → IpNumber → IpNumber
 slots_first [] last = last
 slots_first (slot number kind leading_to value there ∷ slots) last = number_before there number (slots_first slots last)
 
--- the headers of the slots, each leading to the next one
+-- The headers of the slots, each linked to the next one.
 abbrev slots_parts : List Slot → IpNumber → List ExtensionPart
 slots_parts [] last = []
 slots_parts (slot number kind leading_to value there ∷ slots) last =
-    parts_there kind (option_map (leading_to (slots_first slots last)) there) ++ slots_parts slots last
+    optional_part kind (option_map (leading_to (slots_first slots last)) there) ++ slots_parts slots last
 
--- what was taken behind a slot
+-- The visited headers after a slot.
 abbrev taken_with : {H : Type 0} → Option H → ℕ → List ℕ → List ℕ
 taken_with None number taken = taken
 taken_with (Some header) number taken = number ∷ taken
 
--- Each header is taken, leads to the next one, and is put to the value of those before it, where those were taken; the
--- last value is the whole.
+-- Each header is visited, refers to the next one, and is added to the value of the headers before it; the last value
+-- has all headers.
 abbrev Lead : Ipv6Extensions → List ℕ → Ipv6Extensions → List Slot → IpNumber → Type 0
 Lead extensions taken walked [] last = walked ≡ extensions
 Lead extensions taken walked (slot {H} number kind leading_to value there ∷ slots) last =
@@ -129,13 +129,13 @@ Lead extensions taken walked (slot {H} number kind leading_to value there ∷ sl
     × (with_part walked (kind (leading_to next header)) ≡ value (Some (leading_to next header))))
     × Lead extensions (taken_with there number taken) (value (option_map (leading_to next) there)) slots last
 
--- a walk leads through such slots, and takes the whole value
+-- A walk visits the headers of the slots and collects the complete value.
 abbrev Walks : Ipv6Extensions → List ℕ → Ipv6Extensions → List Slot → IpNumber → Type 0
 Walks extensions taken walked slots last =
-    IsWalkBehind extensions taken (slots_first slots last).0 (slots_parts slots last) last.0
+    IsWalkAfter extensions taken (slots_first slots last).0 (slots_parts slots last) last.0
     × (with_parts walked (slots_parts slots last) ≡ extensions)
 
-slots_walk : (extensions : Ipv6Extensions) (taken : List ℕ) (walked : Ipv6Extensions) (marks : Marks)
+slots_walk : (extensions : Ipv6Extensions) (taken : List ℕ) (walked : Ipv6Extensions) (marks : VisitedHeaders)
     (slots : List Slot) (last : IpNumber) → IsMarked taken walked marks → Lead extensions taken walked slots last
     → Walks extensions taken walked slots last
 slots_walk extensions taken walked marks [] last m whole = (
@@ -159,19 +159,19 @@ slots_walk extensions taken walked marks (slot number kind leading_to value (Som
     (subst (λ (w : Ipv6Extensions). Lead extensions (number ∷ taken) w slots last) (sym here.2) leads.2) in (
       (
         here.0,
-        subst (λ (n : ℕ). IsWalkBehind extensions (number ∷ taken) n (slots_parts slots last) last.0) (sym here.1)
+        subst (λ (n : ℕ). IsWalkAfter extensions (number ∷ taken) n (slots_parts slots last) last.0) (sym here.1)
             behind.0,
       ),
       behind.1,
     )
 
--- ---- the headers of a value lie in such slots
+-- ---- the headers of a value as slots
 
--- a routing header with these options behind it
+-- A routing header with these destination options after it.
 abbrev with_final : Option Ipv6RawExtHeader → Ipv6RoutingExtensions → Ipv6RoutingExtensions
 with_final final behind = record behind { final_destination_options = final }
 
--- the slots of a value that is linked
+-- The slots of a linked value.
 abbrev slots_of : Ipv6Extensions → IpNumber → List Slot
 slots_of extensions last =
     let linked = ipv6_linked extensions last in
@@ -212,7 +212,7 @@ routing_found : (behind : Option Ipv6RoutingExtensions)
 routing_found None = refl
 routing_found (Some behind) = refl
 
--- the options behind a routing header
+-- The slot of the destination options after a routing header.
 final_leads : (hop destination : Option Ipv6RawExtHeader) (behind : Option Ipv6RoutingExtensions)
     (fragmenting : Option Ipv6FragmentHeader) (auth : Option IpAuthHeader) (next last : IpNumber) (taken : List ℕ)
     (header : Ipv6RawExtHeader)
@@ -271,10 +271,10 @@ leads extensions last =
       ),
     )
 
--- the headers of the slots are those of the linked value
+-- The headers of the slots are those of the linked value.
 routing_part : (behind : Option Ipv6RoutingExtensions)
-    → parts_there (λ (b : Ipv6RoutingExtensions). routing b.routing) behind
-    ≡ parts_there routing (option_map routing_header behind)
+    → optional_part (λ (b : Ipv6RoutingExtensions). routing b.routing) behind
+    ≡ optional_part routing (option_map routing_header behind)
 routing_part None = refl
 routing_part (Some behind) = refl
 
@@ -284,40 +284,40 @@ final_led : (behind : Option Ipv6RoutingExtensions) (next last : IpNumber)
 final_led None next last = refl
 final_led (Some behind) next last = refl
 
--- the headers of the slots behind others
+-- The headers of the slots after other headers.
 abbrev slots_behind : List ExtensionPart → List Slot → IpNumber → List ExtensionPart
 slots_behind front [] last = front
 slots_behind front (slot number kind leading_to value there ∷ slots) last =
-    slots_behind (front ++ parts_there kind (option_map (leading_to (slots_first slots last)) there)) slots last
+    slots_behind (front ++ optional_part kind (option_map (leading_to (slots_first slots last)) there)) slots last
 
 behind_front : (front : List ExtensionPart) (slots : List Slot) (last : IpNumber)
     → front ++ slots_parts slots last ≡ slots_behind front slots last
 behind_front front [] last = append-nil front
 behind_front front (slot number kind leading_to value there ∷ slots) last =
-    let here = parts_there kind (option_map (leading_to (slots_first slots last)) there) in
+    let here = optional_part kind (option_map (leading_to (slots_first slots last)) there) in
     sym (append_assoc front here (slots_parts slots last)) ∙ behind_front (front ++ here) slots last
 
 parts_of_slots : (extensions : Ipv6Extensions) (last : IpNumber)
     → slots_parts (slots_of extensions last) last ≡ ipv6_parts (ipv6_linked extensions last)
 parts_of_slots extensions last =
     let all = ipv6_linked extensions last in
-    let front = parts_there hop_by_hop all.hop_by_hop_options
-    ++ parts_there destination_options all.destination_options in
-    let middle = parts_there fragment all.fragment in
-    let auths = parts_there authentication all.auth in
-    let routings = parts_there routing (option_map routing_header all.routing) in
+    let front = optional_part hop_by_hop all.hop_by_hop_options
+    ++ optional_part destination_options all.destination_options in
+    let middle = optional_part fragment all.fragment in
+    let auths = optional_part authentication all.auth in
+    let routings = optional_part routing (option_map routing_header all.routing) in
     behind_front [] (slots_of extensions last) last
-    ∙ ap (λ (there : List ExtensionPart). front ++ there ++ middle ++ auths ++ parts_there destination_options
+    ∙ ap (λ (there : List ExtensionPart). front ++ there ++ middle ++ auths ++ optional_part destination_options
     (option_map (raw_leading_to last) (final_by extensions.routing))) (routing_part all.routing)
     ∙ ap (λ (final : Option Ipv6RawExtHeader). front ++ routings ++ middle ++ auths
-    ++ parts_there destination_options final) (final_led extensions.routing (after_routing extensions last) last)
+    ++ optional_part destination_options final) (final_led extensions.routing (after_routing extensions last) last)
 
 linked : (extensions : Ipv6Extensions) (last : IpNumber)
     → let all = ipv6_linked extensions last in
-    IsWalkBehind all [] (ipv6_first extensions last).0 (ipv6_parts all) last.0 × (extensions_of (ipv6_parts all) ≡ all)
+    IsWalkAfter all [] (ipv6_first extensions last).0 (ipv6_parts all) last.0 × (extensions_of (ipv6_parts all) ≡ all)
 linked extensions last =
     let all = ipv6_linked extensions last in
-    subst (λ (parts : List ExtensionPart). IsWalkBehind all [] (ipv6_first extensions last).0 parts last.0
+    subst (λ (parts : List ExtensionPart). IsWalkAfter all [] (ipv6_first extensions last).0 parts last.0
     × (extensions_of parts ≡ all)) (parts_of_slots extensions last)
     (slots_walk all [] no_ipv6_extensions no_marks (slots_of extensions last) last marked_none (leads extensions last))
 
@@ -325,7 +325,7 @@ pub linked_value : (extensions : Ipv6Extensions) (last : IpNumber)
     → extensions_of (ipv6_parts (ipv6_linked extensions last)) ≡ ipv6_linked extensions last
 linked_value extensions last = (linked extensions last).1
 
--- the numbers lead through all linked headers
+-- The next header fields of linked headers lead through all of them.
 pub linked_walk : (extensions : Ipv6Extensions) (last : IpNumber)
     → WalksAll (ipv6_linked extensions last) (ipv6_first extensions last).0 (ipv6_parts
     (ipv6_linked extensions last)) last.0
@@ -335,7 +335,7 @@ linked_walk extensions last =
 
 -- ---- written headers are a chain
 
--- a header's bytes, and any bytes behind them, are the header
+-- The wire format of a header, followed by any bytes, is the header.
 part_written : (part : ExtensionPart) (behind : List ℕ) → FitsPart part
     → IsExtensionPart (part_number part) (part_bytes part ++ behind) part behind
 part_written (hop_by_hop header) behind fits = (refl, record { fits = fits; parts = refl })
@@ -370,7 +370,7 @@ kind_of_part : (part : ExtensionPart) → is_ipv6_extension (part_number part) �
 kind_of_part (hop_by_hop header) = refl
 kind_of_part _ = refl
 
--- hop by hop options are taken first
+-- Hop-by-Hop options are visited only as the first header.
 hop_first : (extensions : Ipv6Extensions) (taken : List ℕ) (part : ExtensionPart)
     → header_for extensions taken 0 ≡ Some part → is_first taken ≡ true
 hop_first extensions [] part found = refl
@@ -383,8 +383,8 @@ hop_first extensions (nearest ∷ taken) part found = absurd (none-some part (sy
 
 walk_is_chain : (extensions : Ipv6Extensions) (taken : List ℕ) (number : ℕ) (parts : List ExtensionPart) (last : ℕ)
     (rest : List ℕ)
-    → IsWalkBehind extensions taken number parts last → FitParts parts → is_ipv6_extension last ≡ false
-    → IsChainBehind ipv6 headers taken number (parts_bytes parts ++ rest) parts last rest
+    → IsWalkAfter extensions taken number parts last → FitParts parts → is_ipv6_extension last ≡ false
+    → IsChainAfter ipv6 headers taken number (parts_bytes parts ++ rest) parts last rest
 walk_is_chain extensions taken number [] last rest walk fit none = (
   headers_end taken number (ap is_ipv6_extension
       (sym walk.1) ∙ none),

@@ -1,4 +1,5 @@
--- An extension header of any kind: that bytes of a kind's number are one or are refused, and how long it is.
+-- Extension headers of any kind: bytes with the number of a kind are a header or are rejected, and how long the header
+-- is.
 use Rattle.std.proofs.Common.{◌≡◌, ℕ, ◌+◌, ◌≤◌, Bool, true, false, List, [], ◌∷◌, ◌++◌, length, Some, refl, ap, subst, ◌∙◌, arith, length-append}
 use Rattle.std.proofs.lemmas.Option.{none-some}
 use Rattle.std.proofs.lemmas.Grind.{common_steps}
@@ -16,22 +17,22 @@ use Rattle.ep_ext.specs.FragmentHeader.{IsFragmentHeader, RefusesFragmentHeader,
 use Rattle.ep_ext.specs.RawExtension.{IsRawExtension, RefusesRawExtension, raw_extension_rows, raw_extension_bytes, raw_extension_len}
 use Rattle.ep_ext.specs.ExtensionParts.{ExtensionPart, hop_by_hop, destination_options, routing, fragment, authentication, part_number, part_len, IsExtensionPart, RefusesExtensionPart, auth_refusal}
 
--- the laws of the headers
+-- The laws of the headers.
 pub record HeaderLaws : Type 0 where
   pub ip_auth : (bytes : List ℕ) → AreBytes bytes → IsDecided (IsIpAuth bytes) (RefusesIpAuth bytes)
   pub fragment_header : (bytes : List ℕ) → AreBytes bytes
       → IsDecided (IsFragmentHeader bytes) (RefusesFragmentHeader bytes)
   pub raw_extension : (bytes : List ℕ) → AreBytes bytes → IsDecided (IsRawExtension bytes) (RefusesRawExtension bytes)
 
--- a header and what stands behind it
+-- A header and the bytes after it.
 abbrev pub ReadPart : Type 0
 ReadPart = ExtensionPart × List ℕ
 
--- bytes of a number are these
+-- The bytes, starting with the header of this IP number, are this header and the bytes after it.
 abbrev pub IsReadPart : ℕ → List ℕ → ReadPart → Type 0
 IsReadPart number bytes read = IsExtensionPart number bytes read.0 read.1
 
--- the number of an extension header's kind
+-- The IP number of a kind of extension header.
 pub data IsKind : ℕ → Type 0 where
   is_hop_by_hop : IsKind 0
   is_routing : IsKind 43
@@ -39,7 +40,7 @@ pub data IsKind : ℕ → Type 0 where
   is_authentication : IsKind 51
   is_destination : IsKind 60
 
--- a refusal of renamed rows is that of the rows
+-- The first refusal of rows with renamed errors is the renamed first refusal.
 pub refused_under : {E F : Type 0} (name : E → F) (rows : List (Bool × E)) (error : F)
     → first_row (rows_as name rows) ≡ Some error
     → (refusal : E) × (first_row rows ≡ Some refusal) × (error ≡ name refusal)
@@ -54,7 +55,7 @@ refusals name rows = record {
   back = λ error refused. refused_under name rows error refused;
 }
 
--- ---- each number's headers are those of its kind
+-- ---- each IP number has headers of its kind
 
 hop_by_hop_back : (bytes : List ℕ) (part : ExtensionPart) (rest : List ℕ) → IsExtensionPart 0 bytes part rest
     → (read : Ipv6RawExtHeader × List ℕ) × IsRawExtension bytes read × ◌≡◌ {A = ReadPart} (part, rest)
@@ -86,7 +87,7 @@ authentication_back : (bytes : List ℕ) (part : ExtensionPart) (rest : List ℕ
 authentication_back bytes (authentication header) rest is = ((header, rest), is.1, refl)
 authentication_back bytes _ rest is = absurd (omega arith)
 
--- bytes of a kind's number are a header of that kind or are refused
+-- Bytes with the number of a kind are either exactly one header of the kind or rejected with exactly one error.
 pub part_decided : HeaderLaws → (number : ℕ) (bytes : List ℕ) → AreBytes bytes → IsKind number
     → IsDecided (IsReadPart number bytes) (RefusesExtensionPart number bytes)
 part_decided laws number bytes fits is_hop_by_hop =
@@ -110,9 +111,9 @@ part_decided laws number bytes fits is_destination =
     (record { there = λ read is. (refl, is); back = λ read is. destination_back bytes read.0 read.1 is })
     (refusals header_error.Len (raw_extension_rows bytes))
 
--- ---- how long a header is
+-- ---- header lengths
 
--- the bytes of a header and the bytes behind it
+-- The bytes of a header, with its length, and the bytes after it.
 pub record CutBehind (bytes behind : List ℕ) (len : ℕ) : Type 0 where
   pub front : List ℕ
   pub parts : bytes ≡ front ++ behind
@@ -149,7 +150,7 @@ auth_cut bytes header behind is = record {
   least = omega arith;
 }
 
--- where a header ends
+-- The header ends after its length.
 pub part_cut : (number : ℕ) (bytes : List ℕ) (part : ExtensionPart) (behind : List ℕ)
     → IsExtensionPart number bytes part behind
     → CutBehind bytes behind (part_len part)
@@ -159,7 +160,7 @@ part_cut number bytes (routing header) behind is = raw_cut bytes header behind i
 part_cut number bytes (fragment header) behind is = fragment_cut bytes header behind is.1
 part_cut number bytes (authentication header) behind is = auth_cut bytes header behind is.1
 
--- the numbers of bytes
+-- The bytes are as long as the header and the bytes after it; a header has at least 8 bytes.
 pub part_lens : (number : ℕ) (bytes : List ℕ) (part : ExtensionPart) (behind : List ℕ)
     → IsExtensionPart number bytes part behind
     → (length bytes ≡ part_len part + length behind) × (8 ≤ part_len part)
@@ -167,7 +168,7 @@ part_lens number bytes part behind is =
     let cut = part_cut number bytes part behind is in
     (ap length cut.parts ∙ length-append cut.front behind ∙ ap (λ (n : ℕ). n + length behind) cut.len_is, cut.least)
 
--- what stands behind a header is bytes
+-- The bytes after a header are bytes.
 pub part_behind_fits : (number : ℕ) (bytes : List ℕ) (part : ExtensionPart) (behind : List ℕ)
     → IsExtensionPart number bytes part behind
     → AreBytes bytes → AreBytes behind
@@ -175,7 +176,7 @@ part_behind_fits number bytes part behind is fits =
     let cut = part_cut number bytes part behind is in
     AreBytes-back cut.front behind (subst AreBytes cut.parts fits)
 
--- a header stands behind its own kind's number
+-- The IP number before a header is that of its kind.
 pub part_numbered : (number : ℕ) (bytes : List ℕ) (part : ExtensionPart) (behind : List ℕ)
     → IsExtensionPart number bytes part behind
     → number ≡ part_number part

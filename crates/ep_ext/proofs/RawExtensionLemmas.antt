@@ -1,4 +1,4 @@
--- The bytes of an extension header, and what is read from them.
+-- The wire format of an extension header, and how it is parsed.
 use Rattle.std.proofs.Common.{◌≡◌, ℕ, ◌+◌, ◌-◌, ◌/◌, ◌≤◌, List, None, ◌∷◌, ◌++◌, length, get_or, take, drop, sym, ap, ◌∙◌, arith}
 use Rattle.std.proofs.lemmas.Grind.{common_steps}
 use Rattle.std.proofs.lemmas.List.{get_or-take, length-take, length-drop, length-append, take-append-drop}
@@ -9,11 +9,11 @@ use Rattle.ep_base.proofs.TableLemmas.{IsReadBy, cut_at, cut_same}
 use Rattle.ep_ext.specs.declared.ipv6_raw_ext_header.Ipv6RawExtHeader.{Ipv6RawExtHeader}
 use Rattle.ep_ext.specs.RawExtension.{FitsRawExtension, IsRawExtension, raw_extension_bytes, raw_extension_len_of, raw_extension_of, raw_extension_rows}
 
--- the header that bytes are, and what is behind it
+-- The header that consists of all of the bytes, and the bytes after it.
 abbrev pub raw_extension_parts : List ℕ → List ℕ → Ipv6RawExtHeader × List ℕ
 raw_extension_parts bytes rest = (raw_extension_of bytes, rest)
 
--- ---- bytes of the length that they demand are those of the header that is read from them
+-- ---- bytes of the stated length are the wire format of the header parsed from them
 
 pub whole_fits : (e : List ℕ) → AreBytes e → length e ≡ raw_extension_len_of e → FitsRawExtension (raw_extension_of e)
 whole_fits e fits whole = record {
@@ -30,7 +30,7 @@ whole_same e whole =
     let second : get_or e 1 0 ≡ (2 + length (drop 2 e)) / 8 - 1 = omega (arith, length-drop 2 e, whole) in
     drop-elements 2 0 e (omega (arith, whole)) ∙ (λ i. get_or e 0 0 ∷ second i ∷ drop 2 e)
 
--- the front of as many bytes as are demanded
+-- The prefix of the stated length states the same length.
 pub front_whole : (bytes : List ℕ) → raw_extension_len_of bytes ≤ length bytes
     → length (take (raw_extension_len_of bytes) bytes) ≡ raw_extension_len_of (take (raw_extension_len_of bytes) bytes)
 front_whole bytes there =
@@ -38,7 +38,7 @@ front_whole bytes there =
     let field : get_or (take n bytes) 1 0 ≡ get_or bytes 1 0 = get_or-take n bytes 1 0 (omega arith) in
     omega (arith, length-take n bytes, field, there)
 
--- ---- headers, read from their bytes
+-- ---- parsing headers
 
 abbrev pub raw_extension_read : List ℕ → Ipv6RawExtHeader × List ℕ
 raw_extension_read bytes = cut_at raw_extension_len_of raw_extension_parts bytes
@@ -56,7 +56,7 @@ reads bytes fits none =
       parts = sym (take-append-drop n bytes) ∙ ap (λ (s : List ℕ). s ++ drop n bytes) (whole_same (take n bytes) whole);
     }
 
--- the length field counts the header's bytes
+-- The length field counts the bytes of the header.
 pub len_same : (bytes : List ℕ) (read : Ipv6RawExtHeader × List ℕ) → IsRawExtension bytes read
     → length (raw_extension_bytes read.0) ≡ raw_extension_len_of bytes
 len_same bytes read is =

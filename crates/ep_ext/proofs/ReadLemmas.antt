@@ -1,4 +1,4 @@
--- How far a chain was read: its first headers, and what a chain or a refusal behind them means for the whole.
+-- State while a chain is parsed: the first headers, and how a chain or an error after them extends to all bytes.
 use Rattle.std.proofs.Common.{◌≡◌, ℕ, ◌+◌, ◌-◌, ◌≤◌, ◌<◌, ◌==◌, Bool, true, false, ◌||◌, List, [], ◌∷◌, ◌++◌, length, take, refl, sym, ap, subst, ◌∙◌, inl, inr, arith, append_assoc, length-append}
 use Rattle.std.proofs.lemmas.Grind.{common_steps}
 use Rattle.std.proofs.lemmas.Bool.{eq-eqb, ne_eqb}
@@ -10,23 +10,23 @@ use Rattle.ep_base.specs.declared.err.ipv6_exts.HeaderError.TheVariants as conte
 use Rattle.ep_base.specs.declared.err.ipv6_exts.HeaderSliceError.{HeaderSliceError}
 use Rattle.ep_base.specs.declared.err.ipv6_exts.HeaderSliceError.TheVariants as header_error
 use Rattle.ep_ext.specs.ExtensionParts.{ExtensionPart, part_next, part_len, part_fragments, IsExtensionPart, RefusesExtensionPart}
-use Rattle.ep_ext.specs.Chains.{IpVersion, ipv6, chain_of, ends, takes, misplaced, demand_of, is_first, is_ipv6_extension, chain_fragments, IsChainBehind, IsExtensionChain, RefusesChainBehind, RefusesExtensionChain, further_in}
+use Rattle.ep_ext.specs.Chains.{IpVersion, ipv6, chain_of, ends, takes, misplaced, demand_of, is_first, is_ipv6_extension, chain_fragments, IsChainAfter, IsExtensionChain, RefusesChainAfter, RefusesExtensionChain, with_offset_in}
 use Rattle.ep_ext.proofs.PartLemmas.{part_cut}
 
--- Bytes of a number begin with these headers, and then comes the rest of this number.
+-- The headers parsed so far, which are followed by the rest, with this IP number.
 pub record IsRead (version : IpVersion) (reading : Reading) (first : ℕ) (bytes : List ℕ) (taken : List ℕ)
     (parts : List ExtensionPart) (number : ℕ) (rest : List ℕ) : Type 0 where
   pub front : List ℕ
   pub split : bytes ≡ front ++ rest
   pub start : is_first taken ≡ (length front == 0)
   pub chain : (more : List ExtensionPart) (last : ℕ) (behind : List ℕ)
-      → IsChainBehind version reading taken number rest more last behind
+      → IsChainAfter version reading taken number rest more last behind
       → IsExtensionChain version reading first bytes (chain_of (parts ++ more) last behind)
   pub refused : (more : List ExtensionPart) (error : HeaderSliceError)
-      → RefusesChainBehind version reading taken (length front) number rest more error
+      → RefusesChainAfter version reading taken (length front) number rest more error
       → RefusesExtensionChain version reading first bytes error
 
--- nothing was read
+-- Initially, no header is parsed.
 pub read_nothing : (version : IpVersion) (reading : Reading) (first : ℕ) (bytes : List ℕ)
     → IsRead version reading first bytes [] [] first bytes
 read_nothing version reading first bytes = record {
@@ -37,7 +37,7 @@ read_nothing version reading first bytes = record {
   refused = λ more error refused. (more, refused);
 }
 
--- a header more
+-- The state after one more header is parsed.
 pub read_part : (version : IpVersion) (reading : Reading) (first : ℕ) (bytes : List ℕ) (taken : List ℕ)
     (parts : List ExtensionPart) (number : ℕ) (rest : List ℕ)
     (part : ExtensionPart) (behind : List ℕ) → IsRead version reading first bytes taken parts number rest
@@ -63,7 +63,7 @@ read_part version reading first bytes taken parts number rest part behind read d
         (
           behind,
           is,
-          subst (λ (n : ℕ). RefusesChainBehind version reading (number ∷ taken) n
+          subst (λ (n : ℕ). RefusesChainAfter version reading (number ∷ taken) n
               (part_next part) behind more error) len refused,
         ),
       );
@@ -72,7 +72,7 @@ read_part version reading first bytes taken parts number rest part behind read d
     not_start : (n : ℕ) → 0 < n → false ≡ (n == 0)
     not_start n some = grind (arith, common_steps)
 
--- the chain ends here
+-- If the chain ends at this IP number, the bytes are a chain.
 pub read_all : (version : IpVersion) (reading : Reading) (first : ℕ) (bytes : List ℕ) (taken : List ℕ)
     (parts : List ExtensionPart) (number : ℕ) (rest : List ℕ)
     → IsRead version reading first bytes taken parts number rest → demand_of version reading taken number ≡ ends
@@ -82,17 +82,17 @@ read_all version reading first bytes taken parts number rest read end =
     (append-nil parts)
     (read.chain [] number rest (end, refl, refl))
 
--- the next header is refused
+-- If the next header is rejected, the bytes are rejected.
 pub read_refused : (version : IpVersion) (reading : Reading) (first : ℕ) (bytes : List ℕ) (taken : List ℕ)
     (parts : List ExtensionPart) (number : ℕ) (rest : List ℕ) (error : HeaderSliceError)
     → (read : IsRead version reading first bytes taken parts number rest)
     → demand_of version reading taken number ≡ takes
-    → RefusesExtensionPart number rest error → RefusesExtensionChain version reading first bytes (further_in
+    → RefusesExtensionPart number rest error → RefusesExtensionChain version reading first bytes (with_offset_in
     (length read.front) error)
 read_refused version reading first bytes taken parts number rest error read demand refused =
-    read.refused [] (further_in (length read.front) error) (inr (demand, (error, refused, refl)))
+    read.refused [] (with_offset_in (length read.front) error) (inr (demand, (error, refused, refl)))
 
--- hop by hop options come that must not
+-- If the next header is misplaced Hop-by-Hop options, the bytes are rejected.
 pub read_misplaced : (version : IpVersion) (reading : Reading) (first : ℕ) (bytes : List ℕ) (taken : List ℕ)
     (parts : List ExtensionPart) (number : ℕ) (rest : List ℕ)
     → IsRead version reading first bytes taken parts number rest → demand_of version reading taken number ≡ misplaced
@@ -100,11 +100,11 @@ pub read_misplaced : (version : IpVersion) (reading : Reading) (first : ℕ) (by
 read_misplaced version reading first bytes taken parts number rest read wrong =
     read.refused [] (header_error.Content content.HopByHopNotAtStart) (inl (wrong, refl))
 
--- how many bytes were read
+-- The length of the bytes read so far.
 pub front_len : (bytes front rest : List ℕ) → bytes ≡ front ++ rest → length front ≡ length bytes - length rest
 front_len bytes front rest split = omega (arith, ap length split, length-append front rest)
 
--- ---- what a number demands in the reading of slices
+-- ---- demands of IP numbers, read as slices
 
 pub slices_take : (taken : List ℕ) (number : ℕ) → is_ipv6_extension number ≡ true → (number ≡ 0
     → is_first taken ≡ true) → demand_of ipv6 slices taken number ≡ takes
@@ -118,22 +118,22 @@ pub misplaced_0 : (reading : Reading) (taken : List ℕ) (number : ℕ) → numb
     → demand_of ipv6 reading taken number ≡ misplaced
 misplaced_0 reading taken number is start = grind (arith, common_steps)
 
--- whether one more header fragments
+-- Adding a header to a list adds its fragment state.
 pub fragments_more : (parts : List ExtensionPart) (part : ExtensionPart)
     → chain_fragments (parts ++ part ∷ []) ≡ (chain_fragments parts || part_fragments part)
 fragments_more [] part = grind (arith, common_steps)
 fragments_more (other ∷ parts) part = grind (arith, common_steps, fragments_more parts part)
 
--- what the loop over slices has read: headers, and whether one of them fragments
+-- State of the loop over slices: the headers parsed so far, and whether a fragment header among them states a fragment.
 pub record SlicesRead (first : ℕ) (bytes : List ℕ) (number : ℕ) (rest : List ℕ) (fragmented : Bool) : Type 0 where
   pub taken : List ℕ
   pub parts : List ExtensionPart
   pub read : IsRead ipv6 slices first bytes taken parts number rest
   pub fragments : fragmented ≡ chain_fragments parts
 
--- ---- where the reading stands
+-- ---- position in the bytes
 
--- nothing was read where no byte is before the rest
+-- If no byte is before the rest, no header has been visited.
 pub at_start : (version : IpVersion) (reading : Reading) (first : ℕ) (bytes : List ℕ) (taken : List ℕ)
     (parts : List ExtensionPart) (number : ℕ) (rest : List ℕ)
     → IsRead version reading first bytes taken parts number rest → length bytes - length rest ≤ 0
@@ -141,7 +141,7 @@ pub at_start : (version : IpVersion) (reading : Reading) (first : ℕ) (bytes : 
 at_start version reading first bytes taken parts number rest read none =
     read.start ∙ eq-eqb (length read.front) 0 (omega (arith, front_len bytes read.front rest read.split))
 
--- something was read where bytes are before it
+-- If bytes are before the rest, a header has been visited.
 pub past_start : (version : IpVersion) (reading : Reading) (first : ℕ) (bytes : List ℕ) (taken : List ℕ)
     (parts : List ExtensionPart) (number : ℕ) (rest : List ℕ)
     → IsRead version reading first bytes taken parts number rest → 0 < length bytes - length rest
@@ -149,7 +149,7 @@ pub past_start : (version : IpVersion) (reading : Reading) (first : ℕ) (bytes 
 past_start version reading first bytes taken parts number rest read some =
     read.start ∙ ne_eqb (length read.front) 0 (λ none. omega (arith, front_len bytes read.front rest read.split))
 
--- the same under other names of the number and the rest
+-- The state is preserved if the IP number and the rest are replaced by equal ones.
 pub read_as : (version : IpVersion) (reading : Reading) (first : ℕ) (bytes : List ℕ) (taken : List ℕ)
     (parts : List ExtensionPart) (number other : ℕ) (rest after : List ℕ)
     → IsRead version reading first bytes taken parts number rest → other ≡ number → after ≡ rest
@@ -158,7 +158,7 @@ read_as version reading first bytes taken parts number other rest after read sam
     subst (λ (r : List ℕ). IsRead version reading first bytes taken parts other r) (sym same_rest)
     (subst (λ (n : ℕ). IsRead version reading first bytes taken parts n rest) (sym same_number) read)
 
--- the bytes before the rest
+-- The bytes before the rest are those parsed so far.
 pub read_front : (version : IpVersion) (reading : Reading) (first : ℕ) (bytes : List ℕ) (taken : List ℕ)
     (parts : List ExtensionPart) (number : ℕ) (rest : List ℕ)
     → (read : IsRead version reading first bytes taken parts number rest)
@@ -167,7 +167,7 @@ read_front version reading first bytes taken parts number rest read =
     ap (take (length bytes - length rest)) read.split
     ∙ take_at read.front rest (length bytes - length rest) (front_len bytes read.front rest read.split)
 
--- a slice more
+-- The state after one more slice.
 pub slice_more : (first : ℕ) (bytes : List ℕ) (number : ℕ) (rest : List ℕ) (fragmented : Bool) (part : ExtensionPart)
     (behind : List ℕ) (next : ℕ) (after : List ℕ) (fragments : Bool)
     → (read : SlicesRead first bytes number rest fragmented) → is_ipv6_extension number ≡ true → (number ≡ 0
@@ -188,20 +188,20 @@ slice_more first bytes number rest fragmented part behind next after fragments r
           ∙ sym (fragments_more read.parts part);
     }
 
--- the next slice is refused
+-- If the next slice is rejected, the chain is rejected.
 pub slice_refused : (first : ℕ) (bytes : List ℕ) (number : ℕ) (rest : List ℕ) (fragmented : Bool)
     (error shown : HeaderSliceError)
     → SlicesRead first bytes number rest fragmented → is_ipv6_extension number ≡ true → (number ≡ 0
     → length bytes - length rest ≤ 0) → RefusesExtensionPart number rest error
-    → shown ≡ further_in (length bytes - length rest) error → RefusesExtensionChain ipv6 slices first bytes shown
+    → shown ≡ with_offset_in (length bytes - length rest) error → RefusesExtensionChain ipv6 slices first bytes shown
 slice_refused first bytes number rest fragmented error shown read kind start refused same =
-    subst (RefusesExtensionChain ipv6 slices first bytes) (ap (λ (n : ℕ). further_in n error)
+    subst (RefusesExtensionChain ipv6 slices first bytes) (ap (λ (n : ℕ). with_offset_in n error)
     (front_len bytes read.read.front rest read.read.split) ∙ sym same)
     (read_refused ipv6 slices first bytes read.taken read.parts number rest error read.read
     (slices_take read.taken number kind (λ zero_is. at_start ipv6 slices first bytes read.taken read.parts number rest
     read.read (start zero_is))) refused)
 
--- hop by hop options that are not first
+-- Hop-by-Hop options that are not first are rejected.
 pub slice_misplaced : (first : ℕ) (bytes : List ℕ) (number : ℕ) (rest : List ℕ) (fragmented : Bool)
     → SlicesRead first bytes number rest fragmented → number ≡ 0 → 0 < length bytes - length rest
     → RefusesExtensionChain ipv6 slices first bytes (header_error.Content content.HopByHopNotAtStart)
@@ -210,7 +210,7 @@ slice_misplaced first bytes number rest fragmented read zero_is some =
     (misplaced_0 slices read.taken number zero_is
     (past_start ipv6 slices first bytes read.taken read.parts number rest read.read some))
 
--- all slices
+-- The parsed slices: the chain, the bytes of the headers and the rest.
 pub record AllSlices (first : ℕ) (bytes : List ℕ) (number : ℕ) (rest front : List ℕ) (fragmented : Bool) : Type 0 where
   pub split : bytes ≡ front ++ rest
   pub chain : IsExtensionChain ipv6 slices first bytes (chain_of (shown_parts first front) number rest)

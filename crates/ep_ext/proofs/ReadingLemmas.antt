@@ -1,17 +1,17 @@
--- What a chain in the reading of headers is in that of slices.
+-- Relation of a chain read as owned headers to the chain read as slices.
 use Rattle.std.proofs.Common.{◌≡◌, ◌⊎◌, ℕ, ◌+◌, Bool, true, false, List, [], ◌∷◌, refl, ap, subst, ◌∙◌, inl, inr, arith}
 use Rattle.std.proofs.lemmas.Grind.{common_steps}
 use Rattle.ep_base.specs.Readings.{slices, headers}
 use Rattle.ep_base.specs.declared.err.ipv6_exts.HeaderSliceError.{HeaderSliceError}
 use Rattle.ep_ext.specs.ExtensionParts.{ExtensionPart, part_len, part_next}
-use Rattle.ep_ext.specs.Chains.{IpVersion, ipv4, ipv6, ends, takes, misplaced, demand_of, is_ipv6_extension, is_taken, IsChainBehind, RefusesChainBehind, StopsAtSecond}
+use Rattle.ep_ext.specs.Chains.{IpVersion, ipv4, ipv6, ends, takes, misplaced, demand_of, is_ipv6_extension, is_taken, IsChainAfter, RefusesChainAfter, StopsAtSecond}
 use Rattle.ep_ext.proofs.PartLemmas.{part_numbered}
 
 flag_cases : (flag : Bool) → (flag ≡ true) ⊎ (flag ≡ false)
 flag_cases true = inl refl
 flag_cases false = inr refl
 
--- ---- what a number demands
+-- ---- demands of IP numbers
 
 other_ends : (taken : List ℕ) (number : ℕ) → demand_of ipv6 headers taken number ≡ ends
     → is_ipv6_extension number ≡ false → demand_of ipv6 slices taken number ≡ ends
@@ -21,7 +21,8 @@ new_ends : (taken : List ℕ) (number : ℕ) → demand_of ipv6 headers taken nu
     → is_taken taken number ≡ false → demand_of ipv6 slices taken number ≡ ends
 new_ends taken number demand new = grind (arith, common_steps)
 
--- the end of a chain is one in slices too, unless the number is an extension header's of a kind that was taken
+-- The end of a chain of owned headers ends a chain of slices too, unless the IP number is that of an extension header
+-- of a kind visited before.
 pub ends_in_slices : (version : IpVersion) (taken : List ℕ) (number : ℕ)
     → demand_of version headers taken number ≡ ends
     → (demand_of version slices taken number ≡ ends)
@@ -36,13 +37,13 @@ ends_in_slices ipv6 taken number demand =
       | inr new ↦ inl (new_ends taken number demand new)
     ]
 
--- what is taken is taken in slices too
+-- A chain of slices continues with every header that a chain of owned headers continues with.
 pub takes_in_slices : (version : IpVersion) (taken : List ℕ) (number : ℕ)
     → demand_of version headers taken number ≡ takes → demand_of version slices taken number ≡ takes
 takes_in_slices ipv4 taken number demand = demand
 takes_in_slices ipv6 taken number demand = grind (arith, common_steps)
 
--- and what must not stand there must not in slices
+-- A misplaced header in a chain of owned headers is misplaced in a chain of slices.
 pub misplaced_in_slices : (version : IpVersion) (taken : List ℕ) (number : ℕ)
     → demand_of version headers taken number ≡ misplaced → demand_of version slices taken number ≡ misplaced
 misplaced_in_slices ipv4 taken number demand = demand
@@ -50,11 +51,11 @@ misplaced_in_slices ipv6 taken number demand = grind (arith, common_steps)
 
 -- ---- chains
 
--- a chain is one in slices, or stops at a second header of a kind
+-- A chain of owned headers is a chain of slices, or stops before a second header of a kind.
 pub chain_in_slices : (version : IpVersion) (taken : List ℕ) (number : ℕ) (bytes : List ℕ) (parts : List ExtensionPart)
     (last : ℕ) (rest : List ℕ)
-    → IsChainBehind version headers taken number bytes parts last rest
-    → IsChainBehind version slices taken number bytes parts last rest
+    → IsChainAfter version headers taken number bytes parts last rest
+    → IsChainAfter version slices taken number bytes parts last rest
     ⊎ ((version ≡ ipv6) × StopsAtSecond taken parts last × (is_ipv6_extension last ≡ true))
 chain_in_slices version taken number bytes [] last rest is =
     elim (ends_in_slices version taken number is.0) [
@@ -76,11 +77,11 @@ chain_in_slices version taken number bytes (part ∷ parts) last rest is =
       )
     ]
 
--- what is refused is refused in slices
+-- Bytes rejected as owned headers are rejected as slices.
 pub refused_in_slices : (version : IpVersion) (taken : List ℕ) (offset number : ℕ) (bytes : List ℕ)
     (parts : List ExtensionPart) (error : HeaderSliceError)
-    → RefusesChainBehind version headers taken offset number bytes parts error
-    → RefusesChainBehind version slices taken offset number bytes parts error
+    → RefusesChainAfter version headers taken offset number bytes parts error
+    → RefusesChainAfter version slices taken offset number bytes parts error
 refused_in_slices version taken offset number bytes [] error (inl refused) =
     inl (misplaced_in_slices version taken number refused.0, refused.1)
 refused_in_slices version taken offset number bytes [] error (inr refused) =

@@ -1,4 +1,4 @@
--- Where the refusals of single extension headers lie.
+-- Offsets of the errors of single extension headers.
 use Rattle.std.proofs.Common.{◌≡◌, ℕ, ◌==◌, Bool, true, false, if◌then◌else◌, List, refl}
 use Rattle.ep_base.specs.Tables.{rows_as}
 use Rattle.ep_base.specs.IpNumbers.{authentication_number, fragment_number}
@@ -11,7 +11,7 @@ use Rattle.ep_ext.specs.RawExtension.{raw_extension_rows}
 use Rattle.ep_ext.specs.ExtensionParts.{auth_refusal, extension_part_rows, RefusesExtensionPart}
 use Rattle.ep_ext.specs.Chains.{offset_of}
 
--- the refusal lies at the first byte
+-- The layer of the error starts at byte 0.
 abbrev pub AtStart : HeaderSliceError → Type 0
 AtStart error = offset_of error ≡ 0
 
@@ -23,7 +23,7 @@ rows_at_start true fragment bytes = (refl, (refl, (refl, tt)))
 rows_at_start false true bytes = (refl, tt)
 rows_at_start false false bytes = (refl, (refl, tt))
 
--- a single header is refused at its start
+-- A single header is rejected at byte 0.
 pub part_at_start : (number : ℕ) (bytes : List ℕ) (error : HeaderSliceError) → RefusesExtensionPart number bytes error
     → AtStart error
 part_at_start number bytes error refused =

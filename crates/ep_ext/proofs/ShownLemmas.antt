@@ -1,4 +1,4 @@
--- That the headers which bytes show are the headers of the chain that they are.
+-- The headers found in the bytes are the headers of their chain.
 use Rattle.std.proofs.Common.{◌≡◌, ℕ, zero, suc, ◌+◌, ◌≤◌, true, false, if◌then◌else◌, List, [], ◌∷◌, ◌++◌, get_or, length, take, drop, Option, None, is_none, refl, sym, ap, subst, ◌∙◌, inl, inr, arith, append_assoc, length-append, length-drop}
 use Rattle.std.proofs.lemmas.Bool.{cases_Bool, and_left, and_right}
 use Rattle.std.proofs.lemmas.Grind.{common_steps}
@@ -15,7 +15,7 @@ use Rattle.ep_ext.specs.IpAuth.{IsIpAuth, ip_auth_rows}
 use Rattle.ep_ext.specs.FragmentHeader.{IsFragmentHeader, fragment_header_rows}
 use Rattle.ep_ext.specs.RawExtension.{IsRawExtension, raw_extension_rows, raw_extension_bytes}
 use Rattle.ep_ext.specs.ExtensionParts.{ExtensionPart, hop_by_hop, destination_options, routing, fragment, authentication, part_next, part_len, IsExtensionPart, RefusesExtensionPart, auth_refusal}
-use Rattle.ep_ext.specs.Chains.{ipv6, chain_of, ends, demand_of, is_ipv6_extension, IsChainBehind, IsExtensionChain, IpVersion}
+use Rattle.ep_ext.specs.Chains.{ipv6, chain_of, ends, demand_of, is_ipv6_extension, IsChainAfter, IsExtensionChain, IpVersion}
 use Rattle.ep_base.specs.Readings.{Reading}
 use Rattle.ep_ext.specs.ShownChains.{part_of, part_len_of, begins_part, shown_parts_in, shown_parts}
 use Rattle.ep_ext.proofs.IpAuthLemmas.{ip_auth_is_read}
@@ -23,7 +23,7 @@ use Rattle.ep_ext.proofs.FragmentHeaderLemmas.{fragment_header_is_read}
 use Rattle.ep_ext.proofs.RawExtensionLemmas.{raw_extension_is_read}
 use Rattle.ep_ext.proofs.PartLemmas.{part_lens}
 
--- what is known of a header that bytes begin with
+-- Facts about the first header of the bytes.
 pub record ShowsFirst (number : ℕ) (bytes : List ℕ) (part : ExtensionPart) (behind : List ℕ) : Type 0 where
   pub begins : begins_part number bytes ≡ true
   pub part_is : part ≡ part_of number (take (part_len_of number bytes) bytes)
@@ -106,7 +106,7 @@ authentication_first bytes header behind is =
       next_is = auth_next bytes header behind is;
     }
 
--- bytes that begin with a header show it
+-- Bytes that begin with a header are found to have it first.
 pub part_shown : (number : ℕ) (bytes : List ℕ) (part : ExtensionPart) (behind : List ℕ)
     → IsExtensionPart number bytes part behind → ShowsFirst number bytes part behind
 part_shown number bytes (hop_by_hop header) behind is = subst (λ (n : ℕ). ShowsFirst n bytes
@@ -120,7 +120,7 @@ part_shown number bytes (fragment header) behind is = subst (λ (n : ℕ). Shows
 part_shown number bytes (authentication header) behind is = subst (λ (n : ℕ). ShowsFirst n bytes
     (authentication header) behind) (sym is.0) (authentication_first bytes header behind is.1)
 
--- ---- one step of what is shown
+-- ---- one step of finding headers
 
 begun : (most number : ℕ) (bytes : List ℕ) → begins_part number bytes ≡ true → shown_parts_in (suc most) number bytes
     ≡ part_of number (take (part_len_of number bytes) bytes) ∷ shown_parts_in most (get_or bytes 0 0) (drop
@@ -140,7 +140,7 @@ not_begun (suc most) number bytes begins = λ i. if begins i
     (part_len_of number bytes) bytes)
     else []
 
--- the first header, and what is shown behind it
+-- The headers found are the first header and those found after it.
 first_shown : (most number : ℕ) (bytes : List ℕ) (part : ExtensionPart) (behind : List ℕ)
     → IsExtensionPart number bytes part behind
     → shown_parts_in (suc most) number bytes ≡ part ∷ shown_parts_in most (part_next part) behind
@@ -149,18 +149,18 @@ first_shown most number bytes part behind is =
     begun most number bytes shows.begins ∙ (λ i. sym shows.part_is i ∷ shown_parts_in most (sym shows.next_is i)
     (sym shows.behind_is i))
 
--- a number of no extension header shows none
+-- An IP number that is not that of an extension header finds no header.
 pub no_kind_shown : (number : ℕ) (bytes : List ℕ) → is_ipv6_extension number ≡ false → begins_part number bytes ≡ false
 no_kind_shown number bytes none = and_left (is_ipv6_extension number) _ none
 
--- nor do bytes that are refused
+-- Rejected bytes have no header found.
 pub refused_shown : (number : ℕ) (bytes : List ℕ) (error : HeaderSliceError) → is_ipv6_extension number ≡ true
     → RefusesExtensionPart number bytes error → begins_part number bytes ≡ false
 refused_shown number bytes error kind refused = and_right (is_ipv6_extension number) _ (ap is_none refused)
 
--- ---- the bound on the number of headers says nothing
+-- ---- the bound on the number of headers is irrelevant
 
--- what begins with a header has its 8 bytes and more
+-- Bytes that begin with a header have at least 8 bytes.
 begun_long : (number : ℕ) (bytes : List ℕ) → begins_part number bytes ≡ true → 8 ≤ length bytes
 begun_long number bytes begins = grind (arith, common_steps)
 
@@ -195,7 +195,7 @@ enough (suc most) (suc other) number bytes within within_other =
       | inr none ↦ not_begun (suc most) number bytes none ∙ sym (not_begun (suc other) number bytes none)
     ]
 
--- the headers that are shown from a header on
+-- The headers found in the bytes are a first header and those found after it.
 pub shown_next : (number : ℕ) (bytes : List ℕ) (part : ExtensionPart) (behind : List ℕ)
     → IsExtensionPart number bytes part behind
     → shown_parts number bytes ≡ part ∷ shown_parts (part_next part) behind
@@ -208,7 +208,7 @@ shown_next number bytes part behind is =
     ∙ ap (λ (parts : List ExtensionPart). part ∷ parts) (enough most (length behind) (part_next part) behind
     (omega arith) (omega arith))
 
--- no headers are shown where none begins
+-- No headers are found if none begins the bytes.
 pub shown_none : (number : ℕ) (bytes : List ℕ) → begins_part number bytes ≡ false → shown_parts number bytes ≡ []
 unfolding shown_parts
 shown_none number bytes none = not_begun (length bytes) number bytes none
@@ -225,20 +225,20 @@ shown_at_most (suc most) number bytes =
           (suc most) number bytes none)) (omega arith)
     ]
 
--- no more headers are shown than there are bytes
+-- There are no more headers than bytes.
 pub shown_within : (number : ℕ) (bytes : List ℕ) → length (shown_parts number bytes) ≤ length bytes
 unfolding shown_parts
 shown_within number bytes = shown_at_most (length bytes) number bytes
 
--- ---- the headers of a chain are those that its bytes show
+-- ---- headers of a chain are those found in its bytes
 
--- where a chain of slices ends, no header is shown
+-- No header is found at the end of a chain of slices.
 end_is_no_kind : (taken : List ℕ) (number : ℕ) → demand_of ipv6 slices taken number ≡ ends
     → is_ipv6_extension number ≡ false
 end_is_no_kind taken number end = grind (arith, common_steps)
 
 pub chain_shown : (taken : List ℕ) (number : ℕ) (bytes : List ℕ) (parts : List ExtensionPart) (last : ℕ) (rest : List ℕ)
-    → IsChainBehind ipv6 slices taken number bytes parts last rest → shown_parts number bytes ≡ parts
+    → IsChainAfter ipv6 slices taken number bytes parts last rest → shown_parts number bytes ≡ parts
 chain_shown taken number bytes [] last rest is = shown_none number bytes (no_kind_shown number bytes
     (end_is_no_kind taken number is.0))
 chain_shown taken number bytes (part ∷ parts) last rest is =
@@ -246,7 +246,7 @@ chain_shown taken number bytes (part ∷ parts) last rest is =
     ∙ ap (λ (more : List ExtensionPart). part ∷ more) (chain_shown (number ∷ taken)
     (part_next part) is.1.0 parts last rest is.1.2)
 
--- a header is one whatever stands behind it
+-- A header stays valid when the bytes after it are replaced.
 pub part_moved : (number : ℕ) (bytes : List ℕ) (part : ExtensionPart) (behind other : List ℕ)
     → IsExtensionPart number bytes part behind
     → (front : List ℕ) × (bytes ≡ front ++ behind) × IsExtensionPart number (front ++ other) part other
@@ -270,16 +270,16 @@ part_moved number bytes (fragment header) behind other is =
 part_moved number bytes (authentication header) behind other is =
     (is.1.encoded, is.1.parts, (is.0, record { encoded = is.1.encoded; encodes = is.1.encodes; parts = refl }))
 
--- the bytes of a chain, without the rest
+-- The bytes of a chain without the rest.
 pub record FrontOf (version : IpVersion) (reading : Reading) (taken : List ℕ) (number : ℕ) (bytes : List ℕ)
     (parts : List ExtensionPart) (last : ℕ) (rest : List ℕ) : Type 0 where
   pub front : List ℕ
   pub split : bytes ≡ front ++ rest
-  pub chain : IsChainBehind version reading taken number front parts last []
+  pub chain : IsChainAfter version reading taken number front parts last []
 
 pub chain_front : (version : IpVersion) (reading : Reading) (taken : List ℕ) (number : ℕ) (bytes : List ℕ)
     (parts : List ExtensionPart) (last : ℕ) (rest : List ℕ)
-    → IsChainBehind version reading taken number bytes parts last rest
+    → IsChainAfter version reading taken number bytes parts last rest
     → FrontOf version reading taken number bytes parts last rest
 chain_front version reading taken number bytes [] last rest is = record {
   front = [];
@@ -296,7 +296,7 @@ chain_front version reading taken number bytes (part ∷ parts) last rest is =
       chain = (is.0, (more.front, moved.2, more.chain));
     }
 
--- the bytes before the rest of a chain of slices show its headers
+-- The headers found in the bytes before the rest of a chain of slices are its headers.
 pub front_shown : (number : ℕ) (bytes front : List ℕ) (parts : List ExtensionPart) (last : ℕ) (rest : List ℕ)
     → IsExtensionChain ipv6 slices number bytes (chain_of parts last rest) → bytes ≡ front ++ rest
     → shown_parts number front ≡ parts

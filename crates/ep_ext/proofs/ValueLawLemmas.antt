@@ -1,4 +1,4 @@
--- The value of a chain of extension headers of IPv6: how long it is, and whether it fragments.
+-- The value of a chain of IPv6 extension headers: its length, and whether it states a fragment.
 use Rattle.std.proofs.Common.{◌≡◌, ℕ, ◌+◌, ◌||◌, Bool, true, false, List, [], ◌∷◌, ◌++◌, length, Option, Some, None, refl, sym, ap, subst, ◌∙◌, inl, inr, arith, length-append}
 use Rattle.std.proofs.lemmas.Bool.{cases_Bool, true≢false}
 use Rattle.std.proofs.lemmas.Grind.{common_steps}
@@ -12,14 +12,14 @@ use Rattle.ep_ext.specs.declared.ipv6_routing_exts.Ipv6RoutingExtensions.{Ipv6Ro
 use Rattle.ep_ext.specs.IpAuth.{ip_auth_len}
 use Rattle.ep_ext.specs.FragmentHeader.{is_ipv6_fragment}
 use Rattle.ep_ext.specs.RawExtension.{raw_extension_len}
-use Rattle.ep_ext.specs.ExtensionParts.{ExtensionPart, hop_by_hop, destination_options, routing, fragment, authentication, parts_there, part_number, part_next, part_bytes, part_fragments}
-use Rattle.ep_ext.specs.Chains.{ipv6, ExtensionChain, takes, demand_of, is_taken, IsChainBehind, IsExtensionChain, parts_bytes, chain_fragments}
+use Rattle.ep_ext.specs.ExtensionParts.{ExtensionPart, hop_by_hop, destination_options, routing, fragment, authentication, optional_part, part_number, part_next, part_bytes, part_fragments}
+use Rattle.ep_ext.specs.Chains.{ipv6, ExtensionChain, takes, demand_of, is_taken, IsChainAfter, IsExtensionChain, parts_bytes, chain_fragments}
 use Rattle.ep_ext.specs.Ipv6Chains.{no_ipv6_extensions, extensions_of, with_part, with_parts, with_destination, has_kind, has_destination, ipv6_parts, routing_header, final_by}
 use Rattle.ep_ext.proofs.PartLemmas.{part_numbered, auth_len}
 use Rattle.ep_ext.proofs.ValueLemmas.{HasTaken, none_taken, taken_more, value_of, value_len}
 use Rattle.ep_ext.proofs.ChainBytesLemmas.{chain_len}
 
--- what is taken was not taken before
+-- A header that a chain of owned headers continues with has not been visited before.
 takes_untaken : (taken : List ℕ) (number : ℕ) → demand_of ipv6 headers taken number ≡ takes
     → is_taken taken number ≡ false
 takes_untaken [] number demand = refl
@@ -29,7 +29,7 @@ takes_untaken (nearest ∷ taken) number demand =
       | inr fresh ↦ fresh
     ]
 
--- a part of a chain of headers
+-- A header of a chain whose kind is not yet in the value.
 record Fresh (taken : List ℕ) (walked : Ipv6Extensions) (number : ℕ) (part : ExtensionPart) : Type 0 where
   numbered : number ≡ part_number part
   free : has_kind walked (part_number part) ≡ false
@@ -41,7 +41,7 @@ fresh taken walked number part has demand same = record {
   free = sym (has (part_number part)) ∙ ap (is_taken taken) (sym same) ∙ takes_untaken taken number demand;
 }
 
--- ---- how long a value is
+-- ---- length of a value
 
 abbrev pub total : Ipv6Extensions → ℕ
 total extensions = option_map_or raw_extension_len extensions.hop_by_hop_options 0
@@ -70,7 +70,7 @@ destination_longer hop destination None fragmenting auth header free =
 destination_longer hop destination (Some behind) fragmenting auth header free =
     omega (arith, absent raw_extension_len behind.final_destination_options free)
 
--- a header more
+-- A header added to a value adds its length.
 pub longer : (walked : Ipv6Extensions) (part : ExtensionPart) → has_kind walked (part_number part) ≡ false
     → total (with_part walked part) ≡ total walked + length (part_bytes part)
 longer walked (hop_by_hop header) free = omega (arith, absent raw_extension_len walked.hop_by_hop_options free)
@@ -83,7 +83,7 @@ longer walked (fragment header) free = omega (arith, absent (λ _. 8) walked.fra
 longer walked (authentication header) free =
     omega (arith, absent ip_auth_len walked.auth free, auth_len 0 header)
 
--- ---- whether a value fragments
+-- ---- fragment state of a value
 
 abbrev fragments_by : Option Ipv6FragmentHeader → Bool
 fragments_by None = false
@@ -109,7 +109,7 @@ destination_fragments : (hop destination : Option Ipv6RawExtHeader) (behind : Op
 destination_fragments hop destination None fragmenting auth header = or_false (fragments_by fragmenting)
 destination_fragments hop destination (Some behind) fragmenting auth header = or_false (fragments_by fragmenting)
 
--- a header more
+-- A header added to a value adds its fragment state.
 fragments_with : (walked : Ipv6Extensions) (part : ExtensionPart) → has_kind walked (part_number part) ≡ false
     → fragments_by (with_part walked part).fragment ≡ (fragments_by walked.fragment || part_fragments part)
 fragments_with walked (hop_by_hop header) free = or_false (fragments_by walked.fragment)
@@ -127,26 +127,26 @@ fragments-append (part ∷ parts) more =
     ap (λ (b : Bool). part_fragments part || b) (fragments-append parts more)
     ∙ sym (or_assoc (part_fragments part) (chain_fragments parts) (chain_fragments more))
 
--- headers of a kind that is no fragment header
+-- Headers other than fragment headers never state a fragment.
 none_fragments : {H : Type 0} (kind : H → ExtensionPart) → ((header : H) → part_fragments (kind header) ≡ false)
-    → (there : Option H) → chain_fragments (parts_there kind there) ≡ false
+    → (there : Option H) → chain_fragments (optional_part kind there) ≡ false
 none_fragments kind never None = refl
 none_fragments kind never (Some header) = ap (λ (b : Bool). b || false) (never header)
 
-one_fragments : (there : Option Ipv6FragmentHeader) → chain_fragments (parts_there fragment there) ≡ fragments_by there
+one_fragments : (there : Option Ipv6FragmentHeader) → chain_fragments (optional_part fragment there) ≡ fragments_by there
 one_fragments None = refl
 one_fragments (Some header) = sym (or_false (is_ipv6_fragment header))
 
--- a value fragments where its fragment header does
+-- A value states a fragment if its fragment header does.
 value_fragments : (extensions : Ipv6Extensions)
     → chain_fragments (ipv6_parts extensions) ≡ fragments_by extensions.fragment
 value_fragments extensions =
-    let a = parts_there hop_by_hop extensions.hop_by_hop_options in
-    let b = parts_there destination_options extensions.destination_options in
-    let c = parts_there routing (option_map routing_header extensions.routing) in
-    let d = parts_there fragment extensions.fragment in
-    let e = parts_there authentication extensions.auth in
-    let f = parts_there destination_options (final_by extensions.routing) in
+    let a = optional_part hop_by_hop extensions.hop_by_hop_options in
+    let b = optional_part destination_options extensions.destination_options in
+    let c = optional_part routing (option_map routing_header extensions.routing) in
+    let d = optional_part fragment extensions.fragment in
+    let e = optional_part authentication extensions.auth in
+    let f = optional_part destination_options (final_by extensions.routing) in
     fragments-append (a ++ b ++ c ++ d ++ e) f
     ∙ (λ i. fragments-append (a ++ b ++ c ++ d) e i
     || none_fragments destination_options (λ h. refl) (final_by extensions.routing) i)
@@ -161,7 +161,7 @@ value_fragments extensions =
     || none_fragments destination_options (λ h. refl) extensions.destination_options i) || false)
     || fragments_by extensions.fragment)
 
--- ---- the value of a chain
+-- ---- value of a chain
 
 record ValueIs (walked : Ipv6Extensions) (parts : List ExtensionPart) : Type 0 where
   len : total (with_parts walked parts) ≡ total walked + length (parts_bytes parts)
@@ -170,7 +170,7 @@ record ValueIs (walked : Ipv6Extensions) (parts : List ExtensionPart) : Type 0 w
 
 value_behind : (taken : List ℕ) (walked : Ipv6Extensions) (number : ℕ) (bytes : List ℕ) (parts : List ExtensionPart)
     (last : ℕ) (rest : List ℕ)
-    → HasTaken taken walked → IsChainBehind ipv6 headers taken number bytes parts last rest → ValueIs walked parts
+    → HasTaken taken walked → IsChainAfter ipv6 headers taken number bytes parts last rest → ValueIs walked parts
 value_behind taken walked number bytes [] last rest has is = record {
   len = omega arith;
   fragments = or_false (fragments_by walked.fragment);
@@ -193,7 +193,7 @@ value_behind taken walked number bytes (part ∷ parts) last rest has is =
           ∙ or_assoc (fragments_by walked.fragment) (part_fragments part) (chain_fragments parts);
     }
 
--- the value of a chain has as many bytes as the chain before its rest
+-- The value of a chain has the length of the chain before its rest.
 pub chain_value_len : (number : ℕ) (bytes : List ℕ) (chain : ExtensionChain)
     → IsExtensionChain ipv6 headers number bytes chain
     → length bytes ≡ length (parts_bytes (ipv6_parts (extensions_of chain.parts))) + length chain.rest
@@ -201,7 +201,7 @@ chain_value_len number bytes chain is =
     let value = value_behind [] no_ipv6_extensions number bytes chain.parts chain.last chain.rest none_taken is in
     omega (arith, chain_len ipv6 headers number bytes chain is, value_len (extensions_of chain.parts), value.len)
 
--- and fragments where the chain does
+-- The value of a chain states a fragment if the chain does.
 pub chain_value_fragments : (number : ℕ) (bytes : List ℕ) (chain : ExtensionChain)
     → IsExtensionChain ipv6 headers number bytes chain
     → chain_fragments (ipv6_parts (extensions_of chain.parts)) ≡ chain_fragments chain.parts

@@ -1,4 +1,4 @@
--- What a value of extension headers has to do with the headers that were taken into it.
+-- Relation of a value of extension headers to the headers collected in it.
 use Rattle.std.proofs.Common.{◌≡◌, ℕ, ◌+◌, ◌-◌, ◌≤◌, ◌<◌, true, false, List, [], ◌∷◌, ◌++◌, length, Option, Some, None, refl, sym, ap, subst, ◌∙◌, arith, length-append}
 use Rattle.std.proofs.lemmas.Bool.{false≢true}
 use Rattle.std.proofs.lemmas.Grind.{common_steps}
@@ -13,23 +13,23 @@ use Rattle.ep_ext.specs.declared.ipv6_fragment_header.Ipv6FragmentHeader.{Ipv6Fr
 use Rattle.ep_ext.specs.declared.ipv6_raw_ext_header.Ipv6RawExtHeader.{Ipv6RawExtHeader}
 use Rattle.ep_ext.specs.declared.ipv6_exts.Ipv6Extensions.{Ipv6Extensions}
 use Rattle.ep_ext.specs.declared.ipv6_routing_exts.Ipv6RoutingExtensions.{Ipv6RoutingExtensions}
-use Rattle.ep_ext.specs.ExtensionParts.{ExtensionPart, hop_by_hop, destination_options, routing, fragment, authentication, part_number, part_next, part_bytes, parts_there, IsExtensionPart, RefusesExtensionPart}
+use Rattle.ep_ext.specs.ExtensionParts.{ExtensionPart, hop_by_hop, destination_options, routing, fragment, authentication, part_number, part_next, part_bytes, optional_part, IsExtensionPart, RefusesExtensionPart}
 use Rattle.ep_ext.specs.IpAuth.{ip_auth_bytes, ip_auth_len}
 use Rattle.ep_ext.specs.FragmentHeader.{fragment_header_bytes}
 use Rattle.ep_ext.specs.RawExtension.{raw_extension_bytes, raw_extension_len}
-use Rattle.ep_ext.specs.Chains.{ipv6, chain_of, ends, takes, demand_of, is_first, is_taken, is_ipv6_extension, parts_bytes, IsExtensionChain, RefusesExtensionChain, further_in}
+use Rattle.ep_ext.specs.Chains.{ipv6, chain_of, ends, takes, demand_of, is_first, is_taken, is_ipv6_extension, parts_bytes, IsExtensionChain, RefusesExtensionChain, with_offset_in}
 use Rattle.ep_ext.specs.Ipv6Chains.{no_ipv6_extensions, extensions_of, with_part, with_parts, with_destination, has_kind, ipv6_parts, routing_header, final_by}
 use Rattle.ep_ext.proofs.PartLemmas.{part_numbered, auth_len}
 use Rattle.ep_ext.proofs.ReadLemmas.{IsRead, read_nothing, read_part, read_all, read_refused, read_misplaced, read_as, misplaced_0, at_start, past_start, front_len}
 
--- the headers of a value are of the kinds that were taken
+-- The kinds of headers of the value are those visited.
 abbrev pub HasTaken : List ℕ → Ipv6Extensions → Type 0
 HasTaken taken walked = (number : ℕ) → is_taken taken number ≡ has_kind walked number
 
 pub none_taken : HasTaken [] no_ipv6_extensions
 none_taken number = grind (arith, common_steps)
 
--- the value of these fields
+-- The value with these fields.
 abbrev pub value_of : Option Ipv6RawExtHeader → Option Ipv6RawExtHeader → Option Ipv6RoutingExtensions
     → Option Ipv6FragmentHeader → Option IpAuthHeader → Ipv6Extensions
 value_of hop destination behind fragmenting auth = record {
@@ -49,7 +49,7 @@ destination_taken hop destination None fragmenting auth taken header has number 
 destination_taken hop destination (Some behind) fragmenting auth taken header has number = grind
     (arith, common_steps, has number)
 
--- a header more
+-- A visited header is of a kind that the value then has.
 pub taken_more : (taken : List ℕ) (walked : Ipv6Extensions) (part : ExtensionPart) → HasTaken taken walked
     → HasTaken (part_number part ∷ taken) (with_part walked part)
 taken_more taken walked (hop_by_hop header) has number = grind (arith, common_steps, has number)
@@ -60,13 +60,13 @@ taken_more taken walked (routing header) has number = grind (arith, common_steps
 taken_more taken walked (fragment header) has number = grind (arith, common_steps, has number)
 taken_more taken walked (authentication header) has number = grind (arith, common_steps, has number)
 
--- headers put one after another
+-- Headers appended to a list are added to the value one after another.
 pub with_parts-append : (walked : Ipv6Extensions) (parts : List ExtensionPart) (part : ExtensionPart)
     → with_parts walked (parts ++ part ∷ []) ≡ with_part (with_parts walked parts) part
 with_parts-append walked [] part = refl
 with_parts-append walked (other ∷ parts) part = with_parts-append (with_part walked other) parts part
 
--- ---- what a number demands in the reading of headers
+-- ---- demands of IP numbers, read as owned headers
 
 pub first_none_taken : (taken : List ℕ) (number : ℕ) → is_first taken ≡ true → is_taken taken number ≡ false
 first_none_taken [] number start = refl
@@ -87,7 +87,7 @@ headers_end_taken taken number start kind there =
     let other : number ≡ 0 → ⊥ = λ is. false≢true (sym (first_none_taken taken number (start is)) ∙ there) in
     grind (arith, common_steps)
 
--- ---- what the loop over headers has read
+-- ---- state of the loop over owned headers
 
 pub record HeadersRead (first : ℕ) (bytes : List ℕ) (number : ℕ) (rest : List ℕ)
     (extensions : Ipv6Extensions) : Type 0 where
@@ -107,7 +107,7 @@ headers_nothing first bytes extensions none = record {
   has = subst (HasTaken []) (sym none) none_taken;
 }
 
--- nothing was taken where no byte is before the rest
+-- If no byte is before the rest, no header has been visited.
 headers_start : (first : ℕ) (bytes : List ℕ) (number : ℕ) (rest : List ℕ) (extensions : Ipv6Extensions)
     → (read : HeadersRead first bytes number rest extensions)
     → (number ≡ 0 → length bytes - length rest ≤ 0) → number ≡ 0 → is_first read.taken ≡ true
@@ -141,10 +141,10 @@ pub headers_refused : (first : ℕ) (bytes : List ℕ) (number : ℕ) (rest : Li
     (error shown : HeaderSliceError)
     → HeadersRead first bytes number rest extensions → is_ipv6_extension number ≡ true → (number ≡ 0
     → length bytes - length rest ≤ 0) → has_kind extensions number ≡ false
-    → RefusesExtensionPart number rest error → shown ≡ further_in (length bytes - length rest) error
+    → RefusesExtensionPart number rest error → shown ≡ with_offset_in (length bytes - length rest) error
     → RefusesExtensionChain ipv6 headers first bytes shown
 headers_refused first bytes number rest extensions error shown read kind start none refused same =
-    subst (RefusesExtensionChain ipv6 headers first bytes) (ap (λ (n : ℕ). further_in n error)
+    subst (RefusesExtensionChain ipv6 headers first bytes) (ap (λ (n : ℕ). with_offset_in n error)
     (front_len bytes read.read.front rest read.read.split) ∙ sym same)
     (read_refused ipv6 headers first bytes read.taken read.parts number rest error read.read
     (headers_take read.taken number kind (headers_start first bytes number rest extensions read start)
@@ -158,7 +158,7 @@ headers_misplaced first bytes number rest extensions read zero_is some =
     (misplaced_0 headers read.taken number zero_is
     (past_start ipv6 headers first bytes read.taken read.parts number rest read.read some))
 
--- the value of a chain
+-- The value of a chain.
 abbrev pub IsValueOf : ℕ → List ℕ → ℕ → List ℕ → Ipv6Extensions → Type 0
 IsValueOf first bytes number rest extensions =
     (parts : List ExtensionPart) × (extensions ≡ extensions_of parts) × IsExtensionChain ipv6 headers first bytes
@@ -186,7 +186,7 @@ headers_second_read first bytes number rest extensions read kind start there = (
       (read.has number ∙ there)),
 )
 
--- ---- how long the headers of a value are
+-- ---- length of the headers of a value
 
 pub bytes-append : (parts more : List ExtensionPart)
     → length (parts_bytes (parts ++ more)) ≡ length (parts_bytes parts) + length (parts_bytes more)
@@ -200,31 +200,31 @@ bytes-append (part ∷ parts) more = omega (
 )
 
 hop_by_hop_len : (header : Option Ipv6RawExtHeader)
-    → length (parts_bytes (parts_there hop_by_hop header)) ≡ option_map_or raw_extension_len header 0
+    → length (parts_bytes (optional_part hop_by_hop header)) ≡ option_map_or raw_extension_len header 0
 hop_by_hop_len None = refl
 hop_by_hop_len (Some header) = ap length (append-nil (raw_extension_bytes header)) ∙ omega arith
 
 destination_len : (header : Option Ipv6RawExtHeader)
-    → length (parts_bytes (parts_there destination_options header)) ≡ option_map_or raw_extension_len header 0
+    → length (parts_bytes (optional_part destination_options header)) ≡ option_map_or raw_extension_len header 0
 destination_len None = refl
 destination_len (Some header) = ap length (append-nil (raw_extension_bytes header)) ∙ omega arith
 
 routing_len : (header : Option Ipv6RawExtHeader)
-    → length (parts_bytes (parts_there routing header)) ≡ option_map_or raw_extension_len header 0
+    → length (parts_bytes (optional_part routing header)) ≡ option_map_or raw_extension_len header 0
 routing_len None = refl
 routing_len (Some header) = ap length (append-nil (raw_extension_bytes header)) ∙ omega arith
 
 fragment_len : (header : Option Ipv6FragmentHeader)
-    → length (parts_bytes (parts_there fragment header)) ≡ option_map_or (λ _. 8) header 0
+    → length (parts_bytes (optional_part fragment header)) ≡ option_map_or (λ _. 8) header 0
 fragment_len None = refl
 fragment_len (Some header) = ap length (append-nil (fragment_header_bytes header))
 
 auth_there_len : (header : Option IpAuthHeader)
-    → length (parts_bytes (parts_there authentication header)) ≡ option_map_or ip_auth_len header 0
+    → length (parts_bytes (optional_part authentication header)) ≡ option_map_or ip_auth_len header 0
 auth_there_len None = refl
 auth_there_len (Some header) = ap length (append-nil (ip_auth_bytes header)) ∙ auth_len 0 header
 
--- all headers together
+-- The length of a value is the sum of the lengths of its headers.
 pub value_len : (extensions : Ipv6Extensions) → length (parts_bytes (ipv6_parts extensions))
     ≡ option_map_or raw_extension_len extensions.hop_by_hop_options 0 + option_map_or raw_extension_len
     extensions.destination_options 0
@@ -232,12 +232,12 @@ pub value_len : (extensions : Ipv6Extensions) → length (parts_bytes (ipv6_part
     raw_extension_len (final_by extensions.routing) 0)
     + option_map_or (λ _. 8) extensions.fragment 0 + option_map_or ip_auth_len extensions.auth 0
 value_len extensions =
-    let a = parts_there hop_by_hop extensions.hop_by_hop_options in
-    let b = parts_there destination_options extensions.destination_options in
-    let c = parts_there routing (option_map routing_header extensions.routing) in
-    let d = parts_there fragment extensions.fragment in
-    let e = parts_there authentication extensions.auth in
-    let f = parts_there destination_options (final_by extensions.routing) in
+    let a = optional_part hop_by_hop extensions.hop_by_hop_options in
+    let b = optional_part destination_options extensions.destination_options in
+    let c = optional_part routing (option_map routing_header extensions.routing) in
+    let d = optional_part fragment extensions.fragment in
+    let e = optional_part authentication extensions.auth in
+    let f = optional_part destination_options (final_by extensions.routing) in
     omega (
       arith,
       bytes-append (a ++ b ++ c ++ d ++ e) f,

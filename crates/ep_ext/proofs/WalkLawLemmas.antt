@@ -1,13 +1,13 @@
--- That a walk along the extension headers of IPv6 is decided.
+-- A walk along the IPv6 extension headers reaches exactly one end or is rejected with exactly one error.
 use Rattle.std.proofs.Common.{◌≡◌, ◌⊎◌, ℕ, zero, suc, ◌<◌, List, [], ◌∷◌, Option, Some, None, refl, sym, ap, subst, ◌∙◌, inl, inr, arith}
 use Rattle.ep_base.specs.Tables.{IsDecided}
 use Rattle.ep_base.specs.declared.err.ipv6_exts.ExtsWalkError.{ExtsWalkError}
 use Rattle.ep_base.specs.declared.ip_number.IpNumber.{IpNumber}
 use Rattle.ep_ext.specs.declared.ipv6_exts.Ipv6Extensions.{Ipv6Extensions}
-use Rattle.ep_ext.specs.declared.ipv6_exts_walk.Marks.{Marks}
+use Rattle.ep_ext.specs.declared.ipv6_exts_walk.VisitedHeaders.{VisitedHeaders}
 use Rattle.ep_ext.specs.ExtensionParts.{ExtensionPart, part_next}
 use Rattle.ep_ext.specs.Chains.{is_taken}
-use Rattle.ep_ext.specs.Ipv6Chains.{no_ipv6_extensions, extensions_of, with_part, header_for, IsWalkBehind, missing_number, walk_refusal, IsWalk, RefusesWalk, ipv6_first, ipv6_linked, ipv6_parts}
+use Rattle.ep_ext.specs.Ipv6Chains.{no_ipv6_extensions, extensions_of, with_part, header_for, IsWalkAfter, missing_number, walk_refusal, IsWalk, RefusesWalk, ipv6_first, ipv6_linked, ipv6_parts}
 use Rattle.ep_ext.specs.Walks.{marked}
 use Rattle.ep_ext.proofs.WalkLemmas.{IsMarked, marked_none, mark_more, fewer_after, found_kind, one_walk, one_walk_refusal, walks_not_refused}
 use Rattle.ep_ext.proofs.LinkLemmas.{linked_walk}
@@ -17,10 +17,10 @@ option_cases : {A : Type 0} (answer : Option A) → (answer ≡ None) ⊎ ((some
 option_cases None = inl refl
 option_cases (Some some) = inr (some, refl)
 
--- from each number there is a walk, of fewer headers than can be taken
-pub walk_there : (most : ℕ) (extensions : Ipv6Extensions) (taken : List ℕ) (walked : Ipv6Extensions) (marks : Marks)
+-- A walk from any IP number visits at most the headers not yet marked.
+pub walk_there : (most : ℕ) (extensions : Ipv6Extensions) (taken : List ℕ) (walked : Ipv6Extensions) (marks : VisitedHeaders)
     (number : ℕ) → marks_left marks < most → IsMarked taken walked marks
-    → (parts : List ExtensionPart) × (last : ℕ) × IsWalkBehind extensions taken number parts last
+    → (parts : List ExtensionPart) × (last : ℕ) × IsWalkAfter extensions taken number parts last
 walk_there zero extensions taken walked marks number within m = absurd (omega arith)
 walk_there (suc most) extensions taken walked marks number within m =
     elim (option_cases (header_for extensions taken number)) [
@@ -55,7 +55,7 @@ walk_decided extensions first =
       not_both = λ walk error a b. walks_not_refused extensions first walk.0 walk.1 error a b;
     }
 
--- what is linked is walked, and so is not refused
+-- Linked headers are not rejected by a walk.
 pub linked_not_refused : (extensions : Ipv6Extensions) (last : IpNumber) (error : ExtsWalkError)
     → RefusesWalk (ipv6_linked extensions last) (ipv6_first extensions last).0 error → ⊥
 linked_not_refused extensions last error refused =

@@ -1,4 +1,4 @@
--- A walk along the extension headers of IPv6, and the marks that it leaves.
+-- A walk along the IPv6 extension headers, and the marks it sets.
 use Rattle.std.proofs.Common.{◌≡◌, ℕ, ◌+◌, ◌<◌, ◌≤◌, ◌&&◌, Bool, true, false, not, if◌then◌else◌, List, [], ◌∷◌, ◌++◌, Option, Some, None, refl, sym, ap, subst, ◌∙◌, inl, inr, arith, length, length-append, append_assoc, vec_len, vec_capacity}
 use Rattle.std.specs.Option.{option_map, is_some}
 use Rattle.std.specs.Prelude.{Result, Ok, Err, OnOk, OnErr, IsOk, is_err, is_ok}
@@ -10,17 +10,17 @@ use Rattle.std.proofs.lemmas.List.{append-nil}
 use Rattle.ep_ext.specs.declared.ipv6_raw_ext_header.Ipv6RawExtHeader.{Ipv6RawExtHeader}
 use Rattle.ep_ext.specs.declared.ipv6_exts.Ipv6Extensions.{Ipv6Extensions}
 use Rattle.ep_ext.specs.declared.ipv6_routing_exts.Ipv6RoutingExtensions.{Ipv6RoutingExtensions}
-use Rattle.ep_ext.specs.declared.ipv6_exts_walk.Marks.{Marks}
+use Rattle.ep_ext.specs.declared.ipv6_exts_walk.VisitedHeaders.{VisitedHeaders}
 use Rattle.ep_base.specs.declared.err.ipv6_exts.ExtsWalkError.{ExtsWalkError}
 use Rattle.ep_ext.specs.ExtensionParts.{ExtensionPart, hop_by_hop, destination_options, routing, fragment, authentication, part_number, part_next, part_bytes, FitsPart}
 use Rattle.ep_ext.specs.Chains.{is_first, is_taken, parts_bytes, FitParts}
-use Rattle.ep_ext.specs.Ipv6Chains.{no_ipv6_extensions, extensions_of, with_part, with_destination, has_destination, final_by, ipv6_parts, header_for, IsWalkBehind, missing_number, walk_refusal, WalksAll, RefusesWalk}
+use Rattle.ep_ext.specs.Ipv6Chains.{no_ipv6_extensions, extensions_of, with_part, with_destination, has_destination, final_by, ipv6_parts, header_for, IsWalkAfter, missing_number, walk_refusal, WalksAll, RefusesWalk}
 use Rattle.ep_ext.specs.Walks.{marked, header_at, missing_at}
 use Rattle.ep_ext.proofs.ValueLemmas.{HasTaken, none_taken, taken_more, with_parts-append, bytes-append}
 use Rattle.ep_ext.proofs.WalkMarkLemmas.{no_marks, marks_left, unmarked}
 
--- the marks are those of the headers that were taken
-pub record IsMarked (taken : List ℕ) (walked : Ipv6Extensions) (marks : Marks) : Type 0 where
+-- The marks are those of the visited headers.
+pub record IsMarked (taken : List ℕ) (walked : Ipv6Extensions) (marks : VisitedHeaders) : Type 0 where
   pub any : is_first taken ≡ not marks.any
   pub has : HasTaken taken walked
   pub hop_by_hop : is_some walked.hop_by_hop_options ≡ marks.hop_by_hop
@@ -43,9 +43,9 @@ marked_none = record {
   final = refl;
 }
 
--- what destination options are, of a value whose routing header is known
+-- The marks of destination options for a value with a known routing header.
 record DestinationMarks (walked : Ipv6Extensions) (behind : Option Ipv6RoutingExtensions) (header : Ipv6RawExtHeader)
-    (marks new : Marks) : Type 0 where
+    (marks new : VisitedHeaders) : Type 0 where
   hop_by_hop : is_some (with_destination walked header behind).hop_by_hop_options ≡ new.hop_by_hop
   destination : is_some (with_destination walked header behind).destination_options ≡ new.destination_options
   routing : is_some (with_destination walked header behind).routing ≡ new.routing
@@ -54,7 +54,7 @@ record DestinationMarks (walked : Ipv6Extensions) (behind : Option Ipv6RoutingEx
   final : is_some (final_by (with_destination walked header behind).routing) ≡ new.final_destination_options
 
 destination_marks : (walked : Ipv6Extensions) (behind : Option Ipv6RoutingExtensions) (header : Ipv6RawExtHeader)
-    (marks : Marks) (there : Bool)
+    (marks : VisitedHeaders) (there : Bool)
     → is_some walked.hop_by_hop_options ≡ marks.hop_by_hop
     → is_some walked.destination_options ≡ marks.destination_options → walked.routing ≡ behind
     → is_some behind ≡ there
@@ -87,7 +87,7 @@ destination_marks walked (Some behind) header marks true hop destination same is
       final = refl;
     }
 
-any_marked : (marks : Marks) → (if marks.routing then record marks { any = true; final_destination_options = true }
+any_marked : (marks : VisitedHeaders) → (if marks.routing then record marks { any = true; final_destination_options = true }
     else record marks { any = true; destination_options = true }).any ≡ true
 any_marked marks = elim marks.routing as (λ r.
     (if r then record marks { any = true; final_destination_options = true } else record marks {
@@ -98,8 +98,8 @@ any_marked marks = elim marks.routing as (λ r.
       | false ↦ refl
     ]
 
--- a header more
-pub mark_more : (taken : List ℕ) (walked : Ipv6Extensions) (marks : Marks) (part : ExtensionPart)
+-- The marks after one more header is visited.
+pub mark_more : (taken : List ℕ) (walked : Ipv6Extensions) (marks : VisitedHeaders) (part : ExtensionPart)
     → IsMarked taken walked marks
     → IsMarked (part_number part ∷ taken) (with_part walked part) (marked marks part)
 mark_more taken walked marks (hop_by_hop header) m = record {
@@ -156,7 +156,7 @@ mark_more taken walked marks (authentication header) m = record {
   final = m.final;
 }
 
--- ---- the header that is found by the marks is the one of the walk
+-- ---- the unmarked header found is the next of the walk
 
 by_routing : (walked : Ipv6Extensions) (behind : Option Ipv6RoutingExtensions)
     → has_destination walked behind ≡ (if is_some behind then is_some
@@ -164,7 +164,7 @@ by_routing : (walked : Ipv6Extensions) (behind : Option Ipv6RoutingExtensions)
 by_routing walked None = refl
 by_routing walked (Some behind) = refl
 
-taken_destination : (taken : List ℕ) (walked : Ipv6Extensions) (marks : Marks) → IsMarked taken walked marks
+taken_destination : (taken : List ℕ) (walked : Ipv6Extensions) (marks : VisitedHeaders) → IsMarked taken walked marks
     → is_taken taken 60 ≡ (if marks.routing then marks.final_destination_options else marks.destination_options)
 taken_destination taken walked marks m =
     m.has 60 ∙ by_routing walked walked.routing ∙ (λ i. if m.routing i then m.final i else m.destination i)
@@ -176,7 +176,7 @@ hop_found extensions [] false first = refl
 hop_found extensions (nearest ∷ taken) false first = absurd (false≢true first)
 hop_found extensions (nearest ∷ taken) true first = grind (arith, common_steps)
 
--- a choice by a test that is another
+-- Two choices by equal tests are equal.
 choice_as : (test other : Bool) (choice : Option ExtensionPart) → test ≡ other
     → ◌≡◌ {A = Option ExtensionPart} (if test then None else choice) (if other then None else choice)
 choice_as test other choice same = λ i. if same i then None else choice
@@ -188,7 +188,7 @@ destination_found : (test in_routing final destination : Bool) (choice other : O
 destination_found test true final destination choice other same = choice_as test final choice same
 destination_found test false final destination choice other same = choice_as test destination other same
 
-pub found_is : (extensions : Ipv6Extensions) (taken : List ℕ) (walked : Ipv6Extensions) (marks : Marks) (number : ℕ)
+pub found_is : (extensions : Ipv6Extensions) (taken : List ℕ) (walked : Ipv6Extensions) (marks : VisitedHeaders) (number : ℕ)
     → IsMarked taken walked marks
     → header_for extensions taken number ≡ header_at extensions marks number
 found_is extensions taken walked marks number m =
@@ -214,7 +214,7 @@ found_is extensions taken walked marks number m =
       ]
     ]
   where
-    at_60 : (extensions : Ipv6Extensions) (taken : List ℕ) (walked : Ipv6Extensions) (marks : Marks)
+    at_60 : (extensions : Ipv6Extensions) (taken : List ℕ) (walked : Ipv6Extensions) (marks : VisitedHeaders)
         → IsMarked taken walked marks → header_for extensions taken 60 ≡ header_at extensions marks 60
     at_60 extensions taken walked marks m =
         let first = option_map destination_options extensions.destination_options in
@@ -223,12 +223,12 @@ found_is extensions taken walked marks number m =
         ∙ destination_found (is_taken taken 60) marks.routing marks.final_destination_options
         marks.destination_options final first (taken_destination taken walked marks m)
 
-    nowhere : (extensions : Ipv6Extensions) (taken : List ℕ) (marks : Marks) (number : ℕ) → (number ≡ 0 → ⊥)
+    nowhere : (extensions : Ipv6Extensions) (taken : List ℕ) (marks : VisitedHeaders) (number : ℕ) → (number ≡ 0 → ⊥)
         → (number ≡ 43 → ⊥) → (number ≡ 44 → ⊥) → (number ≡ 51 → ⊥) → (number ≡ 60 → ⊥)
         → header_for extensions taken number ≡ header_at extensions marks number
     nowhere extensions taken marks number a b c d e = grind (arith, common_steps)
 
--- ---- what a header that is found is
+-- ---- the header found
 
 of_kind : {H : Type 0} (kind : H → ExtensionPart) (number : ℕ) → ((header : H) → number ≡ part_number (kind header))
     → (there : Option H) (part : ExtensionPart) → option_map kind there ≡ Some part
@@ -247,7 +247,7 @@ pub one_of : (test : Bool) (choice other : Option ExtensionPart) (P : Type 0) (p
 one_of true choice other P part a b found = a found
 one_of false choice other P part a b found = b found
 
--- its kind is that of the number, and was not taken
+-- The header found is of the IP number's kind and has not been visited.
 pub found_kind : (extensions : Ipv6Extensions) (taken : List ℕ) (number : ℕ) (part : ExtensionPart)
     → header_for extensions taken number ≡ Some part
     → (number ≡ part_number part) × (is_taken taken number ≡ false)
@@ -301,9 +301,9 @@ found_kind extensions taken number part found =
         → header_for extensions taken number ≡ None
     nowhere extensions taken number a b c d e = grind (arith, common_steps)
 
--- ---- a header that is taken leaves fewer
+-- ---- a visited header leaves fewer unmarked
 
-destination_fewer : (marks : Marks) (there : Bool) → marks.routing ≡ there
+destination_fewer : (marks : VisitedHeaders) (there : Bool) → marks.routing ≡ there
     → (if there then marks.final_destination_options else marks.destination_options) ≡ false
     → marks_left (if there then record marks { any = true; final_destination_options = true } else record marks {
       any
@@ -320,7 +320,7 @@ destination_fewer marks false is free =
     let before : unmarked marks.destination_options ≡ 1 = ap unmarked free in
     omega (arith, before)
 
-pub fewer_after : (taken : List ℕ) (walked : Ipv6Extensions) (marks : Marks) (part : ExtensionPart)
+pub fewer_after : (taken : List ℕ) (walked : Ipv6Extensions) (marks : VisitedHeaders) (part : ExtensionPart)
     → IsMarked taken walked marks → is_taken taken (part_number part) ≡ false
     → marks_left (marked marks part) < marks_left marks
 fewer_after taken walked marks (hop_by_hop header) m free =
@@ -338,32 +338,32 @@ fewer_after taken walked marks (fragment header) m free =
 fewer_after taken walked marks (authentication header) m free =
     let before : unmarked marks.auth ≡ 1 = ap unmarked (sym m.auth ∙ sym (m.has 51) ∙ free) in omega (arith, before)
 
--- ---- how far a walk has come
+-- ---- progress of a walk
 
--- the numbers lead from the first one through these headers to this number
+-- The next header fields lead from the first IP number through these headers to this number.
 pub record WalkedBy (extensions : Ipv6Extensions) (first : ℕ) (parts : List ExtensionPart) (number : ℕ)
-    (marks : Marks) : Type 0 where
+    (marks : VisitedHeaders) : Type 0 where
   pub taken : List ℕ
   pub is_marked : IsMarked taken (extensions_of parts) marks
-  pub walk : (more : List ExtensionPart) (last : ℕ) → IsWalkBehind extensions taken number more last
-      → IsWalkBehind extensions [] first (parts ++ more) last
+  pub walk : (more : List ExtensionPart) (last : ℕ) → IsWalkAfter extensions taken number more last
+      → IsWalkAfter extensions [] first (parts ++ more) last
 
-pub record HasWalked (extensions : Ipv6Extensions) (first number : ℕ) (marks : Marks) : Type 0 where
+pub record HasWalked (extensions : Ipv6Extensions) (first number : ℕ) (marks : VisitedHeaders) : Type 0 where
   pub parts : List ExtensionPart
   pub by : WalkedBy extensions first parts number marks
 
 pub walk_start : (extensions : Ipv6Extensions) (first : ℕ) → WalkedBy extensions first [] first no_marks
 walk_start extensions first = record { taken = []; is_marked = marked_none; walk = λ more last is. is }
 
--- the header that is found by the marks is taken
-found_for : (extensions : Ipv6Extensions) (first : ℕ) (parts : List ExtensionPart) (number : ℕ) (marks : Marks)
+-- The walk visits the unmarked header that is found.
+found_for : (extensions : Ipv6Extensions) (first : ℕ) (parts : List ExtensionPart) (number : ℕ) (marks : VisitedHeaders)
     (answer : Option ExtensionPart) → (w : WalkedBy extensions first parts number marks)
     → answer ≡ header_at extensions marks number → header_for extensions w.taken number ≡ answer
 found_for extensions first parts number marks answer w found = found_is extensions w.taken
     (extensions_of parts) marks number w.is_marked ∙ sym found
 
-pub walk_more : (extensions : Ipv6Extensions) (first : ℕ) (parts : List ExtensionPart) (number : ℕ) (marks : Marks)
-    (part : ExtensionPart) (next : ℕ) (new : Marks)
+pub walk_more : (extensions : Ipv6Extensions) (first : ℕ) (parts : List ExtensionPart) (number : ℕ) (marks : VisitedHeaders)
+    (part : ExtensionPart) (next : ℕ) (new : VisitedHeaders)
     → WalkedBy extensions first parts number marks → Some part ≡ header_at extensions marks number
     → next ≡ part_next part → new ≡ marked marks part
     → WalkedBy extensions first (parts ++ part ∷ []) next new
@@ -378,37 +378,37 @@ walk_more extensions first parts number marks part next new w found next_is new_
     record {
       taken = number ∷ w.taken;
       is_marked = subst (λ (e : Ipv6Extensions). IsMarked (number ∷ w.taken) e new) (sym walked_is)
-          (subst (λ (m : Marks). IsMarked (number ∷ w.taken) (with_part (extensions_of parts) part) m)
+          (subst (λ (m : VisitedHeaders). IsMarked (number ∷ w.taken) (with_part (extensions_of parts) part) m)
           (sym new_is) more);
-      walk = λ rest last is. subst (λ (all : List ExtensionPart). IsWalkBehind extensions [] first all last) (sym
+      walk = λ rest last is. subst (λ (all : List ExtensionPart). IsWalkAfter extensions [] first all last) (sym
           (append_assoc parts (part ∷ []) rest))
           (w.walk (part ∷ rest) last (
             here,
-            subst (λ (n : ℕ). IsWalkBehind extensions
+            subst (λ (n : ℕ). IsWalkAfter extensions
                 (number ∷ w.taken) n rest last) next_is is,
           ));
     }
 
-pub walk_fewer : (extensions : Ipv6Extensions) (first : ℕ) (parts : List ExtensionPart) (number : ℕ) (marks : Marks)
-    (part : ExtensionPart) (new : Marks)
+pub walk_fewer : (extensions : Ipv6Extensions) (first : ℕ) (parts : List ExtensionPart) (number : ℕ) (marks : VisitedHeaders)
+    (part : ExtensionPart) (new : VisitedHeaders)
     → WalkedBy extensions first parts number marks → Some part ≡ header_at extensions marks number
     → new ≡ marked marks part → marks_left new < marks_left marks
 walk_fewer extensions first parts number marks part new w found new_is =
     let kind = found_kind extensions w.taken number part (found_for extensions first parts number marks
     (Some part) w found) in
-    subst (λ (m : Marks). marks_left m < marks_left marks) (sym new_is)
+    subst (λ (m : VisitedHeaders). marks_left m < marks_left marks) (sym new_is)
     (fewer_after w.taken (extensions_of parts) marks part w.is_marked (ap (is_taken w.taken) (sym kind.0) ∙ kind.1))
 
--- the walk ends here
-pub walk_end : (extensions : Ipv6Extensions) (first : ℕ) (parts : List ExtensionPart) (number : ℕ) (marks : Marks)
+-- The walk ends if no unmarked header is found.
+pub walk_end : (extensions : Ipv6Extensions) (first : ℕ) (parts : List ExtensionPart) (number : ℕ) (marks : VisitedHeaders)
     → WalkedBy extensions first parts number marks
-    → None ≡ header_at extensions marks number → IsWalkBehind extensions [] first parts number
+    → None ≡ header_at extensions marks number → IsWalkAfter extensions [] first parts number
 walk_end extensions first parts number marks w found =
-    subst (λ (all : List ExtensionPart). IsWalkBehind extensions [] first all number) (append-nil parts)
+    subst (λ (all : List ExtensionPart). IsWalkAfter extensions [] first all number) (append-nil parts)
     (w.walk [] number (found_for extensions first parts number marks None w found, refl))
 
--- what the walk left, by the marks
-pub left_is : (extensions : Ipv6Extensions) (taken : List ℕ) (walked : Ipv6Extensions) (marks : Marks)
+-- The first unmarked header is the first one missing from the walk.
+pub left_is : (extensions : Ipv6Extensions) (taken : List ℕ) (walked : Ipv6Extensions) (marks : VisitedHeaders)
     → IsMarked taken walked marks
     → missing_number extensions walked ≡ missing_at extensions marks
 left_is extensions taken walked marks m = λ i.
@@ -420,11 +420,11 @@ left_is extensions taken walked marks m = λ i.
     else if is_some (final_by extensions.routing) && not (m.final i) then Some 60
     else None
 
--- ---- a walk is the only one
+-- ---- a walk is unique
 
 pub one_walk : (extensions : Ipv6Extensions) (taken : List ℕ) (number : ℕ) (parts other : List ExtensionPart)
     (last end : ℕ)
-    → IsWalkBehind extensions taken number parts last → IsWalkBehind extensions taken number other end
+    → IsWalkAfter extensions taken number parts last → IsWalkAfter extensions taken number other end
     → (parts ≡ other) × (last ≡ end)
 one_walk extensions taken number [] [] last end a b = (refl, a.1 ∙ sym b.1)
 one_walk extensions taken number [] (part ∷ other) last end a b = absurd (none-some part (sym a.0 ∙ b.0))
@@ -433,10 +433,10 @@ one_walk extensions taken number (part ∷ parts) (also ∷ other) last end a b 
     let both : Some part ≡ Some also = sym a.0 ∙ b.0 in
     let same : part ≡ also = cc in
     let more = one_walk extensions (number ∷ taken) (part_next also) parts other last end
-    (subst (λ (p : ExtensionPart). IsWalkBehind extensions (number ∷ taken) (part_next p) parts last) same a.1) b.1 in
+    (subst (λ (p : ExtensionPart). IsWalkAfter extensions (number ∷ taken) (part_next p) parts last) same a.1) b.1 in
     ((λ i. same i ∷ more.0 i), more.1)
 
--- a walk of all headers is not refused
+-- A walk through all headers is not rejected.
 pub walks_not_refused : (extensions : Ipv6Extensions) (first : ℕ) (parts : List ExtensionPart) (last : ℕ)
     (error : ExtsWalkError)
     → WalksAll extensions first parts last → RefusesWalk extensions first error → ⊥
@@ -444,7 +444,7 @@ walks_not_refused extensions first parts last error walks refused =
     let same = one_walk extensions [] first parts refused.0 last refused.1 walks.0 refused.3 in
     none-some refused.2 (sym walks.1 ∙ (λ i. missing_number extensions (extensions_of (same.0 i))) ∙ refused.4)
 
--- and a walk has one refusal
+-- The error of a walk is unique.
 pub one_walk_refusal : (extensions : Ipv6Extensions) (first : ℕ) (error other : ExtsWalkError)
     → RefusesWalk extensions first error → RefusesWalk extensions first other → error ≡ other
 one_walk_refusal extensions first error other a b =
@@ -453,12 +453,12 @@ one_walk_refusal extensions first error other a b =
     let missing : a.2 ≡ b.2 = cc in
     a.5 ∙ (λ i. walk_refusal (missing i) (same.1 i)) ∙ sym b.5
 
--- all walks of all headers end at one number
+-- All walks through all headers end at one IP number.
 pub one_walk_end : (extensions : Ipv6Extensions) (first : ℕ) (parts other : List ExtensionPart) (last end : ℕ)
     → WalksAll extensions first parts last → WalksAll extensions first other end → last ≡ end
 one_walk_end extensions first parts other last end a b = (one_walk extensions [] first parts other last end a.0 b.0).1
 
--- ---- what a walk has written
+-- ---- bytes written by a walk
 
 parts_bytes-append : (parts : List ExtensionPart) (part : ExtensionPart)
     → parts_bytes (parts ++ part ∷ []) ≡ parts_bytes parts ++ part_bytes part
@@ -467,7 +467,7 @@ parts_bytes-append (other ∷ parts) part =
     ap (λ (s : List ℕ). part_bytes other ++ s) (parts_bytes-append parts part)
     ∙ sym (append_assoc (part_bytes other) (parts_bytes parts) (part_bytes part))
 
-pub record HasWritten (extensions : Ipv6Extensions) (first number : ℕ) (marks : Marks)
+pub record HasWritten (extensions : Ipv6Extensions) (first number : ℕ) (marks : VisitedHeaders)
     (start now : Vec ℕ) : Type 0 where
   pub parts : List ExtensionPart
   pub by : WalkedBy extensions first parts number marks
@@ -489,7 +489,7 @@ pub fit_more : (parts : List ExtensionPart) (part : ExtensionPart) → FitParts 
 fit_more [] part fit here = (here, tt)
 fit_more (other ∷ parts) part fit here = (fit.0, fit_more parts part fit.1 here)
 
--- where there is room for all headers of a walk, there is for each
+-- If the capacity suffices for all headers of a walk, it suffices for each.
 pub room_for : (room len size all : ℕ) (parts : List ExtensionPart) (part : ExtensionPart) (rest : List ExtensionPart)
     → len + all ≤ room → length (parts_bytes ((parts ++ part ∷ []) ++ rest)) ≡ all
     → size ≡ len + length (parts_bytes parts) → size + length (part_bytes part) ≤ room
@@ -503,22 +503,22 @@ room_for room len size all parts part rest enough whole written = omega (
   length-append (parts_bytes parts) (part_bytes part),
 )
 
--- what holds at Err holds where there is an error
+-- A fact about error results holds for a result that is an error.
 pub on_err : {A E : Type 0} (answer : Result A E) (P : Type 0) → is_err answer ≡ true → OnErr answer P → P
 on_err (Ok value) P error holds = absurd (false≢true error)
 on_err (Err error) P is holds = holds
 
--- and what holds at Ok where there is none
+-- A fact about Ok results holds for a result that is not an error.
 pub on_ok : {A E : Type 0} (answer : Result A E) (P : Type 0) → is_err answer ≡ false → OnOk answer P → P
 on_ok (Ok value) P none holds = holds
 on_ok (Err error) P none holds = absurd (true≢false none)
 
--- the same of an answer that is Ok
+-- A fact about Ok results holds for a result that is Ok.
 pub when_ok : {A E : Type 0} (answer : Result A E) (P : Type 0) → is_ok answer ≡ true → OnOk answer P → P
 when_ok (Ok value) P is holds = holds
 when_ok (Err error) P is holds = absurd (false≢true is)
 
--- a call that fails for want of room alone succeeds where there is room
+-- A call that fails only if the capacity is too small succeeds if it suffices.
 pub succeeds : {A E : Type 0} (answer : Result A E) (room needed : ℕ) → OnErr answer (room < needed) → needed ≤ room
     → IsOk answer
 succeeds (Ok value) room needed full enough = refl

@@ -1,4 +1,4 @@
--- That all headers of a value, along which the numbers lead, have as many bytes as the value says.
+-- All headers of a value that the next header fields lead to have the length of the value.
 use Rattle.std.proofs.Common.{◌≡◌, ℕ, ◌+◌, ◌&&◌, Bool, true, false, not, if◌then◌else◌, List, [], ◌∷◌, length, Option, Some, None, refl, sym, ap, subst, ◌∙◌, arith, length-append}
 use Rattle.std.proofs.lemmas.Bool.{false≢true, true≢false}
 use Rattle.std.proofs.lemmas.Option.{none-some}
@@ -10,22 +10,22 @@ use Rattle.ep_ext.specs.ExtensionParts.{ExtensionPart, hop_by_hop, destination_o
 use Rattle.ep_ext.specs.IpAuth.{ip_auth_len}
 use Rattle.ep_ext.specs.RawExtension.{raw_extension_len}
 use Rattle.ep_ext.specs.Chains.{is_first, is_taken, parts_bytes}
-use Rattle.ep_ext.specs.Ipv6Chains.{no_ipv6_extensions, extensions_of, with_part, with_parts, with_destination, ipv6_parts, routing_header, final_by, header_for, IsWalkBehind, is_left, missing_number, WalksAll}
+use Rattle.ep_ext.specs.Ipv6Chains.{no_ipv6_extensions, extensions_of, with_part, with_parts, with_destination, ipv6_parts, routing_header, final_by, header_for, IsWalkAfter, is_left, missing_number, WalksAll}
 use Rattle.ep_ext.proofs.ValueLemmas.{HasTaken, none_taken, taken_more, value_len}
 use Rattle.ep_ext.proofs.ValueLawLemmas.{total, longer}
 use Rattle.ep_ext.proofs.WalkLemmas.{found_kind, untaken, one_of}
 use Rattle.ep_ext.proofs.LinkLemmas.{no_row}
 
--- ---- what a walk takes is what is there
+-- ---- visited headers are those of the value
 
--- a header that was taken is the one that is there
+-- A visited header is equal to the present header.
 abbrev From : {H : Type 0} → Option H → Option H → Type 0
 From taken there = is_some taken ≡ true → taken ≡ there
 
 none_from : {H : Type 0} (there : Option H) → From None there
 none_from there some = absurd (false≢true some)
 
--- the same of all headers
+-- All visited headers are equal to the present headers.
 record AreFrom (walked extensions : Ipv6Extensions) : Type 0 where
   hop : From walked.hop_by_hop_options extensions.hop_by_hop_options
   destination : From walked.destination_options extensions.destination_options
@@ -44,14 +44,14 @@ none_are_from extensions = record {
   final = none_from (final_by extensions.routing);
 }
 
--- what is found as a header of a kind is there
+-- A header found as one of a kind is present.
 place : {H : Type 0} (kind : H → ExtensionPart) (there : Option H) (header : H)
     → ((other : H) → kind other ≡ kind header → other ≡ header) → option_map kind there ≡ Some (kind header)
     → there ≡ Some header
 place kind None header one found = absurd (none-some (kind header) found)
 place kind (Some other) header one found = let same : kind other ≡ kind header = cc in ap Some (one other same)
 
--- destination options, by whether a routing header was taken
+-- Destination options found are those after the routing header if it has been visited, else those before it.
 destination_place : (behind : Bool) (final first : Option Ipv6RawExtHeader) (header : Ipv6RawExtHeader)
     → (if behind then option_map destination_options final else option_map destination_options first)
     ≡ Some (destination_options header)
@@ -81,7 +81,7 @@ destination_from walked extensions (Some behind) header same from found = record
   final = λ some. sym found;
 }
 
--- a header more
+-- Visited headers of the value stay so after one more header.
 from_more : (extensions : Ipv6Extensions) (taken : List ℕ) (walked : Ipv6Extensions) (part : ExtensionPart)
     → HasTaken taken walked → AreFrom walked extensions
     → header_for extensions taken (part_number part) ≡ Some part → AreFrom (with_part walked part) extensions
@@ -140,10 +140,10 @@ from_more extensions taken walked (authentication header) has from found =
       final = from.final;
     }
 
--- all headers of a walk are there, and the value that they make is as long as they are
+-- All headers of a walk are from the value, and their length is that of the value they make.
 walk_from : (extensions : Ipv6Extensions) (taken : List ℕ) (walked : Ipv6Extensions) (number : ℕ)
     (parts : List ExtensionPart) (last : ℕ)
-    → HasTaken taken walked → AreFrom walked extensions → IsWalkBehind extensions taken number parts last
+    → HasTaken taken walked → AreFrom walked extensions → IsWalkAfter extensions taken number parts last
     → AreFrom (with_parts walked parts) extensions
     × (total (with_parts walked parts) ≡ total walked + length (parts_bytes parts))
 walk_from extensions taken walked number [] last has from is = (from, omega arith)
@@ -164,7 +164,7 @@ walk_from extensions taken walked number (part ∷ parts) last has from is =
       ),
     )
 
--- ---- where none is left, all are taken
+-- ---- all headers are visited if none is left
 
 same_len : {H : Type 0} (len : H → ℕ) (taken there : Option H) → From taken there
     → (is_some there && not (is_some taken)) ≡ false → option_map_or len taken 0 ≡ option_map_or len there 0
@@ -172,14 +172,14 @@ same_len len (Some header) there from none = ap (λ (t : Option _). option_map_o
 same_len len None None from none = refl
 same_len len None (Some header) from none = absurd (true≢false none)
 
--- a routing header that is not left
+-- A routing header that is not left is visited.
 header_left : (there taken : Option Ipv6RoutingExtensions) → (is_some there && not (is_some taken)) ≡ false
     → (is_some (option_map routing_header there) && not (is_some (option_map routing_header taken))) ≡ false
 header_left None taken none = refl
 header_left (Some behind) None none = none
 header_left (Some behind) (Some other) none = none
 
--- no header of the first value is left by the second
+-- No header of the first value is left by the second.
 record NoneLeft (extensions walked : Ipv6Extensions) : Type 0 where
   hop : is_left extensions.hop_by_hop_options walked.hop_by_hop_options ≡ false
   destination : is_left extensions.destination_options walked.destination_options ≡ false
@@ -206,7 +206,7 @@ none_left extensions walked none =
       final = f.0;
     }
 
--- the headers along which the numbers lead have as many bytes as the value
+-- The headers that the next header fields lead to have the length of the value.
 pub walk_len : (extensions : Ipv6Extensions) (first : ℕ) (parts : List ExtensionPart) (last : ℕ)
     → WalksAll extensions first parts last
     → length (parts_bytes parts) ≡ length (parts_bytes (ipv6_parts extensions))

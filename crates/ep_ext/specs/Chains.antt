@@ -1,4 +1,5 @@
--- Chains of the extension headers of IP (RFC 4302, 3.1.1; RFC 8200, 4): each header says by a number what follows it.
+-- Chains of extension headers of IP (RFC 4302, 3.1.1; RFC 8200, 4): the next header field of each header is the IP
+-- number of the next header or of the payload.
 use Rattle.std.specs.Prelude.{◌≡◌, ℕ, ◌+◌, ◌==◌, ◌||◌, ◌&&◌, not, ◌⊎◌, Bool, true, false, if◌then◌else◌, List, [], ◌∷◌, ◌++◌}
 use Rattle.ep_base.specs.IpNumbers.{hop_by_hop_number, routing_number, fragment_number, authentication_number, destination_options_number}
 use Rattle.ep_base.specs.Readings.{Reading, slices, headers}
@@ -7,31 +8,31 @@ use Rattle.ep_base.specs.declared.err.ipv6_exts.HeaderSliceError.{HeaderSliceErr
 use Rattle.ep_base.specs.declared.err.ipv6_exts.HeaderSliceError.TheVariants as header_error
 use Rattle.ep_ext.specs.ExtensionParts.{ExtensionPart, part_number, part_next, part_len, part_bytes, part_fragments, FitsPart, EncodesPart, IsExtensionPart, RefusesExtensionPart}
 
--- the version of IP whose header stands before the chain
+-- Version of the IP header before the chain.
 pub data IpVersion : Type 0 where
   ipv4 : IpVersion
   ipv6 : IpVersion
 
--- what a chain is: its headers, the number in which they end, and what stands behind them
+-- A chain: its headers, the IP number of the payload, and the bytes after the headers.
 pub record ExtensionChain : Type 0 where
   pub parts : List ExtensionPart
   pub last : ℕ
   pub rest : List ℕ
 
--- these parts
+-- The chain with these headers, payload number and remaining bytes.
 abbrev pub chain_of : List ExtensionPart → ℕ → List ℕ → ExtensionChain
 chain_of parts last rest = record { parts = parts; last = last; rest = rest }
 
--- ---- what a number demands
+-- ---- numbers of extension headers
 
--- whether the number is that of an extension header of IPv6
+-- True if the number is that of an IPv6 extension header.
 abbrev pub is_ipv6_extension : ℕ → Bool
 is_ipv6_extension number =
     number == hop_by_hop_number || number == routing_number || number == fragment_number
     || number == authentication_number || number == destination_options_number
 
--- Whether a header of this kind was taken, of the numbers of those taken, nearest first. Destination options behind a
--- routing header are a kind of their own.
+-- True if a header of this kind is among the visited ones, which are given by their numbers, latest first. Destination
+-- options after a routing header are a kind of their own.
 abbrev pub is_taken : List ℕ → ℕ → Bool
 is_taken [] number = false
 is_taken (nearest ∷ taken) number =
@@ -39,26 +40,26 @@ is_taken (nearest ∷ taken) number =
     else if nearest == routing_number && number == destination_options_number then false
     else is_taken taken number
 
--- whether no header was taken
+-- True if no header has been visited.
 abbrev pub is_first : List ℕ → Bool
 is_first [] = true
 is_first (nearest ∷ taken) = false
 
--- whether a chain ends where a header of a kind that was taken comes again
+-- True if a chain ends before a second header of a kind.
 abbrev pub ends_at_second : Reading → Bool
 ends_at_second slices = false
 ends_at_second headers = true
 
--- what a number says of what comes next: the chain ends there, or a header of this kind is taken, or one comes that
--- must not stand there
+-- Meaning of an IP number in a chain: the chain ends, a header of this kind is read, or a header of this kind is
+-- misplaced.
 pub data Demand : Type 0 where
   ends : Demand
   takes : Demand
   misplaced : Demand
 
--- What a number demands behind the headers that were taken. In IPv4 one authentication header is taken. In IPv6 hop by
--- hop options stand only first, and further headers are taken, as slices all of them, and by value at most one of a
--- kind.
+-- The meaning of an IP number after the visited headers. IPv4 has one authentication header. In IPv6, Hop-by-Hop
+-- options are valid only as the first header; other headers are all read as slices, but at most one of a kind as owned
+-- headers.
 abbrev pub demand_of : IpVersion → Reading → List ℕ → ℕ → Demand
 demand_of ipv4 reading taken number = if is_first taken && number == authentication_number then takes else ends
 demand_of ipv6 reading taken number =
@@ -69,81 +70,83 @@ demand_of ipv6 reading taken number =
 
 -- ---- chains
 
--- bytes of a number are a chain behind the headers that were taken
-abbrev pub IsChainBehind : IpVersion → Reading → List ℕ → ℕ → List ℕ → List ExtensionPart → ℕ → List ℕ → Type 0
-IsChainBehind version reading taken number bytes [] last rest =
+-- The bytes, starting with the header of this IP number, are a chain that continues after the visited headers.
+abbrev pub IsChainAfter : IpVersion → Reading → List ℕ → ℕ → List ℕ → List ExtensionPart → ℕ → List ℕ → Type 0
+IsChainAfter version reading taken number bytes [] last rest =
     (demand_of version reading taken number ≡ ends) × (last ≡ number) × (rest ≡ bytes)
-IsChainBehind version reading taken number bytes (part ∷ parts) last rest =
+IsChainAfter version reading taken number bytes (part ∷ parts) last rest =
     (demand_of version reading taken number ≡ takes)
     × ((behind : List ℕ) × IsExtensionPart number bytes part behind
-    × IsChainBehind version reading (number ∷ taken) (part_next part) behind parts last rest)
+    × IsChainAfter version reading (number ∷ taken) (part_next part) behind parts last rest)
 
--- The bytes of a number are a chain: the bytes of its headers, then the rest. Each header is of the kind of the number
--- before it, and the numbers end in the last one.
+-- The bytes are a chain that starts with the header of this IP number: the bytes of its headers, followed by the rest.
+-- Each header is of the kind that the number before it names; `last` is the IP number of the payload.
 abbrev pub IsExtensionChain : IpVersion → Reading → ℕ → List ℕ → ExtensionChain → Type 0
 IsExtensionChain version reading number bytes chain =
-    IsChainBehind version reading [] number bytes chain.parts chain.last chain.rest
+    IsChainAfter version reading [] number bytes chain.parts chain.last chain.rest
 
--- whether a header of the chain says that the packet carries one fragment of a longer payload
+-- True if a fragment header of the chain states that the packet carries a fragment.
 abbrev pub chain_fragments : List ExtensionPart → Bool
 chain_fragments [] = false
 chain_fragments (part ∷ parts) = part_fragments part || chain_fragments parts
 
--- the bytes of headers as they are written
+-- The wire format of the headers, one after another, with reserved bits 0.
 abbrev pub parts_bytes : List ExtensionPart → List ℕ
 parts_bytes [] = []
 parts_bytes (part ∷ parts) = part_bytes part ++ parts_bytes parts
 
--- the bytes are those of these headers, one after another, whatever the reserved bits
+-- The bytes are the wire format of the headers, with any reserved bits.
 abbrev pub EncodesParts : List ℕ → List ExtensionPart → Type 0
 EncodesParts bytes [] = bytes ≡ []
 EncodesParts bytes (part ∷ parts) =
     (front behind : List ℕ) × EncodesPart front part × EncodesParts behind parts × (bytes ≡ front ++ behind)
 
--- each field of the headers fits its place
+-- Each field of the headers fits its width on the wire.
 abbrev pub FitParts : List ExtensionPart → Type 0
 FitParts [] = Unit {0}
 FitParts (part ∷ parts) = FitsPart part × FitParts parts
 
--- no kind stands twice, behind the headers that were taken
+-- No kind of header is repeated, counting the visited headers too.
 abbrev pub NoKindTwice : List ℕ → List ExtensionPart → Type 0
 NoKindTwice taken [] = Unit {0}
 NoKindTwice taken (part ∷ parts) =
     (is_taken taken (part_number part) ≡ false) × NoKindTwice (part_number part ∷ taken) parts
 
--- behind the headers that were taken, and these, a header of a kind that was taken would come next
+-- Holds if the number after the headers is that of a kind visited before.
 abbrev pub StopsAtSecond : List ℕ → List ExtensionPart → ℕ → Type 0
 StopsAtSecond taken [] last = is_taken taken last ≡ true
 StopsAtSecond taken (part ∷ parts) last = StopsAtSecond (part_number part ∷ taken) parts last
 
--- ---- what is no chain
+-- ---- invalid chains
 
--- the same refusal, seen from a start that lies so many bytes further in front
-abbrev pub further_in : ℕ → HeaderSliceError → HeaderSliceError
-further_in offset (header_error.Len error) =
+-- The error with `offset` added to the layer start offset of a length error.
+abbrev pub with_offset_in : ℕ → HeaderSliceError → HeaderSliceError
+with_offset_in offset (header_error.Len error) =
     header_error.Len (record error { layer_start_offset = error.layer_start_offset + offset })
-further_in offset (header_error.Content error) = header_error.Content error
+with_offset_in offset (header_error.Content error) = header_error.Content error
 
--- where the layer starts that a refusal speaks of
+-- Layer start offset of an error: 0 if it is not a length error.
 abbrev pub offset_of : HeaderSliceError → ℕ
 offset_of (header_error.Len error) = error.layer_start_offset
 offset_of (header_error.Content error) = 0
 
--- bytes of a number that begin at this offset are refused behind the headers that were taken, and behind these
-abbrev pub RefusesChainBehind : IpVersion → Reading → List ℕ → ℕ → ℕ → List ℕ → List ExtensionPart
+-- The bytes at this offset, starting with the header of this IP number, are rejected with the error after the visited
+-- headers and the headers of the list.
+abbrev pub RefusesChainAfter : IpVersion → Reading → List ℕ → ℕ → ℕ → List ℕ → List ExtensionPart
     → HeaderSliceError → Type 0
-RefusesChainBehind version reading taken offset number bytes [] error =
+RefusesChainAfter version reading taken offset number bytes [] error =
     ((demand_of version reading taken number ≡ misplaced)
     × (error ≡ header_error.Content content.HopByHopNotAtStart))
     ⊎ ((demand_of version reading taken number ≡ takes)
-    × ((refusal : HeaderSliceError) × RefusesExtensionPart number bytes refusal × (error ≡ further_in offset refusal)))
-RefusesChainBehind version reading taken offset number bytes (part ∷ parts) error =
+    × ((refusal : HeaderSliceError) × RefusesExtensionPart number bytes refusal × (error ≡ with_offset_in offset refusal)))
+RefusesChainAfter version reading taken offset number bytes (part ∷ parts) error =
     (demand_of version reading taken number ≡ takes)
     × ((behind : List ℕ) × IsExtensionPart number bytes part behind
-    × RefusesChainBehind version reading (number ∷ taken) (offset + part_len part) (part_next part) behind parts error)
+    × RefusesChainAfter version reading (number ∷ taken) (offset + part_len part) (part_next part) behind parts error)
 
--- Why the bytes of a number are no chain: some headers stand, and the next one is refused, its offset being the number
--- of bytes of those before it, or hop by hop options come that are not first.
+-- The bytes are not a chain that starts with the header of this IP number, for this reason: after some valid headers,
+-- the next one is rejected, with the length of the headers before it as its offset, or Hop-by-Hop options are not
+-- first.
 abbrev pub RefusesExtensionChain : IpVersion → Reading → ℕ → List ℕ → HeaderSliceError → Type 0
 RefusesExtensionChain version reading number bytes error =
-    (parts : List ExtensionPart) × RefusesChainBehind version reading [] 0 number bytes parts error
+    (parts : List ExtensionPart) × RefusesChainAfter version reading [] 0 number bytes parts error

@@ -1,4 +1,4 @@
--- An extension header of IP, of any kind (RFC 4302, 2; RFC 8200, 4).
+-- Extension headers of IP, of any kind (RFC 4302, 2; RFC 8200, 4).
 use Rattle.std.specs.Prelude.{◌≡◌, ℕ, ◌==◌, Bool, false, if◌then◌else◌, List, [], ◌∷◌, Option, Some, None}
 use Rattle.ep_base.specs.IpNumbers.{hop_by_hop_number, routing_number, fragment_number, authentication_number, destination_options_number}
 use Rattle.ep_base.specs.Tables.{Refuses, rows_as}
@@ -14,7 +14,7 @@ use Rattle.ep_ext.specs.IpAuth.{IsIpAuth, FitsIpAuth, EncodesIpAuth, ip_auth_row
 use Rattle.ep_ext.specs.FragmentHeader.{IsFragmentHeader, FitsFragmentHeader, EncodesFragmentHeader, fragment_header_rows, fragment_header_bytes, is_ipv6_fragment}
 use Rattle.ep_ext.specs.RawExtension.{IsRawExtension, FitsRawExtension, raw_extension_rows, raw_extension_bytes, raw_extension_len}
 
--- an extension header, by its kind
+-- An extension header, by kind.
 pub data ExtensionPart : Type 0 where
   hop_by_hop : Ipv6RawExtHeader → ExtensionPart
   destination_options : Ipv6RawExtHeader → ExtensionPart
@@ -22,12 +22,12 @@ pub data ExtensionPart : Type 0 where
   fragment : Ipv6FragmentHeader → ExtensionPart
   authentication : IpAuthHeader → ExtensionPart
 
--- a header of a kind, where there is one
-abbrev pub parts_there : {H : Type 0} → (H → ExtensionPart) → Option H → List ExtensionPart
-parts_there kind None = []
-parts_there kind (Some header) = kind header ∷ []
+-- The list of a header, if present.
+abbrev pub optional_part : {H : Type 0} → (H → ExtensionPart) → Option H → List ExtensionPart
+optional_part kind None = []
+optional_part kind (Some header) = kind header ∷ []
 
--- the number of its kind
+-- The IP number of the header's kind.
 abbrev pub part_number : ExtensionPart → ℕ
 part_number (hop_by_hop header) = hop_by_hop_number
 part_number (destination_options header) = destination_options_number
@@ -35,7 +35,7 @@ part_number (routing header) = routing_number
 part_number (fragment header) = fragment_number
 part_number (authentication header) = authentication_number
 
--- the number of what follows it
+-- The next header field.
 abbrev pub part_next : ExtensionPart → ℕ
 part_next (hop_by_hop header) = header.next_header.0
 part_next (destination_options header) = header.next_header.0
@@ -43,7 +43,7 @@ part_next (routing header) = header.next_header.0
 part_next (fragment header) = header.next_header.0
 part_next (authentication header) = header.next_header.0
 
--- its bytes as it is written
+-- The wire format of the header, with reserved bits 0.
 abbrev pub part_bytes : ExtensionPart → List ℕ
 part_bytes (hop_by_hop header) = raw_extension_bytes header
 part_bytes (destination_options header) = raw_extension_bytes header
@@ -51,7 +51,7 @@ part_bytes (routing header) = raw_extension_bytes header
 part_bytes (fragment header) = fragment_header_bytes header
 part_bytes (authentication header) = ip_auth_bytes header
 
--- the number of its bytes
+-- The length of the header in bytes.
 abbrev pub part_len : ExtensionPart → ℕ
 part_len (hop_by_hop header) = raw_extension_len header
 part_len (destination_options header) = raw_extension_len header
@@ -59,7 +59,7 @@ part_len (routing header) = raw_extension_len header
 part_len (fragment header) = 8
 part_len (authentication header) = ip_auth_len header
 
--- each of its fields fits its place
+-- Each field fits its width on the wire.
 abbrev pub FitsPart : ExtensionPart → Type 0
 FitsPart (hop_by_hop header) = FitsRawExtension header
 FitsPart (destination_options header) = FitsRawExtension header
@@ -67,7 +67,7 @@ FitsPart (routing header) = FitsRawExtension header
 FitsPart (fragment header) = FitsFragmentHeader header
 FitsPart (authentication header) = FitsIpAuth header
 
--- the bytes are the header's, whatever the reserved bits
+-- The bytes are the wire format of the header, with any reserved bits.
 abbrev pub EncodesPart : List ℕ → ExtensionPart → Type 0
 EncodesPart bytes (hop_by_hop header) = FitsRawExtension header × (bytes ≡ raw_extension_bytes header)
 EncodesPart bytes (destination_options header) = FitsRawExtension header × (bytes ≡ raw_extension_bytes header)
@@ -75,7 +75,7 @@ EncodesPart bytes (routing header) = FitsRawExtension header × (bytes ≡ raw_e
 EncodesPart bytes (fragment header) = EncodesFragmentHeader bytes header
 EncodesPart bytes (authentication header) = EncodesIpAuth bytes header
 
--- whether it says that the packet carries one fragment of a longer payload
+-- True if this is a fragment header of a packet that carries a fragment.
 abbrev pub part_fragments : ExtensionPart → Bool
 part_fragments (hop_by_hop header) = false
 part_fragments (destination_options header) = false
@@ -83,7 +83,7 @@ part_fragments (routing header) = false
 part_fragments (fragment header) = is_ipv6_fragment header
 part_fragments (authentication header) = false
 
--- bytes of a number are a header of that kind, and then the rest
+-- The bytes are a header of the kind with this IP number, followed by the rest.
 abbrev pub IsExtensionPart : ℕ → List ℕ → ExtensionPart → List ℕ → Type 0
 IsExtensionPart number bytes (hop_by_hop header) rest =
     (number ≡ hop_by_hop_number) × IsRawExtension bytes (header, rest)
@@ -96,18 +96,18 @@ IsExtensionPart number bytes (fragment header) rest =
 IsExtensionPart number bytes (authentication header) rest =
     (number ≡ authentication_number) × IsIpAuth bytes (header, rest)
 
--- an authentication header's refusal among those of the extension headers of IPv6
+-- The error of an authentication header, as an error of the IPv6 extension headers.
 abbrev pub auth_refusal : AuthSliceError → HeaderSliceError
 auth_refusal (auth_error.Len error) = header_error.Len error
 auth_refusal (auth_error.Content error) = header_error.Content (content.IpAuth error)
 
--- when bytes begin with no header of the number's kind, and with which error
+-- Refusal table of a header of the kind with this IP number.
 abbrev pub extension_part_rows : ℕ → List ℕ → List (Bool × HeaderSliceError)
 extension_part_rows number bytes =
     if number == authentication_number then rows_as auth_refusal (ip_auth_rows bytes)
     else if number == fragment_number then rows_as header_error.Len (fragment_header_rows bytes)
     else rows_as header_error.Len (raw_extension_rows bytes)
 
--- why bytes of a number begin with no header of that kind
+-- The bytes do not begin with a header of the kind with this IP number, for this reason.
 abbrev pub RefusesExtensionPart : ℕ → List ℕ → HeaderSliceError → Type 0
 RefusesExtensionPart number bytes error = Refuses (extension_part_rows number bytes) error

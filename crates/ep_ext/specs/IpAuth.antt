@@ -1,4 +1,4 @@
--- The authentication header of IP (RFC 4302, 2).
+-- Authentication header of IP (RFC 4302, 2).
 use Rattle.std.specs.Prelude.{◌≡◌, ℕ, ◌+◌, ◌-◌, ◌*◌, ◌/◌, ◌%◌, ◌^◌, ◌<◌, ◌≤◌, ◌==◌, nat_lt, Bool, List, [], ◌∷◌, ◌++◌, length, drop, slice_index, slice_range}
 use Rattle.std.specs.Int.{w16, w32, to_be_bytes, from_be_bytes}
 use Rattle.ep_base.specs.Bytes.{AreBytes}
@@ -14,35 +14,36 @@ use Rattle.ep_ext.specs.declared.err.ip_auth.icv_len_error.IcvLenError.{IcvLenEr
 use Rattle.ep_ext.specs.declared.err.ip_auth.icv_len_error.IcvLenError.TheVariants as icv_error
 use Rattle.ep_ext.specs.declared.ip_auth_header.IpAuthHeader.{IpAuthHeader}
 
--- ---- the bytes of a header
+-- ---- wire format
 
--- the header of these fields and this integrity check value
+-- The header with these fields and this integrity check value.
 abbrev pub ip_auth_with : IpNumber → ℕ → ℕ → List ℕ → IpAuthHeader
 ip_auth_with next_header spi sequence_number icv =
     record { next_header = next_header; spi = spi; sequence_number = sequence_number; icv = icv }
 
--- the integrity check value of a header
+-- The integrity check value of a header.
 abbrev pub ip_auth_icv : IpAuthHeader → List ℕ
 ip_auth_icv header = header.icv
 
--- the number of bytes of a header
+-- The length of a header in bytes.
 abbrev pub ip_auth_len : IpAuthHeader → ℕ
 ip_auth_len header = 12 + length (ip_auth_icv header)
 
--- The bytes of a header, with the two reserved bytes as a number. The second byte is the number of words of 4 bytes of
--- the header, less 2.
+-- The wire format of a header with these two reserved bytes. Byte 1 is the length of the header in 4-byte words, minus
+-- 2.
 abbrev pub ip_auth_bytes_with : ℕ → IpAuthHeader → List ℕ
 ip_auth_bytes_with reserved header =
     header.next_header.0 ∷ (ip_auth_len header / 4 - 2) ∷ [] ++ to_be_bytes w16 reserved
     ++ to_be_bytes w32 header.spi ++ to_be_bytes w32 header.sequence_number ++ ip_auth_icv header
 
--- the bytes of a header as it is written: the reserved bytes are 0
+-- The wire format of a header, with reserved bytes 0.
 abbrev pub ip_auth_bytes : IpAuthHeader → List ℕ
 ip_auth_bytes header = ip_auth_bytes_with 0 header
 
--- ---- which bytes are a header
+-- ---- valid headers
 
--- each field fits its place, and the integrity check value is in words, as many as the length field can count
+-- Each field fits its width on the wire, and the integrity check value is in 4-byte words that the length field can
+-- count.
 pub record FitsIpAuth (header : IpAuthHeader) : Type 0 where
   pub next_header : header.next_header.0 < 2 ^ 8
   pub spi : header.spi < 2 ^ 32
@@ -51,26 +52,26 @@ pub record FitsIpAuth (header : IpAuthHeader) : Type 0 where
   pub icv_words : length (ip_auth_icv header) % 4 ≡ 0
   pub icv : AreBytes (ip_auth_icv header)
 
--- the bytes are the header's, whatever the reserved bytes
+-- The bytes are the wire format of the header, with any reserved bytes.
 pub record EncodesIpAuth (bytes : List ℕ) (header : IpAuthHeader) : Type 0 where
   pub fits : FitsIpAuth header
   pub reserved : ℕ
   pub bits : reserved < 2 ^ 16
   pub same : bytes ≡ ip_auth_bytes_with reserved header
 
--- the bytes are a header, and then the rest
+-- The bytes are a header, followed by the rest.
 pub record IsIpAuth (bytes : List ℕ) (read : IpAuthHeader × List ℕ) : Type 0 where
   pub encoded : List ℕ
   pub encodes : EncodesIpAuth encoded read.0
   pub parts : bytes ≡ encoded ++ read.1
 
--- ---- what is read from bytes
+-- ---- parsing
 
--- the number of bytes of the header that the length field, byte 1, demands
+-- The length of the header in bytes that the length field (byte 1) states.
 abbrev pub ip_auth_len_of : List ℕ → ℕ
 ip_auth_len_of bytes = 4 * (slice_index bytes 1 + 2)
 
--- when bytes begin with no header, and with which error
+-- Refusal table of an authentication header.
 abbrev pub ip_auth_rows : List ℕ → List (Bool × HeaderSliceError)
 ip_auth_rows bytes =
     (nat_lt (length bytes) 12, header_error.Len (len_error 12 (length bytes) source.Slice layer.IpAuthHeader))
@@ -81,11 +82,11 @@ ip_auth_rows bytes =
     )
     ∷ []
 
--- why bytes begin with no header
+-- The bytes do not begin with an authentication header, for this reason.
 abbrev pub RefusesIpAuth : List ℕ → HeaderSliceError → Type 0
 RefusesIpAuth bytes error = Refuses (ip_auth_rows bytes) error
 
--- the header that bytes are
+-- The header that consists of all of the bytes.
 abbrev pub ip_auth_of : List ℕ → IpAuthHeader
 ip_auth_of bytes = ip_auth_with
     (record { 0 = slice_index bytes 0 })
@@ -93,15 +94,15 @@ ip_auth_of bytes = ip_auth_with
     (from_be_bytes w32 (slice_range bytes 8 12))
     (drop 12 bytes)
 
--- ---- integrity check values that no header has
+-- ---- invalid integrity check values
 
--- when so many bytes are no integrity check value, and with which error
+-- Refusal table of an integrity check value of `len` bytes.
 abbrev pub icv_rows : ℕ → List (Bool × IcvLenError)
 icv_rows len =
     (nat_lt 1016 len, icv_error.TooBig len)
     ∷ (nat_lt 0 (len % 4), icv_error.Unaligned len)
     ∷ []
 
--- why the bytes are no integrity check value
+-- The bytes are not an integrity check value, for this reason.
 abbrev pub RefusesIcv : List ℕ → IcvLenError → Type 0
 RefusesIcv icv error = Refuses (icv_rows (length icv)) error

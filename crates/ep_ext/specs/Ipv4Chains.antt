@@ -1,4 +1,4 @@
--- The extension headers of IPv4 by value and in slices: an authentication header, or none (RFC 4302, 3.1.1).
+-- Extension headers of IPv4, owned and in slices: an authentication header, or none (RFC 4302, 3.1.1).
 use Rattle.std.specs.Prelude.{ℕ, ◌==◌, if◌then◌else◌, List, [], Option, Some, None, Result, Ok, Err, option_map}
 use Rattle.ep_base.specs.IpNumbers.{authentication_number}
 use Rattle.ep_base.specs.declared.err.ipv4_exts.ExtsWalkError.{ExtsWalkError}
@@ -8,52 +8,53 @@ use Rattle.ep_ext.specs.declared.ip_auth_header.IpAuthHeader.{IpAuthHeader}
 use Rattle.ep_ext.specs.declared.ip_auth_header_slice.IpAuthHeaderSlice.{IpAuthHeaderSlice}
 use Rattle.ep_ext.specs.declared.ipv4_exts.Ipv4Extensions.{Ipv4Extensions}
 use Rattle.ep_ext.specs.declared.ipv4_exts_slice.Ipv4ExtensionsSlice.{Ipv4ExtensionsSlice}
-use Rattle.ep_ext.specs.ExtensionParts.{ExtensionPart, authentication, parts_there}
+use Rattle.ep_ext.specs.ExtensionParts.{ExtensionPart, authentication, optional_part}
 use Rattle.ep_ext.specs.IpAuthSlices.{ip_auth_slice_bytes, ip_auth_slice_header}
 
--- the headers of a value
+-- The headers of an owned value.
 abbrev pub ipv4_parts : Ipv4Extensions → List ExtensionPart
-ipv4_parts extensions = parts_there authentication extensions.auth
+ipv4_parts extensions = optional_part authentication extensions.auth
 
--- the headers that slices show
+-- The headers in slices.
 abbrev pub ipv4_slice_parts : Ipv4ExtensionsSlice → List ExtensionPart
-ipv4_slice_parts extensions = parts_there authentication (option_map ip_auth_slice_header extensions.auth)
+ipv4_slice_parts extensions = optional_part authentication (option_map ip_auth_slice_header extensions.auth)
 
--- the bytes of an authentication header, where there is one
+-- The bytes of an authentication header, empty if absent.
 abbrev pub auth_bytes_there : Option IpAuthHeaderSlice → List ℕ
 auth_bytes_there None = []
 auth_bytes_there (Some header) = ip_auth_slice_bytes header
 
--- the bytes that slices show
+-- The bytes of the headers in slices.
 abbrev pub ipv4_slice_bytes : Ipv4ExtensionsSlice → List ℕ
 ipv4_slice_bytes extensions = auth_bytes_there extensions.auth
 
 -- ---- linking and walking
 
--- where the numbers lead from the first one on, or that they do not lead to the authentication header
+-- The IP number of the payload after an optional authentication header, or the error that the first IP number does not
+-- refer to the header.
 abbrev pub ipv4_walk_by : Option IpAuthHeader → IpNumber → Result IpNumber ExtsWalkError
 ipv4_walk_by None first = Ok first
 ipv4_walk_by (Some header) first =
     if first.0 == authentication_number then Ok header.next_header
     else Err (walk_error.ExtNotReferenced (record { 0 = authentication_number }))
 
--- the same, of a value
+-- The IP number of the payload after the headers, or the error that the first IP number does not refer to them.
 abbrev pub ipv4_walk : Ipv4Extensions → IpNumber → Result IpNumber ExtsWalkError
 ipv4_walk extensions first = ipv4_walk_by extensions.auth first
 
--- the first number, where the headers lead to the last one
+-- The first IP number, if the payload after an optional authentication header has the number `last`.
 abbrev pub ipv4_first_by : Option IpAuthHeader → IpNumber → IpNumber
 ipv4_first_by None last = last
 ipv4_first_by (Some header) last = record { 0 = authentication_number }
 
--- the same, of a value
+-- The first IP number, if the payload after the headers has the number `last`.
 abbrev pub ipv4_first : Ipv4Extensions → IpNumber → IpNumber
 ipv4_first extensions last = ipv4_first_by extensions.auth last
 
--- an authentication header that leads to this number
+-- The authentication header with this next header field.
 abbrev pub ip_auth_leading_to : IpNumber → IpAuthHeader → IpAuthHeader
 ip_auth_leading_to next header = record header { next_header = next }
 
--- the same headers, leading to the last number
+-- The headers with the next header field set to `last`.
 abbrev pub ipv4_linked : Ipv4Extensions → IpNumber → Ipv4Extensions
 ipv4_linked extensions last = record { auth = option_map (ip_auth_leading_to last) extensions.auth }

@@ -1,5 +1,5 @@
--- The extension headers of IPv6 by value (RFC 8200, 4.1): at most one of each kind, and destination options a second
--- time behind a routing header.
+-- Owned extension headers of IPv6 (RFC 8200, 4.1): at most one of each kind, and a second Destination Options header
+-- after a routing header.
 use Rattle.std.specs.Prelude.{◌≡◌, ℕ, ◌==◌, ◌&&◌, Bool, false, not, if◌then◌else◌, List, [], ◌∷◌, ◌++◌, Option, Some, None, option_map, is_some}
 use Rattle.ep_base.specs.IpNumbers.{hop_by_hop_number, routing_number, fragment_number, authentication_number, destination_options_number}
 use Rattle.ep_base.specs.declared.err.ipv6_exts.ExtsWalkError.{ExtsWalkError}
@@ -9,13 +9,13 @@ use Rattle.ep_ext.specs.declared.ipv6_fragment_header.Ipv6FragmentHeader.{Ipv6Fr
 use Rattle.ep_ext.specs.declared.ipv6_raw_ext_header.Ipv6RawExtHeader.{Ipv6RawExtHeader}
 use Rattle.ep_ext.specs.declared.ipv6_exts.Ipv6Extensions.{Ipv6Extensions}
 use Rattle.ep_ext.specs.declared.ipv6_routing_exts.Ipv6RoutingExtensions.{Ipv6RoutingExtensions}
-use Rattle.ep_ext.specs.ExtensionParts.{ExtensionPart, hop_by_hop, destination_options, routing, fragment, authentication, parts_there, part_next}
+use Rattle.ep_ext.specs.ExtensionParts.{ExtensionPart, hop_by_hop, destination_options, routing, fragment, authentication, optional_part, part_next}
 use Rattle.ep_ext.specs.Chains.{FitParts, is_taken, is_first}
 use Rattle.ep_ext.specs.Ipv4Chains.{ip_auth_leading_to}
 
--- ---- the headers of a value
+-- ---- headers of a value
 
--- no headers
+-- The value without headers.
 abbrev pub no_ipv6_extensions : Ipv6Extensions
 no_ipv6_extensions = record {
   hop_by_hop_options = None;
@@ -25,37 +25,37 @@ no_ipv6_extensions = record {
   auth = None;
 }
 
--- the routing header
+-- The routing header.
 abbrev pub routing_header : Ipv6RoutingExtensions → Ipv6RawExtHeader
 routing_header behind = behind.routing
 
--- each field of a routing header, and of the destination options behind it, fits its place
+-- Each field of a routing header, and of the destination options after it, fits its width on the wire.
 abbrev pub FitRouting : Ipv6RoutingExtensions → Type 0
 FitRouting behind = FitParts (routing behind.routing
-    ∷ parts_there destination_options behind.final_destination_options)
+    ∷ optional_part destination_options behind.final_destination_options)
 
--- the destination options behind a routing header
+-- The destination options after a routing header, if present.
 abbrev pub final_by : Option Ipv6RoutingExtensions → Option Ipv6RawExtHeader
 final_by None = None
 final_by (Some behind) = behind.final_destination_options
 
--- all headers, in the order in which they are linked
+-- All headers in the order in which they are linked (RFC 8200, 4.1).
 abbrev pub ipv6_parts : Ipv6Extensions → List ExtensionPart
 ipv6_parts extensions =
-    parts_there hop_by_hop extensions.hop_by_hop_options
-    ++ parts_there destination_options extensions.destination_options
-    ++ parts_there routing (option_map routing_header extensions.routing)
-    ++ parts_there fragment extensions.fragment
-    ++ parts_there authentication extensions.auth
-    ++ parts_there destination_options (final_by extensions.routing)
+    optional_part hop_by_hop extensions.hop_by_hop_options
+    ++ optional_part destination_options extensions.destination_options
+    ++ optional_part routing (option_map routing_header extensions.routing)
+    ++ optional_part fragment extensions.fragment
+    ++ optional_part authentication extensions.auth
+    ++ optional_part destination_options (final_by extensions.routing)
 
--- destination options put to other headers
+-- The headers with destination options added: after the routing header if there is one, else before it.
 abbrev pub with_destination : Ipv6Extensions → Ipv6RawExtHeader → Option Ipv6RoutingExtensions → Ipv6Extensions
 with_destination extensions header None = record extensions { destination_options = Some header }
 with_destination extensions header (Some behind) =
     record extensions { routing = Some (record behind { final_destination_options = Some header }) }
 
--- a header put to other headers
+-- The headers with one header added.
 abbrev pub with_part : Ipv6Extensions → ExtensionPart → Ipv6Extensions
 with_part extensions (hop_by_hop header) = record extensions { hop_by_hop_options = Some header }
 with_part extensions (destination_options header) = with_destination extensions header extensions.routing
@@ -64,21 +64,21 @@ with_part extensions (routing header) =
 with_part extensions (fragment header) = record extensions { fragment = Some header }
 with_part extensions (authentication header) = record extensions { auth = Some header }
 
--- headers put to other headers, one after another
+-- The headers with more headers added, one after another.
 abbrev pub with_parts : Ipv6Extensions → List ExtensionPart → Ipv6Extensions
 with_parts extensions [] = extensions
 with_parts extensions (part ∷ parts) = with_parts (with_part extensions part) parts
 
--- the value of the headers of a chain
+-- The owned value with the headers of a chain.
 abbrev pub extensions_of : List ExtensionPart → Ipv6Extensions
 extensions_of parts = with_parts no_ipv6_extensions parts
 
--- whether there is a header of this kind; behind a routing header, 60 stands for the destination options behind it
+-- True if there are destination options: those after the routing header if there is one, else those before it.
 abbrev pub has_destination : Ipv6Extensions → Option Ipv6RoutingExtensions → Bool
 has_destination extensions None = is_some extensions.destination_options
 has_destination extensions (Some behind) = is_some behind.final_destination_options
 
--- the same, of each kind
+-- True if there is a header of the kind with this IP number.
 abbrev pub has_kind : Ipv6Extensions → ℕ → Bool
 has_kind extensions number =
     if number == hop_by_hop_number then is_some extensions.hop_by_hop_options
@@ -88,65 +88,66 @@ has_kind extensions number =
     else if number == destination_options_number then has_destination extensions extensions.routing
     else false
 
--- a number as it is
+-- The IP number as a natural number.
 abbrev pub number_of : IpNumber → ℕ
 number_of number = number.0
 
 -- ---- linking
 
--- the number of a header that is there, and else of what follows
+-- The IP number of a header if it is present, else of what follows it.
 abbrev pub number_before : {H : Type 0} → Option H → ℕ → IpNumber → IpNumber
 number_before None number next = next
 number_before (Some header) number next = record { 0 = number }
 
--- what follows the authentication header, where the headers lead to the last number, as below
+-- The IP number after the authentication header, if the payload has the number `last`.
 abbrev pub after_auth : Ipv6Extensions → IpNumber → IpNumber
 after_auth extensions last = number_before (final_by extensions.routing) destination_options_number last
 
--- what follows the fragment header
+-- The IP number after the fragment header.
 abbrev pub after_fragment : Ipv6Extensions → IpNumber → IpNumber
 after_fragment extensions last = number_before extensions.auth authentication_number (after_auth extensions last)
 
--- what follows the routing header
+-- The IP number after the routing header.
 abbrev pub after_routing : Ipv6Extensions → IpNumber → IpNumber
 after_routing extensions last = number_before extensions.fragment fragment_number (after_fragment extensions last)
 
--- what follows the destination options that stand before the routing header
+-- The IP number after the destination options before the routing header.
 abbrev pub after_destination : Ipv6Extensions → IpNumber → IpNumber
 after_destination extensions last = number_before extensions.routing routing_number (after_routing extensions last)
 
--- what follows the hop-by-hop options
+-- The IP number after the Hop-by-Hop options.
 abbrev pub after_hop_by_hop : Ipv6Extensions → IpNumber → IpNumber
 after_hop_by_hop extensions last =
     number_before extensions.destination_options destination_options_number (after_destination extensions last)
 
--- the first number, where the headers lead to the last one
+-- The first IP number, if the payload after the headers has the number `last`.
 abbrev pub ipv6_first : Ipv6Extensions → IpNumber → IpNumber
 ipv6_first extensions last =
     number_before extensions.hop_by_hop_options hop_by_hop_number (after_hop_by_hop extensions last)
 
--- a raw header that leads to this number
+-- The options or routing header with this next header field.
 abbrev pub raw_leading_to : IpNumber → Ipv6RawExtHeader → Ipv6RawExtHeader
 raw_leading_to next header = record header { next_header = next }
 
--- a fragment header that leads to this number
+-- The fragment header with this next header field.
 abbrev pub fragment_leading_to : IpNumber → Ipv6FragmentHeader → Ipv6FragmentHeader
 fragment_leading_to next header = record header { next_header = next }
 
--- headers behind the routing header of which the final destination options lead to this number
+-- The routing headers with the next header field of the final destination options set to `last`.
 abbrev pub final_leading_to : IpNumber → Ipv6RoutingExtensions → Ipv6RoutingExtensions
 final_leading_to last behind =
     record behind { final_destination_options = option_map (raw_leading_to last) behind.final_destination_options }
 
--- a routing header that leads to this number, with what stands behind it
+-- The routing headers with the next header field of the routing header set to `next`.
 abbrev pub routing_alone_leading_to : IpNumber → Ipv6RoutingExtensions → Ipv6RoutingExtensions
 routing_alone_leading_to next behind = record behind { routing = raw_leading_to next behind.routing }
 
--- a routing header that leads to the one number, and final destination options that lead to the other
+-- The routing headers with the next header fields of the routing header set to `next` and of the final destination
+-- options set to `last`.
 abbrev pub routing_leading_to : IpNumber → IpNumber → Ipv6RoutingExtensions → Ipv6RoutingExtensions
 routing_leading_to next last behind = routing_alone_leading_to next (final_leading_to last behind)
 
--- the same headers, leading to the last number
+-- The headers with their next header fields set: each refers to the next header in order, and the last one to `last`.
 abbrev pub ipv6_linked : Ipv6Extensions → IpNumber → Ipv6Extensions
 ipv6_linked extensions last = record {
   hop_by_hop_options = option_map (raw_leading_to (after_hop_by_hop extensions last)) extensions.hop_by_hop_options;
@@ -158,8 +159,8 @@ ipv6_linked extensions last = record {
 
 -- ---- walking
 
--- The header that a walk takes at this number, of those that it has not taken: destination options are the final ones
--- once a routing header was taken, and hop by hop options are taken only first.
+-- The unvisited header that a walk continues with at this IP number. Destination options are the final ones once a
+-- routing header has been visited, and Hop-by-Hop options are visited only as the first header.
 abbrev pub header_for : Ipv6Extensions → List ℕ → ℕ → Option ExtensionPart
 header_for extensions taken number =
     if is_taken taken number then None
@@ -174,18 +175,18 @@ header_for extensions taken number =
     else option_map destination_options extensions.destination_options)
     else None
 
--- a walk takes these headers, and ends at the last number
-abbrev pub IsWalkBehind : Ipv6Extensions → List ℕ → ℕ → List ExtensionPart → ℕ → Type 0
-IsWalkBehind extensions taken number [] last = (header_for extensions taken number ≡ None) × (last ≡ number)
-IsWalkBehind extensions taken number (part ∷ parts) last =
+-- A walk from this IP number, after the visited headers, visits these headers and ends at the last number.
+abbrev pub IsWalkAfter : Ipv6Extensions → List ℕ → ℕ → List ExtensionPart → ℕ → Type 0
+IsWalkAfter extensions taken number [] last = (header_for extensions taken number ≡ None) × (last ≡ number)
+IsWalkAfter extensions taken number (part ∷ parts) last =
     (header_for extensions taken number ≡ Some part)
-    × IsWalkBehind extensions (number ∷ taken) (part_next part) parts last
+    × IsWalkAfter extensions (number ∷ taken) (part_next part) parts last
 
--- a header is there and was left
+-- True if a header is present and was not visited.
 abbrev pub is_left : {H G : Type 0} → Option H → Option G → Bool
 is_left header walked = is_some header && not (is_some walked)
 
--- the number of the first header, in the order of linking, that is among the first and not among the second
+-- The IP number of the first header, in order of linking, that is in the first value and not in the second.
 abbrev pub missing_number : Ipv6Extensions → Ipv6Extensions → Option ℕ
 missing_number extensions walked =
     if is_left extensions.hop_by_hop_options walked.hop_by_hop_options then Some hop_by_hop_number
@@ -196,23 +197,24 @@ missing_number extensions walked =
     else if is_left (final_by extensions.routing) (final_by walked.routing) then Some destination_options_number
     else None
 
--- why a walk that ended at a number and left a header is none
+-- The error of a walk that ended at the number `last` and left out the header with the number `missing`.
 abbrev pub walk_refusal : ℕ → ℕ → ExtsWalkError
 walk_refusal missing last =
     if missing == hop_by_hop_number && last == hop_by_hop_number then walk_error.HopByHopNotAtStart
     else walk_error.ExtNotReferenced (record { 0 = missing })
 
--- the numbers lead from the first one through these headers, which are all, to the last number
+-- The next header fields lead from the first IP number through these headers, which are all headers of the value, to
+-- the last number.
 abbrev pub WalksAll : Ipv6Extensions → ℕ → List ExtensionPart → ℕ → Type 0
 WalksAll extensions first parts last =
-    IsWalkBehind extensions [] first parts last × (missing_number extensions (extensions_of parts) ≡ None)
+    IsWalkAfter extensions [] first parts last × (missing_number extensions (extensions_of parts) ≡ None)
 
--- the headers of a walk, and the number in which it ends
+-- The headers of a walk and the IP number at which it ends.
 abbrev pub IsWalk : Ipv6Extensions → ℕ → List ExtensionPart × ℕ → Type 0
 IsWalk extensions first walk = WalksAll extensions first walk.0 walk.1
 
--- the numbers do not lead from the first one through all headers
+-- The next header fields do not lead from the first IP number through all headers, for this reason.
 abbrev pub RefusesWalk : Ipv6Extensions → ℕ → ExtsWalkError → Type 0
 RefusesWalk extensions first error =
-    (parts : List ExtensionPart) × (last missing : ℕ) × IsWalkBehind extensions [] first parts last
+    (parts : List ExtensionPart) × (last missing : ℕ) × IsWalkAfter extensions [] first parts last
     × (missing_number extensions (extensions_of parts) ≡ Some missing) × (error ≡ walk_refusal missing last)

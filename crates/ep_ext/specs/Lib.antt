@@ -12,7 +12,7 @@ pub mod RawExtension
 pub mod RawExtensionSlices
 pub mod ShownChains
 pub mod Walks
--- what the contracts name of the crates below
+-- Definitions of lower crates that the contracts use.
 pub use Rattle.ep_base.specs.Bytes
 pub use Rattle.ep_base.specs.IpNumbers
 pub use Rattle.ep_base.specs.Readings

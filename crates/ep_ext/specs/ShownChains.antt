@@ -1,4 +1,4 @@
--- The extension headers that bytes show, one after another (RFC 8200, 4).
+-- The extension headers at the start of bytes, as a function (RFC 8200, 4).
 use Rattle.std.specs.Prelude.{ℕ, zero, suc, ◌==◌, ◌&&◌, Bool, if◌then◌else◌, List, [], ◌∷◌, length, take, drop, slice_index, is_none}
 use Rattle.ep_base.specs.IpNumbers.{hop_by_hop_number, routing_number, fragment_number, authentication_number}
 use Rattle.ep_base.specs.Tables.{first_row}
@@ -8,7 +8,7 @@ use Rattle.ep_ext.specs.RawExtension.{raw_extension_of, raw_extension_len_of}
 use Rattle.ep_ext.specs.ExtensionParts.{ExtensionPart, hop_by_hop, destination_options, routing, fragment, authentication, extension_part_rows}
 use Rattle.ep_ext.specs.Chains.{is_ipv6_extension}
 
--- the header of the number's kind that bytes are
+-- The header of the kind with this IP number that consists of all of the bytes.
 abbrev pub part_of : ℕ → List ℕ → ExtensionPart
 part_of number bytes =
     if number == hop_by_hop_number then hop_by_hop (raw_extension_of bytes)
@@ -17,18 +17,18 @@ part_of number bytes =
     else if number == authentication_number then authentication (ip_auth_of bytes)
     else destination_options (raw_extension_of bytes)
 
--- the number of bytes of the header of the number's kind that begins bytes
+-- The length in bytes of the header at the start of the bytes, whose kind is given by its IP number.
 abbrev pub part_len_of : ℕ → List ℕ → ℕ
 part_len_of number bytes =
     if number == authentication_number then ip_auth_len_of bytes
     else if number == fragment_number then 8
     else raw_extension_len_of bytes
 
--- whether bytes of a number begin with a header of its kind
+-- True if the bytes begin with a header of the kind with this IP number.
 abbrev pub begins_part : ℕ → List ℕ → Bool
 begins_part number bytes = is_ipv6_extension number && is_none (first_row (extension_part_rows number bytes))
 
--- the headers that bytes of a number show, at most so many; the first byte of each is the number of what follows it
+-- The headers at the start of the bytes, at most `most`. The first byte of each is its next header field.
 unfoldable pub shown_parts_in : ℕ → ℕ → List ℕ → List ExtensionPart
 shown_parts_in zero number bytes = []
 shown_parts_in (suc most) number bytes =
@@ -37,6 +37,6 @@ shown_parts_in (suc most) number bytes =
     ∷ shown_parts_in most (slice_index bytes 0) (drop (part_len_of number bytes) bytes)
     else []
 
--- the headers that bytes of a number show: no more than there are bytes
+-- The headers at the start of the bytes; there are no more of them than bytes.
 unfoldable pub shown_parts : ℕ → List ℕ → List ExtensionPart
 shown_parts number bytes = shown_parts_in (length bytes) number bytes

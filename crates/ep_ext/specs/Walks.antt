@@ -1,14 +1,14 @@
--- What a walk along the extension headers of IPv6 remembers.
+-- State of a walk along the next header fields of IPv6 extension headers.
 use Rattle.std.specs.Prelude.{ℕ, ◌==◌, ◌&&◌, not, true, false, if◌then◌else◌, Option, Some, None, option_map, is_some}
 use Rattle.ep_base.specs.IpNumbers.{hop_by_hop_number, routing_number, fragment_number, authentication_number, destination_options_number}
 use Rattle.ep_ext.specs.declared.ipv6_exts.Ipv6Extensions.{Ipv6Extensions}
 use Rattle.ep_ext.specs.declared.ipv6_exts_walk.HeaderRef.{HeaderRef}
 use Rattle.ep_ext.specs.declared.ipv6_exts_walk.HeaderRef.TheVariants as header
-use Rattle.ep_ext.specs.declared.ipv6_exts_walk.Marks.{Marks}
+use Rattle.ep_ext.specs.declared.ipv6_exts_walk.VisitedHeaders.{VisitedHeaders}
 use Rattle.ep_ext.specs.ExtensionParts.{ExtensionPart, hop_by_hop, destination_options, routing, fragment, authentication}
 use Rattle.ep_ext.specs.Ipv6Chains.{routing_header, final_by}
 
--- the header that is referred to
+-- The header of a reference.
 abbrev pub header_ref_part : HeaderRef → ExtensionPart
 header_ref_part (header.HopByHop there) = hop_by_hop there.now
 header_ref_part (header.DestinationOptions there) = destination_options there.now
@@ -16,8 +16,8 @@ header_ref_part (header.Routing there) = routing there.now
 header_ref_part (header.Fragment there) = fragment there.now
 header_ref_part (header.Authentication there) = authentication there.now
 
--- a header was taken
-abbrev pub marked : Marks → ExtensionPart → Marks
+-- The marks after a header is visited.
+abbrev pub marked : VisitedHeaders → ExtensionPart → VisitedHeaders
 marked marks (hop_by_hop header) = record marks { any = true; hop_by_hop = true }
 marked marks (destination_options header) =
     if marks.routing then record marks { any = true; final_destination_options = true }
@@ -26,8 +26,8 @@ marked marks (routing header) = record marks { any = true; routing = true; final
 marked marks (fragment header) = record marks { any = true; fragment = true }
 marked marks (authentication header) = record marks { any = true; auth = true }
 
--- the header that is taken at a number
-abbrev pub header_at : Ipv6Extensions → Marks → ℕ → Option ExtensionPart
+-- The unvisited header that the IP number refers to.
+abbrev pub header_at : Ipv6Extensions → VisitedHeaders → ℕ → Option ExtensionPart
 header_at extensions marks number =
     if number == hop_by_hop_number
     then (if marks.any then None else option_map hop_by_hop extensions.hop_by_hop_options)
@@ -45,8 +45,8 @@ header_at extensions marks number =
     else option_map destination_options extensions.destination_options))
     else None
 
--- the number of the first header, in the order of linking, that was not taken
-abbrev pub missing_at : Ipv6Extensions → Marks → Option ℕ
+-- The IP number of the first unvisited header, in order of linking.
+abbrev pub missing_at : Ipv6Extensions → VisitedHeaders → Option ℕ
 missing_at extensions marks =
     if is_some extensions.hop_by_hop_options && not marks.hop_by_hop then Some hop_by_hop_number
     else if is_some extensions.destination_options && not marks.destination_options then Some destination_options_number

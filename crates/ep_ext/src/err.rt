@@ -1,4 +1,4 @@
-//! The errors of extension headers.
+//! Errors of the IPv4 and IPv6 extension headers.
 
 pub mod ip_auth;
 pub mod ipv6_exts;

@@ -1,4 +1,4 @@
-//! The authentication header of IP (RFC 4302, 2).
+//! Owned IP authentication header (RFC 4302, 2).
 
 ghost use Rattle.std.specs.Prelude.{◌≡◌, ◌<◌, ◌≤◌, ◌+◌, ◌%◌, ◌^◌, [], ◌∷◌, ◌++◌, List, ℕ, length, vec_len, vec_capacity, IfOk, IfErr, OnOk, OnErr, IsOkAnd, MatchResult};
 ghost use Rattle.std.specs.Int.{w32, to_be_bytes};
@@ -12,30 +12,35 @@ use arrayvec::ArrayVec;
 use ep_base::IpNumber;
 use std::alloc::AllocError;
 
-/// An authentication header (RFC 4302, 2): 12 bytes and the integrity check value, of at most 1016 bytes.
+/// IP authentication header (RFC 4302, 2): 12 fixed bytes and an integrity check value of at most 1016 bytes.
 #[derive(Clone, Debug, PartialEq, Eq, Drop)]
 pub struct IpAuthHeader {
-    /// What follows the header, byte 0.
+    /// Next header field of an IP authentication header, byte 0: the IP number of the header or payload after it.
     pub next_header: IpNumber,
-    /// The security parameters index, bytes 4 to 7.
+    /// Security Parameters Index (SPI) of an IP authentication header, bytes 4 to 7.
     pub spi: u32,
-    /// The number of the packet in its security association, bytes 8 to 11.
+    /// Sequence number of the packet in its security association, bytes 8 to 11 of an IP authentication header.
     pub sequence_number: u32,
-    /// The integrity check value, from byte 12 on.
+    /// Integrity Check Value (ICV) of an IP authentication header, from byte 12 on.
     icv: IpAuthIcv,
 }
 
 impl IpAuthHeader {
-    /// The number of bytes of a header without integrity check value.
+    /// Length in bytes of an IP authentication header without integrity check value: 12.
     pub const MIN_LEN: usize = 12;
 
-    /// The greatest number of bytes of an integrity check value.
+    /// Maximum length in bytes of the integrity check value of an IP authentication header: 1016.
     pub const MAX_ICV_LEN: usize = 1016;
 
-    /// The number of bytes of a header with the longest integrity check value.
+    /// Length in bytes of an IP authentication header with the longest integrity check value: 1028.
     pub const MAX_LEN: usize = 1028;
 
-    /// A header with a copy of this integrity check value, which has at most 1016 bytes, in words of 4.
+    /// Creates an IP authentication header from its next header, SPI, sequence number and a copy of the integrity check
+    /// value `raw_icv`.
+    ///
+    /// # Errors
+    ///
+    /// Returns an error if `raw_icv` has more than 1016 bytes, or else if its length is not a multiple of 4.
     #[inline]
     pub fn new(
         next_header: IpNumber,
@@ -58,7 +63,8 @@ impl IpAuthHeader {
         Ok(IpAuthHeader::copy_of(next_header, spi, sequence_number, raw_icv))
     }
 
-    /// A header with a copy of this integrity check value.
+    /// Creates an IP authentication header from its next header, SPI, sequence number and a copy of the integrity check
+    /// value `raw_icv`. The value must have a valid length: a multiple of 4, at most 1016 bytes.
     #[inline]
     pub(crate) fn copy_of(
         next_header: IpNumber,
@@ -78,9 +84,10 @@ impl IpAuthHeader {
         }
     }
 
-    /// A header that is to be filled in, where headers are read into a value: it is made in its place.
+    /// Creates a zeroed IP authentication header that the caller then overwrites in its final place, so that the
+    /// 1016-byte buffer of the header is never moved.
     #[inline(always)]
-    pub(crate) fn room() -> IpAuthHeader {
+    pub(crate) fn blank() -> IpAuthHeader {
         IpAuthHeader {
             next_header: IpNumber(0),
             spi: 0,
@@ -89,7 +96,7 @@ impl IpAuthHeader {
         }
     }
 
-    /// Becomes the header that lies in a slice.
+    /// Overwrites this owned IP authentication header in place with a copy of the sliced header `header`.
     #[inline]
     pub(crate) fn fill(&mut self, header: &IpAuthHeaderSlice<'_>)
         ensures { self.new ≡ ip_auth_slice_header header.now }
@@ -100,7 +107,7 @@ impl IpAuthHeader {
         self.icv.fill(header.raw_icv());
     }
 
-    /// Becomes a copy of a header, in its place.
+    /// Overwrites this IP authentication header in place with a copy of `header`.
     #[inline]
     pub(crate) fn copy_from(&mut self, header: &IpAuthHeader)
         ensures { self.new ≡ header.now }
@@ -111,7 +118,8 @@ impl IpAuthHeader {
         self.icv.fill(header.raw_icv());
     }
 
-    /// The header at the front of the slice, and the bytes behind it.
+    /// Parses the IP authentication header at the start of the slice. Returns an owned copy of it, and the bytes after
+    /// it.
     #[inline]
     pub fn from_slice(slice: &[u8]) -> Result<(IpAuthHeader, &[u8]), HeaderSliceError>
         ensures ok { IfOk result (λ read. IsIpAuth slice.now (read.0, read.1.now)) }
@@ -123,7 +131,8 @@ impl IpAuthHeader {
         Ok((header.to_header(), &slice[header.header_len()..]))
     }
 
-    /// The integrity check value, from byte 12 on.
+    /// Integrity Check Value (ICV) of the IP authentication header, from byte 12 on: at most 1016 bytes, a multiple of
+    /// 4.
     #[inline]
     pub fn raw_icv(&self) -> &[u8]
         ensures value { result.now ≡ ip_auth_icv self.now }
@@ -133,7 +142,7 @@ impl IpAuthHeader {
         self.icv.as_slice()
     }
 
-    /// The number of bytes of the header, with its integrity check value.
+    /// Length in bytes of the IP authentication header with its integrity check value: 12 to 1028.
     #[inline]
     pub fn header_len(&self) -> usize
         ensures value { result ≡ ip_auth_len self.now }
@@ -143,7 +152,7 @@ impl IpAuthHeader {
         IpAuthHeader::MIN_LEN + self.raw_icv().len()
     }
 
-    /// The header as it stands on the wire, with its reserved bytes 0.
+    /// Returns the wire format of the IP authentication header, with its reserved bytes (2 and 3) set to 0.
     pub fn to_bytes(&self) -> ArrayVec<u8, 1028>
         ensures bytes { result.items ≡ ip_auth_bytes self.now }
         ensures fits { FitsIpAuth self.now }
@@ -161,8 +170,8 @@ impl IpAuthHeader {
         bytes
     }
 
-    /// Appends the header's bytes. A refusal leaves the buffer as it was, and comes only where the buffer would have to
-    /// grow.
+    /// Appends the wire format of the IP authentication header to the buffer. The only error is a failed allocation, if
+    /// the buffer has to grow; it leaves the buffer unchanged.
     pub fn write(&self, buf: &mut Vec<u8>) -> Result<(), AllocError>
         ensures ok { OnOk result (buf.new.items ≡ buf.old.items ++ ip_auth_bytes self.now) }
         ensures err { OnErr result (buf.new.items ≡ buf.old.items) }
@@ -173,7 +182,8 @@ impl IpAuthHeader {
         buf.extend_from_slice(self.to_bytes().as_slice())
     }
 
-    /// The first 12 bytes of a header on the wire, of these fields and of this number of words.
+    /// Returns the first 12 bytes of an IP authentication header: these fields, with reserved bytes of 0.
+    /// `words_less_2` is its length field: the length of the header in 4-byte words, minus 2.
     #[inline]
     fn fixed_bytes(next_header: u8, words_less_2: u8, spi: u32, sequence_number: u32) -> [u8; 12]
         ensures bytes { result ≡ next_header ∷ words_less_2 ∷ 0 ∷ 0 ∷ []

@@ -1,4 +1,4 @@
-//! An authentication header of IP in a slice (RFC 4302, 2).
+//! IP authentication header in a slice, without a copy (RFC 4302, 2).
 
 ghost use Rattle.std.specs.Prelude.{◌≡◌, ◌≤◌, length};
 ghost use Rattle.ep_ext.specs.IpAuth.{ip_auth_len_of};
@@ -8,20 +8,20 @@ use crate::ip_auth_header::IpAuthHeader;
 use ep_base::err::{Layer, LenError};
 use ep_base::{IpNumber, LenSource};
 
-/// The bytes of one authentication header, as many as its length field says.
+/// Bytes of exactly one IP authentication header: their number is the length that its length field states.
 #[derive(Clone, Copy, Debug, PartialEq, Eq)]
-pub(crate) struct WholeIpAuth<'a> {
+pub(crate) struct IpAuthBytes<'a> {
     slice: &'a [u8],
     ghost fixed: { 12 ≤ length slice.now },
     ghost bound: { length slice.now ≤ 1028 },
     ghost whole: { length slice.now ≡ ip_auth_len_of slice.now },
 }
 
-/// An authentication header (RFC 4302, 2) that lies in a slice: 12 bytes and the integrity check value, of at most 1016
+/// IP authentication header in a slice (RFC 4302, 2): 12 fixed bytes and an integrity check value of at most 1016
 /// bytes.
 #[derive(Clone, Debug, PartialEq, Eq, Drop)]
 pub struct IpAuthHeaderSlice<'a> {
-    bytes: WholeIpAuth<'a>,
+    bytes: IpAuthBytes<'a>,
 }
 
 impl<'a> IpAuthHeaderSlice<'a> {
@@ -30,7 +30,8 @@ impl<'a> IpAuthHeaderSlice<'a> {
     ghost use Rattle.ep_ext.specs.IpAuth.{IsIpAuth, RefusesIpAuth, ip_auth_icv, ip_auth_len};
     ghost use Rattle.ep_ext.specs.IpAuthSlices.{ip_auth_slice_bytes, ip_auth_slice_header};
 
-    /// The header at the front of the slice.
+    /// Parses the IP authentication header at the start of the slice, without a copy. Bytes after the header are
+    /// ignored.
     pub fn from_slice(slice: &'a [u8]) -> Result<IpAuthHeaderSlice<'a>, HeaderSliceError>
         ensures ok { IfOk result (λ header. (rest : List ℕ) × (slice.now ≡ ip_auth_slice_bytes header ++ rest)
             × IsIpAuth slice.now (ip_auth_slice_header header, rest)) }
@@ -59,13 +60,13 @@ impl<'a> IpAuthHeaderSlice<'a> {
             )));
         }
         Ok(IpAuthHeaderSlice {
-            bytes: WholeIpAuth {
+            bytes: IpAuthBytes {
                 slice: &slice[..header_len],
             },
         })
     }
 
-    /// The bytes of the header, with its integrity check value.
+    /// All bytes of the IP authentication header, with its integrity check value.
     #[inline]
     pub fn slice(&self) -> &'a [u8]
         ensures { result.now ≡ ip_auth_slice_bytes self.now }
@@ -73,7 +74,7 @@ impl<'a> IpAuthHeaderSlice<'a> {
         self.bytes.slice
     }
 
-    /// The number of bytes of the header, with its integrity check value.
+    /// Length in bytes of the IP authentication header with its integrity check value: 12 to 1028.
     #[inline]
     pub fn header_len(&self) -> usize
         ensures bytes { result ≡ length (ip_auth_slice_bytes self.now) }
@@ -82,7 +83,7 @@ impl<'a> IpAuthHeaderSlice<'a> {
         self.bytes.slice.len()
     }
 
-    /// What follows the header, byte 0.
+    /// Next header field of the IP authentication header, byte 0: the IP number of the header or payload after it.
     #[inline]
     pub fn next_header(&self) -> IpNumber
         ensures { result ≡ (ip_auth_slice_header self.now).next_header }
@@ -90,7 +91,7 @@ impl<'a> IpAuthHeaderSlice<'a> {
         IpNumber(self.bytes.slice[0])
     }
 
-    /// The security parameters index, bytes 4 to 7.
+    /// Security Parameters Index (SPI) of the IP authentication header, bytes 4 to 7.
     #[inline]
     pub fn spi(&self) -> u32
         ensures { result ≡ (ip_auth_slice_header self.now).spi }
@@ -99,7 +100,7 @@ impl<'a> IpAuthHeaderSlice<'a> {
         u32::from_be_bytes([bytes[4], bytes[5], bytes[6], bytes[7]])
     }
 
-    /// The number of the packet in its security association, bytes 8 to 11.
+    /// Sequence number of the packet in its security association, bytes 8 to 11 of the IP authentication header.
     #[inline]
     pub fn sequence_number(&self) -> u32
         ensures { result ≡ (ip_auth_slice_header self.now).sequence_number }
@@ -108,7 +109,8 @@ impl<'a> IpAuthHeaderSlice<'a> {
         u32::from_be_bytes([bytes[8], bytes[9], bytes[10], bytes[11]])
     }
 
-    /// The integrity check value, from byte 12 on.
+    /// Integrity Check Value (ICV) of the IP authentication header, from byte 12 on: at most 1016 bytes, a multiple of
+    /// 4.
     #[inline]
     pub fn raw_icv(&self) -> &'a [u8]
         ensures value { result.now ≡ ip_auth_icv (ip_auth_slice_header self.now) }
@@ -118,7 +120,7 @@ impl<'a> IpAuthHeaderSlice<'a> {
         &self.bytes.slice[IpAuthHeader::MIN_LEN..]
     }
 
-    /// The header as a value.
+    /// Returns an owned copy of the IP authentication header.
     #[inline]
     pub fn to_header(&self) -> IpAuthHeader
         ensures { result ≡ ip_auth_slice_header self.now }
@@ -131,11 +133,12 @@ impl<'a> IpAuthHeaderSlice<'a> {
         )
     }
 
-    /// Puts the header as a value in the place of what is there. It is filled in there, so that none is moved.
+    /// Writes an owned copy of the IP authentication header to `place`, which becomes `Some`; a header that was there
+    /// is overwritten. The copy is filled in place, so that its 1016-byte buffer is not moved.
     pub fn header_into(&self, place: &mut Option<IpAuthHeader>)
         ensures { place.new ≡ Some (ip_auth_slice_header self.now) }
     {
-        *place = Some(IpAuthHeader::room());
+        *place = Some(IpAuthHeader::blank());
         if let Some(room) = place {
             room.fill(self);
         }

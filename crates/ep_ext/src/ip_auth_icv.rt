@@ -1,21 +1,21 @@
-//! The integrity check value of an authentication header (RFC 4302, 2.6).
+//! Owned integrity check value of an IP authentication header (RFC 4302, 2.6).
 
 ghost use Rattle.std.specs.Prelude.{◌≡◌, ◌≤◌, ◌*◌, ◌%◌, length};
 
 use std::marker::Model;
 
-/// The bytes of an integrity check value: at most 1016, in words of 4.
+/// Owned integrity check value of an IP authentication header: at most 1016 bytes, a multiple of 4.
 #[derive(Clone, Debug, PartialEq, Eq, Drop)]
 pub(crate) struct IpAuthIcv {
-    /// The value, and then zero bytes.
+    /// Bytes of an integrity check value, padded with zeros to the maximum length of 1016 bytes.
     bytes: [u8; 1016],
-    /// The number of words of the value.
+    /// Length of an integrity check value in 4-byte words: 0 to 254.
     words: u8,
 }
 
 impl Model for IpAuthIcv {
     ghost use Rattle.std.specs.Prelude.{◌≡◌, ℕ, ◌-◌, ◌*◌, ◌/◌, ◌≤◌, List, length, take, drop, replicate};
-    ghost use Rattle.ep_base.specs.Padding.{padded, padded_front};
+    ghost use Rattle.ep_base.specs.Padding.{padded, padded_prefix};
     ghost use Rattle.std.proofs.Common.{arith, length-take-le};
 
     ghost Value = { List ℕ };
@@ -32,13 +32,13 @@ impl Model for IpAuthIcv {
         = length-take-le (4 * v.words) v.bytes (Prim.omega (arith, h.0, h.1)) in
         let words : length (take (4 * v.words) v.bytes) / 4 ≡ v.words = Prim.omega (arith, len) in
         λ i. record {
-          bytes = padded_front 1016 (4 * v.words) v.bytes h.0 (Prim.omega (arith, h.1)) h.2 i;
+          bytes = padded_prefix 1016 (4 * v.words) v.bytes h.0 (Prim.omega (arith, h.1)) h.2 i;
           words = words i;
         } };
 }
 
 impl IpAuthIcv {
-    /// A copy of the bytes.
+    /// Creates an integrity check value with a copy of the bytes: at most 1016, a multiple of 4.
     #[inline]
     pub(crate) fn copy_of(slice: &[u8]) -> IpAuthIcv
         requires bound { length slice.now ≤ 1016 }
@@ -53,7 +53,7 @@ impl IpAuthIcv {
         }
     }
 
-    /// The shortest value, of no bytes.
+    /// Creates an empty integrity check value (0 bytes).
     #[inline(always)]
     pub(crate) fn shortest() -> IpAuthIcv {
         IpAuthIcv {
@@ -62,7 +62,8 @@ impl IpAuthIcv {
         }
     }
 
-    /// Puts a copy of the bytes in the value's place. A value is large, and this moves none.
+    /// Overwrites an integrity check value in place with a copy of the bytes, which avoids a move of its 1016-byte
+    /// buffer. The bytes are at most 1016, a multiple of 4.
     #[inline]
     pub(crate) fn fill(&mut self, slice: &[u8])
         requires bound { length slice.now ≤ 1016 }
@@ -74,7 +75,7 @@ impl IpAuthIcv {
         self.words = (slice.len() / 4) as u8;
     }
 
-    /// The bytes of the value.
+    /// Bytes of the integrity check value, without padding.
     #[inline]
     pub(crate) fn as_slice(&self) -> &[u8]
         ensures value { result.now ≡ self.now }
@@ -84,7 +85,7 @@ impl IpAuthIcv {
         &self.bytes[..4 * self.words as usize]
     }
 
-    /// The number of words of the value.
+    /// Length of the integrity check value in 4-byte words: 0 to 254.
     #[inline]
     pub(crate) fn words(&self) -> u8
         ensures value { 4 * result ≡ length self.now }

@@ -1,4 +1,4 @@
-//! The extension headers of IPv4 by value.
+//! Owned extension headers of IPv4: an authentication header, or none.
 
 ghost use Rattle.std.specs.Prelude.{◌≡◌, ◌<◌, ◌≤◌, ◌+◌, ◌++◌, ◌↔◌, length, vec_len, vec_capacity, IfOk, IfErr, OnOk, OnErr, IsOkAnd, Ok, Err};
 ghost use Rattle.ep_base.specs.Readings.{headers};
@@ -13,16 +13,17 @@ use ep_base::err::ip_auth::HeaderSliceError;
 use ep_base::err::ipv4_exts::{ExtsWalkError, HeaderWriteError};
 use ep_base::{IpNumber, ip_number};
 
-/// The extension headers of an IPv4 packet: an authentication header (RFC 4302), or none.
+/// Owned extension headers of an IPv4 packet: an authentication header (RFC 4302), or none.
 #[derive(Clone, Debug, PartialEq, Eq, Default, Drop)]
 pub struct Ipv4Extensions {
-    /// The authentication header.
+    /// Authentication header after an IPv4 header, if present.
     pub auth: Option<IpAuthHeader>,
 }
 
 impl Ipv4Extensions {
-    /// The extension headers at the front of the slice, which begins with what the number says, the number of what
-    /// follows them, and the bytes behind them.
+    /// Parses the extension headers of IPv4 at the start of the slice: an authentication header if `number` (the
+    /// protocol field of the IPv4 header) is 51, else none. Returns the owned headers, the IP number of the payload,
+    /// and the bytes after the headers.
     #[inline]
     pub fn from_slice(
         number: IpNumber,
@@ -43,7 +44,7 @@ impl Ipv4Extensions {
         Ok((Ipv4Extensions { auth: Some(header) }, next_header, rest))
     }
 
-    /// The number of bytes of the headers: at most 1028.
+    /// Length of the IPv4 extension headers in bytes: 0 without an authentication header, else 12 to 1028.
     #[inline]
     pub fn header_len(&self) -> usize
         ensures bytes { result ≡ length (parts_bytes (ipv4_parts self.now)) }
@@ -55,7 +56,8 @@ impl Ipv4Extensions {
         }
     }
 
-    /// Lets the headers lead to this number, and gives the first number.
+    /// Sets the next header field of the authentication header, if present, to `last`. Returns the number for the
+    /// protocol field of the IPv4 header: 51, or `last` without an authentication header.
     pub fn set_next_headers(&mut self, last: IpNumber) -> IpNumber
         ensures linked { self.new ≡ ipv4_linked self.old last }
         ensures first { result ≡ ipv4_first self.old last }
@@ -69,7 +71,12 @@ impl Ipv4Extensions {
         }
     }
 
-    /// The number of what follows the headers, where this is the first number.
+    /// Returns the IP number of the payload after the IPv4 extension headers, given `first`, the protocol field of the
+    /// IPv4 header: `first` itself without an authentication header, else the next header field of that header.
+    ///
+    /// # Errors
+    ///
+    /// Returns an error if there is an authentication header and `first` is not its number, 51.
     pub fn next_header(&self, first: IpNumber) -> Result<IpNumber, ExtsWalkError>
         ensures { result ≡ ipv4_walk self.now first }
     {
@@ -87,8 +94,9 @@ impl Ipv4Extensions {
         }
     }
 
-    /// Appends the headers' bytes, where this is the first number. A refusal leaves the buffer as it was, and want of
-    /// memory comes only where the buffer would have to grow.
+    /// Appends the authentication header, if present, to the buffer. It is an error if there is an authentication
+    /// header and `first`, the protocol field of the IPv4 header, is not its number (51), or if the buffer has to grow
+    /// and the allocation fails. An error leaves the buffer unchanged.
     pub fn write(&self, buf: &mut Vec<u8>, first: IpNumber) -> Result<(), HeaderWriteError>
         ensures ok { OnOk result (buf.new.items ≡ buf.old.items ++ parts_bytes (ipv4_parts self.now)) }
         ensures err { OnErr result (buf.new.items ≡ buf.old.items) }

@@ -1,13 +1,13 @@
-//! The extension headers of IPv4 in slices.
+//! Extension headers of IPv4 in a slice: an authentication header, or none.
 
 use crate::ip_auth_header_slice::IpAuthHeaderSlice;
 use ep_base::err::ip_auth::HeaderSliceError;
 use ep_base::{IpNumber, ip_number};
 
-/// The extension headers of an IPv4 packet that lies in a slice: an authentication header (RFC 4302), or none.
+/// Extension headers of an IPv4 packet in a slice: an authentication header (RFC 4302), or none.
 #[derive(Clone, Debug, PartialEq, Eq, Default, Drop)]
 pub struct Ipv4ExtensionsSlice<'a> {
-    /// The authentication header.
+    /// Authentication header after an IPv4 header, if present.
     pub auth: Option<IpAuthHeaderSlice<'a>>,
 }
 
@@ -18,11 +18,12 @@ impl<'a> Ipv4ExtensionsSlice<'a> {
     ghost use Rattle.ep_base.specs.Readings.{slices};
     ghost use Rattle.ep_ext.specs.ExtensionParts.{auth_refusal};
     ghost use Rattle.ep_ext.specs.Chains.{ipv4, ExtensionChain, IsExtensionChain, RefusesExtensionChain, chain_of};
-    ghost use Rattle.ep_ext.specs.FrontChains.{IsFrontChain};
+    ghost use Rattle.ep_ext.specs.FrontChains.{IsLaxChain};
     ghost use Rattle.ep_ext.specs.Ipv4Chains.{ipv4_slice_parts, ipv4_slice_bytes};
 
-    /// The extension headers at the front of the slice, which begins with what the number says, the number of what
-    /// follows them, and the bytes behind them.
+    /// Parses the extension headers of IPv4 at the start of the slice: an authentication header if `number` (the
+    /// protocol field of the IPv4 header) is 51, else none. Returns the headers, the IP number of the payload, and the
+    /// bytes after the headers.
     #[inline(always)]
     pub fn from_slice(
         number: IpNumber,
@@ -48,8 +49,9 @@ impl<'a> Ipv4ExtensionsSlice<'a> {
             rest,
         ))
     }
-    /// The same, where an authentication header that is refused is left to the bytes behind the headers: then there are
-    /// no headers, and the last part says why it is refused.
+    /// Parses the authentication header at the start of the slice, if `number` (the protocol field of the IPv4 header)
+    /// is 51. Returns the headers, the IP number of the payload, the bytes after the headers, and `None`. If the header
+    /// is invalid or truncated, returns no headers, `number`, the whole slice and the error.
     #[inline(always)]
     pub fn from_slice_lax(
         number: IpNumber,
@@ -61,10 +63,10 @@ impl<'a> Ipv4ExtensionsSlice<'a> {
         Option<HeaderSliceError>,
     )
         ensures bytes { slice.now ≡ ipv4_slice_bytes result.0 ++ result.2.now }
-        ensures chain { IsFrontChain ipv4 number.0 slice.now
+        ensures chain { IsLaxChain ipv4 number.0 slice.now
             (chain_of (ipv4_slice_parts result.0) result.1.0 result.2.now) (option_map auth_refusal result.3) }
         ensures only { (chain : ExtensionChain) (stop : Option HeaderSliceError)
-            → IsFrontChain ipv4 number.0 slice.now chain (option_map auth_refusal stop)
+            → IsLaxChain ipv4 number.0 slice.now chain (option_map auth_refusal stop)
             → (chain_of (ipv4_slice_parts result.0) result.1.0 result.2.now ≡ chain) × (result.3 ≡ stop) }
     {
         if number != ip_number::AUTHENTICATION_HEADER {

@@ -1,4 +1,4 @@
-//! One extension header of IPv6 in a slice, of any kind (RFC 8200, 4).
+//! One IPv6 extension header in a slice, with its type (RFC 8200, 4).
 
 ghost use Rattle.std.specs.Prelude.{◌≡◌, ◌+◌, ◌<◌, ◌^◌, ◌++◌, List, ℕ, true, IfOk, IfErr};
 ghost use Rattle.ep_base.specs.Tables.{Refuses, rows_as};
@@ -10,7 +10,7 @@ ghost use Rattle.ep_ext.specs.FragmentHeaderSlices.{fragment_slice_bytes, fragme
 ghost use Rattle.ep_ext.specs.RawExtension.{IsRawExtension, raw_extension_rows};
 ghost use Rattle.ep_ext.specs.RawExtensionSlices.{raw_extension_slice_bytes, raw_extension_slice_header};
 ghost use Rattle.ep_ext.specs.ExtensionParts.{IsExtensionPart, RefusesExtensionPart, auth_refusal, part_fragments, part_next};
-ghost use Rattle.ep_ext.specs.Chains.{is_ipv6_extension, further_in, offset_of};
+ghost use Rattle.ep_ext.specs.Chains.{is_ipv6_extension, with_offset_in, offset_of};
 ghost use Rattle.ep_ext.specs.Ipv6ExtensionSlices.{extension_slice_bytes, extension_slice_part};
 
 use crate::ip_auth_header_slice::IpAuthHeaderSlice;
@@ -20,23 +20,23 @@ use ep_base::err::ip_auth;
 use ep_base::err::ipv6_exts::{HeaderError, HeaderSliceError};
 use ep_base::{IpNumber, ip_number};
 
-/// One extension header of an IPv6 packet that lies in a slice (RFC 8200, 4), by its kind.
+/// One IPv6 extension header in a slice, with one variant for each type of header (RFC 8200, 4).
 #[derive(Clone, Debug, PartialEq, Eq, Drop)]
 pub enum Ipv6ExtensionSlice<'a> {
-    /// Hop by hop options.
+    /// IPv6 Hop-by-Hop Options header (IP number 0).
     HopByHop(Ipv6RawExtHeaderSlice<'a>),
-    /// A routing header.
+    /// IPv6 Routing header (IP number 43).
     Routing(Ipv6RawExtHeaderSlice<'a>),
-    /// A fragment header.
+    /// IPv6 Fragment header (IP number 44).
     Fragment(Ipv6FragmentHeaderSlice<'a>),
-    /// Destination options.
+    /// IPv6 Destination Options header (IP number 60).
     DestinationOptions(Ipv6RawExtHeaderSlice<'a>),
-    /// An authentication header.
+    /// IP authentication header (IP number 51).
     Authentication(IpAuthHeaderSlice<'a>),
 }
 
 impl<'a> Ipv6ExtensionSlice<'a> {
-    /// The header of the number's kind at the front of the slice.
+    /// Parses the one IPv6 extension header at the start of the slice. Its type is given by its IP number `number`.
     pub(crate) fn read(
         number: IpNumber,
         slice: &'a [u8],
@@ -62,7 +62,7 @@ impl<'a> Ipv6ExtensionSlice<'a> {
         Ok(Ipv6ExtensionSlice::DestinationOptions(header))
     }
 
-    /// The bytes of the header.
+    /// All bytes of this one IPv6 extension header.
     #[inline]
     pub(crate) fn slice(&self) -> &'a [u8]
         ensures { result.now ≡ extension_slice_bytes self.now }
@@ -76,7 +76,7 @@ impl<'a> Ipv6ExtensionSlice<'a> {
         }
     }
 
-    /// What follows the header.
+    /// Next header field of this IPv6 extension header, byte 0: the IP number of the header or payload after it.
     #[inline]
     pub(crate) fn next_header(&self) -> IpNumber
         ensures { result.0 ≡ part_next (extension_slice_part self.now) }
@@ -90,7 +90,8 @@ impl<'a> Ipv6ExtensionSlice<'a> {
         }
     }
 
-    /// Whether the header says that the packet carries one fragment of a longer payload.
+    /// Returns true if this IPv6 extension header is a Fragment header of a fragmented packet: its M flag (more
+    /// fragments) is set, or its fragment offset is above 0.
     #[inline]
     pub(crate) fn is_fragmenting_payload(&self) -> bool
         ensures { result ≡ part_fragments (extension_slice_part self.now) }
@@ -102,7 +103,7 @@ impl<'a> Ipv6ExtensionSlice<'a> {
     }
 }
 
-/// Whether the number is that of an extension header of IPv6.
+/// Returns true if the IP number is that of an IPv6 extension header: 0, 43, 44, 51 or 60.
 #[inline]
 pub(crate) fn is_extension(number: IpNumber) -> bool
     ensures { result ≡ is_ipv6_extension number.0 }
@@ -114,11 +115,11 @@ pub(crate) fn is_extension(number: IpNumber) -> bool
         || number == ip_number::IPV6_DESTINATION_OPTIONS
 }
 
-/// The same refusal, seen from a start that lies so many bytes further in front.
+/// Adds `offset` (bytes) to the layer start offset that a length error contains. Returns other errors unchanged.
 #[inline]
-pub(crate) fn further(error: HeaderSliceError, offset: usize) -> HeaderSliceError
+pub(crate) fn with_offset(error: HeaderSliceError, offset: usize) -> HeaderSliceError
     requires { offset_of error + offset < 2 ^ 64 }
-    ensures { result ≡ further_in offset error }
+    ensures { result ≡ with_offset_in offset error }
 {
     match error {
         HeaderSliceError::Len(error) => HeaderSliceError::Len(error.add_offset(offset)),
@@ -126,7 +127,7 @@ pub(crate) fn further(error: HeaderSliceError, offset: usize) -> HeaderSliceErro
     }
 }
 
-/// The authentication header at the front of the slice.
+/// Parses the IP authentication header at the start of the slice.
 fn read_authentication<'a>(slice: &'a [u8]) -> Result<IpAuthHeaderSlice<'a>, HeaderSliceError>
     ensures ok { IfOk result (λ header. (rest : List ℕ) × (slice.now ≡ ip_auth_slice_bytes header ++ rest)
         × IsIpAuth slice.now (ip_auth_slice_header header, rest)) }
@@ -141,7 +142,7 @@ fn read_authentication<'a>(slice: &'a [u8]) -> Result<IpAuthHeaderSlice<'a>, Hea
     }
 }
 
-/// The fragment header at the front of the slice.
+/// Parses the IPv6 Fragment header at the start of the slice.
 fn read_fragment<'a>(slice: &'a [u8]) -> Result<Ipv6FragmentHeaderSlice<'a>, HeaderSliceError>
     ensures ok { IfOk result (λ header. (rest : List ℕ) × (slice.now ≡ fragment_slice_bytes header ++ rest)
         × IsFragmentHeader slice.now (fragment_slice_header header, rest)) }
@@ -153,7 +154,7 @@ fn read_fragment<'a>(slice: &'a [u8]) -> Result<Ipv6FragmentHeaderSlice<'a>, Hea
     }
 }
 
-/// The header of options or the routing header at the front of the slice.
+/// Parses the IPv6 Hop-by-Hop Options, Destination Options or Routing header at the start of the slice.
 fn read_raw<'a>(slice: &'a [u8]) -> Result<Ipv6RawExtHeaderSlice<'a>, HeaderSliceError>
     ensures ok { IfOk result (λ header. (rest : List ℕ) × (slice.now ≡ raw_extension_slice_bytes header ++ rest)
         × IsRawExtension slice.now (raw_extension_slice_header header, rest)) }

@@ -1,4 +1,4 @@
-//! The extension headers of IPv6 by value (RFC 8200, 4.1).
+//! Owned extension headers of an IPv6 packet (RFC 8200, 4.1).
 
 ghost use Rattle.std.specs.Prelude.{◌≡◌, ◌≤◌, ◌++◌, ◌↔◌, ◌==◌, List, true, false, IfOk, IfErr, OnErr, IsOkAnd, Ok, Err, Some, None};
 ghost use Rattle.ep_base.specs.Readings.{headers};
@@ -9,7 +9,7 @@ ghost use Rattle.ep_ext.specs.RawExtensionSlices.{raw_extension_slice_header};
 ghost use Rattle.ep_ext.specs.Ipv6Chains.{no_ipv6_extensions, ipv6_parts, extensions_of, with_part, has_kind};
 
 use crate::ip_auth_header::IpAuthHeader;
-use crate::ipv6_ext_slice::{Ipv6ExtensionSlice, further, is_extension};
+use crate::ipv6_ext_slice::{Ipv6ExtensionSlice, is_extension, with_offset};
 use crate::ipv6_fragment_header::Ipv6FragmentHeader;
 use crate::ipv6_raw_ext_header::Ipv6RawExtHeader;
 use crate::ipv6_raw_ext_header_slice::Ipv6RawExtHeaderSlice;
@@ -18,19 +18,20 @@ use ep_base::err::ipv6_exts::{HeaderError, HeaderSliceError};
 use ep_base::{IpNumber, ip_number};
 use std::alloc::AllocError;
 
-/// The extension headers of an IPv6 packet (RFC 8200, 4.1): at most one of each kind, and destination options a second
-/// time behind a routing header.
+/// Owned extension headers of an IPv6 packet (RFC 8200, 4.1): at most one of each type, except that a second
+/// Destination Options header may come after a routing header.
 #[derive(Debug, PartialEq, Eq, Default, Drop)]
 pub struct Ipv6Extensions {
-    /// The hop by hop options.
+    /// Hop-by-Hop Options header of the IPv6 packet, if present.
     pub hop_by_hop_options: Option<Ipv6RawExtHeader>,
-    /// The destination options that stand before a routing header, or without one.
+    /// Destination Options header of the IPv6 packet, if present before the routing header or in a packet without a
+    /// routing header.
     pub destination_options: Option<Ipv6RawExtHeader>,
-    /// The routing header, and the destination options behind it.
+    /// Routing header of the IPv6 packet, if present, with the Destination Options header after it, if any.
     pub routing: Option<Ipv6RoutingExtensions>,
-    /// The fragment header.
+    /// Fragment header of the IPv6 packet, if present.
     pub fragment: Option<Ipv6FragmentHeader>,
-    /// The authentication header.
+    /// Authentication header (RFC 4302) of the IPv6 packet, if present.
     pub auth: Option<IpAuthHeader>,
 }
 
@@ -41,7 +42,7 @@ impl Clone for Ipv6Extensions {
 
     ghost is_infallible = { λ _. ⊤ };
 
-    // A derived clone moves each header several times. Here the result is made first, and filled in.
+    // A derived clone would move each header several times. Here the result is created first and filled in.
     #[inline(never)]
     fn clone(&self) -> Result<Ipv6Extensions, AllocError> {
         let mut result = Ok(Ipv6Extensions::default());
@@ -53,8 +54,10 @@ impl Clone for Ipv6Extensions {
 }
 
 impl Ipv6Extensions {
-    /// The extension headers at the front of the slice, which begins with what the number says, the number of what
-    /// follows them, and the bytes behind them. A second header of a kind ends them.
+    /// Parses the IPv6 extension headers at the start of the slice; `number` is the next header field of the IPv6
+    /// header. Returns owned headers, the IP number of the payload, and the bytes after the headers. A second header of
+    /// a type is left in the payload, but Destination Options are read once more after a routing header. Hop-by-Hop
+    /// Options after any other header are an error.
     #[inline]
     pub fn from_slice(
         number: IpNumber,
@@ -74,9 +77,9 @@ impl Ipv6Extensions {
         }
     }
 
-    /// Reads the extension headers at the start of the slice into this value, whatever headers it held, and returns the
-    /// number of the next header and the bytes after them, as [`Ipv6Extensions::from_slice`] does. Headers are large: a
-    /// caller that reuses a value moves none. An error leaves no headers in the value.
+    /// Parses the IPv6 extension headers at the start of the slice into this value, as [`Ipv6Extensions::from_slice`]
+    /// does, and replaces its headers. Returns the IP number of the payload, and the bytes after the headers. An error
+    /// leaves the value without headers. Reusing a value avoids moves of the large header buffers.
     #[inline]
     pub fn read_into<'a>(
         &mut self,
@@ -101,30 +104,30 @@ impl Ipv6Extensions {
         }
     }
 
-    /// Becomes a copy of other headers, whatever headers it held. Headers are large: a caller that has room for them
-    /// moves none, and room of headers that neither has is not touched.
+    /// Overwrites these IPv6 extension headers in place with a copy of those in `source`. No large header buffer is
+    /// moved, and fields that are `None` in both values are not written.
     pub fn copy_from(&mut self, source: &Ipv6Extensions)
         ensures { self.new ≡ source.now }
     {
         self.clear();
         if let Some(header) = &source.hop_by_hop_options {
-            put_copy(&mut self.hop_by_hop_options, header);
+            store_raw_copy(&mut self.hop_by_hop_options, header);
         }
         if let Some(header) = &source.destination_options {
-            put_copy(&mut self.destination_options, header);
+            store_raw_copy(&mut self.destination_options, header);
         }
         if let Some(behind) = &source.routing {
-            put_routing_copy(&mut self.routing, behind);
+            store_routing_copy(&mut self.routing, behind);
         }
         if let Some(header) = &source.fragment {
             self.fragment = Some(Ipv6FragmentHeader { ..*header });
         }
         if let Some(header) = &source.auth {
-            put_auth_copy(&mut self.auth, header);
+            store_auth_copy(&mut self.auth, header);
         }
     }
 
-    /// Drops the headers that are there. Room of those that are not is not touched.
+    /// Removes all IPv6 extension headers: sets each field to `None`. Fields that are `None` already are not written.
     #[inline]
     pub fn clear(&mut self)
         ensures { self.new ≡ no_ipv6_extensions }
@@ -146,7 +149,9 @@ impl Ipv6Extensions {
         }
     }
 
-    /// Reads the extension headers at the front of the slice into a value without headers.
+    /// Parses the IPv6 extension headers at the start of the slice into this value, which must have no headers;
+    /// `number` is the IP number of the first header. Returns the IP number of the payload, and the bytes after the
+    /// headers.
     fn fill<'a>(
         &mut self,
         number: IpNumber,
@@ -172,13 +177,14 @@ impl Ipv6Extensions {
                     next = follows;
                     rest = behind;
                 }
-                Err(error) => return Err(further(error, offset)),
+                Err(error) => return Err(with_offset(error, offset)),
             }
         }
         Ok((next, rest))
     }
 
-    /// Whether there is a header of the number's kind.
+    /// Returns true if this value already has an IPv6 extension header of the type with this IP number. After a routing
+    /// header, the number of Destination Options (60) refers to the options after that header.
     #[inline]
     fn has(&self, number: IpNumber) -> bool
         ensures { result ≡ has_kind self.now number.0 }
@@ -204,7 +210,8 @@ impl Ipv6Extensions {
         false
     }
 
-    /// Reads the header of the number's kind at the front of the slice, and gives what follows it.
+    /// Parses the one IPv6 extension header at the start of the slice, whose type is given by its IP number `number`,
+    /// and stores it in this value. Returns its next header field and the bytes after the header.
     fn read_one<'a>(
         &mut self,
         number: IpNumber,
@@ -219,30 +226,31 @@ impl Ipv6Extensions {
             Ok(part) => part,
             Err(error) => return Err(error),
         };
-        self.put(&part);
+        self.store(&part);
         Ok((part.next_header(), &slice[part.slice().len()..]))
     }
 
-    /// Takes the header by value.
-    fn put(&mut self, part: &Ipv6ExtensionSlice<'_>)
+    /// Stores an owned copy of one parsed IPv6 extension header in the field for its type. Destination Options are
+    /// stored in the field after the routing header, if there is a routing header.
+    fn store(&mut self, part: &Ipv6ExtensionSlice<'_>)
         ensures { self.new ≡ with_part self.old (extension_slice_part part.now) }
     {
         match part {
             Ipv6ExtensionSlice::HopByHop(header) => {
-                put_raw(&mut self.hop_by_hop_options, header);
+                store_raw(&mut self.hop_by_hop_options, header);
             }
             Ipv6ExtensionSlice::Routing(header) => {
-                put_routing(&mut self.routing, header);
+                store_routing(&mut self.routing, header);
             }
             Ipv6ExtensionSlice::Fragment(header) => {
                 self.fragment = Some(header.to_header());
             }
             Ipv6ExtensionSlice::DestinationOptions(header) => match &mut self.routing {
                 Some(behind) => {
-                    put_raw(&mut behind.final_destination_options, header);
+                    store_raw(&mut behind.final_destination_options, header);
                 }
                 None => {
-                    put_raw(&mut self.destination_options, header);
+                    store_raw(&mut self.destination_options, header);
                 }
             },
             Ipv6ExtensionSlice::Authentication(header) => {
@@ -251,7 +259,8 @@ impl Ipv6Extensions {
         }
     }
 
-    /// Whether the fragment header says that the packet carries one fragment of a longer payload.
+    /// Returns true if the IPv6 packet carries a fragment: there is a fragment header, and its M flag (more fragments)
+    /// is set or its fragment offset is above 0.
     #[inline]
     pub fn is_fragmenting_payload(&self) -> bool
         ensures { result ≡ chain_fragments (ipv6_parts self.now) }
@@ -263,25 +272,27 @@ impl Ipv6Extensions {
     }
 }
 
-/// Puts the header that lies in a slice in the place of what is there. It is filled in there, so that none is moved.
-fn put_raw(place: &mut Option<Ipv6RawExtHeader>, header: &Ipv6RawExtHeaderSlice<'_>)
+/// Writes an owned copy of an options or routing header to `place`, which becomes `Some`; a header that was there is
+/// overwritten. The copy is filled in place, so that its 2046-byte buffer is not moved.
+fn store_raw(place: &mut Option<Ipv6RawExtHeader>, header: &Ipv6RawExtHeaderSlice<'_>)
     ensures { place.new ≡ Some (raw_extension_slice_header header.now) }
 {
-    *place = Some(Ipv6RawExtHeader::room());
+    *place = Some(Ipv6RawExtHeader::blank());
     if let Some(room) = place {
         room.fill(header);
     }
 }
 
-/// The same of a routing header, behind which there are no destination options yet.
-fn put_routing(place: &mut Option<Ipv6RoutingExtensions>, header: &Ipv6RawExtHeaderSlice<'_>)
+/// Writes an owned copy of a routing header to `place`, which becomes `Some` without destination options after the
+/// routing header. The copy is filled in place, so that its 2046-byte buffer is not moved.
+fn store_routing(place: &mut Option<Ipv6RoutingExtensions>, header: &Ipv6RawExtHeaderSlice<'_>)
     ensures { place.new ≡ Some (record {
       routing = raw_extension_slice_header header.now;
       final_destination_options = None;
     }) }
 {
     *place = Some(Ipv6RoutingExtensions {
-        routing: Ipv6RawExtHeader::room(),
+        routing: Ipv6RawExtHeader::blank(),
         final_destination_options: None,
     });
     if let Some(room) = place {
@@ -289,37 +300,40 @@ fn put_routing(place: &mut Option<Ipv6RoutingExtensions>, header: &Ipv6RawExtHea
     }
 }
 
-/// Puts a copy of a header in the place of what is there, in the same way.
-fn put_copy(place: &mut Option<Ipv6RawExtHeader>, header: &Ipv6RawExtHeader)
+/// Writes a copy of an options or routing header to `place`, which becomes `Some`; a header that was there is
+/// overwritten. The copy is filled in place, so that its 2046-byte buffer is not moved.
+fn store_raw_copy(place: &mut Option<Ipv6RawExtHeader>, header: &Ipv6RawExtHeader)
     ensures { place.new ≡ Some header.now }
 {
-    *place = Some(Ipv6RawExtHeader::room());
+    *place = Some(Ipv6RawExtHeader::blank());
     if let Some(room) = place {
         room.copy_from(header);
     }
 }
 
-/// The same of a routing header, and of the destination options behind it.
-fn put_routing_copy(place: &mut Option<Ipv6RoutingExtensions>, source: &Ipv6RoutingExtensions)
+/// Writes a copy of a routing header and of the destination options after it to `place`, which becomes `Some`. The copy
+/// is filled in place, so that no 2046-byte buffer is moved.
+fn store_routing_copy(place: &mut Option<Ipv6RoutingExtensions>, source: &Ipv6RoutingExtensions)
     ensures { place.new ≡ Some source.now }
 {
     *place = Some(Ipv6RoutingExtensions {
-        routing: Ipv6RawExtHeader::room(),
+        routing: Ipv6RawExtHeader::blank(),
         final_destination_options: None,
     });
     if let Some(room) = place {
         room.routing.copy_from(&source.routing);
         if let Some(header) = &source.final_destination_options {
-            put_copy(&mut room.final_destination_options, header);
+            store_raw_copy(&mut room.final_destination_options, header);
         }
     }
 }
 
-/// The same of an authentication header.
-fn put_auth_copy(place: &mut Option<IpAuthHeader>, header: &IpAuthHeader)
+/// Writes a copy of an IP authentication header to `place`, which becomes `Some`. The copy is filled in place, so that
+/// its 1016-byte buffer is not moved.
+fn store_auth_copy(place: &mut Option<IpAuthHeader>, header: &IpAuthHeader)
     ensures { place.new ≡ Some header.now }
 {
-    *place = Some(IpAuthHeader::room());
+    *place = Some(IpAuthHeader::blank());
     if let Some(room) = place {
         room.copy_from(header);
     }

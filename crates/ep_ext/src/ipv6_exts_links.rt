@@ -1,4 +1,5 @@
-//! How the extension headers of IPv6 lead to one another (RFC 8200, 4.1).
+//! Lengths and next header fields of the owned IPv6 extension headers (RFC 8200, 4.1): each header is set to refer to
+//! the next one.
 
 ghost use Rattle.std.specs.Prelude.{◌≡◌, ◌≤◌, ◌+◌, length, option_map};
 ghost use Rattle.std.specs.Option.{option_map_or};
@@ -17,7 +18,7 @@ use crate::ipv6_routing_exts::Ipv6RoutingExtensions;
 use ep_base::{IpNumber, ip_number};
 
 impl Ipv6Extensions {
-    /// The number of bytes of the headers: at most 9228.
+    /// Length of all IPv6 extension headers together, in bytes: 0 without headers, at most 9228.
     pub fn header_len(&self) -> usize
         ensures bytes { result ≡ length (parts_bytes (ipv6_parts self.now)) }
         ensures bound { result ≤ 9228 }
@@ -29,8 +30,9 @@ impl Ipv6Extensions {
             + auth_len(&self.auth)
     }
 
-    /// Lets the headers lead to this number, one after another in the order of RFC 8200, 4.1, and gives the first
-    /// number.
+    /// Sets the next header field of each IPv6 extension header to the IP number of the header after it, in the order
+    /// of RFC 8200, 4.1, and that of the last header to `last`, the payload's IP number. Returns the next header value
+    /// for the IPv6 header: the IP number of the first extension header, or `last` without any.
     pub fn set_next_headers(&mut self, last: IpNumber) -> IpNumber
         ensures linked { self.new ≡ ipv6_linked self.old last }
         ensures first { result ≡ ipv6_first self.old last }
@@ -52,7 +54,7 @@ impl Ipv6Extensions {
     }
 }
 
-/// The number of bytes of a header, where there is one.
+/// Returns the length in bytes of an IPv6 options or routing header, or 0 for `None`.
 fn raw_len(header: &Option<Ipv6RawExtHeader>) -> usize
     ensures value { result ≡ option_map_or raw_extension_len header.now 0 }
     ensures bound { result ≤ 2048 }
@@ -63,7 +65,8 @@ fn raw_len(header: &Option<Ipv6RawExtHeader>) -> usize
     }
 }
 
-/// The number of bytes of a routing header and of the destination options behind it, where there is one.
+/// Returns the length in bytes of an IPv6 routing header together with the Destination Options header after it, or 0
+/// for `None`.
 fn routing_len(behind: &Option<Ipv6RoutingExtensions>) -> usize
     ensures value { result ≡ option_map_or raw_extension_len (option_map routing_header behind.now) 0
         + option_map_or raw_extension_len (final_by behind.now) 0 }
@@ -75,7 +78,7 @@ fn routing_len(behind: &Option<Ipv6RoutingExtensions>) -> usize
     }
 }
 
-/// The number of bytes of a fragment header, where there is one.
+/// Returns the length in bytes of an IPv6 fragment header: 8, or 0 for `None`.
 fn fragment_len(header: &Option<Ipv6FragmentHeader>) -> usize
     ensures value { result ≡ option_map_or (λ _. 8) header.now 0 }
     ensures bound { result ≤ 8 }
@@ -86,7 +89,7 @@ fn fragment_len(header: &Option<Ipv6FragmentHeader>) -> usize
     }
 }
 
-/// The number of bytes of an authentication header, where there is one.
+/// Returns the length in bytes of an IP authentication header, or 0 for `None`.
 fn auth_len(header: &Option<IpAuthHeader>) -> usize
     ensures value { result ≡ option_map_or ip_auth_len header.now 0 }
     ensures bound { result ≤ 1028 }
@@ -97,7 +100,8 @@ fn auth_len(header: &Option<IpAuthHeader>) -> usize
     }
 }
 
-/// Lets a header of this number lead to the next one, where there is a header, and gives the number to lead to.
+/// Sets the next header field of an IPv6 options or routing header, if present, to `next`. Returns the next header
+/// value for the header before it: its own IP number `number`, or `next` if it is absent.
 fn link_raw(header: &mut Option<Ipv6RawExtHeader>, number: IpNumber, next: IpNumber) -> IpNumber
     ensures linked { header.new ≡ option_map (raw_leading_to next) header.old }
     ensures first { result ≡ number_before header.old number.0 next }
@@ -111,7 +115,8 @@ fn link_raw(header: &mut Option<Ipv6RawExtHeader>, number: IpNumber, next: IpNum
     }
 }
 
-/// The same, for the authentication header.
+/// Sets the next header field of an IP authentication header, if present, to `next`. Returns the next header value for
+/// the header before it: 51 (authentication header), or `next` if it is absent.
 fn link_auth(header: &mut Option<IpAuthHeader>, next: IpNumber) -> IpNumber
     ensures linked { header.new ≡ option_map (ip_auth_leading_to next) header.old }
     ensures first { result ≡ number_before header.old authentication_number next }
@@ -125,7 +130,8 @@ fn link_auth(header: &mut Option<IpAuthHeader>, next: IpNumber) -> IpNumber
     }
 }
 
-/// The same, for the fragment header.
+/// Sets the next header field of an IPv6 fragment header, if present, to `next`. Returns the next header value for the
+/// header before it: 44 (fragment header), or `next` if it is absent.
 fn link_fragment(header: &mut Option<Ipv6FragmentHeader>, next: IpNumber) -> IpNumber
     ensures linked { header.new ≡ option_map (fragment_leading_to next) header.old }
     ensures first { result ≡ number_before header.old fragment_number next }
@@ -139,7 +145,8 @@ fn link_fragment(header: &mut Option<Ipv6FragmentHeader>, next: IpNumber) -> IpN
     }
 }
 
-/// The same, for the destination options behind a routing header.
+/// Sets the next header field of the Destination Options header after an IPv6 routing header, if present, to `next`.
+/// Returns the next header value for the header before it: 60 (Destination Options), or `next` if it is absent.
 fn link_final(behind: &mut Option<Ipv6RoutingExtensions>, next: IpNumber) -> IpNumber
     ensures linked { behind.new ≡ option_map (final_leading_to next) behind.old }
     ensures first { result ≡ number_before (final_by behind.old) destination_options_number next }
@@ -154,7 +161,8 @@ fn link_final(behind: &mut Option<Ipv6RoutingExtensions>, next: IpNumber) -> IpN
     }
 }
 
-/// The same, for the routing header.
+/// Sets the next header field of an IPv6 routing header, if present, to `next`. Returns the next header value for the
+/// header before it: 43 (routing header), or `next` if it is absent.
 fn link_routing(behind: &mut Option<Ipv6RoutingExtensions>, next: IpNumber) -> IpNumber
     ensures linked { behind.new ≡ option_map (routing_alone_leading_to next) behind.old }
     ensures first { result ≡ number_before behind.old routing_number next }

@@ -1,30 +1,31 @@
-//! The extension headers of IPv6 in a slice (RFC 8200, 4).
+//! Extension headers of an IPv6 packet in a slice, without a copy (RFC 8200, 4).
 
 ghost use Rattle.std.specs.Prelude.{◌≡◌};
 ghost use Rattle.ep_ext.specs.Chains.{chain_fragments};
 ghost use Rattle.ep_ext.specs.FrontChains.{chain_stop};
 ghost use Rattle.ep_ext.specs.ShownChains.{shown_parts};
 
-use crate::ipv6_ext_slice::{Ipv6ExtensionSlice, further, is_extension};
+use crate::ipv6_ext_slice::{Ipv6ExtensionSlice, is_extension, with_offset};
 use crate::ipv6_exts_slice_iter::Ipv6ExtensionSliceIter;
 use ep_base::err::Layer;
 use ep_base::err::ipv6_exts::{HeaderError, HeaderSliceError};
 use ep_base::{IpNumber, ip_number};
 
-/// The bytes of extension headers, the number of the first, and whether a fragment header among them says that the
-/// packet carries one fragment of a longer payload.
+/// Bytes of a parsed chain of IPv6 extension headers, with the IP number of the first header (`first`) and whether a
+/// fragment header of the chain states that the packet carries a fragment (`fragmented`).
 #[derive(Clone, Copy, Debug, PartialEq, Eq)]
-pub(crate) struct ShownExtensions<'a> {
+pub(crate) struct ParsedExtensions<'a> {
     pub(crate) first: IpNumber,
     pub(crate) slice: &'a [u8],
     pub(crate) fragmented: bool,
     pub(crate) ghost fragments: { fragmented ≡ chain_fragments (shown_parts first.0 slice.now) },
 }
 
-/// The extension headers of an IPv6 packet that lies in a slice (RFC 8200, 4), one after another.
+/// Extension headers of an IPv6 packet in a slice (RFC 8200, 4): a valid chain of headers, in which each type except
+/// Hop-by-Hop Options may occur more than once.
 #[derive(Clone, Debug, PartialEq, Eq, Drop)]
 pub struct Ipv6ExtensionsSlice<'a> {
-    shown: ShownExtensions<'a>,
+    shown: ParsedExtensions<'a>,
 }
 
 impl<'a> Ipv6ExtensionsSlice<'a> {
@@ -33,12 +34,13 @@ impl<'a> Ipv6ExtensionsSlice<'a> {
     ghost use Rattle.ep_base.specs.declared.err.ipv6_exts.HeaderSliceError.{HeaderSliceError};
     ghost use Rattle.ep_base.specs.Readings.{slices};
     ghost use Rattle.ep_ext.specs.Chains.{ipv6, ExtensionChain, IsExtensionChain, RefusesExtensionChain, chain_of, chain_fragments};
-    ghost use Rattle.ep_ext.specs.FrontChains.{IsFrontChain, chain_stop};
+    ghost use Rattle.ep_ext.specs.FrontChains.{IsLaxChain, chain_stop};
     ghost use Rattle.ep_ext.specs.Ipv6ExtensionSlices.{ipv6_slice_parts, ipv6_slice_bytes, ipv6_slice_number};
     ghost use Rattle.ep_ext.specs.ShownChains.{shown_parts};
 
-    /// The extension headers at the front of the slice, which begins with what the number says, the number of what
-    /// follows them, and the bytes behind them.
+    /// Parses the chain of IPv6 extension headers at the start of the slice, without a copy; `number` is the next
+    /// header field of the IPv6 header. Returns the headers, the IP number of the payload, and the bytes after the
+    /// headers.
     pub fn from_slice(
         number: IpNumber,
         slice: &'a [u8],
@@ -61,13 +63,13 @@ impl<'a> Ipv6ExtensionsSlice<'a> {
             }
             let part = match Ipv6ExtensionSlice::read(next, rest) {
                 Ok(part) => part,
-                Err(error) => return Err(further(error, offset)),
+                Err(error) => return Err(with_offset(error, offset)),
             };
             fragmented = fragmented | part.is_fragmenting_payload();
             next = part.next_header();
             rest = &rest[part.slice().len()..];
         }
-        let shown = ShownExtensions {
+        let shown = ParsedExtensions {
             first: number,
             slice: &slice[..slice.len() - rest.len()],
             fragmented,
@@ -75,9 +77,10 @@ impl<'a> Ipv6ExtensionsSlice<'a> {
         Ok((Ipv6ExtensionsSlice { shown }, next, rest))
     }
 
-    /// The extension headers at the front of the slice up to the first that is refused, the number of what follows them,
-    /// and the bytes behind them: those of the refused header and all after it, where one is. The last part says why it
-    /// is refused, with its offset in the slice, and which layer it is.
+    /// Parses the chain of IPv6 extension headers at the start of the slice, up to the first invalid or truncated one;
+    /// `number` is the next header field of the IPv6 header. Returns the valid headers, the IP number of the bytes
+    /// after them, these bytes, and `None`. If an invalid header ended the parsing, these bytes begin with it, and its
+    /// error and layer are returned instead of `None`; an offset in the error counts from the start of the slice.
     pub fn from_slice_lax(
         number: IpNumber,
         slice: &'a [u8],
@@ -88,11 +91,11 @@ impl<'a> Ipv6ExtensionsSlice<'a> {
         Option<(HeaderSliceError, Layer)>,
     )
         ensures bytes { slice.now ≡ ipv6_slice_bytes result.0 ++ result.2.now }
-        ensures chain { (stop : Option HeaderSliceError) × IsFrontChain ipv6 number.0 slice.now
+        ensures chain { (stop : Option HeaderSliceError) × IsLaxChain ipv6 number.0 slice.now
             (chain_of (ipv6_slice_parts result.0) result.1.0 result.2.now) stop
             × (result.3 ≡ option_map chain_stop stop) }
         ensures only { (chain : ExtensionChain) (stop : Option HeaderSliceError)
-            → IsFrontChain ipv6 number.0 slice.now chain stop
+            → IsLaxChain ipv6 number.0 slice.now chain stop
             → (chain_of (ipv6_slice_parts result.0) result.1.0 result.2.now ≡ chain)
             × (result.3 ≡ option_map chain_stop stop) }
         ensures number { ipv6_slice_number result.0 ≡ number.0 }
@@ -103,27 +106,36 @@ impl<'a> Ipv6ExtensionsSlice<'a> {
         while is_extension(next) {
             let offset = slice.len() - rest.len();
             if next == ip_number::IPV6_HEADER_HOP_BY_HOP && offset > 0 {
-                let ahead = Ipv6ExtensionsSlice::before(number, slice, rest, fragmented);
+                let ahead = Ipv6ExtensionsSlice::headers_before(number, slice, rest, fragmented);
                 let misplaced = HeaderSliceError::Content(HeaderError::HopByHopNotAtStart);
                 return (ahead, next, rest, Some((misplaced, Layer::Ipv6ExtHeader)));
             }
             let part = match Ipv6ExtensionSlice::read(next, rest) {
                 Ok(part) => part,
                 Err(error) => {
-                    let front = Ipv6ExtensionsSlice::before(number, slice, rest, fragmented);
-                    return (front, next, rest, Some(stop(further(error, offset))));
+                    let front = Ipv6ExtensionsSlice::headers_before(
+                        number, slice, rest, fragmented,
+                    );
+                    return (
+                        front,
+                        next,
+                        rest,
+                        Some(error_with_layer(with_offset(error, offset))),
+                    );
                 }
             };
             fragmented = fragmented | part.is_fragmenting_payload();
             next = part.next_header();
             rest = &rest[part.slice().len()..];
         }
-        let all = Ipv6ExtensionsSlice::before(number, slice, rest, fragmented);
+        let all = Ipv6ExtensionsSlice::headers_before(number, slice, rest, fragmented);
         (all, next, rest, None)
     }
 
-    /// The headers that the bytes before the rest show.
-    fn before(
+    /// Creates the value for the IPv6 extension headers parsed from the start of `slice`, where `rest` is the part of
+    /// `slice` after them. `first` is the IP number of the first header, and `fragmented` states whether the packet
+    /// carries a fragment.
+    fn headers_before(
         first: IpNumber,
         slice: &'a [u8],
         rest: &[u8],
@@ -135,7 +147,7 @@ impl<'a> Ipv6ExtensionsSlice<'a> {
         ensures bytes { ipv6_slice_bytes result ≡ take (length slice.now - length rest.now) slice.now }
         ensures number { ipv6_slice_number result ≡ first.0 }
     {
-        let shown = ShownExtensions {
+        let shown = ParsedExtensions {
             first,
             slice: &slice[..slice.len() - rest.len()],
             fragmented,
@@ -143,7 +155,7 @@ impl<'a> Ipv6ExtensionsSlice<'a> {
         Ipv6ExtensionsSlice { shown }
     }
 
-    /// The bytes of all headers.
+    /// Bytes of all IPv6 extension headers that were parsed, from the first to the last.
     #[inline]
     pub fn slice(&self) -> &'a [u8]
         ensures { result.now ≡ ipv6_slice_bytes self.now }
@@ -151,7 +163,8 @@ impl<'a> Ipv6ExtensionsSlice<'a> {
         self.shown.slice
     }
 
-    /// Whether a fragment header says that the packet carries one fragment of a longer payload.
+    /// Returns true if the IPv6 packet carries a fragment: a fragment header is in the chain, and its M flag (more
+    /// fragments) is set or its fragment offset is above 0.
     #[inline]
     pub fn is_fragmenting_payload(&self) -> bool
         ensures { result ≡ chain_fragments (ipv6_slice_parts self.now) }
@@ -178,8 +191,9 @@ impl<'a> IntoIterator for Ipv6ExtensionsSlice<'a> {
     }
 }
 
-/// A refusal with its layer.
-fn stop(error: HeaderSliceError) -> (HeaderSliceError, Layer)
+/// Pairs the error of an invalid IPv6 extension header with the layer of that header: the layer that a length error
+/// contains, otherwise that of an extension header or authentication header.
+fn error_with_layer(error: HeaderSliceError) -> (HeaderSliceError, Layer)
     ensures { result ≡ chain_stop error }
 {
     let layer = match &error {

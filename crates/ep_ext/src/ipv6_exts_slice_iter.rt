@@ -1,14 +1,15 @@
-//! An iterator over the extension headers of IPv6 in a slice (RFC 8200, 4).
+//! Iterator over the IPv6 extension headers in a slice (RFC 8200, 4).
 
 use crate::ipv6_ext_slice::{Ipv6ExtensionSlice, is_extension};
 use ep_base::IpNumber;
 
-/// The extension headers that are still to come, in their order.
+/// Iterator over the extension headers of an IPv6 packet in the order on the wire, as one slice for each header.
 #[derive(Clone, Debug, PartialEq, Eq, Drop)]
 pub struct Ipv6ExtensionSliceIter<'a> {
-    /// What the next header is, or what stands behind the last one.
+    /// IP number of the IPv6 extension header that the iterator yields next, or of the payload once all headers are
+    /// yielded.
     pub(crate) number: IpNumber,
-    /// The bytes from the next header on.
+    /// Bytes of the IPv6 extension headers that the iterator has not yielded yet.
     pub(crate) rest: &'a [u8],
 }
 

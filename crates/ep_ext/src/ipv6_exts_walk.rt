@@ -1,4 +1,4 @@
-//! A walk along the numbers of the extension headers of IPv6 (RFC 8200, 4.1).
+//! Walk over owned IPv6 extension headers in the order that their next header fields give (RFC 8200, 4.1).
 
 ghost use Rattle.std.specs.Prelude.{◌≡◌, ◌<◌, ◌≤◌, ◌+◌, ◌++◌, ◌↔◌, ℕ, List, length, vec_len, vec_capacity, Err, option_map, IfOk, IfErr, OnOk, OnErr, IsOkAnd};
 ghost use Rattle.ep_base.specs.declared.err.ipv6_exts.ExtsWalkError.{ExtsWalkError};
@@ -17,9 +17,10 @@ use ep_base::err::ipv6_exts::{ExtsWalkError, HeaderWriteError};
 use ep_base::{IpNumber, ip_number};
 use std::alloc::AllocError;
 
-/// Which headers a walk has taken.
+/// IPv6 extension headers that a walk along the next header fields has visited, as one flag for each header; `any` is
+/// set with the first one.
 #[derive(Clone, Copy, Default)]
-pub(crate) struct Marks {
+pub(crate) struct VisitedHeaders {
     pub(crate) any: bool,
     pub(crate) hop_by_hop: bool,
     pub(crate) destination_options: bool,
@@ -29,8 +30,9 @@ pub(crate) struct Marks {
     pub(crate) final_destination_options: bool,
 }
 
-impl Marks {
-    /// Marks a header as taken.
+impl VisitedHeaders {
+    /// Sets the visited flag of this IPv6 extension header. Destination Options count as those after the routing header
+    /// once the routing header is visited.
     fn mark(&mut self, header: &HeaderRef<'_>)
         ensures { self.new ≡ marked self.old (header_ref_part header.now) }
     {
@@ -54,7 +56,7 @@ impl Marks {
     }
 }
 
-/// A header, where it lies in the value that holds it.
+/// Reference to one owned header of an [`Ipv6Extensions`], with one variant for each type of IPv6 extension header.
 #[derive(Clone, Copy)]
 pub(crate) enum HeaderRef<'a> {
     HopByHop(&'a Ipv6RawExtHeader),
@@ -65,7 +67,8 @@ pub(crate) enum HeaderRef<'a> {
 }
 
 impl HeaderRef<'_> {
-    /// What follows the header.
+    /// Next header field of the referenced IPv6 extension header, byte 0: the IP number of the header or payload after
+    /// it.
     fn next_header(&self) -> IpNumber
         ensures { result.0 ≡ part_next (header_ref_part self.now) }
     {
@@ -78,8 +81,8 @@ impl HeaderRef<'_> {
         }
     }
 
-    /// Appends the header's bytes. A refusal leaves the buffer as it was, and comes only where the buffer would have to
-    /// grow.
+    /// Appends the wire format of the referenced IPv6 extension header to the buffer. The only error is a failed
+    /// allocation, if the buffer has to grow; it leaves the buffer unchanged.
     fn write(&self, buf: &mut Vec<u8>) -> Result<(), AllocError>
         ensures ok { OnOk result (buf.new.items ≡ buf.old.items ++ part_bytes (header_ref_part self.now)) }
         ensures err { OnErr result (buf.new.items ≡ buf.old.items) }
@@ -99,28 +102,33 @@ impl HeaderRef<'_> {
 }
 
 impl Ipv6Extensions {
-    /// The number of what follows the headers, where this is the first number.
+    /// Returns the IP number of the payload after the IPv6 extension headers, found by following the next header fields
+    /// from `first`, the next header field of the IPv6 header.
+    ///
+    /// # Errors
+    ///
+    /// Returns an error if the next header fields do not lead to all headers.
     pub fn next_header(&self, first: IpNumber) -> Result<IpNumber, ExtsWalkError>
         ensures ok { IfOk result (λ last. (parts : List ExtensionPart) × WalksAll self.now first.0 parts last.0) }
         ensures only { (parts : List ExtensionPart) (last : ℕ) → WalksAll self.now first.0 parts last
             → IsOkAnd result (λ number. number.0 ≡ last) }
         ensures err { IfErr result (RefusesWalk self.now first.0) }
     {
-        let mut marks = Marks::default();
+        let mut marks = VisitedHeaders::default();
         let mut number = first;
-        while let Some(header) = self.find(&marks, number) {
+        while let Some(header) = self.find_unvisited(&marks, number) {
             marks.mark(&header);
             number = header.next_header();
         }
-        match self.missing(&marks) {
+        match self.first_unvisited(&marks) {
             None => Ok(number),
             Some(missing_ext) => Err(walk_error(missing_ext, number)),
         }
     }
 
-    /// Appends the headers' bytes in the order in which the numbers lead to them, where this is the first number. A
-    /// refusal leaves the buffer as it was, and want of memory comes only where the buffer would have to grow: it asks
-    /// for memory at most once, for all headers.
+    /// Appends the IPv6 extension headers to the buffer in the order that their next header fields give, from `first`,
+    /// the next header field of the IPv6 header. It is an error if the fields do not lead to all headers, or if the
+    /// allocation fails: the buffer grows at most once. An error leaves the buffer unchanged.
     pub fn write(&self, buf: &mut Vec<u8>, first: IpNumber) -> Result<(), HeaderWriteError>
         ensures ok { OnOk result ((parts : List ExtensionPart) × (last : ℕ) × WalksAll self.now first.0 parts last
             × FitParts parts × (buf.new.items ≡ buf.old.items ++ parts_bytes parts)) }
@@ -138,9 +146,9 @@ impl Ipv6Extensions {
         if buf.reserve(self.header_len()).is_err() {
             return Err(HeaderWriteError::OutOfMemory);
         }
-        let mut marks = Marks::default();
+        let mut marks = VisitedHeaders::default();
         let mut number = first;
-        while let Some(header) = self.find(&marks, number) {
+        while let Some(header) = self.find_unvisited(&marks, number) {
             header.write(buf).unwrap();
             marks.mark(&header);
             number = header.next_header();
@@ -148,8 +156,13 @@ impl Ipv6Extensions {
         Ok(())
     }
 
-    /// The header that a walk takes at this number, of those that are not marked.
-    fn find<'a>(&'a self, marks: &Marks, number: IpNumber) -> Option<HeaderRef<'a>>
+    /// Returns the IPv6 extension header with this IP number, or `None` if it is absent, already visited (by `marks`),
+    /// or a Hop-by-Hop Options header after other headers.
+    fn find_unvisited<'a>(
+        &'a self,
+        marks: &VisitedHeaders,
+        number: IpNumber,
+    ) -> Option<HeaderRef<'a>>
         ensures { option_map header_ref_part result ≡ header_at self.now marks.now number.0 }
     {
         if number == ip_number::IPV6_HEADER_HOP_BY_HOP {
@@ -182,8 +195,10 @@ impl Ipv6Extensions {
         None
     }
 
-    /// The same, for destination options: the final ones once the routing header is marked.
-    fn find_destination<'a>(&'a self, marks: &Marks) -> Option<HeaderRef<'a>>
+    /// Returns the Destination Options header that comes next in a walk over IPv6 extension headers: the one after the
+    /// routing header if `marks` has the routing header as visited, else the one before it. `None` if that header is
+    /// absent or visited.
+    fn find_destination<'a>(&'a self, marks: &VisitedHeaders) -> Option<HeaderRef<'a>>
         ensures { option_map header_ref_part result ≡ header_at self.now marks.now destination_options_number }
     {
         if !marks.routing {
@@ -205,8 +220,9 @@ impl Ipv6Extensions {
         }
     }
 
-    /// The number of the first header, in the order of linking, that is not marked.
-    fn missing(&self, marks: &Marks) -> Option<IpNumber>
+    /// Returns the IP number of the first IPv6 extension header, in the order of RFC 8200, 4.1, that a walk did not
+    /// visit (by `marks`), or `None` if all headers are visited.
+    fn first_unvisited(&self, marks: &VisitedHeaders) -> Option<IpNumber>
         ensures { option_map number_of result ≡ missing_at self.now marks.now }
     {
         if self.hop_by_hop_options.is_some() && !marks.hop_by_hop {
@@ -233,9 +249,9 @@ impl Ipv6Extensions {
     }
 }
 
-/// The refusal of a walk that ended at the number `last` and did not come to the header of the number `missing_ext`:
-/// hop by hop options that it came to behind other headers are not at the start, and any other header that it left is
-/// not referenced.
+/// Returns the error of a walk over IPv6 extension headers that ended at the IP number `last` without visiting the
+/// header `missing_ext`. The error is `HopByHopNotAtStart` if both are the number of Hop-by-Hop Options, otherwise
+/// `ExtNotReferenced`: the next header fields do not lead to the header.
 fn walk_error(missing_ext: IpNumber, last: IpNumber) -> ExtsWalkError
     ensures { result ≡ walk_refusal missing_ext.0 last.0 }
 {

@@ -1,4 +1,4 @@
-//! The fragment header of IPv6 (RFC 8200, 4.5).
+//! Owned IPv6 fragment header (RFC 8200, 4.5).
 
 ghost use Rattle.std.specs.Prelude.{◌≡◌, ◌<◌, ◌≤◌, ◌+◌, ◌++◌, List, ℕ, length, vec_len, vec_capacity, IfOk, IfErr, OnOk, OnErr, IsOkAnd};
 ghost use Rattle.ep_ext.specs.FragmentHeader.{FitsFragmentHeader, IsFragmentHeader, RefusesFragmentHeader, fragment_header_bytes, is_ipv6_fragment};
@@ -8,24 +8,24 @@ use crate::ipv6_fragment_header_slice::Ipv6FragmentHeaderSlice;
 use ep_base::{IpFragOffset, IpNumber};
 use std::alloc::AllocError;
 
-/// A fragment header of IPv6 (RFC 8200, 4.5): 8 bytes.
+/// Owned IPv6 fragment header (RFC 8200, 4.5): 8 bytes.
 #[derive(Clone, Debug, PartialEq, Eq, Drop)]
 pub struct Ipv6FragmentHeader {
-    /// What follows the header, byte 0.
+    /// Next header field of an IPv6 fragment header, byte 0: the IP number of the header or payload after it.
     pub next_header: IpNumber,
-    /// The place of the fragment in the whole payload in units of 8 bytes, the upper 13 bits of bytes 2 and 3.
+    /// Fragment offset of an IPv6 fragment header, in units of 8 bytes: the upper 13 bits of bytes 2 and 3.
     pub fragment_offset: IpFragOffset,
-    /// Whether further fragments follow this one, the lowest bit of byte 3.
+    /// M flag of an IPv6 fragment header, the lowest bit of byte 3: true if more fragments follow.
     pub more_fragments: bool,
-    /// What the fragments of one packet have in common, bytes 4 to 7.
+    /// Identification of an IPv6 fragment header, bytes 4 to 7: common to all fragments of one packet.
     pub identification: u32,
 }
 
 impl Ipv6FragmentHeader {
-    /// The number of bytes of a header.
+    /// Length of an IPv6 fragment header in bytes: 8.
     pub const LEN: usize = 8;
 
-    /// The header at the front of the slice, and the bytes behind it.
+    /// Parses the IPv6 fragment header at the start of the slice. Returns an owned copy of it, and the bytes after it.
     #[inline]
     pub fn from_slice(slice: &[u8]) -> Result<(Ipv6FragmentHeader, &[u8]), LenError>
         ensures ok { IfOk result (λ read. IsFragmentHeader slice.now (read.0, read.1.now)) }
@@ -37,7 +37,7 @@ impl Ipv6FragmentHeader {
         Ok((header.to_header(), &slice[Ipv6FragmentHeader::LEN..]))
     }
 
-    /// The number of bytes of the header: 8.
+    /// Length of the IPv6 fragment header in bytes: 8.
     #[inline]
     pub fn header_len(&self) -> usize
         ensures value { result ≡ 8 }
@@ -46,7 +46,8 @@ impl Ipv6FragmentHeader {
         Ipv6FragmentHeader::LEN
     }
 
-    /// Whether the packet carries one fragment of a longer payload: more follow, or it isn't the first.
+    /// Returns true if the packet with this IPv6 fragment header carries a fragment: the M flag (more fragments) is
+    /// set, or the fragment offset is above 0.
     #[inline]
     pub fn is_fragmenting_payload(&self) -> bool
         ensures { result ≡ is_ipv6_fragment self.now }
@@ -54,7 +55,8 @@ impl Ipv6FragmentHeader {
         self.more_fragments || self.fragment_offset.value() > 0
     }
 
-    /// The header as it stands on the wire, with its reserved bits 0.
+    /// Returns the wire format of the IPv6 fragment header, with its reserved bits (byte 1 and bits 1 and 2 of byte 3)
+    /// set to 0.
     #[inline]
     pub fn to_bytes(&self) -> [u8; 8]
         ensures bytes { result ≡ fragment_header_bytes self.now }
@@ -76,8 +78,8 @@ impl Ipv6FragmentHeader {
         ]
     }
 
-    /// Appends the header's bytes. A refusal leaves the buffer as it was, and comes only where the buffer would have to
-    /// grow.
+    /// Appends the wire format of the IPv6 fragment header to the buffer. The only error is a failed allocation, if the
+    /// buffer has to grow; it leaves the buffer unchanged.
     pub fn write(&self, buf: &mut Vec<u8>) -> Result<(), AllocError>
         ensures ok { OnOk result (buf.new.items ≡ buf.old.items ++ fragment_header_bytes self.now) }
         ensures err { OnErr result (buf.new.items ≡ buf.old.items) }

@@ -1,4 +1,4 @@
-//! A fragment header of IPv6 in a slice (RFC 8200, 4.5).
+//! IPv6 fragment header in a slice, without a copy (RFC 8200, 4.5).
 
 ghost use Rattle.std.specs.Prelude.{◌≡◌, length};
 
@@ -6,17 +6,17 @@ use crate::ipv6_fragment_header::Ipv6FragmentHeader;
 use ep_base::err::{Layer, LenError};
 use ep_base::{IpFragOffset, IpNumber, LenSource};
 
-/// The bytes of one fragment header.
+/// The 8 bytes of exactly one IPv6 fragment header.
 #[derive(Clone, Copy, Debug, PartialEq, Eq)]
-pub(crate) struct WholeFragmentHeader<'a> {
+pub(crate) struct FragmentHeaderBytes<'a> {
     slice: &'a [u8],
     ghost whole: { length slice.now ≡ 8 },
 }
 
-/// A fragment header of IPv6 (RFC 8200, 4.5) that lies in a slice: 8 bytes.
+/// IPv6 fragment header in a slice (RFC 8200, 4.5): 8 bytes.
 #[derive(Clone, Debug, PartialEq, Eq, Drop)]
 pub struct Ipv6FragmentHeaderSlice<'a> {
-    bytes: WholeFragmentHeader<'a>,
+    bytes: FragmentHeaderBytes<'a>,
 }
 
 impl<'a> Ipv6FragmentHeaderSlice<'a> {
@@ -25,7 +25,7 @@ impl<'a> Ipv6FragmentHeaderSlice<'a> {
     ghost use Rattle.ep_ext.specs.FragmentHeader.{IsFragmentHeader, RefusesFragmentHeader, is_ipv6_fragment};
     ghost use Rattle.ep_ext.specs.FragmentHeaderSlices.{fragment_slice_bytes, fragment_slice_header};
 
-    /// The header at the front of the slice.
+    /// Parses the IPv6 fragment header at the start of the slice, without a copy. Bytes after its 8 bytes are ignored.
     #[inline]
     pub fn from_slice(slice: &'a [u8]) -> Result<Ipv6FragmentHeaderSlice<'a>, LenError>
         ensures ok { IfOk result (λ header. (rest : List ℕ) × (slice.now ≡ fragment_slice_bytes header ++ rest)
@@ -43,13 +43,13 @@ impl<'a> Ipv6FragmentHeaderSlice<'a> {
             ));
         }
         Ok(Ipv6FragmentHeaderSlice {
-            bytes: WholeFragmentHeader {
+            bytes: FragmentHeaderBytes {
                 slice: &slice[..Ipv6FragmentHeader::LEN],
             },
         })
     }
 
-    /// The bytes of the header.
+    /// The 8 bytes of the IPv6 fragment header.
     #[inline]
     pub fn slice(&self) -> &'a [u8]
         ensures { result.now ≡ fragment_slice_bytes self.now }
@@ -57,7 +57,7 @@ impl<'a> Ipv6FragmentHeaderSlice<'a> {
         self.bytes.slice
     }
 
-    /// The number of bytes of the header: 8.
+    /// Length of the IPv6 fragment header in bytes: 8.
     #[inline]
     pub fn header_len(&self) -> usize
         ensures value { result ≡ 8 }
@@ -66,7 +66,7 @@ impl<'a> Ipv6FragmentHeaderSlice<'a> {
         Ipv6FragmentHeader::LEN
     }
 
-    /// What follows the header, byte 0.
+    /// Next header field of the IPv6 fragment header, byte 0: the IP number of the header or payload after it.
     #[inline]
     pub fn next_header(&self) -> IpNumber
         ensures { result ≡ (fragment_slice_header self.now).next_header }
@@ -74,7 +74,7 @@ impl<'a> Ipv6FragmentHeaderSlice<'a> {
         IpNumber(self.bytes.slice[0])
     }
 
-    /// The place of the fragment in the whole payload in units of 8 bytes, the upper 13 bits of bytes 2 and 3.
+    /// Fragment offset of the IPv6 fragment header, in units of 8 bytes: the upper 13 bits of bytes 2 and 3.
     #[inline]
     pub fn fragment_offset(&self) -> IpFragOffset
         ensures { result ≡ (fragment_slice_header self.now).fragment_offset }
@@ -83,7 +83,7 @@ impl<'a> Ipv6FragmentHeaderSlice<'a> {
         IpFragOffset::try_new(offset_and_flag >> 3).unwrap()
     }
 
-    /// Whether further fragments follow this one, the lowest bit of byte 3.
+    /// M flag of the IPv6 fragment header, the lowest bit of byte 3: true if more fragments follow.
     #[inline]
     pub fn more_fragments(&self) -> bool
         ensures { result ≡ (fragment_slice_header self.now).more_fragments }
@@ -91,7 +91,7 @@ impl<'a> Ipv6FragmentHeaderSlice<'a> {
         self.bytes.slice[3] & 1 == 1
     }
 
-    /// What the fragments of one packet have in common, bytes 4 to 7.
+    /// Identification of the IPv6 fragment header, bytes 4 to 7: common to all fragments of one packet.
     #[inline]
     pub fn identification(&self) -> u32
         ensures { result ≡ (fragment_slice_header self.now).identification }
@@ -100,7 +100,8 @@ impl<'a> Ipv6FragmentHeaderSlice<'a> {
         u32::from_be_bytes([bytes[4], bytes[5], bytes[6], bytes[7]])
     }
 
-    /// Whether the packet carries one fragment of a longer payload: more follow, or it isn't the first.
+    /// Returns true if the packet with this IPv6 fragment header carries a fragment: the M flag (more fragments) is
+    /// set, or the fragment offset is above 0.
     #[inline]
     pub fn is_fragmenting_payload(&self) -> bool
         ensures { result ≡ is_ipv6_fragment (fragment_slice_header self.now) }
@@ -108,7 +109,7 @@ impl<'a> Ipv6FragmentHeaderSlice<'a> {
         self.more_fragments() || self.fragment_offset().value() > 0
     }
 
-    /// The header as a value.
+    /// Returns an owned copy of the IPv6 fragment header.
     #[inline]
     pub fn to_header(&self) -> Ipv6FragmentHeader
         ensures { result ≡ fragment_slice_header self.now }

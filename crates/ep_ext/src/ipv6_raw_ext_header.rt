@@ -1,4 +1,4 @@
-//! An extension header of IPv6 whose payload is left as bytes (RFC 8200, 4).
+//! Owned IPv6 Hop-by-Hop Options, Destination Options or Routing header, with an uninterpreted payload (RFC 8200, 4).
 
 ghost use Rattle.std.specs.Prelude.{◌≡◌, ◌<◌, ◌≤◌, ◌+◌, ◌%◌, ◌++◌, List, ℕ, length, vec_len, vec_capacity, IfOk, IfErr, OnOk, OnErr, IsOkAnd, MatchResult};
 ghost use Rattle.ep_ext.specs.RawExtensionSlices.{raw_extension_slice_header};
@@ -12,30 +12,32 @@ use arrayvec::ArrayVec;
 use ep_base::IpNumber;
 use std::alloc::AllocError;
 
-/// Hop by hop options, destination options or a routing header (RFC 8200, 4): 8 to 2048 bytes.
+/// Owned IPv6 Hop-by-Hop Options, Destination Options or Routing header (RFC 8200, 4): 8 to 2048 bytes. The bytes after
+/// the first 2 are an uninterpreted payload.
 #[derive(Clone, Debug, PartialEq, Eq, Drop)]
 pub struct Ipv6RawExtHeader {
-    /// What follows the header, byte 0.
+    /// Next header field of an IPv6 options or routing header, byte 0: the IP number of the header or payload after it.
     pub next_header: IpNumber,
-    /// The payload, from byte 2 on.
+    /// Payload of an IPv6 options or routing header, from byte 2 on: its options or its routing data.
     payload: Ipv6RawExtPayload,
 }
 
 impl Ipv6RawExtHeader {
-    /// The least number of bytes of a payload.
+    /// Minimum length in bytes of the payload of an IPv6 options or routing header, which starts at byte 2: 6.
     pub const MIN_PAYLOAD_LEN: usize = 6;
 
-    /// The greatest number of bytes of a payload.
+    /// Maximum length in bytes of the payload of an IPv6 options or routing header, which starts at byte 2: 2046.
     pub const MAX_PAYLOAD_LEN: usize = 2046;
 
-    /// The number of bytes of a header with the shortest payload.
+    /// Length in bytes of an IPv6 options or routing header with the shortest payload: 8.
     pub const MIN_LEN: usize = 8;
 
-    /// The number of bytes of a header with the longest payload.
+    /// Length in bytes of an IPv6 options or routing header with the longest payload: 2048.
     pub const MAX_LEN: usize = 2048;
 
-    /// A header with a copy of this payload, which has 6 to 2046 bytes and is a multiple of 8 with the 2 bytes before
-    /// it.
+    /// Creates an IPv6 options or routing header from its next header and a copy of the payload, the bytes after its
+    /// first 2. It is an error if the payload has not 6 to 2046 bytes, or if the length of the header (2 bytes more) is
+    /// not a multiple of 8.
     #[inline]
     pub fn new_raw(
         next_header: IpNumber,
@@ -60,7 +62,8 @@ impl Ipv6RawExtHeader {
         Ok(Ipv6RawExtHeader::copy_of(next_header, payload))
     }
 
-    /// A header with a copy of this payload.
+    /// Creates an IPv6 options or routing header from its next header and a copy of the payload. The payload must have
+    /// a valid length: 6 to 2046 bytes, and 2 less than a multiple of 8.
     #[inline]
     pub(crate) fn copy_of(next_header: IpNumber, payload: &[u8]) -> Ipv6RawExtHeader
         requires least { 6 ≤ length payload.now }
@@ -74,16 +77,17 @@ impl Ipv6RawExtHeader {
         }
     }
 
-    /// A header that is to be filled in, where headers are read into a value: it is made in its place.
+    /// Creates a zeroed IPv6 options or routing header that the caller then overwrites in its final place, so that the
+    /// 2046-byte buffer of the header is never moved.
     #[inline(always)]
-    pub(crate) fn room() -> Ipv6RawExtHeader {
+    pub(crate) fn blank() -> Ipv6RawExtHeader {
         Ipv6RawExtHeader {
             next_header: IpNumber(0),
             payload: Ipv6RawExtPayload::shortest(),
         }
     }
 
-    /// Becomes the header that lies in a slice.
+    /// Overwrites this owned IPv6 options or routing header in place with a copy of the sliced header `header`.
     #[inline]
     pub(crate) fn fill(&mut self, header: &Ipv6RawExtHeaderSlice<'_>)
         ensures { self.new ≡ raw_extension_slice_header header.now }
@@ -92,7 +96,7 @@ impl Ipv6RawExtHeader {
         self.payload.fill(header.payload());
     }
 
-    /// Becomes a copy of a header, in its place.
+    /// Overwrites this IPv6 options or routing header in place with a copy of `header`.
     #[inline]
     pub(crate) fn copy_from(&mut self, header: &Ipv6RawExtHeader)
         ensures { self.new ≡ header.now }
@@ -101,7 +105,8 @@ impl Ipv6RawExtHeader {
         self.payload.fill(header.payload());
     }
 
-    /// The header at the front of the slice, and the bytes behind it.
+    /// Parses the IPv6 options or routing header at the start of the slice. Returns an owned copy of it, and the bytes
+    /// after it.
     #[inline]
     pub fn from_slice(slice: &[u8]) -> Result<(Ipv6RawExtHeader, &[u8]), LenError>
         ensures ok { IfOk result (λ read. IsRawExtension slice.now (read.0, read.1.now)) }
@@ -113,7 +118,7 @@ impl Ipv6RawExtHeader {
         Ok((header.to_header(), &slice[header.header_len()..]))
     }
 
-    /// The payload, from byte 2 on.
+    /// Payload of the IPv6 options or routing header, from byte 2 on: its options or its routing data, 6 to 2046 bytes.
     #[inline]
     pub fn payload(&self) -> &[u8]
         ensures value { result.now ≡ raw_extension_payload self.now }
@@ -124,7 +129,7 @@ impl Ipv6RawExtHeader {
         self.payload.as_slice()
     }
 
-    /// The number of bytes of the header, with its payload.
+    /// Length in bytes of the IPv6 options or routing header with its payload: 8 to 2048.
     #[inline]
     pub fn header_len(&self) -> usize
         ensures value { result ≡ raw_extension_len self.now }
@@ -134,7 +139,7 @@ impl Ipv6RawExtHeader {
         2 + self.payload().len()
     }
 
-    /// The header as it stands on the wire.
+    /// Returns the wire format of the IPv6 options or routing header: next header, length field and payload.
     pub fn to_bytes(&self) -> ArrayVec<u8, 2048>
         ensures bytes { result.items ≡ raw_extension_bytes self.now }
         ensures fits { FitsRawExtension self.now }
@@ -149,8 +154,8 @@ impl Ipv6RawExtHeader {
         bytes
     }
 
-    /// Appends the header's bytes. A refusal leaves the buffer as it was, and comes only where the buffer would have to
-    /// grow.
+    /// Appends the wire format of the IPv6 options or routing header to the buffer. The only error is a failed
+    /// allocation, if the buffer has to grow; it leaves the buffer unchanged.
     pub fn write(&self, buf: &mut Vec<u8>) -> Result<(), AllocError>
         ensures ok { OnOk result (buf.new.items ≡ buf.old.items ++ raw_extension_bytes self.now) }
         ensures err { OnErr result (buf.new.items ≡ buf.old.items) }

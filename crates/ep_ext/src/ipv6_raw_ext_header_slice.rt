@@ -1,4 +1,5 @@
-//! An extension header of IPv6 in a slice, whose payload is left as bytes (RFC 8200, 4).
+//! IPv6 Hop-by-Hop Options, Destination Options or Routing header in a slice, with an uninterpreted payload (RFC 8200,
+//! 4).
 
 ghost use Rattle.std.specs.Prelude.{◌≡◌, ◌≤◌, length};
 ghost use Rattle.ep_ext.specs.RawExtension.{raw_extension_len_of};
@@ -7,18 +8,18 @@ use crate::ipv6_raw_ext_header::Ipv6RawExtHeader;
 use ep_base::err::{Layer, LenError};
 use ep_base::{IpNumber, LenSource};
 
-/// The bytes of one extension header, as many as its length field says.
+/// Bytes of exactly one IPv6 options or routing header: their number is the length that its length field states.
 #[derive(Clone, Copy, Debug, PartialEq, Eq)]
-pub(crate) struct WholeRawExtension<'a> {
+pub(crate) struct RawExtensionBytes<'a> {
     slice: &'a [u8],
     ghost bound: { length slice.now ≤ 2048 },
     ghost whole: { length slice.now ≡ raw_extension_len_of slice.now },
 }
 
-/// Hop by hop options, destination options or a routing header (RFC 8200, 4) that lies in a slice: 8 to 2048 bytes.
+/// IPv6 Hop-by-Hop Options, Destination Options or Routing header in a slice (RFC 8200, 4): 8 to 2048 bytes.
 #[derive(Clone, Debug, PartialEq, Eq, Drop)]
 pub struct Ipv6RawExtHeaderSlice<'a> {
-    bytes: WholeRawExtension<'a>,
+    bytes: RawExtensionBytes<'a>,
 }
 
 impl<'a> Ipv6RawExtHeaderSlice<'a> {
@@ -27,7 +28,8 @@ impl<'a> Ipv6RawExtHeaderSlice<'a> {
     ghost use Rattle.ep_ext.specs.RawExtension.{IsRawExtension, RefusesRawExtension, raw_extension_payload, raw_extension_len};
     ghost use Rattle.ep_ext.specs.RawExtensionSlices.{raw_extension_slice_bytes, raw_extension_slice_header};
 
-    /// The header at the front of the slice.
+    /// Parses the IPv6 options or routing header at the start of the slice, without a copy. Bytes after the header are
+    /// ignored.
     pub fn from_slice(slice: &'a [u8]) -> Result<Ipv6RawExtHeaderSlice<'a>, LenError>
         ensures ok { IfOk result (λ header. (rest : List ℕ) × (slice.now ≡ raw_extension_slice_bytes header ++ rest)
             × IsRawExtension slice.now (raw_extension_slice_header header, rest)) }
@@ -53,13 +55,13 @@ impl<'a> Ipv6RawExtHeaderSlice<'a> {
             ));
         }
         Ok(Ipv6RawExtHeaderSlice {
-            bytes: WholeRawExtension {
+            bytes: RawExtensionBytes {
                 slice: &slice[..header_len],
             },
         })
     }
 
-    /// The bytes of the header, with its payload.
+    /// All bytes of the IPv6 options or routing header, with its payload.
     #[inline]
     pub fn slice(&self) -> &'a [u8]
         ensures { result.now ≡ raw_extension_slice_bytes self.now }
@@ -67,7 +69,7 @@ impl<'a> Ipv6RawExtHeaderSlice<'a> {
         self.bytes.slice
     }
 
-    /// The number of bytes of the header, with its payload.
+    /// Length in bytes of the IPv6 options or routing header with its payload: 8 to 2048.
     #[inline]
     pub fn header_len(&self) -> usize
         ensures bytes { result ≡ length (raw_extension_slice_bytes self.now) }
@@ -76,7 +78,8 @@ impl<'a> Ipv6RawExtHeaderSlice<'a> {
         self.bytes.slice.len()
     }
 
-    /// What follows the header, byte 0.
+    /// Next header field of the IPv6 options or routing header, byte 0: the IP number of the header or payload after
+    /// it.
     #[inline]
     pub fn next_header(&self) -> IpNumber
         ensures { result ≡ (raw_extension_slice_header self.now).next_header }
@@ -84,7 +87,7 @@ impl<'a> Ipv6RawExtHeaderSlice<'a> {
         IpNumber(self.bytes.slice[0])
     }
 
-    /// The payload, from byte 2 on.
+    /// Payload of the IPv6 options or routing header, from byte 2 on: its options or its routing data, 6 to 2046 bytes.
     #[inline]
     pub fn payload(&self) -> &'a [u8]
         ensures value { result.now ≡ raw_extension_payload (raw_extension_slice_header self.now) }
@@ -95,7 +98,7 @@ impl<'a> Ipv6RawExtHeaderSlice<'a> {
         &self.bytes.slice[2..]
     }
 
-    /// The header as a value.
+    /// Returns an owned copy of the IPv6 options or routing header.
     #[inline]
     pub fn to_header(&self) -> Ipv6RawExtHeader
         ensures { result ≡ raw_extension_slice_header self.now }

@@ -1,21 +1,23 @@
-//! The payload of an extension header of IPv6 (RFC 8200, 4).
+//! Owned payload of an IPv6 Hop-by-Hop Options, Destination Options or Routing header (RFC 8200, 4).
 
 ghost use Rattle.std.specs.Prelude.{◌≡◌, ◌≤◌, ◌+◌, ◌*◌, ◌%◌, length};
 
 use std::marker::Model;
 
-/// The bytes behind the first two of an extension header: 6, and then at most 255 units of 8.
+/// Owned payload of an IPv6 options or routing header, all bytes after its first 2: 6 bytes and at most 255 units of 8
+/// bytes.
 #[derive(Clone, Debug, PartialEq, Eq, Drop)]
 pub(crate) struct Ipv6RawExtPayload {
-    /// The payload, and then zero bytes.
+    /// Payload bytes of an IPv6 options or routing header, padded with zeros to the maximum length of 2046 bytes.
     bytes: [u8; 2046],
-    /// The number of units behind the first 6 bytes.
+    /// Number of 8-byte units in the payload of an IPv6 options or routing header, after its first 6 bytes. It is equal
+    /// to the header's length field.
     units: u8,
 }
 
 impl Model for Ipv6RawExtPayload {
     ghost use Rattle.std.specs.Prelude.{◌≡◌, ℕ, ◌+◌, ◌-◌, ◌*◌, ◌/◌, ◌≤◌, List, length, take, drop, replicate};
-    ghost use Rattle.ep_base.specs.Padding.{padded, padded_front};
+    ghost use Rattle.ep_base.specs.Padding.{padded, padded_prefix};
     ghost use Rattle.std.proofs.Common.{arith, length-take-le};
 
     ghost Value = { List ℕ };
@@ -32,13 +34,14 @@ impl Model for Ipv6RawExtPayload {
         = length-take-le (6 + 8 * v.units) v.bytes (Prim.omega (arith, h.0, h.1)) in
         let units : length (take (6 + 8 * v.units) v.bytes) / 8 ≡ v.units = Prim.omega (arith, len) in
         λ i. record {
-          bytes = padded_front 2046 (6 + 8 * v.units) v.bytes h.0 (Prim.omega (arith, h.1)) h.2 i;
+          bytes = padded_prefix 2046 (6 + 8 * v.units) v.bytes h.0 (Prim.omega (arith, h.1)) h.2 i;
           units = units i;
         } };
 }
 
 impl Ipv6RawExtPayload {
-    /// A copy of the bytes.
+    /// Creates the payload of an IPv6 options or routing header with a copy of the bytes: 6 to 2046, and 2 less than a
+    /// multiple of 8.
     #[inline]
     pub(crate) fn copy_of(slice: &[u8]) -> Ipv6RawExtPayload
         requires least { 6 ≤ length slice.now }
@@ -54,7 +57,7 @@ impl Ipv6RawExtPayload {
         }
     }
 
-    /// The shortest payload, six bytes that are zero.
+    /// Creates the shortest payload of an IPv6 options or routing header: 6 zero bytes.
     #[inline(always)]
     pub(crate) fn shortest() -> Ipv6RawExtPayload {
         Ipv6RawExtPayload {
@@ -63,7 +66,8 @@ impl Ipv6RawExtPayload {
         }
     }
 
-    /// Puts a copy of the bytes in the payload's place. A payload is large, and this moves none.
+    /// Overwrites the payload of an IPv6 options or routing header in place with a copy of the bytes, which avoids a
+    /// move of its 2046-byte buffer. The bytes are 6 to 2046, and 2 less than a multiple of 8.
     #[inline]
     pub(crate) fn fill(&mut self, slice: &[u8])
         requires least { 6 ≤ length slice.now }
@@ -76,7 +80,7 @@ impl Ipv6RawExtPayload {
         self.units = (slice.len() / 8) as u8;
     }
 
-    /// The bytes of the payload.
+    /// Payload bytes of the IPv6 options or routing header, without padding.
     #[inline]
     pub(crate) fn as_slice(&self) -> &[u8]
         ensures value { result.now ≡ self.now }
@@ -87,7 +91,8 @@ impl Ipv6RawExtPayload {
         &self.bytes[..6 + 8 * self.units as usize]
     }
 
-    /// The number of units of 8 bytes behind the first 6 bytes.
+    /// Number of 8-byte units in the payload of the IPv6 options or routing header, after its first 6 bytes. It is
+    /// equal to the header's length field.
     #[inline]
     pub(crate) fn units(&self) -> u8
         ensures { 6 + 8 * result ≡ length self.now }

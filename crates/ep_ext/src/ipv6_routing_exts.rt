@@ -1,12 +1,14 @@
-//! A routing header of IPv6, and the destination options behind it (RFC 8200, 4.1).
+//! Owned IPv6 routing header with the Destination Options header after it (RFC 8200, 4.1).
 
 use crate::ipv6_raw_ext_header::Ipv6RawExtHeader;
 
-/// A routing header, and the destination options behind it, which are for the final destination alone.
+/// Owned IPv6 routing header, and the Destination Options header after it, if present. Options after the routing header
+/// are for the final destination only.
 #[derive(Clone, Debug, PartialEq, Eq, Drop)]
 pub struct Ipv6RoutingExtensions {
-    /// The routing header.
+    /// Routing header of the IPv6 packet.
     pub routing: Ipv6RawExtHeader,
-    /// The destination options behind it.
+    /// Destination Options header after the IPv6 routing header, if present. Its options are for the final destination
+    /// only.
     pub final_destination_options: Option<Ipv6RawExtHeader>,
 }

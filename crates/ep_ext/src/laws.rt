@@ -1,9 +1,10 @@
-//! What holds of every list of bytes, each law the contract of a function that does nothing.
+//! Laws about IPv4 and IPv6 extension headers: each is the contract of a function that does nothing, and holds for all
+//! bytes and values.
 
 ghost use Rattle.std.specs.Prelude.{◌≡◌, ◌↔◌, ℕ, List, IsTrue, length, option_map};
 ghost use Rattle.ep_base.specs.Bytes.{AreBytes};
 ghost use Rattle.ep_base.specs.Readings.{Reading};
-ghost use Rattle.ep_base.specs.Missing.{IsShortAt, TellsCut, TellsMissing, slice_end};
+ghost use Rattle.ep_base.specs.Missing.{IsShortAt, ReportsTruncation, ReportsMissing, slice_end};
 ghost use Rattle.ep_base.specs.declared.err.len_error.LenError.{LenError};
 ghost use Rattle.ep_base.specs.declared.err.ip_auth.HeaderSliceError.TheVariants as auth_error;
 ghost use Rattle.ep_base.specs.declared.err.ipv6_exts.HeaderSliceError.TheVariants as exts_error;
@@ -31,53 +32,53 @@ use crate::{
     Ipv6FragmentHeaderSlice, Ipv6RawExtHeader, Ipv6RawExtHeaderSlice, Ipv6RoutingExtensions,
 };
 
-/// Bytes begin with an authentication header, of one value and with one rest behind it, or are refused with one error,
-/// and never both.
+/// States that any bytes either begin with one valid IP authentication header, and then its fields and the bytes after
+/// it are unique, or are rejected with exactly one error.
 pub fn ip_auth()
     ensures { (bytes : List ℕ) → AreBytes bytes → IsDecided (IsIpAuth bytes) (RefusesIpAuth bytes) }
 {}
 
-/// Bytes begin with an extension header of IPv6, of one value and with one rest behind it, or are refused with one
-/// error, and never both.
+/// States that any bytes either begin with one valid IPv6 options or routing header, and then its fields and the bytes
+/// after it are unique, or are rejected with exactly one error.
 pub fn raw_extension()
     ensures { (bytes : List ℕ) → AreBytes bytes → IsDecided (IsRawExtension bytes) (RefusesRawExtension bytes) }
 {}
 
-/// Bytes begin with a fragment header, of one value and with one rest behind it, or are refused with one error, and
-/// never both.
+/// States that any bytes either begin with one valid IPv6 fragment header, and then its fields and the bytes after it
+/// are unique, or are rejected with exactly one error.
 pub fn fragment_header()
     ensures { (bytes : List ℕ) → AreBytes bytes → IsDecided (IsFragmentHeader bytes) (RefusesFragmentHeader bytes) }
 {}
 
-/// A refusal for want of bytes at hand counts the bytes that are there, and with as many behind them as are missing,
-/// the bytes are not refused by that row again: for each header, and for chains in each version and reading. No other
-/// length refuses a chain.
-pub fn tell_missing()
-    ensures ip_auth { TellsMissing (λ bytes error. RefusesIpAuth bytes (auth_error.Len error)) }
-    ensures raw_extension { TellsMissing RefusesRawExtension }
-    ensures fragment_header { TellsMissing RefusesFragmentHeader }
+/// States that a length error of an extension header, or of a chain of them, reports exactly how many bytes are
+/// available and how many are required. If the missing bytes are appended, the check that failed does not fail again.
+/// All length errors of a chain name the end of the slice as the limit.
+pub fn missing_bytes()
+    ensures ip_auth { ReportsMissing (λ bytes error. RefusesIpAuth bytes (auth_error.Len error)) }
+    ensures raw_extension { ReportsMissing RefusesRawExtension }
+    ensures fragment_header { ReportsMissing RefusesFragmentHeader }
     ensures chain { (version : IpVersion) (reading : Reading) (number : ℕ)
-        → TellsMissing (λ bytes error. RefusesExtensionChain version reading number bytes (exts_error.Len error)) }
+        → ReportsMissing (λ bytes error. RefusesExtensionChain version reading number bytes (exts_error.Len error)) }
     ensures limit { (version : IpVersion) (reading : Reading) (number : ℕ) (bytes : List ℕ) (error : LenError)
         → RefusesExtensionChain version reading number bytes (exts_error.Len error)
         → IsShortAt (length bytes) error × (error.len_source ≡ source.Slice) }
 {}
 
-/// Where the front of bytes that are a header, or a chain, is refused, it is for want of the bytes that the cut took:
-/// the offset plus `len` is the number of bytes up to the cut, `required_len` is more than `len`, and the offset plus
-/// `required_len` at most the number of all bytes. The limit is the end of the bytes at hand.
-pub fn tell_cut()
-    ensures ip_auth { TellsCut IsIpAuth RefusesIpAuth auth_error.Len (λ read. slice_end) }
-    ensures raw_extension { TellsCut IsRawExtension RefusesRawExtension (λ (error : LenError). error)
+/// States that if bytes that begin with a valid extension header (or chain of headers) are truncated and then rejected,
+/// the error is a length error. Its offset plus `len` is the truncated length, `required_len` is more than `len`, the
+/// offset plus `required_len` is at most the original length, and the end of the slice is named as the limit.
+pub fn truncation()
+    ensures ip_auth { ReportsTruncation IsIpAuth RefusesIpAuth auth_error.Len (λ read. slice_end) }
+    ensures raw_extension { ReportsTruncation IsRawExtension RefusesRawExtension (λ (error : LenError). error)
         (λ read. slice_end) }
-    ensures fragment_header { TellsCut IsFragmentHeader RefusesFragmentHeader (λ (error : LenError). error)
+    ensures fragment_header { ReportsTruncation IsFragmentHeader RefusesFragmentHeader (λ (error : LenError). error)
         (λ read. slice_end) }
     ensures chain { (version : IpVersion) (reading : Reading) (number : ℕ)
-        → TellsCut (IsExtensionChain version reading number) (RefusesExtensionChain version reading number)
+        → ReportsTruncation (IsExtensionChain version reading number) (RefusesExtensionChain version reading number)
         exts_error.Len (λ chain. slice_end) }
 {}
 
-/// The lengths of headers and of what they hold.
+/// States the values of the length constants of IP authentication, IPv6 fragment, and IPv6 options or routing headers.
 pub fn constants()
     ensures ip_auth { (IpAuthHeader.MIN_LEN ≡ 12) × (IpAuthHeader.MAX_ICV_LEN ≡ 1016) × (IpAuthHeader.MAX_LEN ≡ 1028) }
     ensures raw_extension { (Ipv6RawExtHeader.MIN_LEN ≡ 8) × (Ipv6RawExtHeader.MAX_LEN ≡ 2048) }
@@ -85,9 +86,10 @@ pub fn constants()
     ensures fragment_header { Ipv6FragmentHeader.LEN ≡ 8 }
 {}
 
-/// Headers, and values of extension headers, are equal where each field is, check values and payloads by their bytes.
-/// Slices are equal where they show the same bytes of the same kinds, chains of slices and iterators where the number
-/// of the first header, or of what follows where there are none, is the same too, and errors where they are the same.
+/// States when `==` is true for each type for extension headers. Owned headers and errors are equal if all fields are;
+/// integrity check values and payloads compare by their bytes. Slices are equal if they have the same bytes and header
+/// types. For IPv6 chains in slices and their iterators, the IP number of the first header (or of the payload, without
+/// headers) must be equal, too.
 pub fn comparisons()
     ensures icv_errors { (a b : IcvLenError) → IsTrue (⟦<IcvLenError as PartialEq>⟧.eq a b) ↔ (a ≡ b) }
     ensures payload_errors { (a b : ExtPayloadLenError) →
@@ -127,7 +129,8 @@ pub fn comparisons()
         IsTrue (⟦<Ipv6Extensions as PartialEq>⟧.eq a b) ↔ (a ≡ b) }
 {}
 
-/// A clone equals its source.
+/// States that a clone is equal to its source, for each error, header, slice and iterator type of the extension
+/// headers.
 pub fn clones()
     ensures icv_errors { (a b : IcvLenError) → ⟦<IcvLenError as Clone>⟧.is_clone a b → b ≡ a }
     ensures payload_errors { (a b : ExtPayloadLenError) → ⟦<ExtPayloadLenError as Clone>⟧.is_clone a b → b ≡ a }
@@ -149,7 +152,8 @@ pub fn clones()
     ensures ipv6 { (a b : Ipv6Extensions) → ⟦<Ipv6Extensions as Clone>⟧.is_clone a b → b ≡ a }
 {}
 
-/// A clone takes no memory, and so is there.
+/// States that cloning any error, header, slice or iterator of the extension headers never fails, because it does not
+/// allocate.
 pub fn clones_succeed()
     ensures icv_errors { (a : IcvLenError) → ⟦<IcvLenError as Clone>⟧.is_infallible a }
     ensures payload_errors { (a : ExtPayloadLenError) → ⟦<ExtPayloadLenError as Clone>⟧.is_infallible a }

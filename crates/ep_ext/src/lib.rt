@@ -1,4 +1,5 @@
-//! The extension headers of IP: the authentication header of IPv4 and IPv6, and the extension headers of IPv6.
+//! IP extension headers: the authentication header of IPv4 and IPv6, and the Hop-by-Hop Options, Destination Options,
+//! Routing and Fragment headers of IPv6.
 #![tactic(auto)]
 
 pub mod err;

@@ -1,8 +1,8 @@
--- Bytes as a header, the payload that a length cuts, and what is left.
+-- Bytes split into a header, a payload limited by a length field, and trailing bytes.
 use Rattle.std.proofs.Common.{◌≡◌, ℕ, ◌-◌, ◌≤◌, List, ◌++◌, length, take, drop, sym, ap, ◌∙◌, arith}
 use Rattle.std.proofs.lemmas.List.{drop_at, drop-drop, take-append-drop, append_assoc}
 
--- bytes of which n are the header, and t header and payload
+-- Bytes are their first n bytes (the header), the payload up to byte t, and the bytes from t on.
 pub cut_parts : (bytes header rest : List ℕ) (n t : ℕ) → bytes ≡ header ++ rest → n ≡ length header → n ≤ t
     → bytes ≡ (header ++ take (t - n) (drop n bytes)) ++ drop t bytes
 cut_parts bytes header rest n t parts len enough =

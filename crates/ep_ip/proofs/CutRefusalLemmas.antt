@@ -1,11 +1,11 @@
--- That the front of an IP packet is refused for want of what the cut took, and that what stands on the front also
--- stands on the whole.
+-- A truncated IP packet is rejected for the missing bytes, and a packet at the start of bytes is still one after more
+-- bytes are appended.
 use Rattle.std.proofs.Common.{◌≡◌, ◌⊎◌, ℕ, ◌+◌, ◌*◌, ◌/◌, ◌%◌, ◌<◌, ◌≤◌, ◌==◌, if◌then◌else◌, true, false, not, List, [], ◌∷◌, ◌++◌, length, None, refl, sym, ap, subst, ◌∙◌, inl, inr, arith, length-append}
 use Rattle.std.specs.Prelude.{◌&&◌, ◌||◌, nat_lt}
 use Rattle.std.proofs.lemmas.Grind.{common_steps}
 use Rattle.ep_base.specs.Bytes.{word_at}
-use Rattle.ep_base.specs.Readings.{Reading, cut_by, len_error}
-use Rattle.ep_base.specs.Missing.{IsCutRefusal, IsCutShort, TellsCut, slice_end}
+use Rattle.ep_base.specs.Readings.{Reading, limited_by, len_error}
+use Rattle.ep_base.specs.Missing.{IsTruncationError, IsTruncationLenError, ReportsTruncation, slice_end}
 use Rattle.ep_base.specs.Tables.{Parts, Refuses, first_row, parts_of}
 use Rattle.ep_base.proofs.BytesLemmas.{AreBytes-payload}
 use Rattle.ep_base.proofs.CutRefusalLemmas.{byte_beside, cut_first, cut_then, further_short, longer_payload, longer_rest, refused_beside, renamed_cut, same_then, word_beside}
@@ -39,9 +39,9 @@ use Rattle.ep_ip.proofs.PacketLemmas.{ipv4_decided, ipv4_version, ipv6_decided, 
 -- ---- IPv4
 
 abbrev Ipv4Cut : List ℕ → List ℕ → Ipv4SliceError → Type 0
-Ipv4Cut front back = IsCutRefusal ipv4_error.Len slice_end (length front) (length (front ++ back))
+Ipv4Cut front back = IsTruncationError ipv4_error.Len slice_end (length front) (length (front ++ back))
 
-pub ipv4_packet_cut : TellsCut IsIpv4Packet RefusesIpv4Packet ipv4_error.Len (λ packet. slice_end)
+pub ipv4_packet_cut : ReportsTruncation IsIpv4Packet RefusesIpv4Packet ipv4_error.Len (λ packet. slice_end)
 ipv4_packet_cut front back fits packet is error refused =
     refused_beside (Ipv4Cut front back) (ipv4_packet_rows front) (ipv4_packet_rows (front ++ back))
     (cut_first ipv4_error.Len slice_end front back 20 layer.Ipv4Header refl (λ there.
@@ -55,10 +55,10 @@ ipv4_packet_cut front back fits packet is error refused =
     total tt))))))
     (ipv4_packet_is_read.is_read (front ++ back) packet is).0 error refused
 
-pub ipv4_header_cut : TellsCut IsIpv4Header RefusesIpv4Header ipv4_header_error.Len (λ read. slice_end)
+pub ipv4_header_cut : ReportsTruncation IsIpv4Header RefusesIpv4Header ipv4_header_error.Len (λ read. slice_end)
 ipv4_header_cut front back fits read is error refused =
     let named = ipv4_header_error.Len in
-    refused_beside (IsCutRefusal named slice_end (length front) (length (front ++ back))) (ipv4_header_rows front)
+    refused_beside (IsTruncationError named slice_end (length front) (length (front ++ back))) (ipv4_header_rows front)
     (ipv4_header_rows (front ++ back))
     (cut_first named slice_end front back 20 layer.Ipv4Header refl (λ there.
     let first = byte_beside front back 0 (omega (arith, there)) in
@@ -67,7 +67,7 @@ ipv4_header_cut front back fits read is error refused =
     (ap (λ (b : ℕ). 4 * (b % 16)) first) tt))))
     (ipv4_header_is_read.is_read (front ++ back) read is).0 error refused
 
--- a packet stands with any bytes behind it
+-- A packet followed by more bytes is the same packet with more trailing bytes.
 longer_ipv4_packet : (bytes more : List ℕ) (packet : Parts Ipv4Header) → IsIpv4Packet bytes packet
     → IsIpv4Packet (bytes ++ more) (parts_of packet.header packet.payload (packet.left ++ more))
 longer_ipv4_packet bytes more packet is = record {
@@ -77,7 +77,7 @@ longer_ipv4_packet bytes more packet is = record {
   cut = is.cut;
 }
 
--- the same packet, with these bytes left behind it
+-- the packet with these bytes appended to its trailing bytes
 abbrev pub with_left : {Header : Type 0} → IpPacket Header → List ℕ → IpPacket Header
 with_left packet more = record packet { left = packet.left ++ more }
 
@@ -91,7 +91,7 @@ longer_ipv4 reading bytes more packet is = record {
   source = is.source;
 }
 
-pub ipv4_cut : (reading : Reading) → TellsCut (IsIpv4 reading) (RefusesIpv4 reading) ipv4_error.Len
+pub ipv4_cut : (reading : Reading) → ReportsTruncation (IsIpv4 reading) (RefusesIpv4 reading) ipv4_error.Len
     (λ packet. slice_end)
 ipv4_cut reading front back fits packet is error (inl refused) =
     ipv4_packet_cut front back fits (parts_of packet.header is.content packet.left) is.cut error refused
@@ -103,10 +103,10 @@ ipv4_cut reading front back fits packet is error (inr (cut, cut_is, why)) =
 -- ---- IPv6
 
 abbrev Ipv6Cut : Ipv6Header → List ℕ → List ℕ → Ipv6SliceError → Type 0
-Ipv6Cut header front back = IsCutRefusal ipv6_error.Len (ipv6_cut_limit 0 header) (length front)
+Ipv6Cut header front back = IsTruncationError ipv6_error.Len (ipv6_cut_limit 0 header) (length front)
     (length (front ++ back))
 
-pub ipv6_packet_cut : TellsCut IsIpv6Packet RefusesIpv6Packet ipv6_error.Len (λ packet. ipv6_cut_limit 0 packet.header)
+pub ipv6_packet_cut : ReportsTruncation IsIpv6Packet RefusesIpv6Packet ipv6_error.Len (λ packet. ipv6_cut_limit 0 packet.header)
 ipv6_packet_cut front back fits packet is error refused =
     let limit = ipv6_cut_limit 0 packet.header in
     refused_beside (Ipv6Cut packet.header front back) (ipv6_packet_rows front) (ipv6_packet_rows (front ++ back))
@@ -118,16 +118,16 @@ ipv6_packet_cut front back fits packet is error refused =
     refl (ap (λ (n : ℕ). 40 + n) field) tt)))
     (ipv6_packet_is_read.is_read (front ++ back) packet is).0 error refused
 
-pub ipv6_header_cut : TellsCut IsIpv6Header RefusesIpv6Header ipv6_header_error.Len (λ read. slice_end)
+pub ipv6_header_cut : ReportsTruncation IsIpv6Header RefusesIpv6Header ipv6_header_error.Len (λ read. slice_end)
 ipv6_header_cut front back fits read is error refused =
     let named = ipv6_header_error.Len in
-    refused_beside (IsCutRefusal named slice_end (length front) (length (front ++ back))) (ipv6_header_rows front)
+    refused_beside (IsTruncationError named slice_end (length front) (length (front ++ back))) (ipv6_header_rows front)
     (ipv6_header_rows (front ++ back))
     (cut_first named slice_end front back 40 layer.Ipv6Header refl (λ there.
     same_then (ap (λ (b : ℕ). not (b / 16 == 6)) (byte_beside front back 0 (omega (arith, there)))) tt))
     (ipv6_header_is_read.is_read (front ++ back) read is).0 error refused
 
--- a packet whose payload length cuts stands with any bytes behind it, which are left
+-- A packet with a payload length above 0, followed by more bytes, is the same packet with more trailing bytes.
 longer_counted : (bytes more : List ℕ) (packet : Parts Ipv6Header) → IsIpv6Packet bytes packet
     → (0 < packet.header.payload_length) × (packet.header.payload_length ≡ length packet.payload)
     → IsIpv6Packet (bytes ++ more) (parts_of packet.header packet.payload (packet.left ++ more))
@@ -137,7 +137,7 @@ longer_counted bytes more packet is counted = record {
   cut = inl counted;
 }
 
--- one whose payload length is 0 has them in its payload
+-- A packet with the payload length 0, followed by more bytes, is a packet with these bytes in its payload.
 longer_open : (bytes more : List ℕ) (packet : Parts Ipv6Header) → IsIpv6Packet bytes packet
     → (packet.header.payload_length ≡ 0) × (packet.left ≡ [])
     → IsIpv6Packet (bytes ++ more) (parts_of packet.header (packet.payload ++ more) [])
@@ -147,14 +147,14 @@ longer_open bytes more packet is zero_length = record {
   cut = inr (zero_length.0, refl);
 }
 
--- the limit of a payload whose payload length is 0, of which a refusal counts the bytes up to their end
+-- If the payload length is 0 and an error counts the bytes up to the end, its limit is the one in `ipv6_cut_limit`.
 pub open_limit : (start offset len there field : ℕ) → offset + len ≡ there → field ≡ 0
     → (if (field == 0) && nat_lt 0 there then source.Slice else source.Ipv6HeaderPayloadLen)
     ≡ (if (offset + (start + 40) == start + 40) && ((len == 0) && (field == 0))
     then source.Ipv6HeaderPayloadLen else source.Slice)
 open_limit start offset len there field counted zero_is = grind (arith, common_steps)
 
--- a refusal of the extension headers of a packet whose payload length is 0
+-- An error of truncated extension headers in a packet with the payload length 0 is an error for the missing bytes.
 open_cut : (front back : List ℕ) (header : Ipv6Header) (cut : Parts Ipv6Header) → IsIpv6Packet front cut
     → header ≡ cut.header → cut.header.payload_length ≡ 0 → cut.left ≡ [] → (refusal : ExtsSliceError)
     → IsCut (length cut.payload) (length (cut.payload ++ back)) refusal
@@ -182,16 +182,16 @@ open_cut front back header cut is same none nothing refusal known =
       is = ap (ipv6_chain_refusal cut.header cut.payload) known.is
           ∙ ap (λ (s : LenSource). ipv6_error.Len (record missing {
             layer_start_offset = missing.layer_start_offset + 40;
-            len_source = cut_by limit s;
+            len_source = limited_by limit s;
           })) known.source;
-      short = subst (λ (n : ℕ). IsCutShort n (length (front ++ back)) moved) here
-          (subst (λ (n : ℕ). IsCutShort (40 + length cut.payload) n moved) whole
+      short = subst (λ (n : ℕ). IsTruncationLenError n (length (front ++ back)) moved) here
+          (subst (λ (n : ℕ). IsTruncationLenError (40 + length cut.payload) n moved) whole
           (further_short 40 (length cut.payload) (length (cut.payload ++ back)) limit missing known.short));
       source = limits ∙ ap (λ (h : Ipv6Header). ipv6_cut_limit 0 h moved) (sym same);
     }
 
 pub ipv6_cut : (reading : Reading)
-    → TellsCut (IsIpv6 reading) (RefusesIpv6 reading) ipv6_error.Len (λ packet. ipv6_cut_limit 0 packet.header)
+    → ReportsTruncation (IsIpv6 reading) (RefusesIpv6 reading) ipv6_error.Len (λ packet. ipv6_cut_limit 0 packet.header)
 ipv6_cut reading front back fits packet is error (inl refused) =
     ipv6_packet_cut front back fits (parts_of packet.header is.content packet.left) is.cut error refused
 ipv6_cut reading front back fits packet is error (inr (cut, cut_is, why)) =
@@ -216,7 +216,7 @@ ipv6_cut reading front back fits packet is error (inr (cut, cut_is, why)) =
           (chain_cut ipv6 reading cut.header.next_header.0 cut.payload back content_fits chain chain_is why.0 why.1))
     ]
 
--- the same packet, with these bytes in its payload, behind so much content
+-- the packet with `more` appended to its content, and so to its payload
 abbrev pub with_more : IpPacket Ipv6Header → List ℕ → List ℕ → IpPacket Ipv6Header
 with_more packet content more = record {
   header = packet.header;
@@ -230,7 +230,7 @@ with_more packet content more = record {
   left = [];
 }
 
--- a packet stands with any bytes behind it, which are left, or belong to the payload where the payload length is 0
+-- A packet followed by more bytes is a packet. They are trailing bytes, or payload if the payload length is 0.
 pub longer_ipv6 : (reading : Reading) (bytes more : List ℕ) (packet : IpPacket Ipv6Header)
     (is : IsIpv6 reading bytes packet)
     → IsIpv6 reading (bytes ++ more) (with_left packet more)
@@ -260,12 +260,12 @@ longer_ipv6 reading bytes more packet is =
       )
     ]
 
--- ---- of open version
+-- ---- either version
 
 abbrev IpCut : (LenError → LenSource) → List ℕ → List ℕ → IpSliceError → Type 0
-IpCut limit front back = IsCutRefusal ip_error.Len limit (length front) (length (front ++ back))
+IpCut limit front back = IsTruncationError ip_error.Len limit (length front) (length (front ++ back))
 
--- no byte is there to read the version from
+-- If there is no byte to read the version from, the error is one for the missing byte.
 no_byte : (limit : LenError → LenSource) (front back : List ℕ)
     → source.Slice ≡ limit (len_error 1 0 source.Slice layer.IpHeader)
     → (length (front ++ back) == 0) ≡ false → (length front == 0) ≡ true
@@ -296,12 +296,12 @@ version_cut limit front back by none error refused =
     ))
     none error refused
 
--- bytes of a version have a first one, with which the whole begins too
+-- If the first bytes have a version, all bytes have that version.
 same_version : (front back : List ℕ) → (version_of front ≡ 0 → ⊥) → version_of front ≡ version_of (front ++ back)
 same_version [] back some = absurd (some refl)
 same_version (byte ∷ front) back some = refl
 
-pub ip_cut : (reading : Reading) → TellsCut (IsIp reading) (RefusesIp reading) ip_error.Len (ip_cut_limit 0)
+pub ip_cut : (reading : Reading) → ReportsTruncation (IsIp reading) (RefusesIp reading) ip_error.Len (ip_cut_limit 0)
 ip_cut reading front back fits (ipv4_part packet) is error (inl refused) =
     version_cut slice_end front back refl
     (version_rows_none (front ++ back) (inl (ipv4_version reading (front ++ back) packet is))) error refused

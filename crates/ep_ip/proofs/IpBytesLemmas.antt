@@ -1,4 +1,4 @@
--- That the bytes of an IP packet are its headers, its payload, and what its length field leaves.
+-- The bytes of an IP packet are its headers, its payload, and its trailing bytes.
 use Rattle.std.proofs.Common.{◌≡◌, ℕ, List, ◌++◌, length, refl, ap, ◌∙◌, append_assoc, length-append, arith}
 use Rattle.std.proofs.lemmas.Grind.{common_steps}
 use Rattle.ep_base.specs.Readings.{Reading}
@@ -11,14 +11,14 @@ use Rattle.ep_ip.specs.Ipv6.{FitsIpv6, ipv6_bytes}
 use Rattle.ep_ip.specs.IpPackets.{IpPacket, IsIpv4, IsIpv6}
 use Rattle.ep_ip.specs.IpBytes.{AreIpv4Bytes, AreIpv6Bytes}
 
--- a header, extension headers, a payload and what is left, grouped anew
+-- Regroups a header, extension headers, a payload and trailing bytes.
 regroup : (bytes front content behind payload left : List ℕ) → bytes ≡ (front ++ content) ++ left
     → content ≡ behind ++ payload → bytes ≡ ((front ++ behind) ++ payload) ++ left
 regroup bytes front content behind payload left parts inside =
     parts ∙ ap (λ (x : List ℕ). (front ++ x) ++ left) inside
     ∙ ap (λ (x : List ℕ). x ++ left) (simp append_assoc)
 
--- how long a header is
+-- The wire bytes of a header have the header's length.
 pub encoded_len : (encoded : List ℕ) (header : Ipv4Header) → EncodesIpv4 encoded header
     → length encoded ≡ ipv4_header_len header
 encoded_len encoded header is =
@@ -27,7 +27,7 @@ encoded_len encoded header is =
 pub ipv6_len : (header : Ipv6Header) → FitsIpv6 header → length (ipv6_bytes header) ≡ 40
 ipv6_len header fits = grind (arith, common_steps, fits.source_len, fits.destination_len)
 
--- the bytes of a packet of IPv4
+-- The bytes of an IPv4 packet are its parts in order.
 pub ipv4_packet_bytes : (reading : Reading) (bytes : List ℕ) (packet : IpPacket Ipv4Header)
     → IsIpv4 reading bytes packet → AreIpv4Bytes bytes packet
 ipv4_packet_bytes reading bytes packet is =
@@ -49,7 +49,7 @@ ipv4_packet_bytes reading bytes packet is =
       parts = regroup bytes cut.encoded is.content behind.0 packet.payload.bytes packet.left cut.parts behind.2;
     }
 
--- the bytes of a packet of IPv6
+-- The bytes of an IPv6 packet are its parts in order.
 pub ipv6_packet_bytes : (reading : Reading) (bytes : List ℕ) (packet : IpPacket Ipv6Header)
     → IsIpv6 reading bytes packet → AreIpv6Bytes bytes packet
 ipv6_packet_bytes reading bytes packet is =

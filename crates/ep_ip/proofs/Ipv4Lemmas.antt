@@ -1,4 +1,4 @@
--- The bytes of an IPv4 header and of a packet, and what is read from them.
+-- The bytes of an IPv4 header and of a packet, and the header read from them.
 use Rattle.std.proofs.Common.{◌≡◌, ℕ, zero, suc, ◌+◌, ◌-◌, ◌*◌, ◌/◌, ◌%◌, ◌^◌, ◌<◌, ◌≤◌}
 use Rattle.std.proofs.Common.{None, slice_index}
 use Rattle.std.proofs.Common.{List, [], ◌∷◌, ◌++◌, length, take, drop, refl, sym, ap, subst, ◌∙◌, arith}
@@ -17,22 +17,22 @@ use Rattle.ep_ip.specs.Ipv4.{ipv4_flags_with, ipv4_bytes_with, ipv4_header_of, i
 use Rattle.ep_ip.specs.Ipv4.{ipv4_header_rows, ipv4_packet_rows}
 use Rattle.ep_ip.proofs.CutLemmas.{cut_parts}
 
--- the bytes begin with a whole header
+-- The bytes begin with a complete header.
 record Begins (bytes : List ℕ) : Type 0 where
   pub fixed : 20 ≤ length bytes
   pub version : version_of bytes ≡ 4
   pub words : 5 ≤ ihl_of bytes
   pub whole : 4 * ihl_of bytes ≤ length bytes
 
--- ---- the bytes of a header, and any bytes behind them, are read as this header
+-- ---- the bytes of a header, followed by any bytes, are read as this header
 
--- a header that bytes are read as, from the front of so many
+-- The bytes are read as this header, which is `len` bytes long.
 record IsFront (bytes : List ℕ) (header : Ipv4Header) (len : ℕ) : Type 0 where
   pub begins : Begins bytes
   pub same : header ≡ ipv4_header_of bytes
   pub size : len ≡ 4 * ihl_of bytes
 
--- the header with its addresses as lists of four
+-- the header with its addresses written as lists of 4 bytes
 with_four : Ipv4Header → Ipv4Header
 with_four h = record h { source = four_at h.source 0; destination = four_at h.destination 0 }
 
@@ -97,7 +97,7 @@ front_read bytes encoded rest h is parts =
     subst (λ (e : List ℕ). IsFront (e ++ rest) h (length e)) (sym is.same) front in
     subst (λ (s : List ℕ). IsFront s h (length encoded)) (sym parts) whole
 
--- ---- bytes that begin with a header are the bytes of what is read, and what stands behind them
+-- ---- bytes that begin with a header are the bytes of the header read, and the rest
 
 AreBytes-four_at : (bytes : List ℕ) (i : ℕ) → AreBytes bytes → AreBytes (four_at bytes i)
 AreBytes-four_at bytes i fits zero = fits i
@@ -131,7 +131,7 @@ header_fits bytes fits begins =
       options = AreBytes-take (4 * ihl_of bytes - 20) (drop 20 bytes) (AreBytes-drop 20 bytes fits);
     }
 
--- the flags and the offset of bytes 6 and 7, put together again
+-- The flags and the fragment offset read from bytes 6 and 7 give these bytes again.
 flags_same : (upper lower : ℕ) → lower < 256 → {d m : ℕ} → d ≡ upper / 64 % 2 → m ≡ upper / 32 % 2
     → 2 ^ 15 * (upper / 128) + 2 ^ 14 * d + 2 ^ 13 * m + (256 * upper + lower) % 8192 ≡ 256 * upper + lower
 flags_same upper lower below d m = omega (arith, d, m, below)
@@ -169,14 +169,14 @@ header_encodes bytes fits begins = record {
   same = refl;
 }
 
--- bytes that are as long as their first one says
+-- The bytes are a complete header, with the length that the first byte states.
 pub record IsWhole (e : List ℕ) : Type 0 where
   pub fits : AreBytes e
   pub version : version_of e ≡ 4
   pub words : 5 ≤ ihl_of e
   pub whole : length e ≡ 4 * ihl_of e
 
--- such bytes are those of the header that is read from them
+-- Bytes of a complete header are the wire bytes of the header read from them.
 whole_encodes : (e : List ℕ) → IsWhole e → EncodesIpv4 e (ipv4_header_of e)
 whole_encodes e a =
     let fits = a.fits in
@@ -191,9 +191,9 @@ whole_encodes e a =
     let same : e ≡ encoded = header_bytes e fits begins ∙ ap (λ (s : List ℕ). encoded ++ s) none ∙ append-nil encoded in
     subst (λ (s : List ℕ). EncodesIpv4 s (ipv4_header_of e)) (sym same) (header_encodes e fits begins)
 
--- ---- the header alone
+-- ---- header
 
--- what no row refuses begins with a header, and what begins with one is refused by none
+-- Bytes that no row rejects begin with a header, and bytes that begin with a header are rejected by no row.
 none_begins : (bytes : List ℕ) → first_row (ipv4_header_rows bytes) ≡ None → Begins bytes
 none_begins bytes none = record {
   fixed = grind (arith, common_steps);
@@ -231,7 +231,7 @@ ipv4_header_is_read = record { reads = header_reads; is_read = header_is_read }
 
 -- ---- packets
 
--- what no row refuses has these numbers of bytes
+-- Bytes that no row rejects have a valid total length.
 rows_none : (bytes : List ℕ) → first_row (ipv4_packet_rows bytes) ≡ None
     → (first_row (ipv4_header_rows bytes) ≡ None) × (4 * ihl_of bytes ≤ word_at bytes 2)
     × (word_at bytes 2 ≤ length bytes)
@@ -290,14 +290,14 @@ is_read bytes packet is =
 pub ipv4_packet_is_read : IsReadBy IsIpv4Packet ipv4_packet_rows ipv4_packet_read
 ipv4_packet_is_read = record { reads = reads; is_read = is_read }
 
--- ---- what a slice shows
+-- ---- contents of slices
 
--- a header, and the rest
+-- Bytes of a complete header and the rest are the header read from them, and the rest.
 pub header_there : (bytes e rest : List ℕ) → IsWhole e → bytes ≡ e ++ rest → IsIpv4Header bytes (ipv4_header_of e, rest)
 header_there bytes e rest a parts =
     record { encoded = e; encodes = whole_encodes e a; parts = parts }
 
--- a packet, and what its total length left
+-- A complete header, a payload up to its total length and trailing bytes are a packet.
 pub packet_there : (bytes e payload left : List ℕ) → IsWhole e → bytes ≡ (e ++ payload) ++ left
     → word_at e 2 ≡ length e + length payload → IsIpv4Packet bytes (parts_of (ipv4_header_of e) payload left)
 packet_there bytes e payload left a parts cut =

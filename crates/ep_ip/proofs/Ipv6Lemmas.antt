@@ -1,4 +1,4 @@
--- The bytes of an IPv6 header and of a packet, and what is read from them.
+-- The bytes of an IPv6 header and of a packet, and the header read from them.
 use Rattle.std.proofs.Common.{◌≡◌, ℕ, ◌+◌, ◌-◌, ◌*◌, ◌/◌, ◌%◌, ◌^◌, ◌<◌, ◌≤◌, ◌==◌, None, if◌then◌else◌, slice_index}
 use Rattle.std.proofs.Common.{List, [], ◌∷◌, ◌++◌, length, take, drop, refl, sym, ap, subst, ◌∙◌, arith, ◌⊎◌, inl, inr}
 use Rattle.std.proofs.lemmas.Grind.{common_steps}
@@ -15,9 +15,9 @@ use Rattle.ep_ip.specs.Ipv6.{FitsIpv6, IsIpv6Header, IsIpv6Packet, ipv6_bytes, i
 use Rattle.ep_ip.specs.Ipv6.{ipv6_header_rows, ipv6_packet_rows}
 use Rattle.ep_ip.proofs.CutLemmas.{cut_parts}
 
--- ---- the bytes of a header, and any bytes behind them, are read as this header
+-- ---- the bytes of a header, followed by any bytes, are read as this header
 
--- a header of 40 bytes that bytes are read as
+-- The first 40 bytes are read as this header.
 record IsFront (bytes : List ℕ) (header : Ipv6Header) : Type 0 where
   pub fixed : 40 ≤ length bytes
   pub version : version_of bytes ≡ 6
@@ -56,7 +56,7 @@ bytes_front h rest fits =
       };
     }
 
--- ---- bytes that begin with a header are the bytes of what is read, and what stands behind them
+-- ---- bytes that begin with a header are the bytes of the header read, and the rest
 
 header_fits : (bytes : List ℕ) → AreBytes bytes → 40 ≤ length bytes → FitsIpv6 (ipv6_header_of bytes)
 header_fits bytes fits long = record {
@@ -88,7 +88,7 @@ header_bytes s fits long version =
     long_cells s fits 0 known i ++ word_cells s fits 4 refl i ++ slice_index s 6 ∷ slice_index s 7 ∷ behind i in
     drop-elements 8 0 s (omega arith) ∙ joined
 
--- ---- the header alone
+-- ---- header
 
 abbrev pub ipv6_header_read : List ℕ → Ipv6Header × List ℕ
 ipv6_header_read bytes = (ipv6_header_of bytes, drop 40 bytes)
@@ -120,7 +120,7 @@ ipv6_header_is_read = record { reads = header_reads; is_read = header_is_read }
 
 -- ---- packets
 
--- the number of bytes of the packet, which is that of all bytes where the payload length is 0
+-- the length of the packet in bytes; that of all bytes if the payload length is 0
 abbrev pub ipv6_len_of : List ℕ → ℕ
 ipv6_len_of bytes = if word_at bytes 4 == 0 then length bytes else 40 + word_at bytes 4
 
@@ -135,7 +135,7 @@ len_of_none bytes none = grind (arith, common_steps)
 len_of_some : (bytes : List ℕ) → 0 < word_at bytes 4 → ipv6_len_of bytes ≡ 40 + word_at bytes 4
 len_of_some bytes some = grind (arith, common_steps)
 
--- what no row refuses has these numbers of bytes
+-- Bytes that no row rejects have a valid payload length.
 rows_none : (bytes : List ℕ) → first_row (ipv6_packet_rows bytes) ≡ None
     → (first_row (ipv6_header_rows bytes) ≡ None) × (40 ≤ ipv6_len_of bytes) × (ipv6_len_of bytes ≤ length bytes)
 rows_none bytes none = (grind (arith, common_steps), grind (arith, common_steps), grind (arith, common_steps))
@@ -144,7 +144,7 @@ none_rows : (bytes : List ℕ) → first_row (ipv6_header_rows bytes) ≡ None �
     → first_row (ipv6_packet_rows bytes) ≡ None
 none_rows bytes none within = grind (arith, common_steps)
 
--- how the payload length cuts what is read
+-- The payload length `field` matches this payload and these trailing bytes.
 abbrev IsCut : ℕ → List ℕ → List ℕ → Type 0
 IsCut field payload left = ((0 < field) × (field ≡ length payload)) ⊎ ((field ≡ 0) × (left ≡ []))
 
@@ -210,7 +210,7 @@ is_read bytes packet is =
 pub ipv6_packet_is_read : IsReadBy IsIpv6Packet ipv6_packet_rows ipv6_packet_read
 ipv6_packet_is_read = record { reads = reads; is_read = is_read }
 
--- ---- what a slice shows, whose bytes are the 40 of the header
+-- ---- contents of slices, whose bytes are the 40 of the header
 
 pub header_there : (bytes e rest : List ℕ) → AreBytes e → version_of e ≡ 6 → length e ≡ 40 → bytes ≡ e ++ rest
     → IsIpv6Header bytes (ipv6_header_of e, rest)
@@ -222,7 +222,7 @@ header_there bytes e rest fits version whole parts =
     header_bytes e fits long version ∙ ap (λ (s : List ℕ). encoded ++ s) none ∙ append-nil encoded in
     record { fits = header_fits e fits long; parts = parts ∙ ap (λ (s : List ℕ). s ++ rest) same }
 
--- how the payload length of a header cuts the bytes behind it
+-- The payload length of a header matches the bytes after it, split at the packet's end.
 cut_by_length : (field t : ℕ) (bytes : List ℕ) → 40 ≤ t → t ≤ length bytes
     → ((0 < field) × (t ≡ 40 + field)) ⊎ ((field ≡ 0) × (t ≡ length bytes))
     → IsCut field (take (t - 40) (drop 40 bytes)) (drop t bytes)
@@ -230,7 +230,7 @@ cut_by_length field t bytes enough within (inl some) =
     inl (some.0, omega (arith, some.1, enough, within, length-take (t - 40) (drop 40 bytes), length-drop 40 bytes))
 cut_by_length field t bytes enough within (inr none) = inr (none.0, drop_all t bytes (omega (arith, none.1)))
 
--- a packet of t bytes, and what its payload length left
+-- A header, the bytes up to byte t and the trailing bytes are a packet if the payload length sets its end to t.
 pub packet_there : (bytes e rest : List ℕ) (t : ℕ) → bytes ≡ e ++ rest → length e ≡ 40
     → IsIpv6Header bytes (ipv6_header_of e, rest) → 40 ≤ t → t ≤ length bytes
     → ((0 < word_at e 4) × (t ≡ 40 + word_at e 4)) ⊎ ((word_at e 4 ≡ 0) × (t ≡ length bytes))
@@ -247,7 +247,7 @@ packet_there bytes e rest t parts whole header enough within field =
       },
     )
 
--- a front has the version of all bytes
+-- The first n bytes have the version of all bytes.
 pub front_version : (n : ℕ) (bytes : List ℕ) → 0 < n → version_of (take n bytes) ≡ version_of bytes
 front_version n bytes some = ap (λ (k : ℕ). k / 16) (get_or-take n bytes 0 0 some)
 

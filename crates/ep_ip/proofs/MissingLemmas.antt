@@ -1,10 +1,10 @@
--- What refusals of IP packets say of the bytes that are missing.
+-- Errors of IP packets count the missing bytes.
 use Rattle.std.proofs.Common.{◌≡◌, ℕ, ◌+◌, ◌*◌, ◌==◌, if◌then◌else◌, Bool, true, false, List, [], ◌++◌, length, refl, sym, ap, subst, inl, inr, arith, length-append}
 use Rattle.std.specs.Prelude.{⊤, ◌&&◌, nat_lt}
 use Rattle.std.proofs.lemmas.Grind.{common_steps}
 use Rattle.ep_base.specs.Bytes.{word_at}
-use Rattle.ep_base.specs.Readings.{Reading, cut_by, len_error}
-use Rattle.ep_base.specs.Missing.{CountsMissing, IsOfBytesAtHand, TellsMissing}
+use Rattle.ep_base.specs.Readings.{Reading, limited_by, len_error}
+use Rattle.ep_base.specs.Missing.{CountsMissing, IsOfBytesAtHand, ReportsMissing}
 use Rattle.ep_base.proofs.MissingLemmas.{counted, not_counted, not_payload, not_total, refusal_where, tells_missing}
 use Rattle.ep_base.specs.declared.err.layer.Layer.TheVariants as layer
 use Rattle.ep_base.specs.declared.len_source.LenSource.{LenSource}
@@ -47,7 +47,7 @@ Ipv4Counts limit (ipv4_error.Len error) = CountsMissing limit error
 Ipv4Counts limit (ipv4_error.Header error) = ⊤
 Ipv4Counts limit (ipv4_error.Exts error) = ⊤
 
-pub ipv4_header_tells : TellsMissing (λ bytes error. RefusesIpv4Header bytes (ipv4_header_error.Len error))
+pub ipv4_header_tells : ReportsMissing (λ bytes error. RefusesIpv4Header bytes (ipv4_header_error.Len error))
 ipv4_header_tells = tells_missing (λ bytes error. RefusesIpv4Header bytes (ipv4_header_error.Len error))
     (λ bytes error refused. refusal_where (Ipv4HeaderCounts (length bytes)) (ipv4_header_rows bytes) (
       counted bytes 20 source.Slice layer.Ipv4Header,
@@ -76,16 +76,16 @@ ipv4_packet_counts bytes error refused = refusal_where (Ipv4Counts (length bytes
 )
     error refused
 
-pub ipv4_packet_tells : TellsMissing (λ bytes error. RefusesIpv4Packet bytes (ipv4_error.Len error))
+pub ipv4_packet_tells : ReportsMissing (λ bytes error. RefusesIpv4Packet bytes (ipv4_error.Len error))
 ipv4_packet_tells = tells_missing (λ bytes error. RefusesIpv4Packet bytes (ipv4_error.Len error))
     (λ bytes error refused. ipv4_packet_counts bytes (ipv4_error.Len error) refused)
 
--- the total length is the limit of what stands behind the header
+-- The total length is the limit of the bytes after the header.
 ipv4_chain_counts : (limit content : ℕ) (header : Ipv4Header) (error : AuthSliceError)
     → Misses content (auth_refusal error) → Ipv4Counts limit (ipv4_chain_refusal header error)
 ipv4_chain_counts limit content header (auth_error.Len error) misses =
     λ at_hand inexact.
-    absurd (not_total (subst (λ (s : LenSource). IsOfBytesAtHand (cut_by source.Ipv4HeaderTotalLen s)) misses.1
+    absurd (not_total (subst (λ (s : LenSource). IsOfBytesAtHand (limited_by source.Ipv4HeaderTotalLen s)) misses.1
     at_hand))
 ipv4_chain_counts limit content header (auth_error.Content error) misses = tt
 
@@ -97,7 +97,7 @@ ipv4_counts reading bytes error (inr (cut, is, why)) =
     (ipv4_chain_counts (length bytes) (length cut.payload) cut.header why.0
     (chain_misses ipv4 reading cut.header.protocol.0 cut.payload (auth_refusal why.0) why.1))
 
-pub ipv4_tells : (reading : Reading) → TellsMissing (λ bytes error. RefusesIpv4 reading bytes (ipv4_error.Len error))
+pub ipv4_tells : (reading : Reading) → ReportsMissing (λ bytes error. RefusesIpv4 reading bytes (ipv4_error.Len error))
 ipv4_tells reading = tells_missing (λ bytes error. RefusesIpv4 reading bytes (ipv4_error.Len error))
     (λ bytes error refused. ipv4_counts reading bytes (ipv4_error.Len error) refused)
 
@@ -112,7 +112,7 @@ Ipv6Counts limit (ipv6_error.Len error) = CountsMissing limit error
 Ipv6Counts limit (ipv6_error.Header error) = ⊤
 Ipv6Counts limit (ipv6_error.Exts error) = ⊤
 
-pub ipv6_header_tells : TellsMissing (λ bytes error. RefusesIpv6Header bytes (ipv6_header_error.Len error))
+pub ipv6_header_tells : ReportsMissing (λ bytes error. RefusesIpv6Header bytes (ipv6_header_error.Len error))
 ipv6_header_tells = tells_missing (λ bytes error. RefusesIpv6Header bytes (ipv6_header_error.Len error))
     (λ bytes error refused. refusal_where (Ipv6HeaderCounts (length bytes)) (ipv6_header_rows bytes)
     (counted bytes 40 source.Slice layer.Ipv6Header, (λ holds. tt, tt)) (ipv6_header_error.Len error) refused)
@@ -125,7 +125,7 @@ ipv6_packet_counts bytes error refused = refusal_where (Ipv6Counts (length bytes
 )
     error refused
 
-pub ipv6_packet_tells : TellsMissing (λ bytes error. RefusesIpv6Packet bytes (ipv6_error.Len error))
+pub ipv6_packet_tells : ReportsMissing (λ bytes error. RefusesIpv6Packet bytes (ipv6_error.Len error))
 ipv6_packet_tells = tells_missing (λ bytes error. RefusesIpv6Packet bytes (ipv6_error.Len error))
     (λ bytes error refused. ipv6_packet_counts bytes (ipv6_error.Len error) refused)
 
@@ -137,7 +137,7 @@ source_zero false some at_hand = absurd (not_payload at_hand)
 is_zero : (n : ℕ) → (n == 0) ≡ true → n ≡ 0
 is_zero n test = grind (arith, common_steps)
 
--- the bytes at hand are the limit of a content that leaves nothing
+-- If the end of the slice is the limit of the content, there are no trailing bytes.
 left_nothing : (bytes : List ℕ) (cut : Parts Ipv6Header) → IsIpv6Packet bytes cut
     → IsOfBytesAtHand (ipv6_payload_source cut.header cut.payload) → cut.left ≡ []
 left_nothing bytes cut is at_hand =
@@ -155,7 +155,7 @@ ipv6_chain_counts bytes cut is (exts_error.Len error) misses =
     λ at_hand inexact.
     let limit = ipv6_payload_source cut.header cut.payload in
     let whole = left_nothing bytes cut is
-    (subst (λ (s : LenSource). IsOfBytesAtHand (cut_by limit s)) misses.1 at_hand) in
+    (subst (λ (s : LenSource). IsOfBytesAtHand (limited_by limit s)) misses.1 at_hand) in
     record {
       there = omega (
         arith,
@@ -178,17 +178,17 @@ ipv6_counts reading bytes error (inr (cut, is, why)) =
     (ipv6_chain_counts bytes cut is why.0
     (chain_misses ipv6 reading cut.header.next_header.0 cut.payload why.0 why.1))
 
-pub ipv6_tells : (reading : Reading) → TellsMissing (λ bytes error. RefusesIpv6 reading bytes (ipv6_error.Len error))
+pub ipv6_tells : (reading : Reading) → ReportsMissing (λ bytes error. RefusesIpv6 reading bytes (ipv6_error.Len error))
 ipv6_tells reading = tells_missing (λ bytes error. RefusesIpv6 reading bytes (ipv6_error.Len error))
     (λ bytes error refused. ipv6_counts reading bytes (ipv6_error.Len error) refused)
 
--- a payload whose limit is the bytes at hand leaves nothing
+-- If the end of the slice is the limit of the payload, there are no trailing bytes.
 pub open_payload : (reading : Reading) (bytes : List ℕ) (packet : IpPacket Ipv6Header) → IsIpv6 reading bytes packet
     → IsOfBytesAtHand packet.payload.source → packet.left ≡ []
 open_payload reading bytes packet is at_hand =
     left_nothing bytes (parts_of packet.header is.content packet.left) is.cut (subst IsOfBytesAtHand is.source at_hand)
 
--- ---- of open version
+-- ---- either version
 
 abbrev pub IpCounts : ℕ → IpSliceError → Type 0
 IpCounts limit (ip_error.Len error) = CountsMissing limit error
@@ -222,6 +222,6 @@ ip_counts reading bytes error (inr (inr refused)) =
     subst (IpCounts (length bytes)) (sym refused.1.2)
     (of_ipv6 (length bytes) refused.1.0 (ipv6_counts reading bytes refused.1.0 refused.1.1))
 
-pub ip_tells : (reading : Reading) → TellsMissing (λ bytes error. RefusesIp reading bytes (ip_error.Len error))
+pub ip_tells : (reading : Reading) → ReportsMissing (λ bytes error. RefusesIp reading bytes (ip_error.Len error))
 ip_tells reading = tells_missing (λ bytes error. RefusesIp reading bytes (ip_error.Len error))
     (λ bytes error refused. ip_counts reading bytes (ip_error.Len error) refused)

@@ -1,4 +1,4 @@
--- That IP packets with their extension headers are decided: a packet's cut, and then the chain in what is cut.
+-- Bytes either are exactly one IP packet with its extension headers, or are rejected with exactly one error.
 use Rattle.std.proofs.Common.{◌≡◌, ◌⊎◌, ℕ, Bool, Some, None, List, [], ◌∷◌, refl, sym, subst, ◌∙◌, inl, inr, arith}
 use Rattle.std.proofs.lemmas.Bool.{cases_eq}
 use Rattle.std.proofs.lemmas.Grind.{common_steps}
@@ -25,7 +25,7 @@ use Rattle.ep_base.proofs.TableLemmas.{AllErrors, decided, refusal_is}
 use Rattle.ep_ext.specs.IpAuth.{ip_auth_rows}
 use Rattle.ep_ext.specs.ExtensionParts.{ExtensionPart, RefusesExtensionPart, auth_refusal}
 use Rattle.ep_ext.specs.Chains.{IpVersion, ipv4, ipv6, ExtensionChain, chain_of, chain_fragments, ends, takes, misplaced, demand_of}
-use Rattle.ep_ext.specs.Chains.{IsExtensionChain, RefusesExtensionChain, RefusesChainBehind}
+use Rattle.ep_ext.specs.Chains.{IsExtensionChain, RefusesExtensionChain, RefusesChainAfter}
 use Rattle.ep_ext.proofs.ChainLemmas.{further_zero}
 use Rattle.ep_ip.specs.declared.ipv4_header.Ipv4Header.{Ipv4Header}
 use Rattle.ep_ip.specs.declared.ipv6_header.Ipv6Header.{Ipv6Header}
@@ -39,15 +39,15 @@ use Rattle.ep_ip.proofs.ExtensionLawLemmas.{extension_chain}
 use Rattle.ep_ip.proofs.Ipv4Lemmas.{ipv4_packet_is_read}
 use Rattle.ep_ip.proofs.Ipv6Lemmas.{ipv6_packet_is_read}
 
--- ---- a packet's cut and a chain inside, of either version
+-- ---- a packet limited by its length field, and the chain in it, of either version
 
--- a cut, and the chain in its content, of the number that the header gives
+-- A packet limited by its length field, with a chain of extension headers that starts with the header's next header.
 abbrev IsCutAndChain : {H : Type 0} → IpVersion → Reading → (H → ℕ) → (Parts H → Type 0)
     → Parts H × ExtensionChain → Type 0
 IsCutAndChain version reading number IsCut =
     IsBoth IsCut (λ cut. IsExtensionChain version reading (number cut.header) cut.payload)
 
--- Packets are decided that are put together from a cut and a chain, and refused where either is.
+-- If packets and chains are decided, packets with their chains are decided too, and rejected if either is rejected.
 pub packet_decided : {H E : Type 0} (version : IpVersion) (reading : Reading) (number : H → ℕ)
     {IsCut : Parts H → Type 0} {RefusesCut : E → Type 0} {RefusesChain : Parts H → E → Type 0}
     {IsPacket : IpPacket H → Type 0} (packet_of : Parts H × ExtensionChain → IpPacket H)
@@ -59,7 +59,7 @@ pub packet_decided : {H E : Type 0} (version : IpVersion) (reading : Reading) (n
 packet_decided version reading number packet_of cut chain image =
     decided_as packet_of (λ error. error) (decided_then cut chain) image (same_image (λ e r. r) (λ e r. r))
 
--- a packet, put together
+-- a packet built from its parts
 abbrev pub shown_packet : {H : Type 0} → H → ExtensionChain → Bool → LenSource → List ℕ → IpPacket H
 shown_packet header chain fragmented source left = record {
   header = header;
@@ -68,9 +68,9 @@ shown_packet header chain fragmented source left = record {
   left = left;
 }
 
--- ---- the chain of IPv4 is refused as its authentication header is
+-- ---- an IPv4 chain is rejected if and only if its authentication header is
 
--- the authentication header's refusal that a chain's is, where it is one
+-- an error of a chain as an error of the authentication header; the value for other errors is arbitrary
 auth_of : ExtsSliceError → AuthSliceError
 auth_of (exts_error.Len error) = auth_error.Len error
 auth_of (exts_error.Content content.HopByHopNotAtStart) = auth_error.Content auth_content.ZeroPayloadLen
@@ -88,9 +88,9 @@ rows_auth : (bytes : List ℕ) → AllErrors IsAuth (rows_as auth_refusal (ip_au
 unfolding auth_of
 rows_auth bytes = (refl, (refl, (refl, tt)))
 
--- the authentication header is the only header
+-- An error of an IPv4 chain is an error of the authentication header, as it is the only extension header of IPv4.
 auth_only : (reading : Reading) (number : ℕ) (bytes : List ℕ) (parts : List ExtensionPart) (error : ExtsSliceError)
-    → RefusesChainBehind ipv4 reading [] 0 number bytes parts error → IsAuth error
+    → RefusesChainAfter ipv4 reading [] 0 number bytes parts error → IsAuth error
 auth_only reading number bytes [] error (inl refused) = absurd (never number refused.0)
   where
     never : (number : ℕ) → demand_of ipv4 reading [] number ≡ misplaced → ⊥
@@ -107,7 +107,7 @@ auth_only reading number bytes [] error (inr refused) =
 auth_only reading number bytes (part ∷ parts) error refused = absurd (no_second _ _ _ parts refused.1.2)
   where
     no_second : (offset next : ℕ) (behind : List ℕ) (parts : List ExtensionPart)
-        → RefusesChainBehind ipv4 reading (number ∷ []) offset next behind parts error → ⊥
+        → RefusesChainAfter ipv4 reading (number ∷ []) offset next behind parts error → ⊥
     no_second offset next behind [] (inl refused) = let end : ends ≡ misplaced = refused.0 in cc
     no_second offset next behind [] (inr refused) = let end : ends ≡ takes = refused.0 in cc
     no_second offset next behind (part ∷ parts) refused = let end : ends ≡ takes = refused.0 in cc
@@ -153,7 +153,7 @@ ipv4_image reading bytes = record {
   );
 }
 
--- the content of a packet is bytes
+-- The content of a packet consists of bytes.
 pub ipv4_content_fits : (bytes : List ℕ) (cut : Parts Ipv4Header) → AreBytes bytes → IsIpv4Packet bytes cut
     → AreBytes cut.payload
 ipv4_content_fits bytes cut fits is = AreBytes-payload bytes is.encoded cut.payload cut.left fits is.parts
@@ -171,7 +171,7 @@ ipv4_decided reading bytes fits =
     packet_decided ipv4 reading (λ (header : Ipv4Header). header.protocol.0) ipv4_packet_of
     (decided ipv4_packet_is_read bytes fits) (ipv4_chain_decided reading bytes fits) (ipv4_image reading bytes)
 
--- the packet that a slice shows is the only one
+-- The packet of a slice is the only one.
 pub ipv4_shown : (bytes : List ℕ) → AreBytes bytes → (cut : Parts Ipv4Header) → IsIpv4Packet bytes cut
     → (number : ℕ) → number ≡ cut.header.protocol.0 → (chain : ExtensionChain)
     → IsExtensionChain ipv4 slices number cut.payload chain
@@ -190,7 +190,7 @@ ipv4_shown bytes fits cut cut_is number same chain chain_is fragmented fragmente
     let one = (ipv4_decided slices bytes fits).one_value shown packet here is in
     λ i. record (one i) { left = packet.left }
 
--- bytes whose content is refused are no packet
+-- Bytes whose content is rejected are no packet.
 pub ipv4_refused : (bytes : List ℕ) → AreBytes bytes → (cut : Parts Ipv4Header) → IsIpv4Packet bytes cut
     → (number : ℕ) → number ≡ cut.header.protocol.0 → (refusal : AuthSliceError)
     → RefusesExtensionChain ipv4 slices number cut.payload (auth_refusal refusal)
@@ -231,7 +231,7 @@ ipv6_image reading bytes = record {
   );
 }
 
--- the content of a packet is bytes
+-- The content of a packet consists of bytes.
 pub ipv6_content_fits : (bytes : List ℕ) (cut : Parts Ipv6Header) → AreBytes bytes → IsIpv6Packet bytes cut
     → AreBytes cut.payload
 ipv6_content_fits bytes cut fits is =
@@ -250,7 +250,7 @@ ipv6_decided reading bytes fits =
     packet_decided ipv6 reading (λ (header : Ipv6Header). header.next_header.0) ipv6_packet_of
     (decided ipv6_packet_is_read bytes fits) (ipv6_chain_decided reading bytes fits) (ipv6_image reading bytes)
 
--- the packet that a slice shows is the only one
+-- The packet of a slice is the only one.
 pub ipv6_shown : (bytes : List ℕ) → AreBytes bytes → (cut : Parts Ipv6Header) → IsIpv6Packet bytes cut
     → (number : ℕ) → number ≡ cut.header.next_header.0 → (chain : ExtensionChain)
     → IsExtensionChain ipv6 slices number cut.payload chain
@@ -270,7 +270,7 @@ ipv6_shown bytes fits cut cut_is number same chain chain_is fragmented fragmente
     let one = (ipv6_decided slices bytes fits).one_value shown packet here is in
     λ i. record (one i) { left = packet.left }
 
--- bytes whose content is refused are no packet
+-- Bytes whose content is rejected are no packet.
 pub ipv6_refused : (bytes : List ℕ) → AreBytes bytes → (cut : Parts Ipv6Header) → IsIpv6Packet bytes cut
     → (number : ℕ) → number ≡ cut.header.next_header.0 → (refusal : ExtsSliceError)
     → RefusesExtensionChain ipv6 slices number cut.payload refusal
@@ -280,14 +280,14 @@ ipv6_refused bytes fits cut cut_is number same refusal refused packet is =
     (ipv6_decided slices bytes fits).not_both packet (ipv6_chain_refusal cut.header cut.payload refusal) is
     (inr (cut, cut_is, (refusal, here, refl)))
 
--- ---- of open version
+-- ---- either version
 
--- bytes of a version are refused for none
+-- Bytes of version 4 or 6 are not rejected for their version.
 pub version_rows_none : (bytes : List ℕ) → (version_of bytes ≡ 4) ⊎ (version_of bytes ≡ 6)
     → first_row (ip_version_rows bytes) ≡ None
 version_rows_none bytes version = grind (arith, common_steps)
 
--- and bytes of none are refused
+-- Bytes of no supported version are rejected.
 version_rows_some : (bytes : List ℕ) → (version_of bytes ≡ 4 → ⊥) → (version_of bytes ≡ 6 → ⊥)
     → (error : SliceError) × Refuses (ip_version_rows bytes) error
 version_rows_some [] not_4 not_6 = (slice_error.Len (len_error 1 0 source.Slice layer.IpHeader), refl)
@@ -306,7 +306,7 @@ pub ipv6_version : (reading : Reading) (bytes : List ℕ) (packet : IpPacket Ipv
 ipv6_version reading bytes packet is =
     let none = (ipv6_packet_is_read.is_read bytes _ is.cut).0 in grind (arith, common_steps)
 
--- where the version is known, the part is a packet of it
+-- If bytes have version 4, an IP packet at their start is an IPv4 packet.
 pub ipv4_back : (reading : Reading) (bytes : List ℕ) → version_of bytes ≡ 4 → (part : IpPart) → IsIp reading bytes part
     → (packet : IpPacket Ipv4Header) × IsIpv4 reading bytes packet × (part ≡ ipv4_part packet)
 ipv4_back reading bytes version (ipv4_part packet) is = (packet, is, refl)
@@ -333,7 +333,7 @@ ipv6_refused_back reading bytes version error (inl row) =
 ipv6_refused_back reading bytes version error (inr (inl refused)) = absurd (omega (arith, version, refused.0))
 ipv6_refused_back reading bytes version error (inr (inr refused)) = refused.1
 
--- bytes of no version are no packet
+-- Bytes of no supported version are no packet.
 no_version : (reading : Reading) (bytes : List ℕ) → (version_of bytes ≡ 4 → ⊥) → (version_of bytes ≡ 6 → ⊥)
     → (part : IpPart) → IsIp reading bytes part → ⊥
 no_version reading bytes not_4 not_6 (ipv4_part packet) is = not_4 (ipv4_version reading bytes packet is)

@@ -1,4 +1,4 @@
--- That the layer which a refusal of an IP packet names starts within the bytes.
+-- The layer that an error of an IP packet names starts within the bytes.
 use Rattle.std.proofs.Common.{◌≡◌, ℕ, ◌+◌, ◌≤◌, List, ◌++◌, length, refl, ap, inl, inr, length-append, arith}
 use Rattle.ep_base.specs.Readings.{Reading}
 use Rattle.ep_base.proofs.TableLemmas.{refusal_is}
@@ -20,7 +20,7 @@ use Rattle.ep_ip.specs.IpPackets.{RefusesIpv4, RefusesIpv6, ipv4_chain_refusal, 
 use Rattle.ep_ip.proofs.ExtensionLawLemmas.{refused_within}
 use Rattle.ep_ip.proofs.IpBytesLemmas.{encoded_len, ipv6_len}
 
--- where the layer starts that a refusal of IPv4 names
+-- the start of the layer that an error of IPv4 names
 abbrev pub ipv4_start : Ipv4SliceError → ℕ
 ipv4_start (ipv4_error.Len error) = error.layer_start_offset
 ipv4_start (ipv4_error.Header error) = 0
@@ -49,7 +49,7 @@ ipv4_within reading bytes error (inr (cut, is, why)) = omega (
   encoded_len is.encoded cut.header is.encodes,
 )
 
--- the same of IPv6
+-- the start of the layer that an error of IPv6 names
 abbrev pub ipv6_start : Ipv6SliceError → ℕ
 ipv6_start (ipv6_error.Len error) = error.layer_start_offset
 ipv6_start (ipv6_error.Header error) = 0

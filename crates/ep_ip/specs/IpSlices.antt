@@ -1,4 +1,4 @@
--- What slices of IP of either version show.
+-- Contents of IP slices of either version.
 use Rattle.std.specs.Prelude.{⊤, ℕ, List}
 use Rattle.ep_base.specs.IpPayload.{IpPayload}
 use Rattle.ep_ip.specs.declared.ip_slice.IpSlice.{IpSlice}
@@ -12,22 +12,22 @@ abbrev pub ip_slice_bytes : IpSlice → List ℕ
 ip_slice_bytes (slice.Ipv4 packet) = ipv4_slice_bytes packet
 ip_slice_bytes (slice.Ipv6 packet) = ipv6_slice_bytes packet
 
--- its payload
+-- the payload of a packet
 abbrev pub ip_slice_payload : IpSlice → IpPayload
 ip_slice_payload (slice.Ipv4 packet) = ipv4_slice_payload packet
 ip_slice_payload (slice.Ipv6 packet) = ipv6_slice_payload packet
 
--- the packet, and what its length field left
+-- the packet of a slice with these trailing bytes
 abbrev pub ip_slice_packet : IpSlice → List ℕ → IpPart
 ip_slice_packet (slice.Ipv4 packet) left = ipv4_part (ipv4_slice_packet packet left)
 ip_slice_packet (slice.Ipv6 packet) left = ipv6_part (ipv6_slice_packet packet left)
 
--- of IPv6, the number of the first extension header is the one that the header says
+-- For IPv6, the type of the first extension header is the header's next header.
 abbrev pub FollowsIpHeader : IpSlice → Type 0
 FollowsIpHeader (slice.Ipv4 packet) = ⊤
 FollowsIpHeader (slice.Ipv6 packet) = FollowsIpv6Header packet
 
--- the packets are of one version and show the same
+-- The packets have one version and equal contents.
 abbrev pub ShowSameIp : IpSlice → IpSlice → Type 0
 ShowSameIp (slice.Ipv4 a) (slice.Ipv4 b) = ShowSameIpv4 a b
 ShowSameIp (slice.Ipv4 a) (slice.Ipv6 b) = ⊥

@@ -18,7 +18,7 @@ use Rattle.ep_base.specs.declared.ip_number.IpNumber.{IpNumber}
 use Rattle.ep_ip.specs.declared.ipv4_header.Ipv4Header.{Ipv4Header}
 use Rattle.ep_ip.specs.Ip.{version_of}
 
--- each field fits its place
+-- Each field fits its width on the wire.
 pub record FitsIpv4 (header : Ipv4Header) : Type 0 where
   pub dscp : header.dscp < 2 ^ 6
   pub ecn : header.ecn < 2 ^ 2
@@ -36,17 +36,17 @@ pub record FitsIpv4 (header : Ipv4Header) : Type 0 where
   pub options_words : length header.options % 4 ≡ 0
   pub options : AreBytes header.options
 
--- the number of bytes of a header
+-- the length of a header in bytes
 abbrev pub ipv4_header_len : Ipv4Header → ℕ
 ipv4_header_len header = 20 + length header.options
 
--- the three flags, of which the first is reserved, and the fragment offset in 16 bits
+-- bytes 6 and 7 as a 16-bit number: the reserved flag, Don't Fragment, More Fragments, and the fragment offset
 abbrev pub ipv4_flags_with : ℕ → Ipv4Header → ℕ
 ipv4_flags_with reserved header =
     2 ^ 15 * reserved + 2 ^ 14 * bit header.dont_fragment + 2 ^ 13 * bit header.more_fragments + header.fragment_offset
 
--- The bytes of a header, with the reserved flag. The first byte is the version and the header's length in words of 4
--- bytes.
+-- the wire bytes of a header with this reserved flag; the first byte is the version and the header length (IHL) in
+-- words of 4 bytes
 abbrev pub ipv4_bytes_with : ℕ → Ipv4Header → List ℕ
 ipv4_bytes_with reserved header =
     (2 ^ 4 * 4 + ipv4_header_len header / 4) ∷ (2 ^ 2 * header.dscp + header.ecn) ∷ []
@@ -55,34 +55,34 @@ ipv4_bytes_with reserved header =
     ++ header.time_to_live ∷ header.protocol.0 ∷ [] ++ to_be_bytes w16 header.header_checksum
     ++ header.source ++ header.destination ++ header.options
 
--- the bytes of a header as it is written: the reserved flag is 0
+-- the wire bytes of a header as written, with the reserved flag 0
 abbrev pub ipv4_bytes : Ipv4Header → List ℕ
 ipv4_bytes header = ipv4_bytes_with 0 header
 
--- the checksum of a header: that of its bytes, in which the checksum counts as 0
+-- the header checksum: the Internet checksum of the header's bytes with the checksum field set to 0
 abbrev pub ipv4_checksum : Ipv4Header → ℕ
 ipv4_checksum header = checksum_of (ipv4_bytes (record header { header_checksum = 0 }))
 
--- the bytes are the header's, whatever the reserved flag
+-- The bytes are the header, with any value of the reserved flag.
 pub record EncodesIpv4 (bytes : List ℕ) (header : Ipv4Header) : Type 0 where
   pub fits : FitsIpv4 header
   pub reserved : ℕ
   pub flag : reserved < 2
   pub same : bytes ≡ ipv4_bytes_with reserved header
 
--- the number of 4 byte words of the header (IHL), the lower 4 bits of the first byte
+-- the header length in words of 4 bytes (IHL), the lower 4 bits of the first byte
 abbrev pub ihl_of : List ℕ → ℕ
 ihl_of bytes = slice_index bytes 0 % 16
 
--- ---- the header alone
+-- ---- header
 
--- the bytes are a header, and then the rest
+-- The bytes are a header, followed by the rest.
 pub record IsIpv4Header (bytes : List ℕ) (read : Ipv4Header × List ℕ) : Type 0 where
   pub encoded : List ℕ
   pub encodes : EncodesIpv4 encoded read.0
   pub parts : bytes ≡ encoded ++ read.1
 
--- why bytes begin with no header
+-- the errors for bytes that do not begin with a header, in the order of the checks
 abbrev pub ipv4_header_rows : List ℕ → List (Bool × HeaderSliceError)
 ipv4_header_rows bytes =
     let len = length bytes in
@@ -94,16 +94,16 @@ ipv4_header_rows bytes =
     ∷ (nat_lt len (4 * ihl), header_error.Len (len_error (4 * ihl) len source.Slice layer.Ipv4Header))
     ∷ []
 
--- the error of the first row that holds
+-- The bytes are rejected as a header with this error: that of the first row that holds.
 abbrev pub RefusesIpv4Header : List ℕ → HeaderSliceError → Type 0
 RefusesIpv4Header bytes = Refuses (ipv4_header_rows bytes)
 
--- the 4 bytes from i on
+-- the 4 bytes from index `i` on
 abbrev pub four_at : List ℕ → ℕ → List ℕ
 four_at bytes i =
     slice_index bytes i ∷ slice_index bytes (i + 1) ∷ slice_index bytes (i + 2) ∷ slice_index bytes (i + 3) ∷ []
 
--- the header that stands at the front of bytes
+-- the header read from the start of the bytes
 abbrev pub ipv4_header_of : List ℕ → Ipv4Header
 ipv4_header_of bytes = record {
   dscp = slice_index bytes 1 / 4;
@@ -121,21 +121,21 @@ ipv4_header_of bytes = record {
   options = take (4 * ihl_of bytes - 20) (drop 20 bytes);
 }
 
--- ---- packets, up to the authentication header, which belongs to the payload here
+-- ---- packets, with the authentication header as part of the payload
 
--- The bytes are a packet and what its total length leaves behind it, as padding.
+-- The bytes are a packet and the trailing bytes after its total length, such as padding.
 pub record IsIpv4Packet (bytes : List ℕ) (packet : Parts Ipv4Header) : Type 0 where
   pub encoded : List ℕ
   pub encodes : EncodesIpv4 encoded packet.header
   pub parts : bytes ≡ (encoded ++ packet.payload) ++ packet.left
   pub cut : packet.header.total_len ≡ length encoded + length packet.payload
 
--- a refusal of the header as one of the packet
+-- an error of the header as an error of the packet
 abbrev pub of_header_error : HeaderSliceError → SliceError
 of_header_error (header_error.Len error) = slice_error.Len error
 of_header_error (header_error.Content error) = slice_error.Header error
 
--- why bytes begin with no packet
+-- the errors for bytes that do not begin with a packet, in the order of the checks
 abbrev pub ipv4_packet_rows : List ℕ → List (Bool × SliceError)
 ipv4_packet_rows bytes =
     let len = length bytes in
@@ -147,17 +147,17 @@ ipv4_packet_rows bytes =
     ∷ (nat_lt len total_len, slice_error.Len (len_error total_len len source.Slice layer.Ipv4Packet))
     ∷ []
 
--- the error of the first row that holds
+-- The bytes are rejected as a packet with this error: that of the first row that holds.
 abbrev pub RefusesIpv4Packet : List ℕ → SliceError → Type 0
 RefusesIpv4Packet bytes = Refuses (ipv4_packet_rows bytes)
 
--- whether a packet carries one fragment of a longer payload
+-- whether the packet carries a fragment of a longer payload
 abbrev pub is_ipv4_fragment : Ipv4Header → Bool
 is_ipv4_fragment header = header.more_fragments || nat_lt 0 header.fragment_offset
 
--- ---- headers that are made
+-- ---- new headers
 
--- the default header: all zero, except that it isn't to be cut into fragments and that its protocol is reserved (255)
+-- the default header: all fields are 0, except that Don't Fragment is set and the protocol is 255 (reserved)
 abbrev pub default_ipv4_header : Ipv4Header
 default_ipv4_header = record {
   dscp = 0;
@@ -175,7 +175,7 @@ default_ipv4_header = record {
   options = [];
 }
 
--- the default header, with these fields, and without options
+-- a header with these fields, without options; the remaining fields have their default values
 abbrev pub new_ipv4_header : ℕ → ℕ → IpNumber → List ℕ → List ℕ → Ipv4Header
 new_ipv4_header payload_len time_to_live protocol source destination = record default_ipv4_header {
   total_len = 20 + payload_len;

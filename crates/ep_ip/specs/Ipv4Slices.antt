@@ -1,4 +1,4 @@
--- What slices of IPv4 show.
+-- Contents of IPv4 slices.
 use Rattle.std.specs.Prelude.{◌≡◌, ℕ, List, ◌++◌, option_map}
 use Rattle.ep_base.specs.IpPayload.{IpPayload, ip_payload_of}
 use Rattle.ep_ext.specs.ExtensionParts.{ExtensionPart}
@@ -14,7 +14,7 @@ use Rattle.ep_ip.specs.Ipv4.{ipv4_header_of}
 abbrev pub ipv4_header_slice_bytes : Ipv4HeaderSlice → List ℕ
 ipv4_header_slice_bytes slice = slice.bytes.slice.now
 
--- the header as a value
+-- the header as an owned value
 abbrev pub ipv4_header_slice_header : Ipv4HeaderSlice → Ipv4Header
 ipv4_header_slice_header slice = ipv4_header_of (ipv4_header_slice_bytes slice)
 
@@ -22,23 +22,23 @@ ipv4_header_slice_header slice = ipv4_header_of (ipv4_header_slice_bytes slice)
 abbrev pub ipv4_slice_header : Ipv4Slice → Ipv4Header
 ipv4_slice_header slice = ipv4_header_slice_header slice.header
 
--- its extension headers
+-- the extension headers of a packet
 abbrev pub ipv4_slice_extensions : Ipv4Slice → List ExtensionPart
 ipv4_slice_extensions slice = extension_parts slice.extensions
 
--- its payload
+-- the payload of a packet
 abbrev pub ipv4_slice_payload : Ipv4Slice → IpPayload
 ipv4_slice_payload slice = ip_payload_of slice.payload
 
--- the bytes behind its header: those of its extension headers, and those of its payload
+-- the bytes of a packet after its IPv4 header: extension headers and payload
 abbrev pub ipv4_slice_content : Ipv4Slice → List ℕ
 ipv4_slice_content slice = extension_bytes slice.extensions ++ (ipv4_slice_payload slice).bytes
 
--- its bytes
+-- the bytes of a packet
 abbrev pub ipv4_slice_bytes : Ipv4Slice → List ℕ
 ipv4_slice_bytes slice = ipv4_header_slice_bytes slice.header ++ ipv4_slice_content slice
 
--- the packet, and what its total length left
+-- the packet of a slice with these trailing bytes after its total length
 abbrev pub ipv4_slice_packet : Ipv4Slice → List ℕ → IpPacket Ipv4Header
 ipv4_slice_packet slice left = record {
   header = ipv4_slice_header slice;
@@ -47,7 +47,7 @@ ipv4_slice_packet slice left = record {
   left = left;
 }
 
--- the packets show the same bytes as header and as authentication header, and the same payload
+-- The packets have equal header bytes, equal bytes of the authentication header, and equal payloads.
 pub record ShowSameIpv4 (a b : Ipv4Slice) : Type 0 where
   pub header : ipv4_header_slice_bytes a.header ≡ ipv4_header_slice_bytes b.header
   pub extensions : option_map ip_auth_slice_bytes a.extensions.auth ≡ option_map ip_auth_slice_bytes b.extensions.auth

@@ -18,7 +18,7 @@ use Rattle.ep_base.specs.declared.err.ipv6.SliceError.TheVariants as slice_error
 use Rattle.ep_ip.specs.declared.ipv6_header.Ipv6Header.{Ipv6Header}
 use Rattle.ep_ip.specs.Ip.{version_of}
 
--- each field fits its place
+-- Each field fits its width on the wire.
 pub record FitsIpv6 (header : Ipv6Header) : Type 0 where
   pub traffic_class : header.traffic_class < 2 ^ 8
   pub flow_label : header.flow_label < 2 ^ 20
@@ -30,21 +30,21 @@ pub record FitsIpv6 (header : Ipv6Header) : Type 0 where
   pub destination_len : length header.destination ≡ 16
   pub destination : AreBytes header.destination
 
--- The 40 bytes of a header. The first 4 are the version, 6, in 4 bits, the traffic class in 8 and the flow label in 20.
+-- the 40 wire bytes of a header; the first 4 are the version (4 bits), the traffic class (8) and the flow label (20)
 abbrev pub ipv6_bytes : Ipv6Header → List ℕ
 ipv6_bytes header =
     to_be_bytes w32 (2 ^ 28 * 6 + 2 ^ 20 * header.traffic_class + header.flow_label)
     ++ to_be_bytes w16 header.payload_length ++ header.next_header.0 ∷ header.hop_limit ∷ []
     ++ header.source ++ header.destination
 
--- ---- the header alone
+-- ---- header
 
--- the bytes are a header, and then the rest
+-- The bytes are a header, followed by the rest.
 pub record IsIpv6Header (bytes : List ℕ) (read : Ipv6Header × List ℕ) : Type 0 where
   pub fits : FitsIpv6 read.0
   pub parts : bytes ≡ ipv6_bytes read.0 ++ read.1
 
--- why bytes begin with no header
+-- the errors for bytes that do not begin with a header, in the order of the checks
 abbrev pub ipv6_header_rows : List ℕ → List (Bool × HeaderSliceError)
 ipv6_header_rows bytes =
     let len = length bytes in
@@ -53,11 +53,11 @@ ipv6_header_rows bytes =
     ∷ (not (version == 6), header_error.Content (content.UnexpectedVersion version))
     ∷ []
 
--- the error of the first row that holds
+-- The bytes are rejected as a header with this error: that of the first row that holds.
 abbrev pub RefusesIpv6Header : List ℕ → HeaderSliceError → Type 0
 RefusesIpv6Header bytes = Refuses (ipv6_header_rows bytes)
 
--- the header that stands at the front of 40 bytes and more
+-- the header read from the first 40 bytes
 abbrev pub ipv6_header_of : List ℕ → Ipv6Header
 ipv6_header_of bytes = record {
   traffic_class = 16 * (slice_index bytes 0 % 16) + slice_index bytes 1 / 16;
@@ -69,21 +69,22 @@ ipv6_header_of bytes = record {
   destination = take 16 (drop 24 bytes);
 }
 
--- ---- packets, up to the extension headers, which belong to the payload here
+-- ---- packets, with the extension headers as part of the payload
 
--- The bytes are a packet and what its payload length leaves behind it, as padding. The number 0 leaves nothing.
+-- The bytes are a packet and the trailing bytes after its payload length, such as padding. If the payload length is 0,
+-- there are no trailing bytes.
 pub record IsIpv6Packet (bytes : List ℕ) (packet : Parts Ipv6Header) : Type 0 where
   pub fits : FitsIpv6 packet.header
   pub parts : bytes ≡ (ipv6_bytes packet.header ++ packet.payload) ++ packet.left
   pub cut : ((0 < packet.header.payload_length) × (packet.header.payload_length ≡ length packet.payload))
       ⊎ ((packet.header.payload_length ≡ 0) × (packet.left ≡ []))
 
--- a refusal of the header as one of the packet
+-- an error of the header as an error of the packet
 abbrev pub of_header_error : HeaderSliceError → SliceError
 of_header_error (header_error.Len error) = slice_error.Len error
 of_header_error (header_error.Content error) = slice_error.Header error
 
--- why bytes begin with no packet
+-- the errors for bytes that do not begin with a packet, in the order of the checks
 abbrev pub ipv6_packet_rows : List ℕ → List (Bool × SliceError)
 ipv6_packet_rows bytes =
     let len = length bytes in
@@ -92,25 +93,26 @@ ipv6_packet_rows bytes =
     ++ (nat_lt len packet_len, slice_error.Len (len_error packet_len len source.Slice layer.Ipv6Packet))
     ∷ []
 
--- the error of the first row that holds
+-- The bytes are rejected as a packet with this error: that of the first row that holds.
 abbrev pub RefusesIpv6Packet : List ℕ → SliceError → Type 0
 RefusesIpv6Packet bytes = Refuses (ipv6_packet_rows bytes)
 
--- what sets the length of the payload: the bytes at hand where the payload length is 0 and took some
+-- the source of the payload's length: the slice if the payload length is 0 and the payload is not empty, else the
+-- payload length
 abbrev pub ipv6_payload_source : Ipv6Header → List ℕ → LenSource
 ipv6_payload_source header payload =
     if (header.payload_length == 0) && nat_lt 0 (length payload) then source.Slice else source.Ipv6HeaderPayloadLen
 
--- what sets the limit where a cut left too few bytes of a packet that starts here: the end of the bytes at hand, but
--- the payload length, which is 0, where the cut ends with the header
+-- the limit that the error reports if a packet that starts at byte `start` is truncated: the end of the slice, or the
+-- payload length if it is 0 and the bytes end with the header
 abbrev pub ipv6_cut_limit : ℕ → Ipv6Header → LenError → LenSource
 ipv6_cut_limit start header error =
     if (error.layer_start_offset == start + 40) && ((error.len == 0) && (header.payload_length == 0))
     then source.Ipv6HeaderPayloadLen else source.Slice
 
--- ---- headers that are made
+-- ---- new headers
 
--- the default header: all zero, except that its next header is reserved (255)
+-- the default header: all fields are 0, except that the next header is 255 (reserved)
 abbrev pub default_ipv6_header : Ipv6Header
 default_ipv6_header = record {
   traffic_class = 0;

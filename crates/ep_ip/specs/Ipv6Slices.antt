@@ -1,4 +1,4 @@
--- What slices of IPv6 show.
+-- Contents of IPv6 slices.
 use Rattle.std.specs.Prelude.{◌≡◌, ℕ, List, ◌++◌}
 use Rattle.ep_base.specs.IpPayload.{IpPayload, ip_payload_of}
 use Rattle.ep_ext.specs.ExtensionParts.{ExtensionPart}
@@ -14,7 +14,7 @@ use Rattle.ep_ip.specs.Ipv6.{ipv6_header_of}
 abbrev pub ipv6_header_slice_bytes : Ipv6HeaderSlice → List ℕ
 ipv6_header_slice_bytes slice = slice.bytes.slice.now
 
--- the header as a value
+-- the header as an owned value
 abbrev pub ipv6_header_slice_header : Ipv6HeaderSlice → Ipv6Header
 ipv6_header_slice_header slice = ipv6_header_of (ipv6_header_slice_bytes slice)
 
@@ -22,23 +22,23 @@ ipv6_header_slice_header slice = ipv6_header_of (ipv6_header_slice_bytes slice)
 abbrev pub ipv6_slice_header : Ipv6Slice → Ipv6Header
 ipv6_slice_header slice = ipv6_header_slice_header slice.header
 
--- its extension headers
+-- the extension headers of a packet
 abbrev pub ipv6_slice_extensions : Ipv6Slice → List ExtensionPart
 ipv6_slice_extensions slice = extension_parts slice.extensions
 
--- its payload
+-- the payload of a packet
 abbrev pub ipv6_slice_payload : Ipv6Slice → IpPayload
 ipv6_slice_payload slice = ip_payload_of slice.payload
 
--- the bytes behind its header: those of its extension headers, and those of its payload
+-- the bytes of a packet after its IPv6 header: extension headers and payload
 abbrev pub ipv6_slice_content : Ipv6Slice → List ℕ
 ipv6_slice_content slice = extension_bytes slice.extensions ++ (ipv6_slice_payload slice).bytes
 
--- its bytes
+-- the bytes of a packet
 abbrev pub ipv6_slice_bytes : Ipv6Slice → List ℕ
 ipv6_slice_bytes slice = ipv6_header_slice_bytes slice.header ++ ipv6_slice_content slice
 
--- the packet, and what its payload length left
+-- the packet of a slice with these trailing bytes after its payload length
 abbrev pub ipv6_slice_packet : Ipv6Slice → List ℕ → IpPacket Ipv6Header
 ipv6_slice_packet slice left = record {
   header = ipv6_slice_header slice;
@@ -47,11 +47,11 @@ ipv6_slice_packet slice left = record {
   left = left;
 }
 
--- the number of the first of its extension headers is the one that its header says
+-- The type of the first extension header is the header's next header.
 abbrev pub FollowsIpv6Header : Ipv6Slice → Type 0
 FollowsIpv6Header slice = extension_number slice.extensions ≡ (ipv6_slice_header slice).next_header.0
 
--- the packets show the same bytes as header and as extension headers, the first of one kind, and the same payload
+-- The packets have equal header bytes, equal extension headers (bytes, and type of the first), and equal payloads.
 pub record ShowSameIpv6 (a b : Ipv6Slice) : Type 0 where
   pub header : ipv6_header_slice_bytes a.header ≡ ipv6_header_slice_bytes b.header
   pub first : extension_number a.extensions ≡ extension_number b.extensions

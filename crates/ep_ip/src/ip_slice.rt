@@ -1,4 +1,4 @@
-//! An IP packet of either version in a slice.
+//! IP packets of version 4 or 6 as slices of their bytes, parsed without copying.
 
 ghost use Rattle.std.specs.Prelude.{◌≡◌};
 ghost use Rattle.ep_base.specs.declared.err.ip.HeaderError.TheVariants as content;
@@ -12,12 +12,12 @@ use ep_base::err::ip::{HeaderError, HeadersError, SliceError};
 use ep_base::err::{Layer, LenError, ipv4, ipv6};
 use ep_base::{IpPayloadSlice, LenSource};
 
-/// An IP packet of either version that lies in a slice.
+/// IPv4 or IPv6 packet as slices of its bytes: IP header, extension headers and payload. Nothing is copied.
 #[derive(Clone, Debug, PartialEq, Eq, Drop)]
 pub enum IpSlice<'a> {
-    /// One of version 4 (RFC 791).
+    /// IPv4 packet (RFC 791).
     Ipv4(Ipv4Slice<'a>),
-    /// One of version 6 (RFC 8200).
+    /// IPv6 packet (RFC 8200).
     Ipv6(Ipv6Slice<'a>),
 }
 
@@ -28,7 +28,9 @@ impl<'a> IpSlice<'a> {
     ghost use Rattle.ep_ip.specs.IpPackets.{IpPart, IsIp, RefusesIp, ip_left};
     ghost use Rattle.ep_ip.specs.IpSlices.{FollowsIpHeader, ip_slice_bytes, ip_slice_packet, ip_slice_payload};
 
-    /// The packet at the front of the slice, of the version that its first byte says. Its length field cuts it.
+    /// Parses the IPv4 or IPv6 packet at the start of the slice with its extension headers; the upper 4 bits of byte 0
+    /// are the version. Bytes after the end that the IPv4 total length or the IPv6 payload length sets are ignored. If
+    /// the IPv6 payload length is 0, the packet extends to the end of the slice.
     pub fn from_slice(slice: &'a [u8]) -> Result<IpSlice<'a>, SliceError>
         ensures ok { IfOk result (λ shown. (left : List ℕ) × (slice.now ≡ ip_slice_bytes shown ++ left)
             × IsIp slices slice.now (ip_slice_packet shown left)) }
@@ -61,7 +63,8 @@ impl<'a> IpSlice<'a> {
         Err(unsupported(version_number))
     }
 
-    /// The payload, with what it is, whether it is a fragment, and what set its end.
+    /// Payload of the IPv4 or IPv6 packet after its extension headers: its bytes, its protocol number, whether it is a
+    /// fragment, and whether a length field or the end of the slice limits it.
     #[inline]
     pub fn payload(&self) -> &IpPayloadSlice<'a>
         ensures { ip_payload_of result.now ≡ ip_slice_payload self.now }
@@ -72,7 +75,7 @@ impl<'a> IpSlice<'a> {
         }
     }
 
-    /// Whether the payload is one fragment of a longer one.
+    /// Returns true if the IP packet is a fragment, so that its payload is only a part of a longer payload.
     #[inline]
     pub fn is_payload_fragmented(&self) -> bool
         ensures { result ≡ (ip_slice_payload self.now).fragmented }
@@ -81,14 +84,14 @@ impl<'a> IpSlice<'a> {
     }
 }
 
-/// The refusal of a version.
+/// Returns the error for an IP version other than 4 and 6.
 fn unsupported(version_number: u8) -> SliceError
     ensures { result ≡ slice_error.IpHeaders (headers_error.Ip (content.UnsupportedIpVersion version_number)) }
 {
     SliceError::IpHeaders(HeadersError::Ip(HeaderError::UnsupportedIpVersion { version_number }))
 }
 
-/// A refusal of a packet of IPv4 among those of either version.
+/// Converts an error of the parser for IPv4 packets to the error type of the parser that accepts both IP versions.
 fn of_ipv4_error(error: ipv4::SliceError) -> SliceError
     ensures { result ≡ of_ipv4_error error }
 {
@@ -106,7 +109,7 @@ fn of_ipv4_error(error: ipv4::SliceError) -> SliceError
     }
 }
 
-/// A refusal of a packet of IPv6 among those of either version.
+/// Converts an error of the parser for IPv6 packets to the error type of the parser that accepts both IP versions.
 fn of_ipv6_error(error: ipv6::SliceError) -> SliceError
     ensures { result ≡ of_ipv6_error error }
 {

@@ -1,4 +1,4 @@
-//! The header of IPv4 (RFC 791, 3.1).
+//! IPv4 header (RFC 791, 3.1) as an owned value.
 
 ghost use Rattle.std.specs.Prelude.{◌≡◌, ◌+◌, ◌-◌, ◌%◌, ◌<◌, ◌≤◌, ◌++◌, List, ℕ, length};
 ghost use Rattle.std.specs.Prelude.{IfOk, IfErr, OnOk, OnErr, IsOkAnd, MatchResult, vec_len, vec_capacity};
@@ -16,34 +16,34 @@ use ep_base::err::{ValueTooBigError, ValueType};
 use ep_base::{IpFragOffset, IpNumber, Ipv4Dscp, Ipv4Ecn};
 use std::alloc::AllocError;
 
-/// The header of an IPv4 packet (RFC 791, 3.1): 20 to 60 bytes.
+/// IPv4 header with its options (RFC 791, 3.1) as an owned value; 20 to 60 bytes on the wire.
 #[derive(Clone, Debug, PartialEq, Eq, Drop)]
 pub struct Ipv4Header {
-    /// The differentiated services code point, the upper 6 bits of byte 1.
+    /// Differentiated services code point (DSCP) of an IPv4 header, upper 6 bits of byte 1.
     pub dscp: Ipv4Dscp,
-    /// The explicit congestion notification, the lower 2 bits of byte 1.
+    /// Explicit congestion notification (ECN) of an IPv4 header, lower 2 bits of byte 1.
     pub ecn: Ipv4Ecn,
-    /// The length in bytes of header and payload, bytes 2 and 3.
+    /// Total length of an IPv4 packet: length of header and payload in bytes, bytes 2 and 3 of the header.
     pub total_len: u16,
-    /// What the fragments of one packet have in common, bytes 4 and 5.
+    /// Identification of an IPv4 header, equal in all fragments of a datagram, bytes 4 and 5.
     pub identification: u16,
-    /// Whether the packet must not be cut into fragments, a flag of byte 6.
+    /// Don't Fragment flag (DF) of an IPv4 header: the packet must not be fragmented. Byte 6, bit 6 (0x40).
     pub dont_fragment: bool,
-    /// Whether further fragments follow this one, a flag of byte 6.
+    /// More Fragments flag (MF) of an IPv4 header: the datagram continues in further fragments. Byte 6, bit 5 (0x20).
     pub more_fragments: bool,
-    /// The place of the fragment in the whole payload in units of 8 bytes, the lower 13 bits of bytes 6 and 7.
+    /// Fragment offset of an IPv4 header in units of 8 bytes, lower 13 bits of bytes 6 and 7.
     pub fragment_offset: IpFragOffset,
-    /// How many further hops the packet may take, byte 8.
+    /// Time to live (TTL) of an IPv4 header: number of remaining hops, byte 8.
     pub time_to_live: u8,
-    /// What the payload is, byte 9.
+    /// Protocol number of the payload of an IPv4 packet, byte 9 of the header.
     pub protocol: IpNumber,
-    /// The checksum of the header, bytes 10 and 11.
+    /// Checksum of an IPv4 header, bytes 10 and 11.
     pub header_checksum: u16,
-    /// The sender's address, bytes 12 to 15.
+    /// IPv4 source address, bytes 12 to 15 of the header.
     pub source: [u8; 4],
-    /// The receiver's address, bytes 16 to 19.
+    /// IPv4 destination address, bytes 16 to 19 of the header.
     pub destination: [u8; 4],
-    /// The options, from byte 20 on.
+    /// Options of an IPv4 header, from byte 20 to the end of the header.
     pub options: Ipv4Options,
 }
 
@@ -70,14 +70,14 @@ impl Default for Ipv4Header {
 }
 
 impl Ipv4Header {
-    /// The number of bytes of a header without options.
+    /// Length of an IPv4 header without options in bytes: 20.
     pub const MIN_LEN: usize = 20;
 
-    /// The number of bytes of a header with the most options.
+    /// Maximum length of an IPv4 header with options in bytes: 60.
     pub const MAX_LEN: usize = 60;
 
-    /// A header without options for a payload of this length in bytes, which is at most 65515. The other fields are
-    /// those of the default.
+    /// Creates an IPv4 header without options for a payload of `payload_len` bytes, with the Don't Fragment flag set.
+    /// Identification, checksum and the other fields without an argument are 0. Fails if `payload_len` is above 65515.
     pub fn new(
         payload_len: u16,
         time_to_live: u8,
@@ -112,7 +112,8 @@ impl Ipv4Header {
         })
     }
 
-    /// The header at the front of the slice, and the bytes behind it, whatever its total length says.
+    /// Parses the IPv4 header with its options at the start of the slice, and returns it with all bytes after the
+    /// header. The total length is not checked.
     pub fn from_slice(slice: &[u8]) -> Result<(Ipv4Header, &[u8]), HeaderSliceError>
         ensures ok { IfOk result (λ read. IsIpv4Header slice.now (read.0, read.1.now)) }
         ensures only { (header : Ipv4Header) (rest : List ℕ) → IsIpv4Header slice.now (header, rest)
@@ -123,7 +124,7 @@ impl Ipv4Header {
         Ok((header.to_header(), &slice[header.header_len()..]))
     }
 
-    /// The number of bytes of the header, with its options.
+    /// Length of the IPv4 header with its options in bytes, 20 to 60.
     #[inline]
     pub fn header_len(&self) -> usize
         ensures value { result ≡ ipv4_header_len self.now }
@@ -133,7 +134,8 @@ impl Ipv4Header {
         Ipv4Header::MIN_LEN + self.options.len()
     }
 
-    /// Sets the total length for a payload of this length in bytes. A refusal changes nothing.
+    /// Sets the total length of the IPv4 header for a payload of `len` bytes. Fails if header and payload together
+    /// exceed 65535 bytes; the header is then unchanged.
     pub fn set_payload_len(&mut self, len: usize) -> Result<(), ValueTooBigError<usize>>
         ensures { MatchResult result
             (λ _. (ipv4_header_len self.old + len ≤ 65535)
@@ -156,7 +158,7 @@ impl Ipv4Header {
         Ok(())
     }
 
-    /// Whether the packet carries one fragment of a longer payload: more follow, or it isn't the first.
+    /// Returns true if the IPv4 packet is a fragment: the More Fragments flag is set, or the fragment offset is not 0.
     #[inline]
     pub fn is_fragmenting_payload(&self) -> bool
         ensures { result ≡ is_ipv4_fragment self.now }
@@ -164,7 +166,8 @@ impl Ipv4Header {
         self.more_fragments || self.fragment_offset.value() > 0
     }
 
-    /// The header as it stands on the wire, with the checksum that it holds.
+    /// Returns the wire bytes of the IPv4 header. The checksum is written as `header_checksum` contains it; it is not
+    /// computed.
     #[inline]
     pub fn to_bytes(&self) -> ArrayVec<u8, 60>
         ensures bytes { result.items ≡ ipv4_bytes self.now }
@@ -181,7 +184,8 @@ impl Ipv4Header {
         bytes
     }
 
-    /// The checksum of the header (RFC 791, 3.1), whatever checksum it holds.
+    /// Computes the checksum of the IPv4 header with its options (RFC 791, 3.1). The content of `header_checksum` is
+    /// ignored.
     pub fn calc_header_checksum(&self) -> u16
         ensures { result ≡ ipv4_checksum self.now }
     {
@@ -191,8 +195,9 @@ impl Ipv4Header {
             .ones_complement()
     }
 
-    /// Appends the header's bytes with the checksum that they have, whatever checksum it holds. A refusal leaves the
-    /// buffer as it was, and comes only where the buffer would have to grow.
+    /// Appends the wire bytes of the IPv4 header with its computed checksum to the buffer; the content of
+    /// `header_checksum` is ignored. Fails only if the buffer has to grow and the allocation fails; the buffer's
+    /// content is then unchanged.
     pub fn write(&self, buf: &mut Vec<u8>) -> Result<(), AllocError>
         ensures ok { OnOk result (buf.new.items ≡ buf.old.items
             ++ ipv4_bytes (record self.now { header_checksum = ipv4_checksum self.now })) }
@@ -207,14 +212,14 @@ impl Ipv4Header {
         let options = self.options.as_slice();
         buf.reserve(fixed.len() + options.len())?;
         buf.extend_from_slice(&fixed).unwrap();
-        // Most headers have none, for which the copy would cost a call.
+        // Most headers have no options; skipping the copy saves a call.
         if !options.is_empty() {
             buf.extend_from_slice(options).unwrap();
         }
         Ok(())
     }
 
-    /// Each field has the width of its type.
+    /// Does nothing at run time: its contract states that each field of the IPv4 header fits its width on the wire.
     #[inline]
     fn fits(&self)
         ensures { FitsIpv4 self.now }
@@ -232,7 +237,7 @@ impl Ipv4Header {
         holds_bytes(self.options.as_slice());
     }
 
-    /// The first 20 bytes of the header on the wire, with this checksum.
+    /// Returns the first 20 wire bytes of the IPv4 header (all but the options), with the argument as the checksum.
     fn fixed_bytes(&self, header_checksum: u16) -> [u8; 20]
         ensures bytes { result ++ self.now.options
             ≡ ipv4_bytes (record self.now { header_checksum = header_checksum }) }

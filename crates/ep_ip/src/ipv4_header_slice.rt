@@ -1,4 +1,4 @@
-//! The header of IPv4 in a slice (RFC 791, 3.1).
+//! IPv4 header (RFC 791, 3.1) as a slice of its bytes.
 
 ghost use Rattle.std.specs.Prelude.{◌≡◌, ◌*◌, ◌≤◌, length};
 ghost use Rattle.ep_ip.specs.Ip.{version_of};
@@ -10,7 +10,7 @@ use ep_base::err::ipv4::{HeaderError, HeaderSliceError};
 use ep_base::err::{Layer, LenError};
 use ep_base::{IpFragOffset, IpNumber, Ipv4Dscp, Ipv4Ecn, LenSource};
 
-/// The bytes of a header: as many as its first byte says.
+/// Bytes of an IPv4 header with its options: the version is 4, and the length is 4 times the IHL in byte 0.
 #[derive(Clone, Copy, Debug, PartialEq, Eq)]
 struct HeaderBytes<'a> {
     slice: &'a [u8],
@@ -19,7 +19,8 @@ struct HeaderBytes<'a> {
     ghost whole: { length slice.now ≡ 4 * ihl_of slice.now },
 }
 
-/// The header of an IPv4 packet (RFC 791, 3.1) that lies in a slice: 20 to 60 bytes.
+/// IPv4 header with its options (RFC 791, 3.1) as a slice of its 20 to 60 bytes. Fields are read from the slice on
+/// access.
 #[derive(Clone, Debug, PartialEq, Eq, Drop)]
 pub struct Ipv4HeaderSlice<'a> {
     bytes: HeaderBytes<'a>,
@@ -31,7 +32,8 @@ impl<'a> Ipv4HeaderSlice<'a> {
     ghost use Rattle.ep_ip.specs.Ipv4.{IsIpv4Header, RefusesIpv4Header, ipv4_header_len, is_ipv4_fragment, ihl_of};
     ghost use Rattle.ep_ip.specs.Ipv4Slices.{ipv4_header_slice_bytes, ipv4_header_slice_header};
 
-    /// The header at the front of the slice, whatever its total length says.
+    /// Parses the IPv4 header with its options at the start of the slice; bytes after the header are ignored. The total
+    /// length is not checked.
     pub fn from_slice(slice: &'a [u8]) -> Result<Ipv4HeaderSlice<'a>, HeaderSliceError>
         ensures ok { IfOk result (λ header. (rest : List ℕ) × (slice.now ≡ ipv4_header_slice_bytes header ++ rest)
             × IsIpv4Header slice.now (ipv4_header_slice_header header, rest)) }
@@ -75,7 +77,7 @@ impl<'a> Ipv4HeaderSlice<'a> {
         })
     }
 
-    /// The header again.
+    /// Returns a second view of the bytes of the IPv4 header; no byte is copied.
     #[inline]
     pub(crate) fn copied(&self) -> Ipv4HeaderSlice<'a>
         ensures { result ≡ self.now }
@@ -83,7 +85,7 @@ impl<'a> Ipv4HeaderSlice<'a> {
         Ipv4HeaderSlice { bytes: self.bytes }
     }
 
-    /// The bytes of the header.
+    /// Wire bytes of the IPv4 header with its options, 20 to 60 bytes.
     #[inline]
     pub fn slice(&self) -> &'a [u8]
         ensures { result.now ≡ ipv4_header_slice_bytes self.now }
@@ -91,7 +93,7 @@ impl<'a> Ipv4HeaderSlice<'a> {
         self.bytes.slice
     }
 
-    /// The version, the upper 4 bits of byte 0: 4.
+    /// Version of the IPv4 header, upper 4 bits of byte 0; always 4.
     #[inline]
     pub fn version(&self) -> u8
         ensures { result ≡ 4 }
@@ -99,7 +101,7 @@ impl<'a> Ipv4HeaderSlice<'a> {
         self.bytes.slice[0] >> 4
     }
 
-    /// The number of 4 byte words of the header (IHL), the lower 4 bits of byte 0.
+    /// Internet header length (IHL) of the IPv4 header in units of 4 bytes, lower 4 bits of byte 0; 5 to 15.
     #[inline]
     pub fn ihl(&self) -> u8
         ensures { result ≡ ihl_of (ipv4_header_slice_bytes self.now) }
@@ -107,7 +109,7 @@ impl<'a> Ipv4HeaderSlice<'a> {
         self.bytes.slice[0] & 0xf
     }
 
-    /// The number of bytes of the header, with its options.
+    /// Length of the IPv4 header with its options in bytes, 20 to 60.
     #[inline]
     pub fn header_len(&self) -> usize
         ensures bytes { result ≡ length (ipv4_header_slice_bytes self.now) }
@@ -116,7 +118,7 @@ impl<'a> Ipv4HeaderSlice<'a> {
         self.bytes.slice.len()
     }
 
-    /// The differentiated services code point, the upper 6 bits of byte 1.
+    /// Differentiated services code point (DSCP) of the IPv4 header, upper 6 bits of byte 1.
     #[inline]
     pub fn dscp(&self) -> Ipv4Dscp
         ensures { result ≡ (ipv4_header_slice_header self.now).dscp }
@@ -124,7 +126,7 @@ impl<'a> Ipv4HeaderSlice<'a> {
         Ipv4Dscp::try_new(self.bytes.slice[1] >> 2).unwrap()
     }
 
-    /// The explicit congestion notification, the lower 2 bits of byte 1.
+    /// Explicit congestion notification (ECN) of the IPv4 header, lower 2 bits of byte 1.
     #[inline]
     pub fn ecn(&self) -> Ipv4Ecn
         ensures { result ≡ (ipv4_header_slice_header self.now).ecn }
@@ -132,7 +134,7 @@ impl<'a> Ipv4HeaderSlice<'a> {
         Ipv4Ecn::try_new(self.bytes.slice[1] & 3).unwrap()
     }
 
-    /// The length in bytes of header and payload, bytes 2 and 3.
+    /// Total length of the IPv4 packet: length of header and payload in bytes, bytes 2 and 3 of the header.
     #[inline]
     pub fn total_len(&self) -> u16
         ensures { result ≡ (ipv4_header_slice_header self.now).total_len }
@@ -140,7 +142,7 @@ impl<'a> Ipv4HeaderSlice<'a> {
         u16::from_be_bytes([self.bytes.slice[2], self.bytes.slice[3]])
     }
 
-    /// What the fragments of one packet have in common, bytes 4 and 5.
+    /// Identification of the IPv4 header, equal in all fragments of a datagram, bytes 4 and 5.
     #[inline]
     pub fn identification(&self) -> u16
         ensures { result ≡ (ipv4_header_slice_header self.now).identification }
@@ -148,7 +150,7 @@ impl<'a> Ipv4HeaderSlice<'a> {
         u16::from_be_bytes([self.bytes.slice[4], self.bytes.slice[5]])
     }
 
-    /// Whether the packet must not be cut into fragments, a flag of byte 6.
+    /// Don't Fragment flag (DF) of the IPv4 header: the packet must not be fragmented. Byte 6, bit 6 (0x40).
     #[inline]
     pub fn dont_fragment(&self) -> bool
         ensures { result ≡ (ipv4_header_slice_header self.now).dont_fragment }
@@ -156,7 +158,7 @@ impl<'a> Ipv4HeaderSlice<'a> {
         (self.bytes.slice[6] >> 6) & 1 == 1
     }
 
-    /// Whether further fragments follow this one, a flag of byte 6.
+    /// More Fragments flag (MF) of the IPv4 header: the datagram continues in further fragments. Byte 6, bit 5 (0x20).
     #[inline]
     pub fn more_fragments(&self) -> bool
         ensures { result ≡ (ipv4_header_slice_header self.now).more_fragments }
@@ -164,7 +166,7 @@ impl<'a> Ipv4HeaderSlice<'a> {
         (self.bytes.slice[6] >> 5) & 1 == 1
     }
 
-    /// The place of the fragment in the whole payload in units of 8 bytes, the lower 13 bits of bytes 6 and 7.
+    /// Fragment offset of the IPv4 header in units of 8 bytes, lower 13 bits of bytes 6 and 7.
     #[inline]
     pub fn fragment_offset(&self) -> IpFragOffset
         ensures { result ≡ (ipv4_header_slice_header self.now).fragment_offset }
@@ -173,7 +175,8 @@ impl<'a> Ipv4HeaderSlice<'a> {
         IpFragOffset::try_new(flags_and_offset & 0x1fff).unwrap()
     }
 
-    /// The same as [`Ipv4HeaderSlice::fragment_offset`], under the name that it has in etherparse.
+    /// Fragment offset of the IPv4 header in units of 8 bytes. Equal to [`Ipv4HeaderSlice::fragment_offset`]; this is
+    /// its name in the Rust crate etherparse.
     #[inline]
     pub fn fragments_offset(&self) -> IpFragOffset
         ensures { result ≡ (ipv4_header_slice_header self.now).fragment_offset }
@@ -181,7 +184,7 @@ impl<'a> Ipv4HeaderSlice<'a> {
         self.fragment_offset()
     }
 
-    /// How many further hops the packet may take, byte 8.
+    /// Time to live (TTL) of the IPv4 header: number of remaining hops, byte 8.
     #[inline]
     pub fn time_to_live(&self) -> u8
         ensures { result ≡ (ipv4_header_slice_header self.now).time_to_live }
@@ -189,7 +192,7 @@ impl<'a> Ipv4HeaderSlice<'a> {
         self.bytes.slice[8]
     }
 
-    /// What the payload is, byte 9.
+    /// Protocol number of the payload of the IPv4 packet, byte 9 of the header.
     #[inline]
     pub fn protocol(&self) -> IpNumber
         ensures { result ≡ (ipv4_header_slice_header self.now).protocol }
@@ -197,7 +200,7 @@ impl<'a> Ipv4HeaderSlice<'a> {
         IpNumber(self.bytes.slice[9])
     }
 
-    /// The checksum of the header, bytes 10 and 11.
+    /// Checksum of the IPv4 header, bytes 10 and 11. It is not verified.
     #[inline]
     pub fn header_checksum(&self) -> u16
         ensures { result ≡ (ipv4_header_slice_header self.now).header_checksum }
@@ -205,7 +208,7 @@ impl<'a> Ipv4HeaderSlice<'a> {
         u16::from_be_bytes([self.bytes.slice[10], self.bytes.slice[11]])
     }
 
-    /// The sender's address, bytes 12 to 15.
+    /// IPv4 source address, bytes 12 to 15 of the header.
     #[inline]
     pub fn source(&self) -> [u8; 4]
         ensures { result ≡ (ipv4_header_slice_header self.now).source }
@@ -218,7 +221,7 @@ impl<'a> Ipv4HeaderSlice<'a> {
         ]
     }
 
-    /// The receiver's address, bytes 16 to 19.
+    /// IPv4 destination address, bytes 16 to 19 of the header.
     #[inline]
     pub fn destination(&self) -> [u8; 4]
         ensures { result ≡ (ipv4_header_slice_header self.now).destination }
@@ -231,7 +234,7 @@ impl<'a> Ipv4HeaderSlice<'a> {
         ]
     }
 
-    /// The bytes of the options, from byte 20 on.
+    /// Options of the IPv4 header as bytes, from byte 20 to the end of the header; empty if there are none.
     #[inline]
     pub fn options(&self) -> &'a [u8]
         ensures { result.now ≡ (ipv4_header_slice_header self.now).options }
@@ -239,7 +242,7 @@ impl<'a> Ipv4HeaderSlice<'a> {
         &self.bytes.slice[Ipv4Header::MIN_LEN..]
     }
 
-    /// Whether the packet carries one fragment of a longer payload: more follow, or it isn't the first.
+    /// Returns true if the IPv4 packet is a fragment: the More Fragments flag is set, or the fragment offset is not 0.
     #[inline]
     pub fn is_fragmenting_payload(&self) -> bool
         ensures { result ≡ is_ipv4_fragment (ipv4_header_slice_header self.now) }
@@ -247,7 +250,7 @@ impl<'a> Ipv4HeaderSlice<'a> {
         self.more_fragments() || self.fragment_offset().value() > 0
     }
 
-    /// The header as a value.
+    /// Decodes all fields and options into an owned IPv4 header.
     pub fn to_header(&self) -> Ipv4Header
         ensures { result ≡ ipv4_header_slice_header self.now }
     {
@@ -264,11 +267,12 @@ impl<'a> Ipv4HeaderSlice<'a> {
             header_checksum: self.header_checksum(),
             source: self.source(),
             destination: self.destination(),
-            options: Ipv4Options::copy_of(self.options()),
+            options: Ipv4Options::from_valid_slice(self.options()),
         }
     }
 
-    /// Puts the header as a value in the place of another one, where it is filled in: no header is moved.
+    /// Decodes all fields and options, and overwrites the IPv4 header `place` with them. Its fields are written one by
+    /// one, so no header is moved.
     #[inline]
     pub fn header_into(&self, place: &mut Ipv4Header)
         ensures { place.new ≡ ipv4_header_slice_header self.now }

@@ -1,22 +1,22 @@
-//! The options of an IPv4 header (RFC 791, 3.1).
+//! Options of an IPv4 header (RFC 791, 3.1).
 
 ghost use Rattle.std.specs.Prelude.{◌≡◌, ◌<◌, ◌≤◌, ◌%◌, ◌⊎◌, [], length, MatchResult};
 
 use std::marker::Model;
 use thiserror::Error;
 
-/// The options of an IPv4 header: at most 40 bytes, in words of 4.
+/// Options of an IPv4 header: at most 40 bytes, a multiple of 4. They are stored as bytes and not interpreted.
 #[derive(Clone, Debug, PartialEq, Eq, Drop)]
 pub struct Ipv4Options {
-    /// The options, and then zero bytes.
+    /// Bytes of the IPv4 options, followed by zero bytes up to 40.
     bytes: [u8; 40],
-    /// The number of bytes of the options.
+    /// Length of the IPv4 options in bytes: 0 to 40, a multiple of 4.
     len: u8,
 }
 
 impl Model for Ipv4Options {
     ghost use Rattle.std.specs.Prelude.{◌≡◌, ℕ, ◌-◌, ◌≤◌, ◌%◌, List, length, take, drop, replicate};
-    ghost use Rattle.ep_base.specs.Padding.{padded, padded_front};
+    ghost use Rattle.ep_base.specs.Padding.{padded, padded_prefix};
     ghost use Rattle.std.proofs.Common.{arith, length-take-le};
 
     ghost Value = { List ℕ };
@@ -29,12 +29,12 @@ impl Model for Ipv4Options {
     ghost inverse = { λ options. record { bytes = padded 40 options; len = length options } };
 
     ghost inverse_ok = { λ o h i. record {
-      bytes = padded_front 40 o.len o.bytes h.0 h.1 h.3 i;
+      bytes = padded_prefix 40 o.len o.bytes h.0 h.1 h.3 i;
       len = length-take-le o.len o.bytes (Prim.omega (arith, h.0, h.1)) i;
     } };
 }
 
-/// The number of bytes is no length of options: it is above 40 or no multiple of 4.
+/// Error for IPv4 options with an invalid number of bytes (contained in it): above 40, or not a multiple of 4.
 #[derive(Clone, Debug, PartialEq, Eq, Hash, Drop, Error)]
 #[error("BadOptionsLen {0}")]
 pub struct BadOptionsLen(pub usize);
@@ -48,10 +48,10 @@ impl Default for Ipv4Options {
 }
 
 impl Ipv4Options {
-    /// The greatest number of bytes.
+    /// Maximum length of the options of an IPv4 header in bytes: 40.
     pub const MAX_LEN: usize = 40;
 
-    /// No options.
+    /// Creates IPv4 options of length 0.
     #[inline]
     pub fn new() -> Ipv4Options
         ensures { result ≡ [] }
@@ -62,7 +62,8 @@ impl Ipv4Options {
         }
     }
 
-    /// A copy of the bytes, whose number is at most 40 and a multiple of 4.
+    /// Creates IPv4 options with a copy of the bytes of `slice`. Fails if their number is above 40 or not a multiple of
+    /// 4.
     pub fn try_new(slice: &[u8]) -> Result<Ipv4Options, BadOptionsLen>
         ensures { MatchResult result
             (λ options. (length slice.now ≤ 40) × (length slice.now % 4 ≡ 0) × (options ≡ slice.now))
@@ -72,12 +73,12 @@ impl Ipv4Options {
         if slice.len() > Ipv4Options::MAX_LEN || slice.len() % 4 != 0 {
             return Err(BadOptionsLen(slice.len()));
         }
-        Ok(Ipv4Options::copy_of(slice))
+        Ok(Ipv4Options::from_valid_slice(slice))
     }
 
-    /// A copy of the bytes.
+    /// Creates IPv4 options with a copy of the bytes of `slice`. Their number must be a multiple of 4 and at most 40.
     #[inline]
-    pub(crate) fn copy_of(slice: &[u8]) -> Ipv4Options
+    pub(crate) fn from_valid_slice(slice: &[u8]) -> Ipv4Options
         requires bound { length slice.now ≤ 40 }
         requires words { length slice.now % 4 ≡ 0 }
         ensures { result ≡ slice.now }
@@ -87,7 +88,8 @@ impl Ipv4Options {
         options
     }
 
-    /// Becomes a copy of the bytes, which is written in place.
+    /// Replaces the IPv4 options by a copy of the bytes of `slice`. Their number must be a multiple of 4 and at most
+    /// 40.
     #[inline]
     pub(crate) fn fill(&mut self, slice: &[u8])
         requires bound { length slice.now ≤ 40 }
@@ -99,7 +101,7 @@ impl Ipv4Options {
         self.len = slice.len() as u8;
     }
 
-    /// The bytes of the options.
+    /// Bytes of the IPv4 options: up to 40, without the zero bytes that pad them in memory.
     #[inline]
     pub fn as_slice(&self) -> &[u8]
         ensures value { result.now ≡ self.now }
@@ -109,7 +111,7 @@ impl Ipv4Options {
         &self.bytes[..self.len()]
     }
 
-    /// The number of bytes of the options: at most 40, and a multiple of 4.
+    /// Length of the IPv4 options in bytes: 0 to 40, a multiple of 4.
     #[inline]
     pub fn len(&self) -> usize
         ensures value { result ≡ length self.now }

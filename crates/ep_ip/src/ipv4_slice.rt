@@ -1,4 +1,4 @@
-//! An IPv4 packet in a slice (RFC 791).
+//! IPv4 packets (RFC 791) as slices of their bytes, parsed without copying.
 
 ghost use Rattle.std.specs.Prelude.{◌≡◌, ◌++◌, IfOk, IfErr, IsOkAnd, List, ℕ};
 ghost use Rattle.ep_base.specs.Tables.{parts_of};
@@ -12,7 +12,8 @@ use ep_base::err::{Layer, LenError, ip_auth};
 use ep_base::{IpPayloadSlice, LenSource};
 use ep_ext::Ipv4ExtensionsSlice;
 
-/// An IPv4 packet (RFC 791) that lies in a slice: header, authentication header and payload, cut by the total length.
+/// IPv4 packet (RFC 791) as slices of its bytes: header, authentication header if present, and payload up to the end
+/// that the total length sets.
 #[derive(Clone, Debug, PartialEq, Eq, Drop)]
 pub struct Ipv4Slice<'a> {
     header: Ipv4HeaderSlice<'a>,
@@ -30,7 +31,8 @@ impl<'a> Ipv4Slice<'a> {
     ghost use Rattle.ep_ip.specs.Ipv4Slices.{ipv4_slice_bytes, ipv4_slice_header, ipv4_slice_extensions};
     ghost use Rattle.ep_ip.specs.Ipv4Slices.{ipv4_slice_payload, ipv4_slice_content, ipv4_slice_packet};
 
-    /// The packet at the front of the slice. Its total length cuts it.
+    /// Parses the IPv4 packet at the start of the slice: header, authentication header if present, and payload. Bytes
+    /// after the end that the total length sets are ignored.
     #[inline(always)]
     pub fn from_slice(slice: &'a [u8]) -> Result<Ipv4Slice<'a>, SliceError>
         ensures ok { IfOk result (λ shown. (left : List ℕ) × (slice.now ≡ ipv4_slice_bytes shown ++ left)
@@ -39,14 +41,14 @@ impl<'a> Ipv4Slice<'a> {
             → IsOkAnd result (λ shown. ipv4_slice_packet shown packet.left ≡ packet) }
         ensures err { IfErr result (RefusesIpv4 slices slice.now) }
     {
-        let (header, content) = cut(slice)?;
+        let (header, content) = parse_limited(slice)?;
         let (extensions, ip_number, payload) = match Ipv4ExtensionsSlice::from_slice(
             header.protocol(),
             content,
         ) {
             Ok(read) => read,
             Err(ip_auth::HeaderSliceError::Len(error)) => {
-                return Err(SliceError::Len(error.behind_header(
+                return Err(SliceError::Len(error.after_header(
                     header.header_len(),
                     LenSource::Ipv4HeaderTotalLen,
                 )));
@@ -68,7 +70,7 @@ impl<'a> Ipv4Slice<'a> {
         })
     }
 
-    /// The header.
+    /// Header of the IPv4 packet with its options, without the authentication header.
     #[inline]
     pub fn header(&self) -> Ipv4HeaderSlice<'a>
         ensures header { ipv4_header_slice_header result ≡ ipv4_slice_header self.now }
@@ -77,7 +79,7 @@ impl<'a> Ipv4Slice<'a> {
         self.header.copied()
     }
 
-    /// The number of bytes of the header, with its options and without the authentication header.
+    /// Length of the IPv4 header with its options in bytes, 20 to 60; an authentication header is not counted.
     #[inline]
     pub fn header_len(&self) -> usize
         ensures { result ≡ ipv4_header_len (ipv4_slice_header self.now) }
@@ -85,7 +87,7 @@ impl<'a> Ipv4Slice<'a> {
         self.header.header_len()
     }
 
-    /// The header as a value.
+    /// Decodes the header of the IPv4 packet into an owned header.
     #[inline]
     pub fn to_header(&self) -> Ipv4Header
         ensures { result ≡ ipv4_slice_header self.now }
@@ -93,7 +95,7 @@ impl<'a> Ipv4Slice<'a> {
         self.header.to_header()
     }
 
-    /// The authentication header, where the protocol says that there is one.
+    /// Extension headers of the IPv4 packet: the authentication header (RFC 4302), or none.
     #[inline]
     pub fn extensions(&self) -> Ipv4ExtensionsSlice<'a>
         ensures headers { extension_parts result ≡ ipv4_slice_extensions self.now }
@@ -102,7 +104,8 @@ impl<'a> Ipv4Slice<'a> {
         self.extensions.clone().unwrap()
     }
 
-    /// The payload, with what it is and whether it is a fragment. The total length set its end.
+    /// Payload of the IPv4 packet after an authentication header, up to the end that the total length sets: its bytes,
+    /// its protocol number, and whether it is a fragment.
     #[inline]
     pub fn payload(&self) -> &IpPayloadSlice<'a>
         ensures { ip_payload_of result.now ≡ ipv4_slice_payload self.now }
@@ -110,7 +113,7 @@ impl<'a> Ipv4Slice<'a> {
         &self.payload
     }
 
-    /// Whether the payload is one fragment of a longer one.
+    /// Returns true if the IPv4 packet is a fragment, so that its payload is only a part of a longer payload.
     #[inline]
     pub fn is_payload_fragmented(&self) -> bool
         ensures { result ≡ (ipv4_slice_payload self.now).fragmented }
@@ -119,8 +122,9 @@ impl<'a> Ipv4Slice<'a> {
     }
 }
 
-/// The header at the front of the slice, and the bytes behind it, which its total length cuts.
-fn cut<'a>(slice: &'a [u8]) -> Result<(Ipv4HeaderSlice<'a>, &'a [u8]), SliceError>
+/// Parses the IPv4 header at the start of the slice. Returns it with the bytes after it, up to the end that the total
+/// length sets; extension headers are not parsed.
+fn parse_limited<'a>(slice: &'a [u8]) -> Result<(Ipv4HeaderSlice<'a>, &'a [u8]), SliceError>
     ensures ok { IfOk result (λ read. (left : List ℕ)
         × (slice.now ≡ (ipv4_header_slice_bytes read.0 ++ read.1.now) ++ left)
         × IsIpv4Packet slice.now (parts_of (ipv4_header_slice_header read.0) read.1.now left)) }

@@ -1,4 +1,4 @@
-//! The header of IPv6 (RFC 8200, 3).
+//! IPv6 header (RFC 8200, 3) as an owned value.
 
 ghost use Rattle.std.specs.Prelude.{◌≡◌, ◌<◌, ◌≤◌, ◌+◌, ◌++◌, List, ℕ, length};
 ghost use Rattle.std.specs.Prelude.{IfOk, IfErr, OnOk, OnErr, IsOkAnd, MatchResult, vec_len, vec_capacity};
@@ -12,22 +12,23 @@ use ep_base::err::{ValueTooBigError, ValueType};
 use ep_base::{IpNumber, Ipv6FlowLabel};
 use std::alloc::AllocError;
 
-/// The header of an IPv6 packet (RFC 8200, 3): 40 bytes.
+/// IPv6 header (RFC 8200, 3) as an owned value; 40 bytes on the wire.
 #[derive(Clone, Debug, PartialEq, Eq, Drop)]
 pub struct Ipv6Header {
-    /// The traffic class, the lower 4 bits of byte 0 and the upper 4 bits of byte 1.
+    /// Traffic class of an IPv6 header, lower 4 bits of byte 0 and upper 4 bits of byte 1.
     pub traffic_class: u8,
-    /// The flow label, the lower 4 bits of byte 1, and bytes 2 and 3.
+    /// Flow label of an IPv6 header: 20 bits, the lower 4 bits of byte 1 and bytes 2 and 3.
     pub flow_label: Ipv6FlowLabel,
-    /// The length in bytes of what stands behind the header, bytes 4 and 5. The number 0 stands for all bytes at hand.
+    /// Payload length of an IPv6 header, bytes 4 and 5: length in bytes of everything after this header, extension
+    /// headers included. If it is 0, the parsers of packets take all bytes up to the end of the slice.
     pub payload_length: u16,
-    /// What stands behind the header, byte 6.
+    /// Next header of an IPv6 header: protocol number of the extension header or payload directly after it, byte 6.
     pub next_header: IpNumber,
-    /// How many further hops the packet may take, byte 7.
+    /// Hop limit of an IPv6 header: number of remaining hops, byte 7.
     pub hop_limit: u8,
-    /// The sender's address, bytes 8 to 23.
+    /// IPv6 source address, bytes 8 to 23 of the header.
     pub source: [u8; 16],
-    /// The receiver's address, bytes 24 to 39.
+    /// IPv6 destination address, bytes 24 to 39 of the header.
     pub destination: [u8; 16],
 }
 
@@ -48,10 +49,11 @@ impl Default for Ipv6Header {
 }
 
 impl Ipv6Header {
-    /// The number of bytes of a header.
+    /// Length of an IPv6 header without extension headers in bytes: 40.
     pub const LEN: usize = 40;
 
-    /// The header at the front of the slice, and the bytes behind it, whatever its payload length says.
+    /// Parses the 40 byte IPv6 header at the start of the slice, and returns it with all bytes after it. The payload
+    /// length is not checked, and extension headers are not parsed.
     pub fn from_slice(slice: &[u8]) -> Result<(Ipv6Header, &[u8]), HeaderSliceError>
         ensures ok { IfOk result (λ read. IsIpv6Header slice.now (read.0, read.1.now)) }
         ensures only { (header : Ipv6Header) (rest : List ℕ) → IsIpv6Header slice.now (header, rest)
@@ -62,7 +64,7 @@ impl Ipv6Header {
         Ok((header.to_header(), &slice[Ipv6Header::LEN..]))
     }
 
-    /// The number of bytes of the header: 40.
+    /// Length of the IPv6 header without extension headers in bytes; always 40.
     #[inline]
     pub fn header_len(&self) -> usize
         ensures { result ≡ 40 }
@@ -70,7 +72,8 @@ impl Ipv6Header {
         Ipv6Header::LEN
     }
 
-    /// Sets the length of what stands behind the header. A refusal changes nothing.
+    /// Sets the payload length of the IPv6 header to `size`, the number of bytes after the header. Fails if `size` is
+    /// above 65535; the header is then unchanged.
     pub fn set_payload_length(&mut self, size: usize) -> Result<(), ValueTooBigError<usize>>
         ensures { MatchResult result
             (λ _. (size ≤ 65535) × (self.new ≡ record self.old { payload_length = size }))
@@ -92,7 +95,7 @@ impl Ipv6Header {
         Ok(())
     }
 
-    /// The header as it stands on the wire.
+    /// Returns the 40 wire bytes of the IPv6 header.
     #[inline]
     pub fn to_bytes(&self) -> [u8; 40]
         ensures bytes { result ≡ ipv6_bytes self.now }
@@ -148,7 +151,7 @@ impl Ipv6Header {
         ]
     }
 
-    /// Each field has the width of its type.
+    /// Does nothing at run time: its contract states that each field of the IPv6 header fits its width on the wire.
     #[inline]
     fn fits(&self)
         ensures { FitsIpv6 self.now }
@@ -162,8 +165,8 @@ impl Ipv6Header {
         holds_bytes(&self.destination);
     }
 
-    /// Appends the header's bytes. A refusal leaves the buffer as it was, and comes only where the buffer would have to
-    /// grow.
+    /// Appends the 40 wire bytes of the IPv6 header to the buffer. Fails only if the buffer has to grow and the
+    /// allocation fails; the buffer's content is then unchanged.
     pub fn write(&self, buf: &mut Vec<u8>) -> Result<(), AllocError>
         ensures ok { OnOk result (buf.new.items ≡ buf.old.items ++ ipv6_bytes self.now) }
         ensures err { OnErr result (buf.new.items ≡ buf.old.items) }

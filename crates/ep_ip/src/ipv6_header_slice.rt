@@ -1,4 +1,4 @@
-//! The header of IPv6 in a slice (RFC 8200, 3).
+//! IPv6 header (RFC 8200, 3) as a slice of its bytes.
 
 ghost use Rattle.std.specs.Prelude.{◌≡◌, length};
 ghost use Rattle.ep_ip.specs.Ip.{version_of};
@@ -8,7 +8,7 @@ use ep_base::err::ipv6::{HeaderError, HeaderSliceError, SliceError};
 use ep_base::err::{Layer, LenError};
 use ep_base::{IpNumber, Ipv6FlowLabel, LenSource};
 
-/// The bytes of a header.
+/// The 40 bytes of an IPv6 header, with the version 6 in byte 0.
 #[derive(Clone, Copy, Debug, PartialEq, Eq)]
 struct HeaderBytes<'a> {
     slice: &'a [u8],
@@ -16,7 +16,7 @@ struct HeaderBytes<'a> {
     ghost whole: { length slice.now ≡ 40 },
 }
 
-/// The header of an IPv6 packet (RFC 8200, 3) that lies in a slice: 40 bytes.
+/// IPv6 header (RFC 8200, 3) as a slice of its 40 bytes. Fields are read from the slice on access.
 #[derive(Clone, Debug, PartialEq, Eq, Drop)]
 pub struct Ipv6HeaderSlice<'a> {
     bytes: HeaderBytes<'a>,
@@ -30,7 +30,8 @@ impl<'a> Ipv6HeaderSlice<'a> {
     ghost use Rattle.ep_ip.specs.Ipv6.{ipv6_payload_source};
     ghost use Rattle.ep_ip.specs.Ipv6Slices.{ipv6_header_slice_bytes, ipv6_header_slice_header};
 
-    /// The header at the front of the slice, whatever its payload length says.
+    /// Parses the 40 byte IPv6 header at the start of the slice; bytes after it are ignored. The payload length is not
+    /// checked.
     pub fn from_slice(slice: &'a [u8]) -> Result<Ipv6HeaderSlice<'a>, HeaderSliceError>
         ensures ok { IfOk result (λ header. (rest : List ℕ) × (slice.now ≡ ipv6_header_slice_bytes header ++ rest)
             × IsIpv6Header slice.now (ipv6_header_slice_header header, rest)) }
@@ -59,9 +60,9 @@ impl<'a> Ipv6HeaderSlice<'a> {
         })
     }
 
-    /// The header at the front of the slice, the bytes behind it that are its packet's, extension headers among them,
-    /// and what set their end: the payload length (RFC 8200, 3), or the end of the slice where that length is 0 and
-    /// there are bytes.
+    /// Parses the IPv6 header at the start of the slice. Returns it with the bytes after it that belong to the packet,
+    /// extension headers included, and with the source of their length: the payload length (RFC 8200, 3), or the slice
+    /// if the payload length is 0 and bytes follow the header.
     pub fn from_packet_slice(
         slice: &'a [u8],
     ) -> Result<(Ipv6HeaderSlice<'a>, &'a [u8], LenSource), SliceError>
@@ -75,13 +76,14 @@ impl<'a> Ipv6HeaderSlice<'a> {
         ensures source { IfOk result (λ read.
             read.2 ≡ ipv6_payload_source (ipv6_header_slice_header read.0) read.1.now) }
     {
-        let (header, content) = Ipv6HeaderSlice::cut(slice)?;
+        let (header, content) = Ipv6HeaderSlice::parse_limited(slice)?;
         let len_source = header.payload_source(content);
         Ok((header, content, len_source))
     }
 
-    /// The header at the front of the slice, and the bytes behind it, which its payload length cuts.
-    fn cut(slice: &'a [u8]) -> Result<(Ipv6HeaderSlice<'a>, &'a [u8]), SliceError>
+    /// Parses the IPv6 header at the start of the slice. Returns it with the bytes after it: as many bytes as the
+    /// payload length states, or all if it is 0.
+    fn parse_limited(slice: &'a [u8]) -> Result<(Ipv6HeaderSlice<'a>, &'a [u8]), SliceError>
         ensures ok { IfOk result (λ read. (left : List ℕ)
             × (slice.now ≡ (ipv6_header_slice_bytes read.0 ++ read.1.now) ++ left)
             × IsIpv6Packet slice.now (parts_of (ipv6_header_slice_header read.0) read.1.now left)) }
@@ -108,7 +110,8 @@ impl<'a> Ipv6HeaderSlice<'a> {
         Ok((header, &slice[Ipv6Header::LEN..packet_len]))
     }
 
-    /// What set the end of the bytes behind the header: those at hand, where the payload length is 0 and took some.
+    /// Returns the limit on `content`, the bytes of the packet after the IPv6 header: the end of the slice if the
+    /// payload length is 0 and `content` is not empty, else the payload length.
     fn payload_source(&self, content: &[u8]) -> LenSource
         ensures { result ≡ ipv6_payload_source (ipv6_header_slice_header self.now) content.now }
     {
@@ -119,7 +122,7 @@ impl<'a> Ipv6HeaderSlice<'a> {
         }
     }
 
-    /// The header again.
+    /// Returns a second view of the bytes of the IPv6 header; no byte is copied.
     #[inline]
     pub(crate) fn copied(&self) -> Ipv6HeaderSlice<'a>
         ensures { result ≡ self.now }
@@ -127,7 +130,7 @@ impl<'a> Ipv6HeaderSlice<'a> {
         Ipv6HeaderSlice { bytes: self.bytes }
     }
 
-    /// The bytes of the header.
+    /// The 40 wire bytes of the IPv6 header.
     #[inline]
     pub fn slice(&self) -> &'a [u8]
         ensures { result.now ≡ ipv6_header_slice_bytes self.now }
@@ -135,7 +138,7 @@ impl<'a> Ipv6HeaderSlice<'a> {
         self.bytes.slice
     }
 
-    /// The number of bytes of the header: 40.
+    /// Length of the IPv6 header without extension headers in bytes; always 40.
     #[inline]
     pub fn header_len(&self) -> usize
         ensures value { result ≡ 40 }
@@ -144,7 +147,7 @@ impl<'a> Ipv6HeaderSlice<'a> {
         self.bytes.slice.len()
     }
 
-    /// The version, the upper 4 bits of byte 0: 6.
+    /// Version of the IPv6 header, upper 4 bits of byte 0; always 6.
     #[inline]
     pub fn version(&self) -> u8
         ensures { result ≡ 6 }
@@ -152,7 +155,7 @@ impl<'a> Ipv6HeaderSlice<'a> {
         self.bytes.slice[0] >> 4
     }
 
-    /// The traffic class, the lower 4 bits of byte 0 and the upper 4 bits of byte 1.
+    /// Traffic class of the IPv6 header, lower 4 bits of byte 0 and upper 4 bits of byte 1.
     #[inline]
     pub fn traffic_class(&self) -> u8
         ensures { result ≡ (ipv6_header_slice_header self.now).traffic_class }
@@ -160,7 +163,7 @@ impl<'a> Ipv6HeaderSlice<'a> {
         (self.bytes.slice[0] & 0xf) * 16 + (self.bytes.slice[1] >> 4)
     }
 
-    /// The flow label, the lower 4 bits of byte 1, and bytes 2 and 3.
+    /// Flow label of the IPv6 header: 20 bits, the lower 4 bits of byte 1 and bytes 2 and 3.
     #[inline]
     pub fn flow_label(&self) -> Ipv6FlowLabel
         ensures { result ≡ (ipv6_header_slice_header self.now).flow_label }
@@ -174,7 +177,8 @@ impl<'a> Ipv6HeaderSlice<'a> {
         Ipv6FlowLabel::try_new(class_and_label & 0xf_ffff).unwrap()
     }
 
-    /// The length in bytes of what stands behind the header, bytes 4 and 5.
+    /// Payload length of the IPv6 header, bytes 4 and 5: length in bytes of everything after this header, extension
+    /// headers included.
     #[inline]
     pub fn payload_length(&self) -> u16
         ensures { result ≡ (ipv6_header_slice_header self.now).payload_length }
@@ -182,7 +186,7 @@ impl<'a> Ipv6HeaderSlice<'a> {
         u16::from_be_bytes([self.bytes.slice[4], self.bytes.slice[5]])
     }
 
-    /// What stands behind the header, byte 6.
+    /// Next header of the IPv6 header: protocol number of the extension header or payload directly after it, byte 6.
     #[inline]
     pub fn next_header(&self) -> IpNumber
         ensures { result ≡ (ipv6_header_slice_header self.now).next_header }
@@ -190,7 +194,7 @@ impl<'a> Ipv6HeaderSlice<'a> {
         IpNumber(self.bytes.slice[6])
     }
 
-    /// How many further hops the packet may take, byte 7.
+    /// Hop limit of the IPv6 header: number of remaining hops, byte 7.
     #[inline]
     pub fn hop_limit(&self) -> u8
         ensures { result ≡ (ipv6_header_slice_header self.now).hop_limit }
@@ -198,7 +202,7 @@ impl<'a> Ipv6HeaderSlice<'a> {
         self.bytes.slice[7]
     }
 
-    /// The sender's address, bytes 8 to 23.
+    /// IPv6 source address, bytes 8 to 23 of the header.
     #[inline]
     pub fn source(&self) -> [u8; 16]
         ensures { result ≡ (ipv6_header_slice_header self.now).source }
@@ -208,7 +212,7 @@ impl<'a> Ipv6HeaderSlice<'a> {
         source
     }
 
-    /// The receiver's address, bytes 24 to 39.
+    /// IPv6 destination address, bytes 24 to 39 of the header.
     #[inline]
     pub fn destination(&self) -> [u8; 16]
         ensures { result ≡ (ipv6_header_slice_header self.now).destination }
@@ -218,7 +222,7 @@ impl<'a> Ipv6HeaderSlice<'a> {
         destination
     }
 
-    /// The header as a value.
+    /// Decodes all fields into an owned IPv6 header.
     pub fn to_header(&self) -> Ipv6Header
         ensures { result ≡ ipv6_header_slice_header self.now }
     {

@@ -1,4 +1,4 @@
-//! An IPv6 packet in a slice (RFC 8200).
+//! IPv6 packets (RFC 8200) as slices of their bytes, parsed without copying.
 
 ghost use Rattle.std.specs.Prelude.{◌≡◌, ◌++◌, IfOk, IfErr, IsOkAnd, List, ℕ};
 ghost use Rattle.ep_ext.specs.Ipv6ExtensionSlices.{ipv6_slice_number as extension_number};
@@ -12,7 +12,8 @@ use ep_base::err::ipv6_exts;
 use ep_ext::Ipv6ExtensionsSlice;
 use std::alloc::AllocError;
 
-/// An IPv6 packet (RFC 8200) that lies in a slice: header, extension headers and payload, cut by the payload length.
+/// IPv6 packet (RFC 8200) as slices of its bytes: header, extension headers, and payload up to the end that the payload
+/// length sets, or to the end of the slice if the payload length is 0.
 #[derive(Debug, PartialEq, Eq, Drop)]
 pub struct Ipv6Slice<'a> {
     header: Ipv6HeaderSlice<'a>,
@@ -53,7 +54,9 @@ impl<'a> Ipv6Slice<'a> {
     ghost use Rattle.ep_ip.specs.Ipv6Slices.{ipv6_slice_payload, ipv6_slice_content, ipv6_slice_packet};
     ghost use Rattle.ep_ip.specs.Ipv6Slices.{FollowsIpv6Header};
 
-    /// The packet at the front of the slice. Its payload length cuts it; the number 0 takes all bytes.
+    /// Parses the IPv6 packet at the start of the slice: header, extension headers and payload. Bytes after the end
+    /// that the payload length sets are ignored; if the payload length is 0, the packet extends to the end of the
+    /// slice.
     pub fn from_slice(slice: &'a [u8]) -> Result<Ipv6Slice<'a>, SliceError>
         ensures ok { IfOk result (λ shown. (left : List ℕ) × (slice.now ≡ ipv6_slice_bytes shown ++ left)
             × IsIpv6 slices slice.now (ipv6_slice_packet shown left)) }
@@ -69,7 +72,7 @@ impl<'a> Ipv6Slice<'a> {
         ) {
             Ok(read) => read,
             Err(ipv6_exts::HeaderSliceError::Len(error)) => {
-                return Err(SliceError::Len(error.behind_header(Ipv6Header::LEN, len_source)));
+                return Err(SliceError::Len(error.after_header(Ipv6Header::LEN, len_source)));
             }
             Err(ipv6_exts::HeaderSliceError::Content(error)) => {
                 return Err(SliceError::Exts(error));
@@ -88,7 +91,7 @@ impl<'a> Ipv6Slice<'a> {
         })
     }
 
-    /// The header.
+    /// Header of the IPv6 packet (40 bytes), without the extension headers.
     #[inline]
     pub fn header(&self) -> Ipv6HeaderSlice<'a>
         ensures header { ipv6_header_slice_header result ≡ ipv6_slice_header self.now }
@@ -97,7 +100,7 @@ impl<'a> Ipv6Slice<'a> {
         self.header.copied()
     }
 
-    /// The number of bytes of the header, without the extension headers: 40.
+    /// Length of the IPv6 header in bytes; always 40, because extension headers are not counted.
     #[inline]
     pub fn header_len(&self) -> usize
         ensures { result ≡ 40 }
@@ -105,7 +108,7 @@ impl<'a> Ipv6Slice<'a> {
         self.header.header_len()
     }
 
-    /// The header as a value.
+    /// Decodes the header of the IPv6 packet, without the extension headers, into an owned header.
     #[inline]
     pub fn to_header(&self) -> Ipv6Header
         ensures { result ≡ ipv6_slice_header self.now }
@@ -113,7 +116,7 @@ impl<'a> Ipv6Slice<'a> {
         self.header.to_header()
     }
 
-    /// The extension headers, in their order.
+    /// Extension headers of the IPv6 packet, in their order on the wire.
     #[inline]
     pub fn extensions(&self) -> Ipv6ExtensionsSlice<'a>
         ensures headers { extension_parts result ≡ ipv6_slice_extensions self.now }
@@ -123,7 +126,8 @@ impl<'a> Ipv6Slice<'a> {
         self.extensions.clone().unwrap()
     }
 
-    /// The payload, with what it is, whether it is a fragment, and what set its end.
+    /// Payload of the IPv6 packet after its extension headers: its bytes, its protocol number, whether it is a
+    /// fragment, and whether the payload length field or the end of the slice limits it.
     #[inline]
     pub fn payload(&self) -> &IpPayloadSlice<'a>
         ensures { ip_payload_of result.now ≡ ipv6_slice_payload self.now }
@@ -131,7 +135,7 @@ impl<'a> Ipv6Slice<'a> {
         &self.payload
     }
 
-    /// Whether the payload is one fragment of a longer one: whether a fragment header says so.
+    /// Returns true if a fragment header of the IPv6 packet states that its payload is only a part of a longer payload.
     #[inline]
     pub fn is_payload_fragmented(&self) -> bool
         ensures { result ≡ (ipv6_slice_payload self.now).fragmented }

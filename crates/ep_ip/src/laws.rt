@@ -1,9 +1,10 @@
-//! What holds of every list of bytes, and the constants: each law the contract of a function that does nothing else.
+//! Theorems (laws) about IPv4 and IPv6 headers and packets, and the values of their constants. Each law is the contract
+//! of a function that does nothing else.
 
 ghost use Rattle.std.specs.Prelude.{◌≡◌, ◌≤◌, ◌↔◌, length, ℕ, true, false, List, [], ◌∷◌, replicate};
 ghost use Rattle.ep_base.specs.Bytes.{AreBytes};
 ghost use Rattle.ep_base.specs.Readings.{Reading};
-ghost use Rattle.ep_base.specs.Missing.{IsOfBytesAtHand, TellsCut, TellsMissing, slice_end};
+ghost use Rattle.ep_base.specs.Missing.{IsOfBytesAtHand, ReportsTruncation, ReportsMissing, slice_end};
 ghost use Rattle.ep_base.specs.Tables.{IsDecided};
 ghost use Rattle.ep_base.specs.declared.err.ip.SliceError.TheVariants as ip_error;
 ghost use Rattle.ep_base.specs.declared.err.ipv4.HeaderSliceError.TheVariants as ipv4_header_error;
@@ -24,47 +25,54 @@ pub mod comparisons;
 
 use crate::{Ipv4Header, Ipv4Options, Ipv6Header};
 
-/// Bytes begin with a header, of one value and with one rest behind it, or are refused with one error, and never both.
+/// Law: any bytes either parse as exactly one IPv4 header and exactly one remainder, or are rejected with exactly one
+/// error.
 pub fn ipv4_header()
     ensures { (bytes : List ℕ) → AreBytes bytes → IsDecided (IsIpv4Header bytes) (RefusesIpv4Header bytes) }
 {}
 
-/// Bytes are a packet, of one header, content and rest, or are refused with one error, and never both.
+/// Law: any bytes either parse as exactly one IPv4 packet (header, the bytes after it up to the end that the total
+/// length sets, and trailing bytes), or are rejected with exactly one error. Extension headers are not parsed.
 pub fn ipv4_packet()
     ensures { (bytes : List ℕ) → AreBytes bytes → IsDecided (IsIpv4Packet bytes) (RefusesIpv4Packet bytes) }
 {}
 
-/// Bytes begin with a header, of one value and with one rest behind it, or are refused with one error, and never both.
+/// Law: any bytes either parse as exactly one IPv6 header and exactly one remainder, or are rejected with exactly one
+/// error.
 pub fn ipv6_header()
     ensures { (bytes : List ℕ) → AreBytes bytes → IsDecided (IsIpv6Header bytes) (RefusesIpv6Header bytes) }
 {}
 
-/// Bytes are a packet, of one header, content and rest, or are refused with one error, and never both.
+/// Law: any bytes either parse as exactly one IPv6 packet (header, the bytes after it up to the end that the payload
+/// length sets, or all if it is 0, and trailing bytes), or are rejected with exactly one error. Extension headers are
+/// not parsed.
 pub fn ipv6_packet()
     ensures { (bytes : List ℕ) → AreBytes bytes → IsDecided (IsIpv6Packet bytes) (RefusesIpv6Packet bytes) }
 {}
 
-/// Bytes are a packet with its extension headers, in each reading, of one header, one chain, one payload and one rest,
-/// or are refused with one error, and never both.
+/// Law: any bytes either parse as exactly one IPv4 packet (header, extension headers, payload and trailing bytes), or
+/// are rejected with exactly one error. It holds for the slicing parser and for the header-decoding parser.
 pub fn ipv4()
     ensures { (reading : Reading) (bytes : List ℕ) → AreBytes bytes
         → IsDecided (IsIpv4 reading bytes) (RefusesIpv4 reading bytes) }
 {}
 
-/// Bytes are a packet with its extension headers, in each reading, of one header, one chain, one payload and one rest,
-/// or are refused with one error, and never both.
+/// Law: any bytes either parse as exactly one IPv6 packet (header, extension headers, payload and trailing bytes), or
+/// are rejected with exactly one error. It holds for the slicing parser and for the header-decoding parser.
 pub fn ipv6()
     ensures { (reading : Reading) (bytes : List ℕ) → AreBytes bytes
         → IsDecided (IsIpv6 reading bytes) (RefusesIpv6 reading bytes) }
 {}
 
-/// Bytes are a packet of one of the versions, in each reading, or are refused with one error, and never both.
+/// Law: any bytes either parse as exactly one IP packet of version 4 or 6, or are rejected with exactly one error. It
+/// holds for the slicing parser and for the header-decoding parser.
 pub fn ip()
     ensures { (reading : Reading) (bytes : List ℕ) → AreBytes bytes
         → IsDecided (IsIp reading bytes) (RefusesIp reading bytes) }
 {}
 
-/// The bytes of a packet are its header, its extension headers, its payload, and what its length field leaves.
+/// Law: the bytes of a parsed IP packet are its header, its extension headers, its payload, and the trailing bytes
+/// after the end that its length field sets, in this order and nothing else.
 pub fn ip_bytes()
     ensures ipv4 { (reading : Reading) (bytes : List ℕ) (packet : IpPacket Ipv4Header) → IsIpv4 reading bytes packet
         → AreIpv4Bytes bytes packet }
@@ -72,7 +80,7 @@ pub fn ip_bytes()
         → AreIpv6Bytes bytes packet }
 {}
 
-/// The layer whose bytes are missing, where bytes are refused, starts within the bytes.
+/// Law: in a length error for an IPv4 or IPv6 packet, `layer_start_offset` is at most the number of input bytes.
 pub fn refusal_places()
     ensures ipv4 { (reading : Reading) (bytes : List ℕ) (error : LenError)
         → RefusesIpv4 reading bytes (ipv4_error.Len error) → error.layer_start_offset ≤ length bytes }
@@ -80,43 +88,42 @@ pub fn refusal_places()
         → RefusesIpv6 reading bytes (ipv6_error.Len error) → error.layer_start_offset ≤ length bytes }
 {}
 
-/// A refusal for want of bytes at hand counts the bytes that are there, and with as many behind them as are missing,
-/// the bytes are not refused by that row again: for each header and packet, and for packets with their extension
-/// headers in each reading. What a length field other than a payload length of 0 cut has that field as its limit, so a
-/// payload whose limit is the bytes at hand leaves nothing.
-pub fn tell_missing()
-    ensures ipv4_header { TellsMissing (λ bytes error. RefusesIpv4Header bytes (ipv4_header_error.Len error)) }
-    ensures ipv4_packet { TellsMissing (λ bytes error. RefusesIpv4Packet bytes (ipv4_error.Len error)) }
-    ensures ipv6_header { TellsMissing (λ bytes error. RefusesIpv6Header bytes (ipv6_header_error.Len error)) }
-    ensures ipv6_packet { TellsMissing (λ bytes error. RefusesIpv6Packet bytes (ipv6_error.Len error)) }
+/// Law: in a length error for an IP header or packet whose `len_source` is the slice, `layer_start_offset + len` is the
+/// number of input bytes, and `required_len` is above `len`. If `required_len - len` or more bytes are appended, the
+/// check that failed passes. An IPv6 payload whose length source is the slice has no trailing bytes.
+pub fn missing_bytes()
+    ensures ipv4_header { ReportsMissing (λ bytes error. RefusesIpv4Header bytes (ipv4_header_error.Len error)) }
+    ensures ipv4_packet { ReportsMissing (λ bytes error. RefusesIpv4Packet bytes (ipv4_error.Len error)) }
+    ensures ipv6_header { ReportsMissing (λ bytes error. RefusesIpv6Header bytes (ipv6_header_error.Len error)) }
+    ensures ipv6_packet { ReportsMissing (λ bytes error. RefusesIpv6Packet bytes (ipv6_error.Len error)) }
     ensures ipv4 { (reading : Reading)
-        → TellsMissing (λ bytes error. RefusesIpv4 reading bytes (ipv4_error.Len error)) }
+        → ReportsMissing (λ bytes error. RefusesIpv4 reading bytes (ipv4_error.Len error)) }
     ensures ipv6 { (reading : Reading)
-        → TellsMissing (λ bytes error. RefusesIpv6 reading bytes (ipv6_error.Len error)) }
-    ensures ip { (reading : Reading) → TellsMissing (λ bytes error. RefusesIp reading bytes (ip_error.Len error)) }
+        → ReportsMissing (λ bytes error. RefusesIpv6 reading bytes (ipv6_error.Len error)) }
+    ensures ip { (reading : Reading) → ReportsMissing (λ bytes error. RefusesIp reading bytes (ip_error.Len error)) }
     ensures payload { (reading : Reading) (bytes : List ℕ) (packet : IpPacket Ipv6Header) → IsIpv6 reading bytes packet
         → IsOfBytesAtHand packet.payload.source → packet.left ≡ [] }
 {}
 
-/// Where the front of bytes that are a header, or a packet, is refused, it is for want of the bytes that the cut took:
-/// the offset plus `len` is the number of bytes up to the cut, `required_len` is more than `len`, and the offset plus
-/// `required_len` at most the number of all bytes. The limit is the end of the bytes at hand, but the payload length of
-/// IPv6, where it is 0 and the cut ends with the header.
-pub fn tell_cut()
-    ensures ipv4_header { TellsCut IsIpv4Header RefusesIpv4Header ipv4_header_error.Len (λ read. slice_end) }
-    ensures ipv6_header { TellsCut IsIpv6Header RefusesIpv6Header ipv6_header_error.Len (λ read. slice_end) }
-    ensures ipv4_packet { TellsCut IsIpv4Packet RefusesIpv4Packet ipv4_error.Len (λ packet. slice_end) }
-    ensures ipv6_packet { TellsCut IsIpv6Packet RefusesIpv6Packet ipv6_error.Len
+/// Law: if an IP header or packet is truncated and then rejected, the error is a length error for the missing bytes.
+/// `layer_start_offset + len` is the truncated length, `required_len` is above `len`, and `layer_start_offset +
+/// required_len` is at most the original length. Its `len_source` is the slice, with one exception: for an IPv6 packet
+/// with the payload length 0 that is truncated right after its IPv6 header, it is the payload length.
+pub fn truncation()
+    ensures ipv4_header { ReportsTruncation IsIpv4Header RefusesIpv4Header ipv4_header_error.Len (λ read. slice_end) }
+    ensures ipv6_header { ReportsTruncation IsIpv6Header RefusesIpv6Header ipv6_header_error.Len (λ read. slice_end) }
+    ensures ipv4_packet { ReportsTruncation IsIpv4Packet RefusesIpv4Packet ipv4_error.Len (λ packet. slice_end) }
+    ensures ipv6_packet { ReportsTruncation IsIpv6Packet RefusesIpv6Packet ipv6_error.Len
         (λ packet. ipv6_cut_limit 0 packet.header) }
     ensures ipv4 { (reading : Reading)
-        → TellsCut (IsIpv4 reading) (RefusesIpv4 reading) ipv4_error.Len (λ packet. slice_end) }
+        → ReportsTruncation (IsIpv4 reading) (RefusesIpv4 reading) ipv4_error.Len (λ packet. slice_end) }
     ensures ipv6 { (reading : Reading)
-        → TellsCut (IsIpv6 reading) (RefusesIpv6 reading) ipv6_error.Len (λ packet. ipv6_cut_limit 0 packet.header) }
-    ensures ip { (reading : Reading) → TellsCut (IsIp reading) (RefusesIp reading) ip_error.Len (ip_cut_limit 0) }
+        → ReportsTruncation (IsIpv6 reading) (RefusesIpv6 reading) ipv6_error.Len (λ packet. ipv6_cut_limit 0 packet.header) }
+    ensures ip { (reading : Reading) → ReportsTruncation (IsIp reading) (RefusesIp reading) ip_error.Len (ip_cut_limit 0) }
 {}
 
-/// Bytes that begin with a version are a packet where the version is open exactly where they are one of this version,
-/// with the same parts.
+/// Law: for bytes that begin with version 4 (or 6), the parser for both IP versions and the parser for IPv4 (or IPv6)
+/// accept the same packets, with equal parts.
 pub fn open_version()
     ensures ipv4 { (reading : Reading) (bytes : List ℕ) → version_of bytes ≡ 4 → (part : IpPart)
         → IsIp reading bytes part ↔ ((packet : IpPacket Ipv4Header) × IsIpv4 reading bytes packet
@@ -126,14 +133,15 @@ pub fn open_version()
         × (part ≡ ipv6_part packet)) }
 {}
 
-/// The lengths in bytes of headers and of options.
+/// Law: an IPv4 header has 20 to 60 bytes, its options have at most 40, and an IPv6 header has 40.
 pub fn constants()
     ensures ipv4_header { (Ipv4Header.MIN_LEN ≡ 20) × (Ipv4Header.MAX_LEN ≡ 60) }
     ensures ipv4_options { Ipv4Options.MAX_LEN ≡ 40 }
     ensures ipv6_header { Ipv6Header.LEN ≡ 40 }
 {}
 
-/// The default headers, and no options, as `new` and as the default give them.
+/// Returns the default IPv4 header, the IPv4 options that `new` and `default` create, and the default IPv6 header. Its
+/// contract states the value of each field.
 pub fn defaults() -> (Ipv4Header, [Ipv4Options; 2], Ipv6Header)
     ensures ipv4_header { result.0 ≡ record {
       dscp = 0;

@@ -1,4 +1,5 @@
-//! IP: headers, and packets with their extension headers.
+//! IPv4 (RFC 791) and IPv6 (RFC 8200): headers as owned values and as slices, and packets with their extension headers
+//! as slices.
 #![tactic(auto)]
 
 mod ip_slice;

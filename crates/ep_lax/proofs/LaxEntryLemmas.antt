@@ -1,4 +1,4 @@
--- That bytes are read laxly in one way by each entry, or are refused with one error.
+-- Each entry of lax slicing either reads bytes in exactly one way or rejects them with exactly one error.
 use Rattle.std.proofs.Common.{◌≡◌, ◌==◌, ◌||◌, not, if◌then◌else◌, ℕ, ◌<◌, Bool, true, false, List}
 use Rattle.std.proofs.Common.{[], ◌∷◌, length, Option, Some, None, refl, sym, ap, ◌∙◌, inl, inr, arith}
 use Rattle.std.proofs.lemmas.Bool.{cases_eq, ne_eqb}
@@ -40,9 +40,9 @@ use Rattle.ep_lax.specs.Lax.{IsIpLayer, IsIpv4Net, IsIpv6Net, IsLax, IsLaxNet}
 use Rattle.ep_lax.proofs.LaxLawLemmas.{Inside, HoldsLax, inside_is_one, ip_layer_is_one, lax_ipv4_decided}
 use Rattle.ep_lax.proofs.LaxLawLemmas.{lax_ipv4_fits, lax_ipv6_decided, lax_ipv6_fits}
 
--- ---- a packet of open version
+-- ---- IP packets of either version
 
--- a packet with what is inside it stands, or its header is refused
+-- Bytes either begin with an IP packet with the layers in it, or their header is rejected.
 net_decided : {Header E : Type 0} {Is : LaxIp Header → Type 0} {Refuses : E → Type 0} (version : IpVersion)
     (layer_of : IpPacket Header → NetLayer) → IsDecided Is Refuses
     → ((lax : LaxIp Header) → Is lax → AreBytes lax.packet.payload.bytes)
@@ -67,7 +67,7 @@ ipv6_net_decided : (bytes : List ℕ) → AreBytes bytes
 ipv6_net_decided bytes fits =
     net_decided ipv6 ipv6_layer (lax_ipv6_decided false bytes fits) (λ lax is. lax_ipv6_fits false bytes lax fits is)
 
--- a header says its version
+-- An IPv4 packet begins with version 4.
 ipv4_net_version : (bytes : List ℕ) (net : LaxNet) → IsIpv4Net 0 false bytes net → version_of bytes ≡ 4
 ipv4_net_version bytes net is =
     let none = (ipv4_header_is_read.is_read bytes is.1.0 is.1.1).0 in grind (arith, common_steps)
@@ -76,11 +76,11 @@ ipv6_net_version : (bytes : List ℕ) (net : LaxNet) → IsIpv6Net 0 false bytes
 ipv6_net_version bytes net is =
     let none = (ipv6_header_is_read.is_read bytes is.1.0 is.1.1).0 in grind (arith, common_steps)
 
--- bytes of a version are some
+-- Bytes with a version are not empty.
 not_empty : (bytes : List ℕ) → 0 < version_of bytes → (length bytes == 0) ≡ false
 not_empty bytes some = ne_eqb (length bytes) 0 (λ none. omega (arith, get_or_past bytes 0 0 (omega arith)))
 
--- a table whose first two rows do not hold refuses as the chosen one behind them
+-- A table whose first two rows do not apply rejects as the chosen rows after them.
 behind_rows : {E : Type 0} (empty other chosen wanted : Bool) (first second : E) (these those : List (Bool × E))
     → empty ≡ false → other ≡ false → chosen ≡ wanted
     → first_row ((empty, first) ∷ (other, second) ∷ (if chosen then these else those))
@@ -106,7 +106,7 @@ pub rows_of_ipv6 : (bytes : List ℕ) → version_of bytes ≡ 6
     → first_row (ip_header_rows bytes) ≡ first_row (rows_as of_ipv6_header (ipv6_header_rows bytes))
 rows_of_ipv6 bytes version = rows_of bytes 6 version (omega arith) refl
 
--- a table whose second row holds refuses
+-- A table whose second row applies rejects with one error.
 refused_there : {E : Type 0} (empty other : Bool) (first second : E) (rows : List (Bool × E)) → other ≡ true
     → (error : E) × (first_row ((empty, first) ∷ (other, second) ∷ rows) ≡ Some error)
 refused_there true other first second rows unknown = (first, refl)
@@ -116,7 +116,7 @@ refused_there false other first second rows unknown =
 one_refusal : {E : Type 0} (answer : Option E) (e f : E) → answer ≡ Some e → answer ≡ Some f → e ≡ f
 one_refusal answer e f a b = cc
 
--- a packet of one of the versions stands, or its header is refused
+-- Bytes either begin with an IP packet of either version, or their header is rejected.
 open_version_decided : (bytes : List ℕ) → AreBytes bytes
     → IsDecided (IsLaxNet 0 false (Some any_ip) bytes) (RefusesIpHeader bytes)
 open_version_decided bytes fits =
@@ -162,17 +162,17 @@ open_version_decided bytes fits =
       ]
     ]
 
--- ---- each entry
+-- ---- entries
 
--- the layers of a link layer and of what its payload holds
+-- The layers of a link layer and of the bytes in its payload.
 abbrev with_link : LinkLayer → Inside → LaxLayers
 with_link link inside = record { link = Some link; link_exts = inside.0; net = inside.1 }
 
--- those of a packet without one
+-- The layers of a packet without link layer.
 abbrev without_link : LaxNet → LaxLayers
 without_link net = record { link = None; link_exts = []; net = net }
 
--- a link layer with one thing in its payload stands, or its header is refused
+-- A link layer with one result for its payload is either valid, or its header is rejected.
 behind_link : {Header : Type 0} {Is : Parts Header → Type 0} {Refuses : SliceError → Type 0}
     (layer_of : Parts Header → LinkLayer) (Next : Parts Header → Inside → Type 0) → IsDecided Is Refuses
     → ((frame : Parts Header) → Is frame → IsOne (Next frame))

@@ -1,4 +1,4 @@
--- That a packet of IP is read laxly in one way, and what a call that reads one owes.
+-- An IP packet is sliced laxly in exactly one way, and the contracts of the calls that slice it.
 use Rattle.std.proofs.Common.{◌≡◌, ℕ, ◌+◌, ◌≤◌, Bool, List, ◌++◌, length, drop, Option, Some, None, refl, sym, ap, subst, ◌∙◌, arith}
 use Rattle.std.specs.Option.{option_map}
 use Rattle.std.proofs.lemmas.List.{drop_at}
@@ -19,7 +19,7 @@ use Rattle.ep_base.proofs.DecidedLemmas.{IsBoth, one_as, one_then}
 use Rattle.ep_base.proofs.LaxCutLemmas.{lax_cut_is_one}
 use Rattle.ep_base.proofs.TableLemmas.{one_value, refused_is_not}
 use Rattle.ep_ext.specs.Chains.{IpVersion, ipv4, ipv6, ExtensionChain, chain_fragments, offset_of}
-use Rattle.ep_ext.specs.FrontChains.{IsFrontChain, chain_stop, chain_stop_layer}
+use Rattle.ep_ext.specs.FrontChains.{IsLaxChain, chain_stop, chain_stop_layer}
 use Rattle.ep_ext.proofs.FrontLemmas.{Front, HasFront, front_is_one}
 use Rattle.ep_ip.specs.declared.ipv4_header.Ipv4Header.{Ipv4Header}
 use Rattle.ep_ip.specs.declared.ipv6_header.Ipv6Header.{Ipv6Header}
@@ -28,19 +28,19 @@ use Rattle.ep_ip.specs.Ipv6.{IsIpv6Header, RefusesIpv6Header, ipv6_bytes}
 use Rattle.ep_ip.proofs.ExtensionLawLemmas.{refused_within}
 use Rattle.ep_ip.proofs.Ipv4Lemmas.{ipv4_header_is_read}
 use Rattle.ep_ip.proofs.Ipv6Lemmas.{ipv6_header_is_read}
-use Rattle.ep_lax.specs.LaxIp.{LaxIp, IsLaxIpv4, IsLaxIpv4Behind, IsLaxIpv6, IsLaxIpv6Behind, lax_ip_of, lax_ipv6_source, stop_behind}
+use Rattle.ep_lax.specs.LaxIp.{LaxIp, IsLaxIpv4, IsLaxIpv4After, IsLaxIpv6, IsLaxIpv6After, lax_ip_of, lax_ipv6_source, stop_after}
 
--- ---- there is one way
+-- ---- unique result
 
--- a payload that a cut leaves of bytes is bytes
-pub cut_fits : (least says : ℕ) (named : LenSource) (outer : Bool) (header_len : ℕ) (behind : List ℕ) (cut : LaxCut)
-    → AreBytes behind → IsLaxCut least says named outer header_len behind cut → AreBytes cut.payload
-cut_fits least says named outer header_len behind cut fits is =
+-- The limited payload of bytes consists of bytes.
+pub cut_fits : (least stated : ℕ) (named : LenSource) (outer : Bool) (header_len : ℕ) (behind : List ℕ) (cut : LaxCut)
+    → AreBytes behind → IsLaxCut least stated named outer header_len behind cut → AreBytes cut.payload
+cut_fits least stated named outer header_len behind cut fits is =
     AreBytes-front cut.payload cut.left (subst AreBytes is.parts fits)
 
--- behind a header of IPv4
+-- The result after an IPv4 header is unique.
 pub ipv4_behind_is_one : (outer : Bool) (read : Ipv4Header × List ℕ) → AreBytes read.1
-    → IsOne (IsLaxIpv4Behind outer read)
+    → IsOne (IsLaxIpv4After outer read)
 ipv4_behind_is_one outer read fits =
     let len = ipv4_header_len read.0 in
     let IsCut : LaxCut → Type 0 =
@@ -65,20 +65,20 @@ ipv4_behind_is_one outer read fits =
       back = λ lax is. ((is.cut, (is.chain, is.refused)), (is.cuts, is.front), is.is);
     })
 
--- and of IPv6
+-- The result after an IPv6 header is unique.
 pub ipv6_behind_is_one : (outer : Bool) (read : Ipv6Header × List ℕ) → AreBytes read.1
-    → IsOne (IsLaxIpv6Behind outer read)
+    → IsOne (IsLaxIpv6After outer read)
 ipv6_behind_is_one outer read fits =
-    let says = 40 + read.0.payload_length in
-    let IsCut : LaxCut → Type 0 = IsLaxCut 41 says source.Ipv6HeaderPayloadLen outer 40 read.1 in
+    let stated = 40 + read.0.payload_length in
+    let IsCut : LaxCut → Type 0 = IsLaxCut 41 stated source.Ipv6HeaderPayloadLen outer 40 read.1 in
     let HasFront6 : LaxCut → Front → Type 0 = λ cut. HasFront ipv6 read.0.next_header.0 cut.payload in
     one_as {Is = IsBoth IsCut HasFront6}
     (λ (value : LaxCut × Front).
     lax_ip_of read.0 40 (chain_fragments value.1.0.parts) (lax_ipv6_source read.0 value.0) value.0 value.1.0 value.1.1)
     (one_then {Is = IsCut} {Next = HasFront6}
-    (lax_cut_is_one 41 says source.Ipv6HeaderPayloadLen outer 40 read.1 (omega arith))
+    (lax_cut_is_one 41 stated source.Ipv6HeaderPayloadLen outer 40 read.1 (omega arith))
     (λ cut is. front_is_one ipv6 read.0.next_header.0 cut.payload
-    (cut_fits 41 says source.Ipv6HeaderPayloadLen outer 40 read.1 cut fits is)))
+    (cut_fits 41 stated source.Ipv6HeaderPayloadLen outer 40 read.1 cut fits is)))
     (record {
       there = λ value is. record {
         cut = value.0;
@@ -91,7 +91,7 @@ ipv6_behind_is_one outer read fits =
       back = λ lax is. ((is.cut, (is.chain, is.refused)), (is.cuts, is.front), is.is);
     })
 
--- what stands behind a header is bytes
+-- The bytes after a header are bytes.
 pub behind_ipv4_fits : (bytes : List ℕ) (read : Ipv4Header × List ℕ) → AreBytes bytes → IsIpv4Header bytes read
     → AreBytes read.1
 behind_ipv4_fits bytes read fits is = AreBytes-back is.encoded read.1 (subst AreBytes is.parts fits)
@@ -100,25 +100,25 @@ pub behind_ipv6_fits : (bytes : List ℕ) (read : Ipv6Header × List ℕ) → Ar
     → AreBytes read.1
 behind_ipv6_fits bytes read fits is = AreBytes-back (ipv6_bytes read.0) read.1 (subst AreBytes is.parts fits)
 
--- bytes are one packet of IPv4
+-- The IPv4 packet in the bytes is unique.
 pub one_lax_ipv4 : (outer : Bool) (bytes : List ℕ) → AreBytes bytes → (lax other : LaxIp Ipv4Header)
     → IsLaxIpv4 outer bytes lax → IsLaxIpv4 outer bytes other → lax ≡ other
 one_lax_ipv4 outer bytes fits lax other a b =
     let same = one_value ipv4_header_is_read bytes a.0 b.0 a.1 b.1 in
     let one = ipv4_behind_is_one outer b.0 (behind_ipv4_fits bytes b.0 fits b.1) in
-    let moved = subst (λ (read : Ipv4Header × List ℕ). IsLaxIpv4Behind outer read lax) same a.2 in
+    let moved = subst (λ (read : Ipv4Header × List ℕ). IsLaxIpv4After outer read lax) same a.2 in
     one.only lax moved ∙ sym (one.only other b.2)
 
--- and of IPv6
+-- The IPv6 packet in the bytes is unique.
 pub one_lax_ipv6 : (outer : Bool) (bytes : List ℕ) → AreBytes bytes → (lax other : LaxIp Ipv6Header)
     → IsLaxIpv6 outer bytes lax → IsLaxIpv6 outer bytes other → lax ≡ other
 one_lax_ipv6 outer bytes fits lax other a b =
     let same = one_value ipv6_header_is_read bytes a.0 b.0 a.1 b.1 in
     let one = ipv6_behind_is_one outer b.0 (behind_ipv6_fits bytes b.0 fits b.1) in
-    let moved = subst (λ (read : Ipv6Header × List ℕ). IsLaxIpv6Behind outer read lax) same a.2 in
+    let moved = subst (λ (read : Ipv6Header × List ℕ). IsLaxIpv6After outer read lax) same a.2 in
     one.only lax moved ∙ sym (one.only other b.2)
 
--- bytes whose header is refused are none
+-- Bytes with a rejected IPv4 header are not a packet.
 pub refused_no_lax_ipv4 : (outer : Bool) (bytes : List ℕ) (error : Ipv4HeaderError) → RefusesIpv4Header bytes error
     → (lax : LaxIp Ipv4Header) → IsLaxIpv4 outer bytes lax → ⊥
 refused_no_lax_ipv4 outer bytes error refused lax is = refused_is_not ipv4_header_is_read bytes is.0 error refused is.1
@@ -127,60 +127,60 @@ pub refused_no_lax_ipv6 : (outer : Bool) (bytes : List ℕ) (error : Ipv6HeaderE
     → (lax : LaxIp Ipv6Header) → IsLaxIpv6 outer bytes lax → ⊥
 refused_no_lax_ipv6 outer bytes error refused lax is = refused_is_not ipv6_header_is_read bytes is.0 error refused is.1
 
--- ---- what a call owes
+-- ---- contracts of the calls
 
--- a refused extension header lies within the content
+-- A rejected extension header starts within the bytes after the IP header.
 pub stop_within : (version : IpVersion) (number : ℕ) (content : List ℕ) (chain : ExtensionChain)
-    (stop : Option HeaderSliceError) → IsFrontChain version number content chain stop → (error : HeaderSliceError)
+    (stop : Option HeaderSliceError) → IsLaxChain version number content chain stop → (error : HeaderSliceError)
     → stop ≡ Some error → offset_of error ≤ length content
 stop_within version number content chain stop front error same =
-    let here : IsFrontChain version number content chain (Some error) =
-    subst (IsFrontChain version number content chain) same front in
+    let here : IsLaxChain version number content chain (Some error) =
+    subst (IsLaxChain version number content chain) same front in
     refused_within version slices number content error (chain.parts, here.0)
 
--- a refusal that is told with its layer is the one that was told
-pub told_stop : (stop : Option HeaderSliceError) (told : HeaderSliceError × Layer)
-    → option_map chain_stop stop ≡ Some told → stop ≡ Some told.0
-told_stop None told same = absurd (cc same)
-told_stop (Some error) told same =
-    let pair : chain_stop error ≡ told = cc in λ i. Some (pair i).0
+-- An error reported with its layer is the one at which parsing stopped.
+pub told_stop : (stop : Option HeaderSliceError) (error_with_layer : HeaderSliceError × Layer)
+    → option_map chain_stop stop ≡ Some error_with_layer → stop ≡ Some error_with_layer.0
+told_stop None error_with_layer same = absurd (cc same)
+told_stop (Some error) error_with_layer same =
+    let pair : chain_stop error ≡ error_with_layer = cc in λ i. Some (pair i).0
 
--- a refusal behind a header is of the same layer
+-- The layer of an error does not change when it is placed after a header.
 same_layer : (n : ℕ) (end : LenSource) (error : HeaderSliceError)
-    → chain_stop_layer (stop_behind n end error) ≡ chain_stop_layer error
+    → chain_stop_layer (stop_after n end error) ≡ chain_stop_layer error
 same_layer n end (header_error.Len error) = refl
 same_layer n end (header_error.Content content.HopByHopNotAtStart) = refl
 same_layer n end (header_error.Content (content.IpAuth error)) = refl
 
--- a refusal that is told with its layer, behind a header
+-- An error reported with its layer is placed after a header.
 pub told_behind : (n : ℕ) (end : LenSource) (refused : Option (HeaderSliceError × Layer))
     (read : HeaderSliceError × Layer) → refused ≡ Some read → (stop : Option HeaderSliceError)
-    → refused ≡ option_map chain_stop stop → (shown : HeaderSliceError) → shown ≡ stop_behind n end read.0
-    → Some (shown, read.1) ≡ option_map chain_stop (option_map (stop_behind n end) stop)
+    → refused ≡ option_map chain_stop stop → (shown : HeaderSliceError) → shown ≡ stop_after n end read.0
+    → Some (shown, read.1) ≡ option_map chain_stop (option_map (stop_after n end) stop)
 told_behind n end refused read is None stops shown shown_is = absurd (let one = sym is ∙ stops in cc)
 told_behind n end refused read is (Some error) stops shown shown_is =
     let both : Some read ≡ Some (chain_stop error) = sym is ∙ stops in
     let pair : read ≡ chain_stop error = cc in
-    let first : shown ≡ stop_behind n end error = shown_is ∙ ap (stop_behind n end) (λ i. (pair i).0) in
-    let second : read.1 ≡ chain_stop_layer (stop_behind n end error) = (λ i. (pair i).1) ∙ sym (same_layer n end error) in
+    let first : shown ≡ stop_after n end error = shown_is ∙ ap (stop_after n end) (λ i. (pair i).0) in
+    let second : read.1 ≡ chain_stop_layer (stop_after n end error) = (λ i. (pair i).1) ∙ sym (same_layer n end error) in
     λ i. Some (first i, second i)
 
--- a packet of IPv4, put together from what was read of it
+-- An IPv4 packet built from its parsed parts.
 pub ipv4_put_together : (outer : Bool) (bytes front rest : List ℕ) (header : Ipv4Header)
     → bytes ≡ front ++ rest → IsIpv4Header bytes (header, rest) → (n : ℕ) → n ≡ length front
-    → n ≡ ipv4_header_len header → (says : ℕ) → says ≡ header.total_len
-    → (cut : LaxCut) → IsLaxCut n says source.Ipv4HeaderTotalLen outer n (drop n bytes) cut
+    → n ≡ ipv4_header_len header → (stated : ℕ) → stated ≡ header.total_len
+    → (cut : LaxCut) → IsLaxCut n stated source.Ipv4HeaderTotalLen outer n (drop n bytes) cut
     → (number : ℕ) → number ≡ header.protocol.0 → (chain : ExtensionChain) (refused : Option HeaderSliceError)
-    → IsFrontChain ipv4 number cut.payload chain refused
+    → IsLaxChain ipv4 number cut.payload chain refused
     → (fragmented : Bool) → fragmented ≡ is_ipv4_fragment header → (stop : Option HeaderSliceError)
-    → stop ≡ option_map (stop_behind n cut.source) refused
+    → stop ≡ option_map (stop_after n cut.source) refused
     → IsLaxIpv4 outer bytes (record (lax_ip_of header n fragmented cut.source cut chain refused) { stop = stop })
-ipv4_put_together outer bytes front rest header parts stands n len header_len says says_is cut cuts number number_is
+ipv4_put_together outer bytes front rest header parts stands n len header_len stated says_is cut cuts number number_is
     chain refused chain_is fragmented fragmented_is stop stop_is =
     let behind : drop n bytes ≡ rest = ap (drop n) parts ∙ drop_at front rest n (sym len) in
     let own = ipv4_header_len header in
-    let cuts_behind : IsLaxCut n says source.Ipv4HeaderTotalLen outer n rest cut =
-    subst (λ (b : List ℕ). IsLaxCut n says source.Ipv4HeaderTotalLen outer n b cut) behind cuts in
+    let cuts_behind : IsLaxCut n stated source.Ipv4HeaderTotalLen outer n rest cut =
+    subst (λ (b : List ℕ). IsLaxCut n stated source.Ipv4HeaderTotalLen outer n b cut) behind cuts in
     let cuts_total : IsLaxCut n header.total_len source.Ipv4HeaderTotalLen outer n rest cut =
     subst (λ (s : ℕ). IsLaxCut n s source.Ipv4HeaderTotalLen outer n rest cut) says_is cuts_behind in (
       (header, rest),
@@ -191,28 +191,28 @@ ipv4_put_together outer bytes front rest header parts stands n len header_len sa
         refused = refused;
         cuts = subst (λ (k : ℕ). IsLaxCut k header.total_len source.Ipv4HeaderTotalLen outer k rest cut) header_len
             cuts_total;
-        front = subst (λ (k : ℕ). IsFrontChain ipv4 k cut.payload chain refused) number_is chain_is;
+        front = subst (λ (k : ℕ). IsLaxChain ipv4 k cut.payload chain refused) number_is chain_is;
         is = λ i. record (lax_ip_of header (header_len i) (fragmented_is i) cut.source cut chain refused) {
-          stop = (stop_is ∙ ap (λ (k : ℕ). option_map (stop_behind k cut.source) refused) header_len) i;
+          stop = (stop_is ∙ ap (λ (k : ℕ). option_map (stop_after k cut.source) refused) header_len) i;
         };
       },
     )
 
--- a packet of IPv6
+-- An IPv6 packet built from its parsed parts.
 pub ipv6_put_together : (outer : Bool) (bytes front rest : List ℕ) (header : Ipv6Header)
     → bytes ≡ front ++ rest → IsIpv6Header bytes (header, rest) → 40 ≡ length front
-    → (says : ℕ) → says ≡ 40 + header.payload_length
-    → (cut : LaxCut) → IsLaxCut 41 says source.Ipv6HeaderPayloadLen outer 40 (drop 40 bytes) cut
+    → (stated : ℕ) → stated ≡ 40 + header.payload_length
+    → (cut : LaxCut) → IsLaxCut 41 stated source.Ipv6HeaderPayloadLen outer 40 (drop 40 bytes) cut
     → (number : ℕ) → number ≡ header.next_header.0 → (chain : ExtensionChain) (refused : Option HeaderSliceError)
-    → IsFrontChain ipv6 number cut.payload chain refused
+    → IsLaxChain ipv6 number cut.payload chain refused
     → (fragmented : Bool) → fragmented ≡ chain_fragments chain.parts
     → (end : LenSource) → end ≡ lax_ipv6_source header cut
     → IsLaxIpv6 outer bytes (lax_ip_of header 40 fragmented end cut chain refused)
-ipv6_put_together outer bytes front rest header parts stands len says says_is cut cuts number number_is chain refused
+ipv6_put_together outer bytes front rest header parts stands len stated says_is cut cuts number number_is chain refused
     chain_is fragmented fragmented_is end end_is =
     let behind : drop 40 bytes ≡ rest = ap (drop 40) parts ∙ drop_at front rest 40 (sym len) in
-    let cuts_behind : IsLaxCut 41 says source.Ipv6HeaderPayloadLen outer 40 rest cut =
-    subst (λ (b : List ℕ). IsLaxCut 41 says source.Ipv6HeaderPayloadLen outer 40 b cut) behind cuts in (
+    let cuts_behind : IsLaxCut 41 stated source.Ipv6HeaderPayloadLen outer 40 rest cut =
+    subst (λ (b : List ℕ). IsLaxCut 41 stated source.Ipv6HeaderPayloadLen outer 40 b cut) behind cuts in (
       (header, rest),
       stands,
       record {
@@ -220,7 +220,7 @@ ipv6_put_together outer bytes front rest header parts stands len says says_is cu
         chain = chain;
         refused = refused;
         cuts = subst (λ (s : ℕ). IsLaxCut 41 s source.Ipv6HeaderPayloadLen outer 40 rest cut) says_is cuts_behind;
-        front = subst (λ (k : ℕ). IsFrontChain ipv6 k cut.payload chain refused) number_is chain_is;
+        front = subst (λ (k : ℕ). IsLaxChain ipv6 k cut.payload chain refused) number_is chain_is;
         is = λ i. lax_ip_of header 40 (fragmented_is i) (end_is i) cut chain refused;
       },
     )

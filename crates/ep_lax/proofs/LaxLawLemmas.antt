@@ -1,4 +1,4 @@
--- That bytes whose first header stands are read laxly in one way, and others are refused with one error.
+-- Bytes with a valid first header are sliced laxly in exactly one way, and others are rejected with exactly one error.
 use Rattle.std.proofs.Common.{◌≡◌, ◌⊎◌, ◌==◌, if◌then◌else◌, ℕ, zero, suc, ◌+◌, Bool, true, false, List, [], ◌∷◌, Option, Some, None, refl, sym, ap, subst, ◌∙◌, inl, inr, arith}
 use Rattle.ep_base.specs.Bytes.{AreBytes}
 use Rattle.ep_base.specs.EtherTypes.{ipv4_type, ipv6_type, arp_type}
@@ -13,9 +13,9 @@ use Rattle.ep_base.proofs.BytesLemmas.{AreBytes-back, AreBytes-payload}
 use Rattle.ep_base.proofs.DecidedLemmas.{decided_as, one_as, one_either, refused_as, same_image}
 use Rattle.ep_base.proofs.LaxCutLemmas.{lax_cut_is_one}
 use Rattle.ep_base.proofs.TableLemmas.{decided}
-use Rattle.ep_ext.specs.Chains.{IpVersion, ipv4, ipv6, ExtensionChain, IsChainBehind}
+use Rattle.ep_ext.specs.Chains.{IpVersion, ipv4, ipv6, ExtensionChain, IsChainAfter}
 use Rattle.ep_ext.specs.ExtensionParts.{ExtensionPart, part_next}
-use Rattle.ep_ext.specs.FrontChains.{AreInFront, IsFrontChain}
+use Rattle.ep_ext.specs.FrontChains.{BeginWithParts, IsLaxChain}
 use Rattle.ep_ext.proofs.PartLemmas.{part_behind_fits}
 use Rattle.ep_ip.specs.declared.ipv4_header.Ipv4Header.{Ipv4Header}
 use Rattle.ep_ip.specs.declared.ipv6_header.Ipv6Header.{Ipv6Header}
@@ -38,24 +38,24 @@ use Rattle.ep_transport.specs.declared.transport_header.TransportHeader.TheVaria
 use Rattle.ep_transport.specs.TransportParts.{TransportLayer, IsTransportPart}
 use Rattle.ep_packet.specs.declared.err.slice_error.SliceError.{SliceError}
 use Rattle.ep_packet.specs.Frame.{NetKind, only_ipv4, only_ipv6, only_arp, net_kind}
-use Rattle.ep_packet.specs.FrameRefusals.{RefusesTransportIn, extension_refusal, ipv4_refusal, ipv6_refusal, len_refusal, net_header_len, transport_refusal}
+use Rattle.ep_packet.specs.FrameRefusals.{RefusesTransportIn, extension_refusal, ipv4_refusal, ipv6_refusal, len_refusal, net_payload_offset, transport_refusal}
 use Rattle.ep_packet.specs.Layers.{NetLayer, ipv4_layer, ipv6_layer}
 use Rattle.ep_packet.proofs.LayerLawLemmas.{layer_laws}
 use Rattle.ep_lax.specs.LaxIp.{LaxIp, IsLaxIpv4, IsLaxIpv6}
-use Rattle.ep_lax.specs.LaxLayers.{LaxTransport, LaxNet, layer_cut, net_with, no_transport, no_net, told}
-use Rattle.ep_lax.specs.LaxMacsec.{IsLaxMacsec, lax_macsec_payload, macsec_says}
-use Rattle.ep_lax.specs.Lax.{IsHeaderCutLaxly, IsCutLaxly, IsLaxTransport, IsInsideIp, IsIpLayer, IsNoNet, IsLaxNet, IsLaxExtension, RefusesLaxExtension, IsLaxInside, arp_net, chain_refusal}
+use Rattle.ep_lax.specs.LaxLayers.{LaxTransport, LaxNet, layer_cut, net_with, no_transport, no_net, error_with_layer}
+use Rattle.ep_lax.specs.LaxMacsec.{IsLaxMacsec, lax_macsec_payload, macsec_stated_len}
+use Rattle.ep_lax.specs.Lax.{IsHeaderLimitedLaxly, IsLimitedLaxly, IsLaxTransport, IsInsideIp, IsIpLayer, IsNoNet, IsLaxNet, IsLaxExtension, RefusesLaxExtension, IsLaxInside, arp_net, chain_refusal}
 use Rattle.ep_lax.proofs.LaxIpLemmas.{behind_ipv4_fits, behind_ipv6_fits, cut_fits, ipv4_behind_is_one, ipv6_behind_is_one, one_lax_ipv4, one_lax_ipv6, refused_no_lax_ipv4, refused_no_lax_ipv6}
 use Rattle.ep_lax.proofs.LaxMacsecLemmas.{one_lax_macsec, payload_by_is, refused_no_lax_macsec}
 
--- this value alone
+-- There is exactly one value that is equal to this one.
 one_same : {V : Type 0} (value : V) → IsOne (λ (other : V). other ≡ value)
 one_same value = record { value = value; is = refl; only = λ other same. same }
 
--- ---- the transport layer
+-- ---- transport layer
 
 pub header_cut_is_one : (outer : Bool) (header : TransportHeader) (payload : List ℕ)
-    → IsOne (IsHeaderCutLaxly outer header payload)
+    → IsOne (IsHeaderLimitedLaxly outer header payload)
 header_cut_is_one outer (header.Udp udp) payload =
     one_as (λ (cut : LaxCut). layer_cut (header.Udp udp) cut.payload cut.incomplete)
     (lax_cut_is_one 8 udp.length source.UdpHeaderLen outer 8 payload (omega arith))
@@ -64,7 +64,7 @@ header_cut_is_one outer (header.Tcp tcp) payload = one_same (layer_cut (header.T
 header_cut_is_one outer (header.Icmpv4 icmp) payload = one_same (layer_cut (header.Icmpv4 icmp) payload outer)
 header_cut_is_one outer (header.Icmpv6 icmp) payload = one_same (layer_cut (header.Icmpv6 icmp) payload outer)
 
-cut_is_one : (outer : Bool) (part : Option TransportLayer) → IsOne (IsCutLaxly outer part)
+cut_is_one : (outer : Bool) (part : Option TransportLayer) → IsOne (IsLimitedLaxly outer part)
 cut_is_one outer None = one_same (no_transport outer None)
 cut_is_one outer (Some layer) = header_cut_is_one outer layer.header layer.payload
 
@@ -72,14 +72,14 @@ pub transport_is_one : (offset : ℕ) (outer : Bool) (payload : IpPayload) → A
     → IsOne (IsLaxTransport offset outer payload)
 transport_is_one offset outer payload fits =
     one_either {Is = IsTransportPart headers payload.number payload.fragmented payload.bytes}
-    {Refuses = RefusesTransportIn headers offset payload} {There = IsCutLaxly outer}
-    {Instead = λ (error : SliceError) (lax : LaxTransport). lax ≡ no_transport outer (Some (told error))}
+    {Refuses = RefusesTransportIn headers offset payload} {There = IsLimitedLaxly outer}
+    {Instead = λ (error : SliceError) (lax : LaxTransport). lax ≡ no_transport outer (Some (error_with_layer error))}
     (refused_as (transport_refusal offset payload.source)
     (layer_laws.transport headers payload.number payload.fragmented payload.bytes fits))
     (λ part is. cut_is_one outer part)
-    (λ error refused. one_same (no_transport outer (Some (told error))))
+    (λ error refused. one_same (no_transport outer (Some (error_with_layer error))))
 
--- ---- the net layer
+-- ---- network layer
 
 inside_ip_is_one : (version : IpVersion) (offset len : ℕ) (incomplete : Bool) (payload : IpPayload)
     (stop : Option HeaderSliceError) → AreBytes payload.bytes
@@ -87,19 +87,19 @@ inside_ip_is_one : (version : IpVersion) (offset len : ℕ) (incomplete : Bool) 
 inside_ip_is_one version offset len incomplete payload None fits =
     transport_is_one (offset + len) incomplete payload fits
 inside_ip_is_one version offset len incomplete payload (Some refused) fits =
-    one_same (no_transport incomplete (Some (told (chain_refusal version offset refused))))
+    one_same (no_transport incomplete (Some (error_with_layer (chain_refusal version offset refused))))
 
 pub ip_layer_is_one : {Header : Type 0} (version : IpVersion) (layer_of : IpPacket Header → NetLayer) (offset : ℕ)
     (lax : LaxIp Header) → AreBytes lax.packet.payload.bytes → IsOne (IsIpLayer version layer_of offset lax)
 ip_layer_is_one version layer_of offset lax fits =
     one_as (net_with (layer_of lax.packet) lax.incomplete)
-    (inside_ip_is_one version offset (net_header_len (layer_of lax.packet)) lax.incomplete lax.packet.payload lax.stop
+    (inside_ip_is_one version offset (net_payload_offset (layer_of lax.packet)) lax.incomplete lax.packet.payload lax.stop
     fits)
     (record { there = λ inside is. (inside, is, refl); back = λ net is. is })
 
--- what stands behind a chain is bytes
+-- The bytes after a chain are bytes.
 chain_rest_fits : (version : IpVersion) (taken : List ℕ) (number : ℕ) (bytes : List ℕ) (parts : List ExtensionPart)
-    (last : ℕ) (rest : List ℕ) → AreBytes bytes → IsChainBehind version slices taken number bytes parts last rest
+    (last : ℕ) (rest : List ℕ) → AreBytes bytes → IsChainAfter version slices taken number bytes parts last rest
     → AreBytes rest
 chain_rest_fits version taken number bytes [] last rest fits is = subst AreBytes (sym is.2) fits
 chain_rest_fits version taken number bytes (part ∷ parts) last rest fits is =
@@ -107,13 +107,13 @@ chain_rest_fits version taken number bytes (part ∷ parts) last rest fits is =
     (part_behind_fits number bytes part is.1.0 is.1.1 fits) is.1.2
 
 front_rest_fits : (number : ℕ) (bytes : List ℕ) (parts : List ExtensionPart) (last : ℕ) (rest : List ℕ)
-    → AreBytes bytes → AreInFront number bytes parts last rest → AreBytes rest
+    → AreBytes bytes → BeginWithParts number bytes parts last rest → AreBytes rest
 front_rest_fits number bytes [] last rest fits is = subst AreBytes (sym is.1) fits
 front_rest_fits number bytes (part ∷ parts) last rest fits is =
     front_rest_fits (part_next part) is.0 parts last rest (part_behind_fits number bytes part is.0 is.1 fits) is.2
 
 pub rest_fits : (version : IpVersion) (number : ℕ) (bytes : List ℕ) (chain : ExtensionChain)
-    (stop : Option HeaderSliceError) → AreBytes bytes → IsFrontChain version number bytes chain stop
+    (stop : Option HeaderSliceError) → AreBytes bytes → IsLaxChain version number bytes chain stop
     → AreBytes chain.rest
 rest_fits version number bytes chain None fits is =
     chain_rest_fits version [] number bytes chain.parts chain.last chain.rest fits is
@@ -141,7 +141,7 @@ lax_ipv6_fits outer bytes lax fits is =
     subst (λ (l : LaxIp Ipv6Header). AreBytes l.packet.payload.bytes) (sym behind.is)
     (rest_fits ipv6 read.0.next_header.0 behind.cut.payload behind.chain behind.refused content behind.front)
 
--- a packet of IPv4 stands or its header is refused
+-- Bytes either begin with an IPv4 packet, or their header is rejected.
 pub lax_ipv4_decided : (outer : Bool) (bytes : List ℕ) → AreBytes bytes
     → IsDecided (IsLaxIpv4 outer bytes) (RefusesIpv4Header bytes)
 lax_ipv4_decided outer bytes fits =
@@ -174,11 +174,11 @@ lax_ipv6_decided outer bytes fits =
       not_both = λ lax error is refused. refused_no_lax_ipv6 outer bytes error refused lax is;
     }
 
--- no net layer, for one error
+-- For each error the result without network layer is unique.
 no_net_is_one : (outer : Bool) (error : SliceError) → IsOne (λ (net : LaxNet). IsNoNet outer net error)
-no_net_is_one outer error = one_same (no_net outer (Some (told error)))
+no_net_is_one outer error = one_same (no_net outer (Some (error_with_layer error)))
 
--- an ether type names no net layer, or one of three
+-- An ether type names no network layer, or IPv4, IPv6 or ARP.
 kind_by : (is_ipv4 is_ipv6 is_arp : Bool)
     → let kind = if is_ipv4 then Some only_ipv4 else if is_ipv6 then Some only_ipv6 else if is_arp then Some only_arp
     else None in (kind ≡ None) ⊎ ((kind ≡ Some only_ipv4) ⊎ ((kind ≡ Some only_ipv6) ⊎ (kind ≡ Some only_arp)))
@@ -220,7 +220,7 @@ arp_is_one offset outer bytes fits =
     (refused_as (len_refusal offset) (layer_laws.arp bytes fits))
     (λ part is. one_same (arp_net part.0)) (λ error refused. no_net_is_one outer error)
 
--- bytes of an ether type have one net layer with one inside, or none
+-- Bytes of an ether type have exactly one network layer with the layers in it, or none.
 pub net_is_one : (offset : ℕ) (outer : Bool) (type : EtherType) (bytes : List ℕ) → AreBytes bytes
     → IsOne (IsLaxNet offset outer (net_kind type) bytes)
 net_is_one offset outer type bytes fits =
@@ -234,7 +234,7 @@ net_is_one offset outer type bytes fits =
 
 -- ---- link extensions
 
--- an extension, with whether bytes of its payload are missing
+-- A link extension, and whether bytes of its payload are missing.
 abbrev pub Tagged : Type 0
 Tagged = LinkExtension × Bool
 
@@ -261,7 +261,7 @@ vlan_refused_back : (offset : ℕ) (type : EtherType) (bytes : List ℕ) → IsV
 vlan_refused_back offset type bytes is_vlan error (inl refused) = refused.1
 vlan_refused_back offset type bytes is_vlan error (inr refused) = absurd (vlan_not_macsec type is_vlan refused.0)
 
--- a MACsec packet stands or its tag is refused
+-- Bytes either begin with a MACsec packet, or their tag is rejected.
 pub lax_macsec_decided : (outer : Bool) (bytes : List ℕ) → AreBytes bytes
     → IsDecided (IsLaxMacsec outer bytes) (RefusesMacsecHeader bytes)
 lax_macsec_decided outer bytes fits =
@@ -271,7 +271,7 @@ lax_macsec_decided outer bytes fits =
         | inl found ↦
             let tag = found.0.0 in
             let len = macsec_header_len tag in
-            let one = lax_cut_is_one len (macsec_says tag) source.MacsecShortLength outer len found.0.1 (omega arith) in
+            let one = lax_cut_is_one len (macsec_stated_len tag) source.MacsecShortLength outer len found.0.1 (omega arith) in
             inl ((tag, one.value), record { behind = found.0.1; stands = found.1; cut = one.is })
         | inr refused ↦ inr refused
       ];
@@ -304,7 +304,7 @@ macsec_refused_back : (offset : ℕ) (type : EtherType) (bytes : List ℕ) → I
 macsec_refused_back offset type bytes is_macsec error (inl refused) = absurd (vlan_not_macsec type refused.0 is_macsec)
 macsec_refused_back offset type bytes is_macsec error (inr refused) = refused.1
 
--- bytes of a type that begins extensions begin with one, or are refused
+-- Bytes of an ether type that names a link extension either begin with one or are rejected.
 pub lax_extension_decided : (offset : ℕ) (outer : Bool) (type : EtherType) (bytes : List ℕ) → AreBytes bytes
     → BeginsLinkExtension type → IsDecided (IsLaxExtension outer type bytes) (RefusesLaxExtension offset type bytes)
 lax_extension_decided offset outer type bytes fits (inl is_vlan) =
@@ -318,7 +318,7 @@ lax_extension_decided offset outer type bytes fits (inr is_macsec) =
     (record { there = macsec_there outer type bytes is_macsec; back = macsec_back outer type bytes is_macsec })
     (same_image (λ error refused. inr (is_macsec, refused)) (macsec_refused_back offset type bytes is_macsec))
 
--- the type of an extension begins extensions
+-- The ether type before a link extension names a link extension.
 pub lax_extension_begins : (outer : Bool) (type : EtherType) (bytes : List ℕ) (tagged : Tagged)
     → IsLaxExtension outer type bytes tagged → BeginsLinkExtension type
 lax_extension_begins outer type bytes (vlan tag payload, incomplete) is = inl is.0
@@ -329,7 +329,7 @@ lax_refused_begins : (offset : ℕ) (type : EtherType) (bytes : List ℕ) (error
 lax_refused_begins offset type bytes error (inl refused) = inl refused.0
 lax_refused_begins offset type bytes error (inr refused) = inr refused.0
 
--- its payload is bytes
+-- The payload of a link extension consists of bytes.
 pub lax_extension_fits : (outer : Bool) (type : EtherType) (bytes : List ℕ) (tagged : Tagged) → AreBytes bytes
     → IsLaxExtension outer type bytes tagged → AreBytes (extension_payload tagged.0)
 lax_extension_fits outer type bytes (vlan tag payload, incomplete) fits is =
@@ -339,35 +339,35 @@ lax_extension_fits outer type bytes (macsec tag payload, incomplete) fits is =
     let read = is.1.1 in
     let behind = AreBytes-back read.stands.encoded read.behind (subst AreBytes read.stands.parts fits) in
     let len = macsec_header_len tag in
-    let content = cut_fits len (macsec_says tag) source.MacsecShortLength outer len read.behind cut behind read.cut in
+    let content = cut_fits len (macsec_stated_len tag) source.MacsecShortLength outer len read.behind cut behind read.cut in
     subst AreBytes (sym (ap macsec_payload_bytes is.1.2 ∙ payload_by_is tag.ptype cut.source cut.payload)) content
 
--- ---- what bytes of a type hold
+-- ---- layers in bytes of an ether type
 
--- the link extensions and what is behind them
+-- Link extensions and the network layer after them.
 abbrev pub Inside : Type 0
 Inside = List Tagged × LaxNet
 
--- bytes hold these
+-- The bytes contain these link extensions and this network layer.
 abbrev pub HoldsLax : ℕ → ℕ → Bool → Option EtherType → List ℕ → Inside → Type 0
 HoldsLax room offset outer type bytes inside = IsLaxInside room offset outer type bytes inside.0 inside.1
 
--- where the payload of an extension lies
+-- The offset of the payload of a link extension.
 abbrev pub behind_tag : ℕ → Tagged → ℕ
 behind_tag offset tagged = offset + link_ext_header_len (extension_header tagged.0)
 
--- an extension and what its payload holds
+-- A link extension followed by the layers in its payload.
 abbrev HoldsTag : ℕ → ℕ → Tagged → Inside → Type 0
 HoldsTag room offset tagged inside =
     (others : Inside)
     × HoldsLax room (behind_tag offset tagged) tagged.1 (extension_type tagged.0) (extension_payload tagged.0) others
     × (inside ≡ (tagged ∷ others.0, others.1))
 
--- no extension stands, for this refusal
+-- No link extension is read, for this reason.
 abbrev HoldsNone : Bool → SliceError → Inside → Type 0
-HoldsNone outer error inside = inside ≡ ([], no_net outer (Some (told error)))
+HoldsNone outer error inside = inside ≡ ([], no_net outer (Some (error_with_layer error)))
 
--- either of these
+-- Either the first link extension is rejected, or it is followed by the layers in its payload.
 abbrev HoldsEither : ℕ → ℕ → Bool → EtherType → List ℕ → Inside → Type 0
 HoldsEither room offset outer type bytes inside =
     ((error : SliceError) × RefusesLaxExtension offset type bytes error × HoldsNone outer error inside)
@@ -421,7 +421,7 @@ none_there : (room offset : ℕ) (outer : Bool) (type : EtherType) (bytes : List
 unfolding bare
 none_there room offset outer type bytes none net is = inl (none, is)
 
--- bytes of a type hold one list of link extensions with one net layer
+-- Bytes of an ether type contain exactly one list of link extensions with one network layer.
 pub inside_is_one : (room offset : ℕ) (outer : Bool) (type : Option EtherType) (bytes : List ℕ) → AreBytes bytes
     → IsOne (HoldsLax room offset outer type bytes)
 inside_is_one room offset outer None bytes fits = record {
@@ -445,7 +445,7 @@ inside_is_one (suc room) offset outer (Some type) bytes fits =
           (inside_is_one room (behind_tag offset tagged) tagged.1 (extension_type tagged.0) (extension_payload tagged.0)
           (lax_extension_fits outer type bytes tagged fits is))
           (record { there = λ others is. (others, is, refl); back = λ inside is. is }))
-          (λ error refused. one_same ([], no_net outer (Some (told error)))))
+          (λ error refused. one_same ([], no_net outer (Some (error_with_layer error)))))
           (same_image (either_there room offset outer type bytes) (either_back room offset outer type bytes begins))
       | inr none ↦
           one_as bare (net_is_one offset outer type bytes fits)

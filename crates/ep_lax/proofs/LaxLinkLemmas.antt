@@ -1,4 +1,4 @@
--- What the entries of the lax walk find, from the link layer and what lies behind it.
+-- Entries of lax slicing: the packet that consists of a link layer and the layers after it.
 use Rattle.std.proofs.Common.{◌≡◌, ℕ, false, List, Option, Some, sym, ap, subst, ◌∙◌}
 use Rattle.std.proofs.Math.Path.{transport}
 use Rattle.std.specs.Option.{option_map}
@@ -9,16 +9,16 @@ use Rattle.ep_packet.specs.declared.entry.Entry.TheVariants.{Ethernet as etherne
 use Rattle.ep_packet.specs.declared.entry.Entry.TheVariants.{EtherType as ether_type, Ip as ip}
 use Rattle.ep_packet.specs.declared.link_part.LinkPart.{LinkPart}
 use Rattle.ep_packet.specs.Frame.{most_link_exts}
-use Rattle.ep_packet.specs.LinkParts.{IsLinkFront, LinkFront, front_of}
+use Rattle.ep_packet.specs.LinkParts.{IsLinkStart, LinkStart, link_start_of}
 use Rattle.ep_packet.proofs.EntryLemmas.{payload_there}
 use Rattle.ep_lax.specs.declared.lax_sliced_packet.LaxSlicedPacket.{LaxSlicedPacket}
 use Rattle.ep_lax.specs.Lax.{IsLax, IsLaxInside}
 use Rattle.ep_lax.specs.LaxLayers.{LaxLayers}
 use Rattle.ep_lax.specs.LaxPackets.{ShowsLaxInside, ShowsLaxLink, lax_layers_of}
-use Rattle.ep_lax.specs.LaxWalk.{HoldsLaxInside, IsLaxBehind}
+use Rattle.ep_lax.specs.LaxWalk.{HoldsLaxInside, IsLaxAfterLink}
 
--- a link layer and what its payload holds are a packet
-is_lax : (entry : Entry) (bytes : List ℕ) (front : LinkFront) (layers : LaxLayers) → IsLinkFront entry bytes front
+-- A link layer and the layers in its payload make a packet.
+is_lax : (entry : Entry) (bytes : List ℕ) (front : LinkStart) (layers : LaxLayers) → IsLinkStart entry bytes front
     → layers.link ≡ Some front.link
     → IsLaxInside most_link_exts front.offset false front.type front.payload layers.link_exts layers.net
     → IsLax entry bytes layers
@@ -43,17 +43,17 @@ is_lax (ether_type type) bytes front layers is link inside = (
 )
 is_lax ip bytes front layers is link inside = absurd is
 
--- what a packet is whose link layer and other layers were filled in
+-- The layers of a packet whose link layer and other layers were filled in.
 pub lax_behind : (part : LinkPart) (packet : LaxSlicedPacket) → packet.link ≡ Some part.link
     → HoldsLaxInside part.offset part.ether_type part.slice.now packet.link_exts.items packet.net packet.transport
     packet.stop_err
-    → IsLaxBehind part packet
+    → IsLaxAfterLink part packet
 lax_behind part packet link inside = λ entry bytes begins. (
-  is_lax entry bytes (front_of part) (lax_layers_of packet) begins.is (ap (option_map link_layer_of) link)
+  is_lax entry bytes (link_start_of part) (lax_layers_of packet) begins.is (ap (option_map link_layer_of) link)
       inside.inside,
   subst (λ (l : Option LinkSlice). ShowsLaxLink bytes l packet.link_exts.items packet.net packet.transport) (sym link) (
     begins.shows,
     subst (λ (b : List ℕ). ShowsLaxInside b packet.link_exts.items packet.net packet.transport)
-        (payload_there entry bytes (front_of part) begins.is) inside.shows,
+        (payload_there entry bytes (link_start_of part) begins.is) inside.shows,
   ),
 )

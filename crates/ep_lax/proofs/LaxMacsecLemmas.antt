@@ -1,4 +1,4 @@
--- That a MACsec packet is read laxly in one way, and what a call that reads one owes.
+-- A MACsec packet is sliced laxly in exactly one way, and the contracts of the calls that slice it.
 use Rattle.std.proofs.Common.{◌≡◌, ℕ, Bool, List, ◌++◌, length, drop, refl, sym, ap, subst, ◌∙◌, append_assoc}
 use Rattle.std.proofs.lemmas.List.{drop_at}
 use Rattle.ep_base.specs.LaxCut.{LaxCut, IsLaxCut}
@@ -12,26 +12,26 @@ use Rattle.ep_link.specs.declared.link_ext.macsec_ptype.MacsecPType.{MacsecPType
 use Rattle.ep_link.specs.declared.link_ext.macsec_ptype.MacsecPType.TheVariants as ptype
 use Rattle.ep_link.specs.Macsec.{IsMacsecHeader, MacsecPayload, RefusesMacsecHeader, macsec_header_len, macsec_payload_bytes, payload_by}
 use Rattle.ep_link.proofs.MacsecLemmas.{macsec_header_is_read}
-use Rattle.ep_lax.specs.LaxMacsec.{IsLaxMacsec, macsec_says}
+use Rattle.ep_lax.specs.LaxMacsec.{IsLaxMacsec, macsec_stated_len}
 
--- there is one tag and one cut
+-- The tag and the limited payload of the bytes are unique.
 pub one_lax_macsec : (outer : Bool) (bytes : List ℕ) (read other : MacsecHeader × LaxCut) → IsLaxMacsec outer bytes read
     → IsLaxMacsec outer bytes other → read ≡ other
 one_lax_macsec outer bytes read other a b =
     let same = one_value macsec_header_is_read bytes (read.0, a.behind) (other.0, b.behind) a.stands b.stands in
-    let moved = subst (λ (h : MacsecHeader × List ℕ). IsLaxCut (macsec_header_len h.0) (macsec_says h.0)
+    let moved = subst (λ (h : MacsecHeader × List ℕ). IsLaxCut (macsec_header_len h.0) (macsec_stated_len h.0)
     source.MacsecShortLength outer (macsec_header_len h.0) h.1 read.1) same a.cut in
-    let cut = one_lax_cut (macsec_header_len other.0) (macsec_says other.0) source.MacsecShortLength outer
+    let cut = one_lax_cut (macsec_header_len other.0) (macsec_stated_len other.0) source.MacsecShortLength outer
     (macsec_header_len other.0) b.behind read.1 other.1 moved b.cut in
     λ i. ((same i).0, cut i)
 
--- and none where the tag is refused
+-- Bytes with a rejected tag are not a MACsec packet.
 pub refused_no_lax_macsec : (outer : Bool) (bytes : List ℕ) (error : HeaderSliceError)
     → RefusesMacsecHeader bytes error → (read : MacsecHeader × LaxCut) → IsLaxMacsec outer bytes read → ⊥
 refused_no_lax_macsec outer bytes error refused read is =
     refused_is_not macsec_header_is_read bytes (read.0, is.behind) error refused is.stands
 
--- the bytes of a payload, of whichever kind
+-- A payload, modified or not, has the bytes that it is built from.
 pub payload_by_is : (p : MacsecPType) (end : LenSource) (bytes : List ℕ)
     → macsec_payload_bytes (payload_by p end bytes) ≡ bytes
 payload_by_is (ptype.Unmodified type) end bytes = refl
@@ -39,7 +39,7 @@ payload_by_is ptype.Modified end bytes = refl
 payload_by_is ptype.Encrypted end bytes = refl
 payload_by_is ptype.EncryptedUnmodified end bytes = refl
 
--- what is known of a packet that was put together
+-- Facts about a MACsec packet built from its parsed parts.
 pub record IsPutTogether (outer : Bool) (bytes tag : List ℕ) (header : MacsecHeader) (payload : MacsecPayload)
     (cut : LaxCut) : Type 0 where
   pub parts : bytes ≡ (tag ++ macsec_payload_bytes payload) ++ cut.left
@@ -47,17 +47,17 @@ pub record IsPutTogether (outer : Bool) (bytes tag : List ℕ) (header : MacsecH
 
 pub macsec_put_together : (outer : Bool) (bytes tag rest : List ℕ) (header : MacsecHeader)
     → bytes ≡ tag ++ rest → IsMacsecHeader bytes (header, rest) → (n : ℕ) → n ≡ length tag
-    → n ≡ macsec_header_len header → (says : ℕ) → says ≡ macsec_says header
-    → (cut : LaxCut) → IsLaxCut n says source.MacsecShortLength outer n (drop n bytes) cut
+    → n ≡ macsec_header_len header → (stated : ℕ) → stated ≡ macsec_stated_len header
+    → (cut : LaxCut) → IsLaxCut n stated source.MacsecShortLength outer n (drop n bytes) cut
     → (payload : MacsecPayload) → payload ≡ payload_by header.ptype cut.source cut.payload
     → IsPutTogether outer bytes tag header payload cut
-macsec_put_together outer bytes tag rest header parts stands n len header_len says says_is cut cuts payload payload_is =
+macsec_put_together outer bytes tag rest header parts stands n len header_len stated says_is cut cuts payload payload_is =
     let behind : drop n bytes ≡ rest = ap (drop n) parts ∙ drop_at tag rest n (sym len) in
     let shown : macsec_payload_bytes payload ≡ cut.payload =
     ap macsec_payload_bytes payload_is ∙ payload_by_is header.ptype cut.source cut.payload in
-    let cuts_behind : IsLaxCut n says source.MacsecShortLength outer n rest cut =
-    subst (λ (b : List ℕ). IsLaxCut n says source.MacsecShortLength outer n b cut) behind cuts in
-    let cuts_says : IsLaxCut n (macsec_says header) source.MacsecShortLength outer n rest cut =
+    let cuts_behind : IsLaxCut n stated source.MacsecShortLength outer n rest cut =
+    subst (λ (b : List ℕ). IsLaxCut n stated source.MacsecShortLength outer n b cut) behind cuts in
+    let cuts_says : IsLaxCut n (macsec_stated_len header) source.MacsecShortLength outer n rest cut =
     subst (λ (s : ℕ). IsLaxCut n s source.MacsecShortLength outer n rest cut) says_is cuts_behind in
     record {
       parts = parts ∙ ap (λ (s : List ℕ). tag ++ s) (cuts_behind.parts
@@ -66,7 +66,7 @@ macsec_put_together outer bytes tag rest header parts stands n len header_len sa
       is = record {
         behind = rest;
         stands = stands;
-        cut = subst (λ (k : ℕ). IsLaxCut k (macsec_says header) source.MacsecShortLength outer k rest cut) header_len
+        cut = subst (λ (k : ℕ). IsLaxCut k (macsec_stated_len header) source.MacsecShortLength outer k rest cut) header_len
             cuts_says;
       };
     }

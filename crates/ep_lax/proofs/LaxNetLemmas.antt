@@ -1,4 +1,4 @@
--- The net layer in the lax walk over a packet, from what the calls of its slices ensure.
+-- The network layer of lax slicing, from the contracts of its slices.
 use Rattle.std.proofs.Common.{◌≡◌, ℕ, ◌+◌, ◌≤◌, Bool, List, [], ◌∷◌, ◌++◌, length, Option, Some, None, refl, sym, ap, subst, ◌∙◌, arith, length-append}
 use Rattle.std.proofs.Math.Path.{transport}
 use Rattle.std.specs.Option.{option_map}
@@ -12,7 +12,7 @@ use Rattle.ep_base.specs.declared.err.layer.Layer.{Layer}
 use Rattle.ep_base.specs.Readings.{slices}
 use Rattle.ep_ext.specs.ExtensionParts.{ExtensionPart, hop_by_hop, destination_options, routing, fragment, authentication, auth_refusal, part_bytes, part_len, part_next}
 use Rattle.ep_ext.specs.Chains.{IpVersion, ipv4, ipv6, ExtensionChain, offset_of, parts_bytes}
-use Rattle.ep_ext.specs.FrontChains.{AreInFront, IsFrontChain}
+use Rattle.ep_ext.specs.FrontChains.{BeginWithParts, IsLaxChain}
 use Rattle.ep_ext.proofs.ChainBytesLemmas.{chain_len}
 use Rattle.ep_ext.proofs.PartLemmas.{auth_len, part_lens}
 use Rattle.ep_ip.specs.declared.ipv4_header.Ipv4Header.{Ipv4Header}
@@ -22,7 +22,7 @@ use Rattle.ep_ip.specs.Ipv6.{ipv6_bytes}
 use Rattle.ep_ip.proofs.IpBytesLemmas.{encoded_len, ipv6_len}
 use Rattle.ep_transport.specs.declared.transport_slice.TransportSlice.{TransportSlice}
 use Rattle.ep_packet.specs.declared.err.slice_error.SliceError.{SliceError}
-use Rattle.ep_packet.specs.FrameRefusals.{net_header_len}
+use Rattle.ep_packet.specs.FrameRefusals.{net_payload_offset}
 use Rattle.ep_packet.specs.Layers.{ipv4_layer, ipv6_layer}
 use Rattle.ep_packet.specs.ShownBytes.{ShowsTransport}
 use Rattle.ep_lax.specs.declared.lax_ip_payload_slice.LaxIpPayloadSlice.{LaxIpPayloadSlice}
@@ -30,16 +30,16 @@ use Rattle.ep_lax.specs.declared.lax_ipv4_slice.LaxIpv4Slice.{LaxIpv4Slice}
 use Rattle.ep_lax.specs.declared.lax_ipv6_slice.LaxIpv6Slice.{LaxIpv6Slice}
 use Rattle.ep_lax.specs.declared.lax_net_slice.LaxNetSlice.TheVariants as net
 use Rattle.ep_lax.specs.Lax.{IsInsideIp, IsIpv4Net, IsIpv6Net, chain_refusal}
-use Rattle.ep_lax.specs.LaxIp.{LaxIp, IsLaxIpv4, IsLaxIpv6, stop_behind}
+use Rattle.ep_lax.specs.LaxIp.{LaxIp, IsLaxIpv4, IsLaxIpv6, stop_after}
 use Rattle.ep_lax.specs.LaxLayers.{LaxTransport}
 use Rattle.ep_lax.specs.LaxPackets.{ShowsLaxNet, inside_of, lax_net_of}
 use Rattle.ep_lax.specs.LaxSlices.{lax_ip_payload_of, lax_ipv4_of, lax_ipv4_slice_bytes, lax_ipv4_slice_incomplete, lax_ipv4_slice_payload, lax_ipv6_of, lax_ipv6_slice_bytes, lax_ipv6_slice_incomplete, lax_ipv6_slice_payload}
-use Rattle.ep_lax.specs.LaxWalk.{IsBehindIp}
+use Rattle.ep_lax.specs.LaxWalk.{IsInIpPayload}
 use Rattle.ep_lax.proofs.LaxIpLemmas.{stop_within}
 
--- ---- how many bytes the headers have
+-- ---- lengths of headers
 
--- the bytes of a header as it is written
+-- The wire format of an extension header has the header's length.
 part_bytes_len : (part : ExtensionPart) → length (part_bytes part) ≡ part_len part
 part_bytes_len (hop_by_hop header) = grind (arith, common_steps)
 part_bytes_len (destination_options header) = grind (arith, common_steps)
@@ -47,9 +47,9 @@ part_bytes_len (routing header) = grind (arith, common_steps)
 part_bytes_len (fragment header) = refl
 part_bytes_len (authentication header) = auth_len 0 header
 
--- those in front, and the rest
+-- The length of the bytes is that of the headers at their start plus the rest.
 in_front_len : (number : ℕ) (bytes : List ℕ) (parts : List ExtensionPart) (last : ℕ) (rest : List ℕ)
-    → AreInFront number bytes parts last rest → length bytes ≡ length (parts_bytes parts) + length rest
+    → BeginWithParts number bytes parts last rest → length bytes ≡ length (parts_bytes parts) + length rest
 in_front_len number bytes [] last rest is = omega (arith, ap length is.1)
 in_front_len number bytes (part ∷ parts) last rest is = omega (
   arith,
@@ -60,16 +60,16 @@ in_front_len number bytes (part ∷ parts) last rest is = omega (
 )
 
 front_chain_len : (version : IpVersion) (number : ℕ) (bytes : List ℕ) (chain : ExtensionChain)
-    (stop : Option HeaderSliceError) → IsFrontChain version number bytes chain stop
+    (stop : Option HeaderSliceError) → IsLaxChain version number bytes chain stop
     → length bytes ≡ length (parts_bytes chain.parts) + length chain.rest
 front_chain_len version number bytes chain None is = chain_len version slices number bytes chain is
 front_chain_len version number bytes chain (Some error) is =
     in_front_len number bytes chain.parts chain.last chain.rest is.1
 
--- a packet of IPv4
+-- The length of the bytes is the sum of the headers, payload and trailing bytes of an IPv4 packet.
 lax_ipv4_lens : (outer : Bool) (bytes : List ℕ) (lax : LaxIp Ipv4Header) → IsLaxIpv4 outer bytes lax
     → length bytes
-    ≡ net_header_len (ipv4_layer lax.packet) + length lax.packet.payload.bytes + length lax.packet.left
+    ≡ net_payload_offset (ipv4_layer lax.packet) + length lax.packet.payload.bytes + length lax.packet.left
 lax_ipv4_lens outer bytes lax is =
     let header = is.0.0 in
     let rest = is.0.1 in
@@ -77,7 +77,7 @@ lax_ipv4_lens outer bytes lax is =
     let behind = is.2 in
     let cut = behind.cut in
     subst (λ (l : LaxIp Ipv4Header). length bytes
-    ≡ net_header_len (ipv4_layer l.packet) + length l.packet.payload.bytes + length l.packet.left) (sym behind.is)
+    ≡ net_payload_offset (ipv4_layer l.packet) + length l.packet.payload.bytes + length l.packet.left) (sym behind.is)
     (omega (
       arith,
       ap length stands.parts,
@@ -88,10 +88,10 @@ lax_ipv4_lens outer bytes lax is =
       front_chain_len ipv4 header.protocol.0 cut.payload behind.chain behind.refused behind.front,
     ))
 
--- and of IPv6
+-- The length of the bytes is the sum of the headers, payload and trailing bytes of an IPv6 packet.
 lax_ipv6_lens : (outer : Bool) (bytes : List ℕ) (lax : LaxIp Ipv6Header) → IsLaxIpv6 outer bytes lax
     → length bytes
-    ≡ net_header_len (ipv6_layer lax.packet) + length lax.packet.payload.bytes + length lax.packet.left
+    ≡ net_payload_offset (ipv6_layer lax.packet) + length lax.packet.payload.bytes + length lax.packet.left
 lax_ipv6_lens outer bytes lax is =
     let header = is.0.0 in
     let rest = is.0.1 in
@@ -99,7 +99,7 @@ lax_ipv6_lens outer bytes lax is =
     let behind = is.2 in
     let cut = behind.cut in
     subst (λ (l : LaxIp Ipv6Header). length bytes
-    ≡ net_header_len (ipv6_layer l.packet) + length l.packet.payload.bytes + length l.packet.left) (sym behind.is)
+    ≡ net_payload_offset (ipv6_layer l.packet) + length l.packet.payload.bytes + length l.packet.left) (sym behind.is)
     (omega (
       arith,
       ap length stands.parts,
@@ -110,21 +110,21 @@ lax_ipv6_lens outer bytes lax is =
       front_chain_len ipv6 header.next_header.0 cut.payload behind.chain behind.refused behind.front,
     ))
 
--- ---- where a refused extension header begins
+-- ---- start of a rejected extension header
 
 stop_start : (n : ℕ) (end : LenSource) (error : HeaderSliceError)
-    → offset_of (stop_behind n end error) ≤ offset_of error + n
+    → offset_of (stop_after n end error) ≤ offset_of error + n
 stop_start n end (header_error.Len error) = omega arith
 stop_start n end (header_error.Content error) = omega arith
 
--- behind a header of so many bytes it lies within the content
+-- A rejected extension header after a header of this length starts within the bytes of the packet.
 behind_within : (n : ℕ) (end : LenSource) (version : IpVersion) (number : ℕ) (content : List ℕ)
-    (chain : ExtensionChain) (refused : Option HeaderSliceError) → IsFrontChain version number content chain refused
-    → (error : HeaderSliceError) → option_map (stop_behind n end) refused ≡ Some error
+    (chain : ExtensionChain) (refused : Option HeaderSliceError) → IsLaxChain version number content chain refused
+    → (error : HeaderSliceError) → option_map (stop_after n end) refused ≡ Some error
     → offset_of error ≤ n + length content
 behind_within n end version number content chain None front error same = absurd (cc same)
 behind_within n end version number content chain (Some refused) front error same =
-    let is : stop_behind n end refused ≡ error = cc in
+    let is : stop_after n end refused ≡ error = cc in
     omega (
       arith,
       ap offset_of is,
@@ -139,11 +139,11 @@ ipv4_stop_within outer bytes lax is error same =
     let stands = is.1 in
     let behind = is.2 in
     let cut = behind.cut in
-    let told = sym (ap (λ (l : LaxIp Ipv4Header). l.stop) behind.is) ∙ same in
+    let error_with_layer = sym (ap (λ (l : LaxIp Ipv4Header). l.stop) behind.is) ∙ same in
     omega (
       arith,
       behind_within (ipv4_header_len header) cut.source ipv4 header.protocol.0 cut.payload behind.chain behind.refused
-          behind.front error told,
+          behind.front error error_with_layer,
       ap length stands.parts,
       length-append stands.encoded is.0.1,
       encoded_len stands.encoded header stands.encodes,
@@ -158,13 +158,13 @@ ipv6_stop_within outer bytes lax is error same =
     let stands = is.1 in
     let behind = is.2 in
     let cut = behind.cut in
-    let told = sym (ap (λ (l : LaxIp Ipv6Header). l.stop) behind.is) ∙ same in
+    let error_with_layer = sym (ap (λ (l : LaxIp Ipv6Header). l.stop) behind.is) ∙ same in
     omega (
       arith,
       behind_within 40 lax.packet.payload.source ipv6 header.next_header.0 cut.payload behind.chain behind.refused
           behind.front error
-          (ap (λ (e : LenSource). option_map (stop_behind 40 e) behind.refused)
-          (ap (λ (l : LaxIp Ipv6Header). l.packet.payload.source) behind.is) ∙ told),
+          (ap (λ (e : LenSource). option_map (stop_after 40 e) behind.refused)
+          (ap (λ (l : LaxIp Ipv6Header). l.packet.payload.source) behind.is) ∙ error_with_layer),
       ap length stands.parts,
       length-append (ipv6_bytes header) is.0.1,
       ipv6_len header stands.fits,
@@ -172,45 +172,45 @@ ipv6_stop_within outer bytes lax is error same =
       length-append cut.payload cut.left,
     )
 
--- ---- what is inside a packet
+-- ---- layers in a packet
 
 behind_is_inside : (version : IpVersion) (offset len : ℕ) (incomplete : Bool) (payload : IpPayload)
     (stop : Option HeaderSliceError) (inside : LaxTransport)
-    → IsBehindIp (offset + len) incomplete payload (option_map (chain_refusal version offset) stop) inside
+    → IsInIpPayload (offset + len) incomplete payload (option_map (chain_refusal version offset) stop) inside
     → IsInsideIp version offset len incomplete payload stop inside
 behind_is_inside version offset len incomplete payload None inside is = is
 behind_is_inside version offset len incomplete payload (Some error) inside is = is
 
--- as the calls say it
+-- The layers in an IP packet, stated with the contracts of the calls.
 inside_ip : (version : IpVersion) (offset len at : ℕ) (payload : IpPayload) (incomplete : Bool)
     (shown : LaxIpPayloadSlice) (stop : Option HeaderSliceError) (found : Option SliceError)
-    (transport_slice : Option TransportSlice) (told : Option (SliceError × Layer))
+    (transport_slice : Option TransportSlice) (error_with_layer : Option (SliceError × Layer))
     → at ≡ offset + len → lax_ip_payload_of shown ≡ payload → shown.incomplete ≡ incomplete
     → found ≡ option_map (chain_refusal version offset) stop
-    → IsBehindIp at shown.incomplete (lax_ip_payload_of shown) found (inside_of shown.incomplete transport_slice told)
-    → IsInsideIp version offset len incomplete payload stop (inside_of incomplete transport_slice told)
-inside_ip version offset len at payload incomplete shown stop found transport_slice told place same missing found_is is =
-    behind_is_inside version offset len incomplete payload stop (inside_of incomplete transport_slice told)
-    (transport (λ i. IsBehindIp (place i) (missing i) (same i) (found_is i)
-    (inside_of (missing i) transport_slice told)) is)
+    → IsInIpPayload at shown.incomplete (lax_ip_payload_of shown) found (inside_of shown.incomplete transport_slice error_with_layer)
+    → IsInsideIp version offset len incomplete payload stop (inside_of incomplete transport_slice error_with_layer)
+inside_ip version offset len at payload incomplete shown stop found transport_slice error_with_layer place same missing found_is is =
+    behind_is_inside version offset len incomplete payload stop (inside_of incomplete transport_slice error_with_layer)
+    (transport (λ i. IsInIpPayload (place i) (missing i) (same i) (found_is i)
+    (inside_of (missing i) transport_slice error_with_layer)) is)
 
--- a packet of IPv4, and what is inside it
+-- An IPv4 packet and the layers in it, filled in.
 pub ipv4_filled : (offset len at : ℕ) (packet : LaxIpv4Slice) (refused : Option AuthSliceError)
     (shown : LaxIpPayloadSlice) (found : Option SliceError) (transport_slice : Option TransportSlice)
-    (told : Option (SliceError × Layer))
+    (error_with_layer : Option (SliceError × Layer))
     → len + length (lax_ipv4_slice_payload packet).bytes ≡ length (lax_ipv4_slice_bytes packet) → at ≡ offset + len
     → lax_ip_payload_of shown ≡ lax_ipv4_slice_payload packet → shown.incomplete ≡ lax_ipv4_slice_incomplete packet
     → found ≡ option_map (chain_refusal ipv4 offset) (option_map auth_refusal refused)
-    → IsBehindIp at shown.incomplete (lax_ip_payload_of shown) found (inside_of shown.incomplete transport_slice told)
+    → IsInIpPayload at shown.incomplete (lax_ip_payload_of shown) found (inside_of shown.incomplete transport_slice error_with_layer)
     → ShowsTransport shown.payload.now transport_slice
     → (outer : Bool) (bytes left : List ℕ) → bytes ≡ lax_ipv4_slice_bytes packet ++ left
     → IsLaxIpv4 outer bytes (lax_ipv4_of packet left refused)
-    → IsIpv4Net offset outer bytes (lax_net_of outer (Some (net.Ipv4 packet)) transport_slice told)
+    → IsIpv4Net offset outer bytes (lax_net_of outer (Some (net.Ipv4 packet)) transport_slice error_with_layer)
     × ShowsLaxNet bytes (Some (net.Ipv4 packet)) transport_slice
-ipv4_filled offset len at packet refused shown found transport_slice told lens place same missing found_is inside shows
+ipv4_filled offset len at packet refused shown found transport_slice error_with_layer lens place same missing found_is inside shows
     outer bytes left parts is =
     let lax = lax_ipv4_of packet left refused in
-    let headers = net_header_len (ipv4_layer lax.packet) in
+    let headers = net_payload_offset (ipv4_layer lax.packet) in
     let len_is : len ≡ headers = omega (
       arith,
       lens,
@@ -223,8 +223,8 @@ ipv4_filled offset len at packet refused shown found transport_slice told lens p
         lax,
         is,
         (
-          inside_of lax.incomplete transport_slice told,
-          inside_ip ipv4 offset headers at lax.packet.payload lax.incomplete shown lax.stop found transport_slice told
+          inside_of lax.incomplete transport_slice error_with_layer,
+          inside_ip ipv4 offset headers at lax.packet.payload lax.incomplete shown lax.stop found transport_slice error_with_layer
               there same missing found_is inside,
           refl,
         ),
@@ -235,22 +235,22 @@ ipv4_filled offset len at packet refused shown found transport_slice told lens p
       ),
     )
 
--- a packet of IPv6
+-- An IPv6 packet and the layers in it, filled in.
 pub ipv6_filled : (offset len at : ℕ) (packet : LaxIpv6Slice) (shown : LaxIpPayloadSlice) (found : Option SliceError)
-    (transport_slice : Option TransportSlice) (told : Option (SliceError × Layer))
+    (transport_slice : Option TransportSlice) (error_with_layer : Option (SliceError × Layer))
     → len + length (lax_ipv6_slice_payload packet).bytes ≡ length (lax_ipv6_slice_bytes packet) → at ≡ offset + len
     → lax_ip_payload_of shown ≡ lax_ipv6_slice_payload packet → shown.incomplete ≡ lax_ipv6_slice_incomplete packet
-    → IsBehindIp at shown.incomplete (lax_ip_payload_of shown) found (inside_of shown.incomplete transport_slice told)
+    → IsInIpPayload at shown.incomplete (lax_ip_payload_of shown) found (inside_of shown.incomplete transport_slice error_with_layer)
     → ShowsTransport shown.payload.now transport_slice
     → (outer : Bool) (bytes left : List ℕ) (stop : Option HeaderSliceError)
     → found ≡ option_map (chain_refusal ipv6 offset) stop → bytes ≡ lax_ipv6_slice_bytes packet ++ left
     → IsLaxIpv6 outer bytes (lax_ipv6_of packet left stop)
-    → IsIpv6Net offset outer bytes (lax_net_of outer (Some (net.Ipv6 packet)) transport_slice told)
+    → IsIpv6Net offset outer bytes (lax_net_of outer (Some (net.Ipv6 packet)) transport_slice error_with_layer)
     × ShowsLaxNet bytes (Some (net.Ipv6 packet)) transport_slice
-ipv6_filled offset len at packet shown found transport_slice told lens place same missing inside shows outer bytes left
+ipv6_filled offset len at packet shown found transport_slice error_with_layer lens place same missing inside shows outer bytes left
     stop found_is parts is =
     let lax = lax_ipv6_of packet left stop in
-    let headers = net_header_len (ipv6_layer lax.packet) in
+    let headers = net_payload_offset (ipv6_layer lax.packet) in
     let len_is : len ≡ headers = omega (
       arith,
       lens,
@@ -263,8 +263,8 @@ ipv6_filled offset len at packet shown found transport_slice told lens place sam
         lax,
         is,
         (
-          inside_of lax.incomplete transport_slice told,
-          inside_ip ipv6 offset headers at lax.packet.payload lax.incomplete shown lax.stop found transport_slice told
+          inside_of lax.incomplete transport_slice error_with_layer,
+          inside_ip ipv6 offset headers at lax.packet.payload lax.incomplete shown lax.stop found transport_slice error_with_layer
               there same missing found_is inside,
           refl,
         ),

@@ -1,4 +1,4 @@
--- Bytes that are read laxly are the headers of the layers in order, the payload of the last layer, and trailing bytes.
+-- Bytes sliced laxly are the headers of the layers in order, the payload of the last layer, and trailing bytes.
 use Rattle.std.proofs.Common.{◌≡◌, ℕ, ◌+◌, zero, suc, Bool, false, List, [], ◌∷◌, ◌++◌, map, Option, Some, None, refl, sym, ap, subst, ◌∙◌, inl, inr, append_assoc}
 use Rattle.std.proofs.lemmas.List.{append-nil}
 use Rattle.ep_base.specs.IpPayload.{IpPayload}
@@ -8,7 +8,7 @@ use Rattle.ep_base.specs.declared.len_source.LenSource.TheVariants as source
 use Rattle.ep_base.specs.declared.err.ipv6_exts.HeaderSliceError.{HeaderSliceError}
 use Rattle.ep_ext.specs.Chains.{IpVersion, ipv4, ipv6, ExtensionChain, EncodesParts}
 use Rattle.ep_ext.specs.ExtensionParts.{ExtensionPart, hop_by_hop, destination_options, routing, fragment, authentication, part_next, EncodesPart, IsExtensionPart}
-use Rattle.ep_ext.specs.FrontChains.{AreInFront, IsFrontChain}
+use Rattle.ep_ext.specs.FrontChains.{BeginWithParts, IsLaxChain}
 use Rattle.ep_ext.specs.RawExtension.{raw_extension_bytes}
 use Rattle.ep_ext.proofs.ChainBytesLemmas.{chain_encoded}
 use Rattle.ep_ip.specs.declared.ipv4_header.Ipv4Header.{Ipv4Header}
@@ -28,10 +28,10 @@ use Rattle.ep_transport.proofs.TransportLemmas.{transport_bytes_are}
 use Rattle.ep_packet.specs.declared.entry.Entry.{Entry}
 use Rattle.ep_packet.specs.declared.entry.Entry.TheVariants.{Ethernet as ethernet, LinuxSll as linux_sll, EtherType as ether_type, Ip as ip}
 use Rattle.ep_packet.specs.Frame.{NetKind, only_ipv4, only_ipv6, only_arp, any_ip, net_kind, most_link_exts}
-use Rattle.ep_packet.specs.FrameBytes.{AreInOrder, EncodesNet, behind_net}
+use Rattle.ep_packet.specs.FrameBytes.{AreInOrder, EncodesNet, after_net}
 use Rattle.ep_packet.proofs.OrderLemmas.{InsideBytes, frame_bytes, ip_bytes, net_layer_bytes, no_layer_bytes, tagged_bytes}
 use Rattle.ep_packet.specs.Layers.{NetLayer, arp, ipv4_layer, ipv6_layer}
-use Rattle.ep_lax.specs.Lax.{IsCutLaxly, IsHeaderCutLaxly, IsInsideIp, IsIpv4Net, IsIpv6Net, IsLax, IsLaxExtension, IsLaxInside, IsLaxNet, IsLaxTransport}
+use Rattle.ep_lax.specs.Lax.{IsLimitedLaxly, IsHeaderLimitedLaxly, IsInsideIp, IsIpv4Net, IsIpv6Net, IsLax, IsLaxExtension, IsLaxInside, IsLaxNet, IsLaxTransport}
 use Rattle.ep_lax.specs.LaxIp.{LaxIp, IsLaxIpv4, IsLaxIpv6}
 use Rattle.ep_lax.specs.LaxLayers.{LaxLayers, LaxNet, LaxTransport}
 use Rattle.ep_lax.specs.StrictFrames.{extension_in, layers_in}
@@ -39,7 +39,7 @@ use Rattle.ep_lax.proofs.LaxMacsecLemmas.{payload_by_is}
 
 -- ---- extension headers
 
--- the bytes of an extension header
+-- The bytes of an extension header are its wire format.
 part_bytes_are : (number : ℕ) (bytes : List ℕ) (part : ExtensionPart) (rest : List ℕ)
     → IsExtensionPart number bytes part rest
     → (encoded : List ℕ) × EncodesPart encoded part × (bytes ≡ encoded ++ rest)
@@ -52,9 +52,9 @@ part_bytes_are number bytes (routing header) rest is =
 part_bytes_are number bytes (fragment header) rest is = (is.1.encoded, is.1.encodes, is.1.parts)
 part_bytes_are number bytes (authentication header) rest is = (is.1.encoded, is.1.encodes, is.1.parts)
 
--- the bytes of the extension headers before a rejected one
+-- The bytes of the extension headers before a rejected one are their wire format.
 parts_bytes_are : (number : ℕ) (bytes : List ℕ) (parts : List ExtensionPart) (last : ℕ) (rest : List ℕ)
-    → AreInFront number bytes parts last rest
+    → BeginWithParts number bytes parts last rest
     → (encoded : List ℕ) × EncodesParts encoded parts × (bytes ≡ encoded ++ rest)
 parts_bytes_are number bytes [] last rest is = ([], refl, sym is.1)
 parts_bytes_are number bytes (part ∷ parts) last rest is =
@@ -65,9 +65,9 @@ parts_bytes_are number bytes (part ∷ parts) last rest is =
       here.2 ∙ ap (λ (s : List ℕ). here.0 ++ s) more.2 ∙ sym (append_assoc here.0 more.0 rest),
     )
 
--- the bytes of the extension headers that are read
+-- The bytes of the extension headers that are read are their wire format.
 chain_bytes_are : (version : IpVersion) (number : ℕ) (bytes : List ℕ) (chain : ExtensionChain)
-    (refused : Option HeaderSliceError) → IsFrontChain version number bytes chain refused
+    (refused : Option HeaderSliceError) → IsLaxChain version number bytes chain refused
     → (encoded : List ℕ) × EncodesParts encoded chain.parts × (bytes ≡ encoded ++ chain.rest)
 chain_bytes_are version number bytes chain None is = chain_encoded version slices number bytes chain is
 chain_bytes_are version number bytes chain (Some error) is =
@@ -80,9 +80,9 @@ record NetBytes (bytes : List ℕ) (layer : NetLayer) : Type 0 where
   header : List ℕ
   left : List ℕ
   encodes : EncodesNet (Some layer) header
-  parts : bytes ≡ (header ++ behind_net [] (Some layer)) ++ left
+  parts : bytes ≡ (header ++ after_net [] (Some layer)) ++ left
 
--- a header, extension headers, a payload and trailing bytes, with both kinds of headers joined
+-- A header, extension headers, a payload and trailing bytes, with both kinds of headers joined.
 regroup : (bytes header rest content inner payload left : List ℕ) → bytes ≡ header ++ rest
     → rest ≡ content ++ left → content ≡ inner ++ payload → bytes ≡ ((header ++ inner) ++ payload) ++ left
 regroup bytes header rest content inner payload left parts rest_is content_is =
@@ -114,13 +114,13 @@ ipv6_net_bytes outer bytes lax (read, stands, is) =
 
 -- ---- the transport layer
 
--- no transport layer
+-- Bytes without transport layer are in order.
 no_transport_in : (bytes : List ℕ) → AreTransport bytes None
 no_transport_in bytes = record { header = []; left = []; encodes = refl; parts = sym (append-nil bytes) }
 
--- a layer whose payload is limited by its length field, if the field allows it
+-- A layer whose payload is limited by its length field, if the field applies, is in order.
 cut_in_order : (outer : Bool) (bytes : List ℕ) (h : TransportHeader) (payload : List ℕ) (lax : LaxTransport)
-    → AreTransport bytes (Some (transport_layer h payload)) → IsHeaderCutLaxly outer h payload lax
+    → AreTransport bytes (Some (transport_layer h payload)) → IsHeaderLimitedLaxly outer h payload lax
     → AreTransport bytes lax.layer
 cut_in_order outer bytes (header.Udp udp) payload lax are (cut, cuts, same) =
     subst (λ (l : LaxTransport). AreTransport bytes l.layer) (sym same) (record {
@@ -138,12 +138,12 @@ cut_in_order outer bytes (header.Icmpv6 icmp) payload lax are same =
     subst (λ (l : LaxTransport). AreTransport bytes l.layer) (sym same) are
 
 part_in_order : (outer : Bool) (bytes : List ℕ) (part : Option TransportLayer) (lax : LaxTransport)
-    → AreTransport bytes part → IsCutLaxly outer part lax → AreTransport bytes lax.layer
+    → AreTransport bytes part → IsLimitedLaxly outer part lax → AreTransport bytes lax.layer
 part_in_order outer bytes None lax are same =
     subst (λ (l : LaxTransport). AreTransport bytes l.layer) (sym same) are
 part_in_order outer bytes (Some layer) lax are is = cut_in_order outer bytes layer.header layer.payload lax are is
 
--- the transport layer in a payload of IP
+-- The transport layer in a payload of IP is in order.
 transport_in_order : (offset : ℕ) (outer : Bool) (payload : IpPayload) (lax : LaxTransport)
     → IsLaxTransport offset outer payload lax → AreTransport payload.bytes lax.layer
 transport_in_order offset outer payload lax (inl refused) =
@@ -159,11 +159,11 @@ inside_in_order version offset len outer payload None lax is = transport_in_orde
 inside_in_order version offset len outer payload (Some refused) lax same =
     subst (λ (l : LaxTransport). AreTransport payload.bytes l.layer) (sym same) (no_transport_in payload.bytes)
 
--- ---- the layers after the link header
+-- ---- layers after the link header
 
--- a network layer that is read, with the transport layer in its payload
+-- A network layer with the transport layer in its payload is in order.
 layer_in_order : (bytes : List ℕ) (layer : NetLayer) (transport : Option TransportLayer) → NetBytes bytes layer
-    → AreTransport (behind_net [] (Some layer)) transport → InsideBytes bytes [] (Some layer) transport
+    → AreTransport (after_net [] (Some layer)) transport → InsideBytes bytes [] (Some layer) transport
 layer_in_order bytes layer transport are inside =
     net_layer_bytes bytes are.header are.left layer transport are.encodes are.parts inside
 
@@ -181,7 +181,7 @@ ipv6_net_in_order offset outer bytes net (lax, is, (inside, inner, same)) =
     (layer_in_order bytes (ipv6_layer lax.packet) inside.layer (ipv6_net_bytes outer bytes lax is)
     (inside_in_order ipv6 offset _ lax.incomplete lax.packet.payload lax.stop inside inner))
 
--- no network layer is read
+-- Bytes without network layer are in order.
 no_net_in_order : (bytes : List ℕ) (net other : LaxNet) → other.layer ≡ None → other.inside.layer ≡ None → net ≡ other
     → InsideBytes bytes [] net.layer net.inside.layer
 no_net_in_order bytes net other no_layer no_transport same =

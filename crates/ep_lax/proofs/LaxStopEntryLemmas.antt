@@ -1,4 +1,4 @@
--- That lax reading stops at what strict slicing refuses by no row of a length field, by each entry, and at nothing else.
+-- Each entry of lax slicing stops exactly at the errors of strict slicing that are not caused by a length field.
 use Rattle.std.proofs.Common.{◌≡◌, ◌⊎◌, ◌==◌, ◌||◌, add-zero, not, if◌then◌else◌, ℕ, ◌+◌, Bool, true, false, List, [], ◌∷◌, length, Some, None, refl, sym, ap, subst, ◌∙◌, inl, inr}
 use Rattle.std.proofs.lemmas.Bool.{cases_Bool, cases_eq, ne_eqb}
 use Rattle.ep_base.specs.Bytes.{AreBytes}
@@ -45,21 +45,21 @@ use Rattle.ep_packet.specs.declared.entry.Entry.TheVariants.{Ethernet as etherne
 use Rattle.ep_packet.specs.declared.err.slice_error.SliceError.{SliceError}
 use Rattle.ep_packet.specs.declared.err.slice_error.SliceError.TheVariants.{Len}
 use Rattle.ep_packet.specs.Frame.{any_ip, most_link_exts}
-use Rattle.ep_packet.specs.FrameRefusals.{RefusesFrame, RefusesNetPart, RefusesTransportBehind, ip_refusal, ipv4_refusal, ipv6_refusal, net_header_len}
+use Rattle.ep_packet.specs.FrameRefusals.{RefusesFrame, RefusesNetPart, RefusesTransportAfterNet, ip_refusal, ipv4_refusal, ipv6_refusal, net_payload_offset}
 use Rattle.ep_packet.specs.Layers.{NetLayer, ip_layer, net_payload}
 use Rattle.ep_packet.proofs.LayerLawLemmas.{frame_law}
-use Rattle.ep_lax.specs.LaxLayers.{LaxLayers, told}
+use Rattle.ep_lax.specs.LaxLayers.{LaxLayers, error_with_layer}
 use Rattle.ep_lax.specs.LaxRefusals.{RefusesIpHeader, RefusesLax, ip_header_refusal, of_ipv4_header, of_ipv6_header}
 use Rattle.ep_lax.specs.Lax.{IsLax, IsLaxNet}
-use Rattle.ep_lax.specs.LaxStops.{IsStrictStop, RefusesSoOrByLength, StopsFor, is_by_length}
+use Rattle.ep_lax.specs.LaxStops.{IsStrictStop, RefusesWithErrorOrByLength, StopsFor, is_by_length}
 use Rattle.ep_lax.proofs.LaxEntryLemmas.{lax_decided, rows_of_ipv4, rows_of_ipv6}
 use Rattle.ep_lax.proofs.LaxStopLemmas.{StopsIn, inside_stops, ipv4_chain_stops, ipv4_header_row, ipv4_inside_stops, ipv4_length_rows, ipv6_chain_stops, ipv6_header_row, ipv6_inside_stops, ipv6_length_rows}
-use Rattle.ep_lax.proofs.LaxToldLemmas.{IsTold, lax_told}
+use Rattle.ep_lax.proofs.LaxErrorLayerLemmas.{IsTold, lax_told}
 use Rattle.ep_lax.proofs.StrictLemmas.{frame_is_whole}
 
--- ---- the first header of a packet of open version
+-- ---- first header of an IP packet of either version
 
--- a table of which one of the first two rows holds refuses as one with the same first rows
+-- If one of the first two rows of a table applies, it rejects like any table with the same first rows.
 same_rows : {E F : Type 0} (first second : Bool) (a b : E) (these : List (Bool × E)) (c d : F)
     (those : List (Bool × F)) (error : E)
     → (first ≡ false → second ≡ false → ⊥) → first_row ((first, a) ∷ (second, b) ∷ these) ≡ Some error
@@ -69,18 +69,18 @@ same_rows true second a b these c d those error one refused = inl (cc, refl)
 same_rows false true a b these c d those error one refused = inr (cc, refl)
 same_rows false false a b these c d those error one refused = absurd (one refl refl)
 
--- two rows that do not hold refuse nothing
+-- Two rows that do not apply reject nothing.
 none_refused : {E : Type 0} (first second : Bool) (a b error : E)
     → first_row ((first, a) ∷ (second, b) ∷ []) ≡ Some error → first ≡ false → second ≡ false → ⊥
 none_refused first second a b error refused not_first not_second =
     absurd (let none : first_row ((first, a) ∷ (second, b) ∷ []) ≡ None =
     (λ i. first_row ((not_first i, a) ∷ (not_second i, b) ∷ [])) in cc)
 
--- a refusal at the start is the same
+-- Adding an offset of 0 does not change an error.
 at_zero : (error : LenError) → record error { layer_start_offset = error.layer_start_offset + 0 } ≡ error
 at_zero error i = record error { layer_start_offset = add-zero error.layer_start_offset i }
 
--- lax reading refuses the header as strict slicing does
+-- Lax slicing rejects the IPv4 header with the error of strict slicing.
 ipv4_header_told : (error : Ipv4HeaderError)
     → ip_refusal 0 (of_ipv4_error (of_header_error error)) ≡ ip_header_refusal (of_ipv4_header error)
 ipv4_header_told (ipv4_header_error.Len error) = ap Len (at_zero error)
@@ -92,11 +92,11 @@ ipv6_header_told : (error : Ipv6HeaderError)
 ipv6_header_told (ipv6_header_error.Len error) = ap Len (at_zero error)
 ipv6_header_told (ipv6_header_error.Content (ipv6_content.UnexpectedVersion version)) = refl
 
--- lax reading refuses the first header, for this
+-- Lax slicing rejects the first header with this error.
 abbrev RefusesFirst : List ℕ → SliceError → Type 0
 RefusesFirst bytes = RefusesAs ip_header_refusal (RefusesIpHeader bytes)
 
--- of neither version
+-- Bytes of neither IP version are rejected with the error of strict slicing.
 version_told : (bytes : List ℕ) (error : IpSliceError) → Refuses (ip_version_rows bytes) error
     → RefusesFirst bytes (ip_refusal 0 error)
 version_told bytes error refused =
@@ -129,9 +129,9 @@ ipv6_first bytes error version (row, refused, same) = (
   ap (λ (e : Ipv6SliceError). ip_refusal 0 (of_ipv6_error e)) same ∙ ipv6_header_told row,
 )
 
--- ---- a packet of open version
+-- ---- IP packets of either version
 
--- a packet's refusal among those of either version is by the same row
+-- Converting the error of a packet to that of either version does not change whether a length field caused it.
 ipv4_row : (error : Ipv4SliceError)
     → is_by_length (ipv4_refusal 0 error) ≡ is_by_length (ip_refusal 0 (of_ipv4_error error))
 ipv4_row (ipv4_error.Len error) = refl
@@ -145,7 +145,7 @@ ipv6_row (ipv6_error.Len error) = refl
 ipv6_row (ipv6_error.Header (ipv6_content.UnexpectedVersion version)) = refl
 ipv6_row (ipv6_error.Exts error) = refl
 
--- a refused extension header is told the same
+-- An error of an extension header is the same among the errors of either version.
 ipv4_chain_same : (header : Ipv4Header) (error : AuthSliceError)
     → ipv4_refusal 0 (ipv4_chain_refusal header error) ≡ ip_refusal 0 (of_ipv4_error (ipv4_chain_refusal header error))
 ipv4_chain_same header (auth_error.Len error) = refl
@@ -157,7 +157,7 @@ ipv6_chain_same : (header : Ipv6Header) (behind : List ℕ) (error : ExtsSliceEr
 ipv6_chain_same header behind (exts_error.Len error) = refl
 ipv6_chain_same header behind (exts_error.Content error) = refl
 
--- the first header is refused, or the walk stops
+-- The first header is rejected with this error, or slicing stops at it.
 abbrev TellsIp : List ℕ → SliceError → Type 0
 TellsIp bytes error = RefusesFirst bytes error ⊎ StopsIn (IsLaxNet 0 false (Some any_ip) bytes) error
 
@@ -171,7 +171,7 @@ ipv4_tells bytes fits version error (inr (cut, is, why)) by_other =
     let same : ipv4_refusal 0 error ≡ ip_refusal 0 (of_ipv4_error error) =
     ap (ipv4_refusal 0) why.2 ∙ ipv4_chain_same cut.header why.0
     ∙ ap (λ (e : Ipv4SliceError). ip_refusal 0 (of_ipv4_error e)) (sym why.2) in
-    inr (stops.0, inl stops.1, stops.2 ∙ ap (λ (e : SliceError). Some (told e)) same)
+    inr (stops.0, inl stops.1, stops.2 ∙ ap (λ (e : SliceError). Some (error_with_layer e)) same)
 
 ipv6_tells : (bytes : List ℕ) → AreBytes bytes → version_of bytes ≡ 6 → (error : Ipv6SliceError)
     → RefusesIpv6 slices bytes error → is_by_length (ip_refusal 0 (of_ipv6_error error)) ≡ false
@@ -183,7 +183,7 @@ ipv6_tells bytes fits version error (inr (cut, is, why)) by_other =
     let same : ipv6_refusal 0 error ≡ ip_refusal 0 (of_ipv6_error error) =
     ap (ipv6_refusal 0) why.2 ∙ ipv6_chain_same cut.header cut.payload why.0
     ∙ ap (λ (e : Ipv6SliceError). ip_refusal 0 (of_ipv6_error e)) (sym why.2) in
-    inr (stops.0, inr stops.1, stops.2 ∙ ap (λ (e : SliceError). Some (told e)) same)
+    inr (stops.0, inr stops.1, stops.2 ∙ ap (λ (e : SliceError). Some (error_with_layer e)) same)
 
 either_tells : (bytes : List ℕ) → AreBytes bytes → (error : IpSliceError) → RefusesIp slices bytes error
     → is_by_length (ip_refusal 0 error) ≡ false → TellsIp bytes (ip_refusal 0 error)
@@ -197,9 +197,9 @@ either_tells bytes fits error (inr (inr (version, (row, refused, same)))) by_oth
     (ipv6_tells bytes fits version row refused
     (ap (λ (e : IpSliceError). is_by_length (ip_refusal 0 e)) (sym same) ∙ by_other))
 
--- in a packet that stands the walk stops at the transport layer
+-- In a valid packet slicing stops at a rejected transport layer.
 behind_tells : (bytes : List ℕ) (part : IpPart) (error : SliceError) → IsIp slices bytes part
-    → RefusesTransportBehind slices (0 + net_header_len (ip_layer part)) (net_payload (ip_layer part)) error
+    → RefusesTransportAfterNet slices (0 + net_payload_offset (ip_layer part)) (net_payload (ip_layer part)) error
     → is_by_length error ≡ false → StopsIn (IsLaxNet 0 false (Some any_ip) bytes) error
 behind_tells bytes (ipv4_part packet) error is refused by_other =
     let stops = ipv4_inside_stops 0 bytes packet error is refused by_other in (stops.0, inl stops.1, stops.2)
@@ -213,12 +213,12 @@ ip_tells bytes fits error (inl (row, refused, same)) by_other =
     (either_tells bytes fits row refused (ap is_by_length (sym same) ∙ by_other))
 ip_tells bytes fits error (inr (layer, (part, is, same), refused)) by_other =
     inr (behind_tells bytes part error is
-    (subst (λ (l : NetLayer). RefusesTransportBehind slices (0 + net_header_len l) (net_payload l) error) same refused)
+    (subst (λ (l : NetLayer). RefusesTransportAfterNet slices (0 + net_payload_offset l) (net_payload l) error) same refused)
     by_other)
 
--- ---- each entry
+-- ---- entries
 
--- what strict slicing refuses by another row than those of length fields is told by lax reading
+-- Lax slicing reports every error of strict slicing that is not caused by a length field.
 pub frame_tells : (entry : Entry) (bytes : List ℕ) → AreBytes bytes → (error : SliceError)
     → RefusesFrame entry bytes error → is_by_length error ≡ false
     → RefusesLax entry bytes error ⊎ StopsFor entry bytes error
@@ -263,9 +263,9 @@ frame_tells ip bytes fits error refused by_other =
       )
     ]
 
--- ---- and back
+-- ---- from lax to strict slicing
 
--- strict slicing refuses the header of a packet of open version as lax reading does
+-- Strict slicing rejects the header of an IP packet with the same error as lax slicing.
 first_back : (bytes : List ℕ) (error : LaxHeaderSliceError) → RefusesIpHeader bytes error
     → (refusal : IpSliceError) × RefusesIp slices bytes refusal × (ip_header_refusal error ≡ ip_refusal 0 refusal)
 first_back bytes error refused =
@@ -309,7 +309,7 @@ first_back bytes error refused =
       ]
     ]
 
--- strict slicing refuses the first header as lax reading does
+-- Strict slicing rejects the first header with the same error as lax slicing.
 pub first_is_strict : (entry : Entry) (bytes : List ℕ) (error : SliceError) → RefusesLax entry bytes error
     → RefusesFrame entry bytes error
 first_is_strict ethernet bytes error refused = inl refused
@@ -318,9 +318,9 @@ first_is_strict (ether_type type) bytes error refused = absurd refused
 first_is_strict ip bytes error (row, refused, same) =
     let back = first_back bytes row refused in inl (back.0, back.1, same ∙ back.2)
 
--- a stop is one of strict slicing, unless this refuses by a length field
+-- An error at which lax slicing stops is one of strict slicing, unless this rejects the bytes for a length field.
 stop_is_strict : (entry : Entry) (bytes : List ℕ) → AreBytes bytes → (read : LaxLayers) → IsLax entry bytes read
-    → (stop : SliceError × Layer) → read.net.inside.stop ≡ Some stop → RefusesSoOrByLength entry bytes stop.0
+    → (stop : SliceError × Layer) → read.net.inside.stop ≡ Some stop → RefusesWithErrorOrByLength entry bytes stop.0
 stop_is_strict entry bytes fits read is stop same =
     elim (frame_law entry bytes fits).some [
       | inl frame ↦
@@ -334,18 +334,18 @@ stop_is_strict entry bytes fits read is stop same =
           | inl first ↦ absurd ((lax_decided entry bytes fits).not_both read refusal is first)
           | inr stops ↦
               let one = (lax_decided entry bytes fits).one_value stops.0 read stops.1 is in
-              let told_so : Some (told refusal) ≡ Some stop =
+              let told_so : Some (error_with_layer refusal) ≡ Some stop =
               sym stops.2 ∙ ap (λ (l : LaxLayers). l.net.inside.stop) one ∙ same in
               (refusal, refused, inl (first_of refusal stop told_so))
         ]
       ]
     ]
   where
-    first_of : (refusal : SliceError) (stop : SliceError × Layer) → Some (told refusal) ≡ Some stop
+    first_of : (refusal : SliceError) (stop : SliceError × Layer) → Some (error_with_layer refusal) ≡ Some stop
         → refusal ≡ stop.0
-    first_of refusal stop told_so = let one : told refusal ≡ stop = cc in ap (λ (s : SliceError × Layer). s.0) one
+    first_of refusal stop told_so = let one : error_with_layer refusal ≡ stop = cc in ap (λ (s : SliceError × Layer). s.0) one
 
--- each stop of lax reading is one of strict slicing, told with its layer
+-- Each error at which lax slicing stops, with its layer, is one of strict slicing, unless a length field hides it.
 pub stops_are_strict : (entry : Entry) (bytes : List ℕ) → AreBytes bytes → (read : LaxLayers) → IsLax entry bytes read
     → (stop : SliceError × Layer) → read.net.inside.stop ≡ Some stop → IsStrictStop entry bytes stop
 stops_are_strict entry bytes fits read is stop same =

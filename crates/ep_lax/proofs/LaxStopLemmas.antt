@@ -1,9 +1,9 @@
--- That what strict slicing refuses by no row of a length field is told by lax reading.
+-- Lax slicing reports the errors of strict slicing that are not caused by a length field.
 use Rattle.std.proofs.Common.{◌≡◌, ◌⊎◌, ◌==◌, if◌then◌else◌, nat_lt, ◌&&◌, ℕ, zero, suc, ◌+◌, ◌*◌, Bool, true, false, List, [], ◌∷◌, ◌++◌, length, Option, Some, None, refl, sym, ap, subst, ◌∙◌, inl, inr}
 use Rattle.ep_base.specs.Bytes.{AreBytes, word_at}
 use Rattle.ep_base.specs.IpNumbers.{udp_number}
 use Rattle.ep_base.specs.IpPayload.{IpPayload}
-use Rattle.ep_base.specs.Readings.{headers, slices, behind_header, cut_by, len_error}
+use Rattle.ep_base.specs.Readings.{headers, slices, after_header, limited_by, len_error}
 use Rattle.ep_base.specs.Tables.{Parts, Refuses, RefusesAs, rows_as}
 use Rattle.ep_base.specs.declared.ether_type.EtherType.{EtherType}
 use Rattle.ep_base.specs.declared.len_source.LenSource.{LenSource}
@@ -27,7 +27,7 @@ use Rattle.ep_base.proofs.MissingLemmas.{first_row-either}
 use Rattle.ep_base.proofs.TableLemmas.{refusal_is}
 use Rattle.ep_ext.specs.Chains.{IpVersion, ipv4, ipv6, ExtensionChain, RefusesExtensionChain, chain_fragments}
 use Rattle.ep_ext.specs.ExtensionParts.{auth_refusal}
-use Rattle.ep_ext.specs.FrontChains.{IsFrontChain}
+use Rattle.ep_ext.specs.FrontChains.{IsLaxChain}
 use Rattle.ep_ext.proofs.ChainLemmas.{chain_decided, refused_no_chain}
 use Rattle.ep_ext.proofs.FrontLemmas.{front_is_one}
 use Rattle.ep_ext.proofs.HeaderLawLemmas.{header_laws}
@@ -44,31 +44,31 @@ use Rattle.ep_transport.specs.TransportParts.{RefusesTransportPart}
 use Rattle.ep_transport.specs.Udp.{udp_header_rows, udp_rows}
 use Rattle.ep_packet.specs.declared.err.slice_error.SliceError.{SliceError}
 use Rattle.ep_packet.specs.Frame.{NetKind, only_ipv4, only_ipv6, only_arp, net_kind}
-use Rattle.ep_packet.specs.FrameRefusals.{RefusesExtensionAt, RefusesInside, RefusesNetPart, RefusesTransportBehind, RefusesTransportIn, extension_refusal, ipv4_refusal, ipv6_refusal, len_refusal, net_header_len, transport_refusal}
+use Rattle.ep_packet.specs.FrameRefusals.{RefusesExtensionAt, RefusesInside, RefusesNetPart, RefusesTransportAfterNet, RefusesTransportIn, extension_refusal, ipv4_refusal, ipv6_refusal, len_refusal, net_payload_offset, transport_refusal}
 use Rattle.ep_packet.specs.Layers.{NetLayer, ipv4_layer, ipv6_layer, net_payload}
-use Rattle.ep_lax.specs.LaxIp.{lax_ip_of, lax_ipv6_source, stop_behind}
-use Rattle.ep_lax.specs.LaxLayers.{LaxNet, net_with, no_net, no_transport, told}
+use Rattle.ep_lax.specs.LaxIp.{lax_ip_of, lax_ipv6_source, stop_after}
+use Rattle.ep_lax.specs.LaxLayers.{LaxNet, net_with, no_net, no_transport, error_with_layer}
 use Rattle.ep_lax.specs.Lax.{IsIpv4Net, IsIpv6Net, IsLaxInside, IsLaxNet, IsLaxTransport, RefusesLaxExtension, chain_refusal}
 use Rattle.ep_lax.specs.LaxStops.{is_by_length, is_length_row}
 use Rattle.ep_lax.proofs.LaxLawLemmas.{Tagged, kind_cases, lax_extension_fits}
 use Rattle.ep_lax.proofs.StrictLemmas.{extension_is_whole, ipv4_cuts, ipv4_net_with, ipv6_cuts, ipv6_net_with, whole_cut, whole_extension}
 
--- no refusal is both
+-- An error is not both caused by a length field and not caused by one.
 not_both_rows : (error other : SliceError) → error ≡ other → is_by_length other ≡ true
     → is_by_length error ≡ false → ⊥
 not_both_rows error other same by_length by_other =
     absurd (let one : is_by_length error ≡ true = ap is_by_length same ∙ by_length in cc)
 
--- what is read stops for this refusal
+-- Lax slicing of the network layer stops at this error.
 abbrev pub StopsIn : (LaxNet → Type 0) → SliceError → Type 0
-StopsIn Is error = (net : LaxNet) × Is net × (net.inside.stop ≡ Some (told error))
+StopsIn Is error = (net : LaxNet) × Is net × (net.inside.stop ≡ Some (error_with_layer error))
 
--- ---- the transport layer
+-- ---- transport layer
 
--- a refusal by the length field of UDP, whatever set the end of its bytes
+-- The error is caused by the length field of UDP, whatever the source of its length.
 abbrev ByUdpLength : TransportError → Type 0
 ByUdpLength (transport_error.Len error) =
-    (end : LenSource) → is_length_row error.layer (cut_by end error.len_source) ≡ true
+    (end : LenSource) → is_length_row error.layer (limited_by end error.len_source) ≡ true
 ByUdpLength (transport_error.Content error) = ⊥
 
 by_udp_length : (offset : ℕ) (end : LenSource) (error : TransportError) → ByUdpLength error
@@ -76,7 +76,7 @@ by_udp_length : (offset : ℕ) (end : LenSource) (error : TransportError) → By
 by_udp_length offset end (transport_error.Len error) is = is end
 by_udp_length offset end (transport_error.Content error) is = absurd is
 
--- of two tables that differ where a condition holds, a refusal of the one is one of the other or such
+-- If two tables differ only when a condition holds, a refusal of one is a refusal of the other or has the property.
 chosen : {E : Type 0} (Such : E → Type 0) (condition : Bool) (rows other those : List (Bool × E)) (error : E)
     → (Refuses rows error → Refuses other error ⊎ Such error)
     → Refuses (if condition then rows else those) error
@@ -103,7 +103,7 @@ udp_alone bytes error refused =
       | inr behind ↦ inr (refusal_is ByUdpLength back ((λ end. refl), ((λ end. refl), tt)) error behind)
     ]
 
--- slices refuse as headers do, or by the length field of UDP
+-- Slices are rejected as headers are, or by the length field of UDP.
 transport_alone : (number : ℕ) (fragmented : Bool) (bytes : List ℕ) (error : TransportError)
     → RefusesTransportPart slices number fragmented bytes error
     → RefusesTransportPart headers number fragmented bytes error ⊎ ByUdpLength error
@@ -114,7 +114,7 @@ transport_alone number false bytes error refused =
 
 transport_stops : (offset : ℕ) (payload : IpPayload) (error : SliceError)
     → RefusesTransportIn slices offset payload error → is_by_length error ≡ false
-    → IsLaxTransport offset false payload (no_transport false (Some (told error)))
+    → IsLaxTransport offset false payload (no_transport false (Some (error_with_layer error)))
 transport_stops offset payload error refused by_other =
     elim (transport_alone payload.number payload.fragmented payload.bytes refused.0 refused.1) [
       | inl also ↦ inl (error, (refused.0, also, refused.2), refl)
@@ -124,40 +124,40 @@ transport_stops offset payload error refused by_other =
 
 -- ---- extension headers
 
--- a chain that is refused has a front that stands
+-- A rejected chain has a result of lax parsing that stops at its error.
 front_refused : (version : IpVersion) (number : ℕ) (bytes : List ℕ) → AreBytes bytes → (error : ExtsSliceError)
     → RefusesExtensionChain version slices number bytes error
-    → (chain : ExtensionChain) × IsFrontChain version number bytes chain (Some error)
+    → (chain : ExtensionChain) × IsLaxChain version number bytes chain (Some error)
 front_refused version number bytes fits error refused =
     let one = front_is_one version number bytes fits in
     (one.value.0, stops one.value.0 one.value.1 one.is)
   where
-    stops : (chain : ExtensionChain) (stop : Option ExtsSliceError) → IsFrontChain version number bytes chain stop
-        → IsFrontChain version number bytes chain (Some error)
+    stops : (chain : ExtensionChain) (stop : Option ExtsSliceError) → IsLaxChain version number bytes chain stop
+        → IsLaxChain version number bytes chain (Some error)
     stops chain None is =
         absurd (refused_no_chain header_laws version slices number bytes fits error refused chain is)
     stops chain (Some other) is =
         let same = (chain_decided header_laws version slices number bytes fits).one_error other error
         (chain.parts, is.0) refused in
-        subst (λ (e : ExtsSliceError). IsFrontChain version number bytes chain (Some e)) same is
+        subst (λ (e : ExtsSliceError). IsLaxChain version number bytes chain (Some e)) same is
 
--- it is told as strict slicing tells it
+-- The error of the authentication header is reported as strict slicing reports it.
 auth_told : (offset : ℕ) (header : Ipv4Header) (error : AuthSliceError)
-    → chain_refusal ipv4 offset (stop_behind (ipv4_header_len header) source.Ipv4HeaderTotalLen (auth_refusal error))
+    → chain_refusal ipv4 offset (stop_after (ipv4_header_len header) source.Ipv4HeaderTotalLen (auth_refusal error))
     ≡ ipv4_refusal offset (ipv4_chain_refusal header error)
 auth_told offset header (auth_error.Len error) = refl
 auth_told offset header (auth_error.Content error) = refl
 
 chain_told : (offset : ℕ) (header : Ipv6Header) (behind : List ℕ) (end : LenSource) (error : ExtsSliceError)
     → ipv6_payload_source header behind ≡ end
-    → chain_refusal ipv6 offset (stop_behind 40 end error)
+    → chain_refusal ipv6 offset (stop_after 40 end error)
     ≡ ipv6_refusal offset (ipv6_chain_refusal header behind error)
 chain_told offset header behind end (exts_error.Len error) same =
-    ap (λ (s : LenSource). len_refusal offset (behind_header 40 s error)) (sym same)
+    ap (λ (s : LenSource). len_refusal offset (after_header 40 s error)) (sym same)
 chain_told offset header behind end (exts_error.Content content.HopByHopNotAtStart) same = refl
 chain_told offset header behind end (exts_error.Content (content.IpAuth error)) same = refl
 
--- ---- packets of IP
+-- ---- IP packets
 
 pub ipv4_chain_stops : (offset : ℕ) (bytes : List ℕ) → AreBytes bytes → (cut : Parts Ipv4Header)
     → IsIpv4Packet bytes cut → (error : Ipv4SliceError) → RefusesIpv4Chain slices cut error
@@ -171,7 +171,7 @@ ipv4_chain_stops offset bytes fits cut is error refused =
     let front = front_refused ipv4 header.protocol.0 cut.payload content why refused.1 in
     let taken = whole_cut cut.payload cut.left source.Ipv4HeaderTotalLen in
     let lax = lax_ip_of header n (is_ipv4_fragment header) taken.source taken front.0 (Some why) in
-    let inside = no_transport false (Some (told (chain_refusal ipv4 offset (stop_behind n taken.source why)))) in (
+    let inside = no_transport false (Some (error_with_layer (chain_refusal ipv4 offset (stop_after n taken.source why)))) in (
       net_with (ipv4_layer lax.packet) false inside,
       (
         lax,
@@ -189,7 +189,7 @@ ipv4_chain_stops offset bytes fits cut is error refused =
         ),
         (inside, refl, refl),
       ),
-      ap (λ (e : SliceError). Some (told e))
+      ap (λ (e : SliceError). Some (error_with_layer e))
           (auth_told offset header refused.0 ∙ ap (ipv4_refusal offset) (sym refused.2)),
     )
 
@@ -205,7 +205,7 @@ ipv6_chain_stops offset bytes fits cut is error refused =
     let taken = whole_cut cut.payload cut.left read.1.0 in
     let end = lax_ipv6_source header taken in
     let lax = lax_ip_of header 40 (chain_fragments front.0.parts) end taken front.0 (Some why) in
-    let inside = no_transport false (Some (told (chain_refusal ipv6 offset (stop_behind 40 end why)))) in (
+    let inside = no_transport false (Some (error_with_layer (chain_refusal ipv6 offset (stop_after 40 end why)))) in (
       net_with (ipv6_layer lax.packet) false inside,
       (
         lax,
@@ -223,11 +223,11 @@ ipv6_chain_stops offset bytes fits cut is error refused =
         ),
         (inside, refl, refl),
       ),
-      ap (λ (e : SliceError). Some (told e))
+      ap (λ (e : SliceError). Some (error_with_layer e))
           (chain_told offset header cut.payload end why read.1.2 ∙ ap (ipv6_refusal offset) (sym refused.2)),
     )
 
--- the rows of a packet are those of its header, and these of its length field
+-- The rows of a packet are those of its header and these of its length field.
 abbrev pub ipv4_length_rows : List ℕ → List (Bool × Ipv4SliceError)
 ipv4_length_rows bytes =
     let len = length bytes in
@@ -269,7 +269,7 @@ ipv6_header_row offset bytes error refused by_other =
           absurd (let one = sym by_length ∙ by_other in cc)
     ]
 
--- a packet is refused by its header, or its walk stops
+-- A packet is rejected by its header, or slicing stops in it.
 ipv4_refused_or_stops : (offset : ℕ) (bytes : List ℕ) → AreBytes bytes → (error : Ipv4SliceError)
     → RefusesIpv4 slices bytes error → is_by_length (ipv4_refusal offset error) ≡ false
     → RefusesAs of_header_error (RefusesIpv4Header bytes) error
@@ -288,36 +288,36 @@ ipv6_refused_or_stops offset bytes fits error (inl refused) by_other =
 ipv6_refused_or_stops offset bytes fits error (inr refused) by_other =
     inr (ipv6_chain_stops offset bytes fits refused.0 refused.1 error refused.2)
 
--- in a packet that stands the walk stops at the transport layer
+-- In a valid packet slicing stops at a rejected transport layer.
 pub ipv4_inside_stops : (offset : ℕ) (bytes : List ℕ) (packet : IpPacket Ipv4Header) (error : SliceError)
     → IsIpv4 slices bytes packet
-    → RefusesTransportBehind slices (offset + net_header_len (ipv4_layer packet)) (net_payload (ipv4_layer packet)) error
+    → RefusesTransportAfterNet slices (offset + net_payload_offset (ipv4_layer packet)) (net_payload (ipv4_layer packet)) error
     → is_by_length error ≡ false → StopsIn (IsIpv4Net offset false bytes) error
 ipv4_inside_stops offset bytes packet error is refused by_other =
-    let inside = no_transport false (Some (told error)) in (
+    let inside = no_transport false (Some (error_with_layer error)) in (
       net_with (ipv4_layer packet) false inside,
       ipv4_net_with offset bytes packet inside is
-          (transport_stops (offset + net_header_len (ipv4_layer packet)) packet.payload error refused by_other),
+          (transport_stops (offset + net_payload_offset (ipv4_layer packet)) packet.payload error refused by_other),
       refl,
     )
 
 pub ipv6_inside_stops : (offset : ℕ) (bytes : List ℕ) (packet : IpPacket Ipv6Header) (error : SliceError)
     → IsIpv6 slices bytes packet
-    → RefusesTransportBehind slices (offset + net_header_len (ipv6_layer packet)) (net_payload (ipv6_layer packet)) error
+    → RefusesTransportAfterNet slices (offset + net_payload_offset (ipv6_layer packet)) (net_payload (ipv6_layer packet)) error
     → is_by_length error ≡ false → StopsIn (IsIpv6Net offset false bytes) error
 ipv6_inside_stops offset bytes packet error is refused by_other =
-    let inside = no_transport false (Some (told error)) in (
+    let inside = no_transport false (Some (error_with_layer error)) in (
       net_with (ipv6_layer packet) false inside,
       ipv6_net_with offset bytes packet inside is
-          (transport_stops (offset + net_header_len (ipv6_layer packet)) packet.payload error refused by_other),
+          (transport_stops (offset + net_payload_offset (ipv6_layer packet)) packet.payload error refused by_other),
       refl,
     )
 
--- ---- the net layer
+-- ---- network layer
 
--- no net layer is read, for this refusal
-none_stops : (error : SliceError) (net : LaxNet → Type 0) → net (no_net false (Some (told error))) → StopsIn net error
-none_stops error net is = (no_net false (Some (told error)), is, refl)
+-- No network layer is read, for this reason.
+none_stops : (error : SliceError) (net : LaxNet → Type 0) → net (no_net false (Some (error_with_layer error))) → StopsIn net error
+none_stops error net is = (no_net false (Some (error_with_layer error)), is, refl)
 
 ipv4_stops : (offset : ℕ) (bytes : List ℕ) → AreBytes bytes → (error : SliceError)
     → RefusesNetPart slices offset (Some only_ipv4) bytes error → is_by_length error ≡ false
@@ -327,10 +327,10 @@ ipv4_stops offset bytes fits error (inl refused) by_other =
     elim (ipv4_refused_or_stops offset bytes fits refused.0 refused.1 not_long) [
       | inl header ↦ none_stops error (IsLaxNet offset false (Some only_ipv4) bytes)
           (inl (error, (header.0, header.1, refused.2 ∙ ap (ipv4_refusal offset) header.2), refl))
-      | inr stops ↦ (stops.0, inr stops.1, stops.2 ∙ ap (λ (e : SliceError). Some (told e)) (sym refused.2))
+      | inr stops ↦ (stops.0, inr stops.1, stops.2 ∙ ap (λ (e : SliceError). Some (error_with_layer e)) (sym refused.2))
     ]
 ipv4_stops offset bytes fits error (inr (layer, is, refused)) by_other =
-    let behind = subst (λ (l : NetLayer). RefusesTransportBehind slices (offset + net_header_len l) (net_payload l)
+    let behind = subst (λ (l : NetLayer). RefusesTransportAfterNet slices (offset + net_payload_offset l) (net_payload l)
     error) is.2 refused in
     let stops = ipv4_inside_stops offset bytes is.0 error is.1 behind by_other in
     (stops.0, inr stops.1, stops.2)
@@ -343,10 +343,10 @@ ipv6_stops offset bytes fits error (inl refused) by_other =
     elim (ipv6_refused_or_stops offset bytes fits refused.0 refused.1 not_long) [
       | inl header ↦ none_stops error (IsLaxNet offset false (Some only_ipv6) bytes)
           (inl (error, (header.0, header.1, refused.2 ∙ ap (ipv6_refusal offset) header.2), refl))
-      | inr stops ↦ (stops.0, inr stops.1, stops.2 ∙ ap (λ (e : SliceError). Some (told e)) (sym refused.2))
+      | inr stops ↦ (stops.0, inr stops.1, stops.2 ∙ ap (λ (e : SliceError). Some (error_with_layer e)) (sym refused.2))
     ]
 ipv6_stops offset bytes fits error (inr (layer, is, refused)) by_other =
-    let behind = subst (λ (l : NetLayer). RefusesTransportBehind slices (offset + net_header_len l) (net_payload l)
+    let behind = subst (λ (l : NetLayer). RefusesTransportAfterNet slices (offset + net_payload_offset l) (net_payload l)
     error) is.2 refused in
     let stops = ipv6_inside_stops offset bytes is.0 error is.1 behind by_other in
     (stops.0, inr stops.1, stops.2)
@@ -357,10 +357,10 @@ arp_stops : (offset : ℕ) (bytes : List ℕ) (error : SliceError)
 arp_stops offset bytes error (inl refused) =
     none_stops error (IsLaxNet offset false (Some only_arp) bytes) (inl (error, refused, refl))
 arp_stops offset bytes error (inr (layer, is, refused)) = absurd
-    (subst (λ (l : NetLayer). RefusesTransportBehind slices (offset + net_header_len l) (net_payload l) error)
+    (subst (λ (l : NetLayer). RefusesTransportAfterNet slices (offset + net_payload_offset l) (net_payload l) error)
     is.2 refused)
 
--- bytes of an ether type
+-- Slicing of bytes of an ether type stops at the error.
 type_stops : (offset : ℕ) (type : EtherType) (bytes : List ℕ) → AreBytes bytes → (error : SliceError)
     → RefusesNetPart slices offset (net_kind type) bytes error → is_by_length error ≡ false
     → StopsIn (IsLaxNet offset false (net_kind type) bytes) error
@@ -395,12 +395,12 @@ extension_refused offset type bytes error (refusal, inr refused, same) by_other 
           absurd (not_both_rows error (extension_refusal offset refusal) same by_length by_other)
     ]
 
--- what bytes of a type hold, up to the refusal
+-- The layers in bytes of an ether type up to the rejected one.
 pub record StopsInside (room offset : ℕ) (type : Option EtherType) (bytes : List ℕ) (error : SliceError) : Type 0 where
   pub extensions : List Tagged
   pub net : LaxNet
   pub is : IsLaxInside room offset false type bytes extensions net
-  pub stop : net.inside.stop ≡ Some (told error)
+  pub stop : net.inside.stop ≡ Some (error_with_layer error)
 
 pub inside_stops : (room offset : ℕ) (type : Option EtherType) (bytes : List ℕ) → AreBytes bytes → (error : SliceError)
     → RefusesInside slices room offset type bytes error → is_by_length error ≡ false
@@ -414,7 +414,7 @@ inside_stops (suc room) offset (Some type) bytes fits error (inl refused) by_oth
     record { extensions = []; net = stops.0; is = inl (refused.0, stops.1); stop = stops.2 }
 inside_stops (suc room) offset (Some type) bytes fits error (inr (inl refused)) by_other = record {
   extensions = [];
-  net = no_net false (Some (told error));
+  net = no_net false (Some (error_with_layer error));
   is = inr (error, extension_refused offset type bytes error refused by_other, refl);
   stop = refl;
 }

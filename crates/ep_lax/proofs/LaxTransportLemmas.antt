@@ -1,4 +1,4 @@
--- What the call that reads the transport layer of a payload of IP laxly owes.
+-- Contracts of the call that reads the transport layer of a payload of IP laxly.
 use Rattle.std.proofs.Common.{◌≡◌, ◌≢◌, ◌⊎◌, ◌&&◌, ◌||◌, not, nat_lt, if◌then◌else◌, ℕ, ◌+◌, Bool, true, false, List, length, Option, Some, None, refl, sym, ap, ◌∙◌, inl, inr, arith}
 use Rattle.std.specs.Option.{option_map}
 use Rattle.std.proofs.lemmas.Bool.{cases_lt}
@@ -14,21 +14,21 @@ use Rattle.ep_transport.specs.declared.udp_slice.UdpSlice.{UdpSlice}
 use Rattle.ep_transport.specs.TransportParts.{TransportLayer, transport_layer, IsTransportPart, transport_layer_of}
 use Rattle.ep_transport.specs.Udp.{IsLaxUdp}
 use Rattle.ep_transport.specs.UdpSlices.{udp_slice_header, udp_slice_payload}
-use Rattle.ep_lax.specs.Lax.{IsCutLaxly}
+use Rattle.ep_lax.specs.Lax.{IsLimitedLaxly}
 use Rattle.ep_lax.specs.LaxLayers.{layer_cut}
 use Rattle.ep_lax.specs.LaxPackets.{inside_of}
 
--- why the length field of UDP has no say: the payload is a fragment, or of another number
+-- The length field of UDP does not matter: the payload is a fragment or has another IP number.
 abbrev pub NotUdp : ℕ → Bool → Type 0
 NotUdp number fragmented = (fragmented ≡ true) ⊎ (number ≢ udp_number)
 
--- a payload is read laxly in this way, as a call shows it
+-- The payload is read laxly like this, as a call reports it.
 abbrev pub IsReadLaxly : ℕ → Bool → List ℕ → Bool → Option TransportSlice → Type 0
 IsReadLaxly number fragmented bytes outer part =
     (read : Option TransportLayer) × IsTransportPart headers number fragmented bytes read
-    × IsCutLaxly outer read (inside_of outer part None)
+    × IsLimitedLaxly outer read (inside_of outer part None)
 
--- there slices are read as headers are
+-- A payload not of UDP is read as slices and as headers in the same way.
 pub others_read : (number : ℕ) (fragmented : Bool) (bytes : List ℕ) (outer : Bool) → NotUdp number fragmented
     → (part : Option TransportSlice)
     → IsTransportPart slices number fragmented bytes (option_map transport_layer_of part)
@@ -46,32 +46,33 @@ others_read number fragmented bytes outer why (Some (slice.Icmpv6 message)) is =
 
 -- ---- UDP
 
--- the payload that a length field leaves is as incomplete as the bytes in which it lies say
-missing_shown : (least says : ℕ) (outer : Bool) (there shown : ℕ)
-    → shown ≡ (if cuts least says there then says else there)
-    → is_missing least says outer shown ≡ is_missing least says outer there
-missing_shown least says outer there shown is =
-    elim (cases_lt says least) [
+-- Whether a payload is incomplete is the same for its limited length and for the available bytes.
+missing_shown : (least stated : ℕ) (outer : Bool) (there shown : ℕ)
+    → shown ≡ (if cuts least stated there then stated else there)
+    → is_missing least stated outer shown ≡ is_missing least stated outer there
+missing_shown least stated outer there shown is =
+    elim (cases_lt stated least) [
       | inl short ↦
-          let no = cuts_not least says there (inl short) in
-          let whole : shown ≡ there = is ∙ (λ i. if no i then says else there) in
-          ap (is_missing least says outer) whole
-      | inr enough ↦ elim (cases_lt there says) [
+          let no = cuts_not least stated there (inl short) in
+          let whole : shown ≡ there = is ∙ (λ i. if no i then stated else there) in
+          ap (is_missing least stated outer) whole
+      | inr enough ↦ elim (cases_lt there stated) [
         | inl more ↦
-            let no = cuts_not least says there (inr more) in
-            let whole : shown ≡ there = is ∙ (λ i. if no i then says else there) in
-            ap (is_missing least says outer) whole
+            let no = cuts_not least stated there (inr more) in
+            let whole : shown ≡ there = is ∙ (λ i. if no i then stated else there) in
+            ap (is_missing least stated outer) whole
         | inr within ↦
-            let yes = cuts_there least says there enough within in
-            let cut : shown ≡ says = is ∙ (λ i. if yes i then says else there) in
-            let itself = cuts_there least says says enough (omega arith) in
-            ap (is_missing least says outer) cut
-            ∙ (λ i. not (itself i) && (outer || nat_lt says says))
-            ∙ (λ i. not (sym yes i) && (outer || nat_lt there says))
+            let yes = cuts_there least stated there enough within in
+            let cut : shown ≡ stated = is ∙ (λ i. if yes i then stated else there) in
+            let itself = cuts_there least stated stated enough (omega arith) in
+            ap (is_missing least stated outer) cut
+            ∙ (λ i. not (itself i) && (outer || nat_lt stated stated))
+            ∙ (λ i. not (sym yes i) && (outer || nat_lt there stated))
       ]
     ]
 
--- a datagram whose length field cuts where it can, in a payload of IP that is incomplete or not
+-- A UDP datagram whose length field limits its payload, if the field applies, in a payload of IP that is incomplete or
+-- not.
 pub udp_read_laxly : (number : ℕ) (fragmented : Bool) (bytes : List ℕ) (outer : Bool) (datagram : UdpSlice)
     (cut : LaxCut) → fragmented ≡ false → number ≡ udp_number
     → IsLaxUdp false bytes (udp_slice_header datagram, cut) → udp_slice_payload datagram ≡ cut.payload

@@ -1,4 +1,4 @@
--- One step of the lax walk over a packet, from what the layers' calls ensure.
+-- Steps of lax slicing of a packet, from the contracts of the calls for layers.
 use Rattle.std.proofs.Common.{◌≡◌, ◌⊎◌, ℕ, zero, suc, ◌+◌, ◌≤◌, Bool, false, List, [], ◌∷◌, ◌++◌, length, Option, Some, None, refl, sym, ap, subst, ◌∙◌, inl, inr, append_assoc, length-append, arith}
 use Rattle.std.proofs.Math.Path.{transport}
 use Rattle.std.specs.Prelude.{IfSome, IfNone}
@@ -18,23 +18,23 @@ use Rattle.ep_packet.specs.FrameRefusals.{extension_refusal}
 use Rattle.ep_packet.specs.Walk.{net_kind_in}
 use Rattle.ep_lax.specs.declared.lax_link_ext_slice.LaxLinkExtSlice.{LaxLinkExtSlice}
 use Rattle.ep_lax.specs.declared.lax_net_slice.LaxNetSlice.{LaxNetSlice}
-use Rattle.ep_lax.specs.LaxLayers.{LaxNet, no_net, told}
+use Rattle.ep_lax.specs.LaxLayers.{LaxNet, no_net, error_with_layer}
 use Rattle.ep_lax.specs.Lax.{IsLaxExtension, IsLaxInside, IsLaxNet, RefusesLaxExtension}
 use Rattle.ep_lax.specs.LaxPackets.{ShowsLaxInside, extensions_incomplete, lax_net_of}
 use Rattle.ep_lax.specs.LaxViews.{extension_incomplete, lax_extension_of, lax_extensions_of}
-use Rattle.ep_lax.specs.LaxWalk.{HasLaxExtensions, IsShownExtension, RefusesTag, StopsBehind, extension_start}
+use Rattle.ep_lax.specs.LaxWalk.{HasLaxExtensions, IsShownExtension, RefusesTag, StopsAfterExtensions, extension_start}
 use Rattle.ep_lax.proofs.LaxMacsecLemmas.{payload_by_is}
 
--- ---- one extension
+-- ---- one link extension
 
--- a refusal of a tag is one of an extension
+-- An error of a tag is an error of a link extension.
 pub tag_refused : (offset : ℕ) (type : EtherType) (bytes : List ℕ) (error : TagError) → RefusesTag type bytes error
     → RefusesLaxExtension offset type bytes (extension_refusal offset error)
 tag_refused offset type bytes error (inl refused) =
     inl (refused.0, (refused.1.0, refused.1.1, ap (extension_refusal offset) refused.1.2))
 tag_refused offset type bytes error (inr refused) = inr (refused.0, (error, refused.1, refl))
 
--- it names a tag that starts in front of the end of the bytes
+-- An error of a tag starts at offset 0 of the bytes.
 pub tag_start : (type : EtherType) (bytes : List ℕ) (error : TagError) → RefusesTag type bytes error
     → extension_start error ≡ 0
 tag_start type bytes error (inl refused) =
@@ -45,20 +45,20 @@ tag_start type bytes error (inr refused) =
     refusal_is (λ (e : TagError). extension_start e ≡ 0) (macsec_header_rows bytes)
     (refl, (refl, (refl, (refl, tt)))) error refused.1
 
--- what a call that looks for an extension has found
+-- The link extension that a call returns is at the start of the bytes.
 pub found_there : (type : EtherType) (bytes : List ℕ) (outer : Bool) (answer : Option LaxLinkExtSlice)
     (found : LaxLinkExtSlice) → answer ≡ Some found → IfSome answer (IsShownExtension outer type bytes)
     → IsShownExtension outer type bytes found
 found_there type bytes outer answer found same ok =
     subst (λ (o : Option LaxLinkExtSlice). IfSome o (IsShownExtension outer type bytes)) same ok
 
--- and that it has found none
+-- If a call returns no link extension, the bytes have none.
 pub none_there : (type : EtherType) (answer : Option LaxLinkExtSlice) → answer ≡ None
     → IfNone answer (¬ BeginsLinkExtension type) → ¬ BeginsLinkExtension type
 none_there type answer same none =
     subst (λ (o : Option LaxLinkExtSlice). IfNone o (¬ BeginsLinkExtension type)) same none
 
--- tag and payload of an extension lie in the bytes
+-- Tag and payload of a link extension are within the bytes.
 pub lax_extension_len : (outer : Bool) (type : EtherType) (bytes : List ℕ) (read : LinkExtension × Bool)
     → IsLaxExtension outer type bytes read
     → link_ext_header_len (extension_header read.0) + length (extension_payload read.0) ≤ length bytes
@@ -83,9 +83,9 @@ lax_extension_len outer type bytes (macsec tag payload, incomplete) is =
       ap length shown,
     )
 
--- ---- extensions, one after the other
+-- ---- several link extensions
 
--- one more extension behind others
+-- One more link extension after others.
 extensions_more : (outer : Bool) (old : List LaxLinkExtSlice) (found : LaxLinkExtSlice)
     → lax_extensions_of outer (old ++ found ∷ [])
     ≡ lax_extensions_of outer old
@@ -101,8 +101,8 @@ incomplete_more : (outer : Bool) (old : List LaxLinkExtSlice) (found : LaxLinkEx
 incomplete_more outer [] found = refl
 incomplete_more outer (slice ∷ old) found = incomplete_more (extension_incomplete outer slice) old found
 
--- These link extensions were read at the front of bytes of a type, and there is room for so many more: what the bytes
--- behind them hold is what the bytes hold behind these extensions.
+-- State of reading: the link extensions at the start of the bytes, and the number of further ones allowed. The layers
+-- of the bytes after them are those of all bytes after these extensions.
 pub record ReadsLax (offset : ℕ) (type : Option EtherType) (bytes : List ℕ) (extensions : List LaxLinkExtSlice)
     (room rest_offset : ℕ) (rest_type : Option EtherType) (rest : List ℕ) (outer : Bool) : Type 0 where
   pub place : rest_offset + length rest ≤ offset + length bytes
@@ -113,12 +113,12 @@ pub record ReadsLax (offset : ℕ) (type : Option EtherType) (bytes : List ℕ) 
   pub shows : (others : List LaxLinkExtSlice) (net : Option LaxNetSlice) (transport : Option TransportSlice)
       → ShowsLaxInside rest others net transport → ShowsLaxInside bytes (extensions ++ others) net transport
 
--- the type begins no link extension, where it is known
+-- The ether type, if known, names no link extension.
 abbrev pub BeginsNone : Option EtherType → Type 0
 BeginsNone None = Unit {0}
 BeginsNone (Some type) = ¬ BeginsLinkExtension type
 
--- at first none was read
+-- Initially, no link extension is read.
 pub reads_nothing : (offset room : ℕ) (type : Option EtherType) (bytes : List ℕ) (extensions : List LaxLinkExtSlice)
     → extensions ≡ [] → room ≡ most_link_exts → ReadsLax offset type bytes extensions room offset type bytes false
 reads_nothing offset room type bytes extensions none all =
@@ -131,7 +131,7 @@ reads_nothing offset room type bytes extensions none all =
       shows = λ others net transport shown. shown;
     }))
 
--- one more was read
+-- The state after one more link extension.
 one_more : (offset : ℕ) (type : Option EtherType) (bytes : List ℕ) (old : List LaxLinkExtSlice) (room at : ℕ)
     (known : EtherType) (here : List ℕ) (outer : Bool) (found : LaxLinkExtSlice)
     → ReadsLax offset type bytes old (suc room) at (Some known) here outer → IsShownExtension outer known here found
@@ -159,7 +159,7 @@ one_more offset type bytes old room at known here outer found so_far shown =
           (so_far.shows (found ∷ others) net transport ((shown.left, shown.parts), shows));
     }
 
--- with what the calls say of it
+-- The state after one more link extension, stated with the contracts of the calls.
 pub reads_one : (offset : ℕ) (type : Option EtherType) (bytes : List ℕ) (old new : List LaxLinkExtSlice)
     (room rest at after : ℕ) (here_type next_type : Option EtherType) (known : EtherType) (here next : List ℕ)
     (outer next_outer : Bool) (found : LaxLinkExtSlice)
@@ -177,27 +177,27 @@ reads_one offset type bytes old new room rest at after here_type next_type known
     transport (λ i. ReadsLax offset type bytes (sym push i) rest (sym place i) (sym type_is i) (sym payload_is i)
     (sym outer_is i)) one
 
--- bytes that are no link extension, where one must be, end the walk
+-- Slicing stops if the next link extension is rejected.
 pub reads_refused : (offset : ℕ) (type : Option EtherType) (bytes : List ℕ) (old : List LaxLinkExtSlice)
     (room rest at : ℕ) (here_type : Option EtherType) (known : EtherType) (here : List ℕ) (outer : Bool)
     (error : SliceError) → ReadsLax offset type bytes old room at here_type here outer → room ≡ suc rest
-    → here_type ≡ Some known → RefusesLaxExtension at known here error → StopsBehind offset type bytes old error
+    → here_type ≡ Some known → RefusesLaxExtension at known here error → StopsAfterExtensions offset type bytes old error
 reads_refused offset type bytes old room rest at here_type known here outer error so_far more is refused =
     let first = subst (λ (t : Option EtherType). ReadsLax offset type bytes old (suc rest) at t here outer) is
     (subst (λ (n : ℕ). ReadsLax offset type bytes old n at here_type here outer) more so_far) in
-    let net : LaxNet = no_net outer (Some (told error)) in
+    let net : LaxNet = no_net outer (Some (error_with_layer error)) in
     let inside = first.holds [] net (inr (error, refused, refl)) in
     let all = append-nil (lax_extensions_of false old) in
     let whole = subst (λ (x : List (LinkExtension × Bool)). IsLaxInside most_link_exts offset false type bytes x net)
     all inside in
     record {
       inside = subst (λ (o : Bool). IsLaxInside most_link_exts offset false type bytes (lax_extensions_of false old)
-          (no_net o (Some (told error)))) first.incomplete whole;
+          (no_net o (Some (error_with_layer error)))) first.incomplete whole;
       shows = subst (λ (x : List LaxLinkExtSlice). ShowsLaxInside bytes x None None) (append-nil old)
           (first.shows [] None None refl);
     }
 
--- where no more are taken, or the type begins none, bytes hold a net layer alone
+-- If no more link extensions are allowed, or the ether type names none, the bytes contain only a network layer.
 net_inside : (room offset : ℕ) (outer : Bool) (type : Option EtherType) (bytes : List ℕ)
     → ((room ≡ 0) ⊎ BeginsNone type) → (net : LaxNet) → IsLaxNet offset outer (net_kind_in type) bytes net
     → IsLaxInside room offset outer type bytes [] net
@@ -206,7 +206,7 @@ net_inside zero offset outer (Some type) bytes why net is = is
 net_inside (suc room) offset outer (Some type) bytes (inl full) net is = absurd (omega (arith, full))
 net_inside (suc room) offset outer (Some type) bytes (inr none) net is = inl (none, is)
 
--- there the link extensions end
+-- The link extensions end if no more are allowed, or the ether type names none.
 pub extensions_end : (offset : ℕ) (type : Option EtherType) (bytes : List ℕ) (extensions : List LaxLinkExtSlice)
     (room at : ℕ) (rest_type : Option EtherType) (rest : List ℕ) (outer : Bool)
     → ReadsLax offset type bytes extensions room at rest_type rest outer → ((room ≡ 0) ⊎ BeginsNone rest_type)
@@ -227,11 +227,11 @@ extensions_end offset type bytes extensions room at rest_type rest outer so_far 
   };
 }
 
--- it begins none where it is not known
+-- An unknown ether type names no link extension.
 pub unknown_begins_none : (type : Option EtherType) → type ≡ None → BeginsNone type
 unknown_begins_none type is = subst BeginsNone (sym is) tt
 
--- or where it is known to begin none
+-- A known ether type that names no link extension begins none.
 pub known_begins_none : (type : Option EtherType) (known : EtherType) → type ≡ Some known
     → (¬ BeginsLinkExtension known) → BeginsNone type
 known_begins_none type known is none = subst BeginsNone (sym is) none

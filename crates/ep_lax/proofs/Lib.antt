@@ -4,7 +4,7 @@ pub mod LaxLawLemmas
 pub mod LaxMacsecLemmas
 pub mod StrictLemmas
 pub mod LaxStopLemmas
-pub mod LaxToldLemmas
+pub mod LaxErrorLayerLemmas
 pub mod LaxStopEntryLemmas
 pub mod LaxSliceLemmas
 pub mod LaxTransportLemmas

@@ -1,4 +1,4 @@
--- That more bytes show the headers that a front of them shows, and those behind them.
+-- More bytes have the headers of a prefix of them, followed by further headers.
 use Rattle.std.proofs.Common.{◌≡◌, ℕ, zero, suc, ◌+◌, Bool, false, List, [], ◌∷◌, ◌++◌, map, Option, Some, None, refl, sym, ap, subst, ◌∙◌, inl, inr, arith}
 use Rattle.std.proofs.lemmas.List.{append-nil}
 use Rattle.ep_base.specs.Bytes.{AreBytes}
@@ -25,9 +25,9 @@ use Rattle.ep_packet.specs.declared.err.slice_error.SliceError.{SliceError}
 use Rattle.ep_packet.specs.Frame.{NetKind, only_ipv4, only_ipv6, only_arp, any_ip, net_kind, most_link_exts, IsFrame}
 use Rattle.ep_packet.specs.Layers.{Layers}
 use Rattle.ep_lax.specs.Lax.{IsLax, IsLaxExtension, IsLaxInside, IsLaxNet, arp_net}
-use Rattle.ep_lax.specs.LaxHeaders.{LayerHeader, of_tag, AreFirst, ShowsFront, shown_headers, frame_headers, link_headers, tag_header}
-use Rattle.ep_lax.specs.LaxLayers.{LaxLayers, LaxNet, no_net, told}
-use Rattle.ep_lax.specs.LaxMacsec.{lax_macsec_payload, macsec_says}
+use Rattle.ep_lax.specs.LaxHeaders.{LayerHeader, of_tag, AreFirst, ShowsPrefix, shown_headers, frame_headers, link_headers, tag_header}
+use Rattle.ep_lax.specs.LaxLayers.{LaxLayers, LaxNet, no_net, error_with_layer}
+use Rattle.ep_lax.specs.LaxMacsec.{lax_macsec_payload, macsec_stated_len}
 use Rattle.ep_lax.specs.StrictFrames.{extension_in}
 use Rattle.ep_lax.proofs.LaxEntryLemmas.{lax_decided}
 use Rattle.ep_lax.proofs.LaxLawLemmas.{Tagged, inside_is_one, lax_extension_fits, net_is_one}
@@ -36,25 +36,25 @@ use Rattle.ep_lax.proofs.MoreIpLemmas.{MoreNet, cut_more, inner_headers, ipv4_mo
 use Rattle.ep_lax.proofs.MoreTransportLemmas.{parts_more, shows_before, shows_behind, shows_same}
 use Rattle.ep_lax.proofs.StrictLemmas.{frame_is_whole}
 
--- ---- the net layer
+-- ---- network layer
 
--- bytes that show no header because one is refused: whatever more bytes show
+-- If the first header of the bytes is rejected, more bytes may have any headers.
 stopped_more : (Is : LaxNet → Type 0) (outer : Bool) (refusal : SliceError × Layer) (net : LaxNet)
     → net ≡ no_net outer (Some refusal) → IsOne Is → MoreNet Is net
 stopped_more Is outer refusal net same one = record {
   read = one.value;
   is = one.is;
-  shows = subst (λ (n : LaxNet). ShowsFront (inner_headers n) n.inside.stop (inner_headers one.value)
+  shows = subst (λ (n : LaxNet). ShowsPrefix (inner_headers n) n.inside.stop (inner_headers one.value)
       one.value.inside.stop) (sym same)
       (shows_before [] (inner_headers one.value) (inner_headers one.value) refusal one.value.inside.stop refl);
 }
 
--- the same net layer under another name
+-- The network layer with its condition replaced by another.
 net_under : {Is Other : LaxNet → Type 0} (net : LaxNet) → ((read : LaxNet) → Is read → Other read) → MoreNet Is net
     → MoreNet Other net
 net_under net name more = record { read = more.read; is = name more.read more.is; shows = more.shows }
 
--- a packet of open version
+-- An IP packet of either version with more bytes.
 open_more : (offset place : ℕ) (outer inner : Bool) (bytes more : List ℕ) (net : LaxNet) → AreBytes (bytes ++ more)
     → IsLaxNet offset outer (Some any_ip) bytes net → MoreNet (IsLaxNet place inner (Some any_ip) (bytes ++ more)) net
 open_more offset place outer inner bytes more net fits (inl is) =
@@ -71,15 +71,15 @@ net_more offset place outer inner None bytes more net fits one is = record {
   shows = shows_same (inner_headers net) [] net.inside.stop None (λ i. inner_headers (sym is i));
 }
 net_more offset place outer inner (Some only_ipv4) bytes more net fits one (inl refused) =
-    stopped_more (IsLaxNet place inner (Some only_ipv4) (bytes ++ more)) outer (told refused.0) net refused.2 one
+    stopped_more (IsLaxNet place inner (Some only_ipv4) (bytes ++ more)) outer (error_with_layer refused.0) net refused.2 one
 net_more offset place outer inner (Some only_ipv4) bytes more net fits one (inr is) =
     net_under net (λ read found. inr found) (ipv4_more offset place outer inner bytes more net fits is)
 net_more offset place outer inner (Some only_ipv6) bytes more net fits one (inl refused) =
-    stopped_more (IsLaxNet place inner (Some only_ipv6) (bytes ++ more)) outer (told refused.0) net refused.2 one
+    stopped_more (IsLaxNet place inner (Some only_ipv6) (bytes ++ more)) outer (error_with_layer refused.0) net refused.2 one
 net_more offset place outer inner (Some only_ipv6) bytes more net fits one (inr is) =
     net_under net (λ read found. inr found) (ipv6_more offset place outer inner bytes more net fits is)
 net_more offset place outer inner (Some only_arp) bytes more net fits one (inl refused) =
-    stopped_more (IsLaxNet place inner (Some only_arp) (bytes ++ more)) outer (told refused.0) net refused.2 one
+    stopped_more (IsLaxNet place inner (Some only_arp) (bytes ++ more)) outer (error_with_layer refused.0) net refused.2 one
 net_more offset place outer inner (Some only_arp) bytes more net fits one (inr (part, is, same)) = record {
   read = arp_net part.0;
   is = inr (
@@ -98,7 +98,7 @@ net_more offset place outer inner (Some any_ip) bytes more net fits one is =
 
 -- ---- link extensions
 
--- what follows a header and its payload, where nothing is left, goes on
+-- Without trailing bytes, the bytes after a header and its payload continue the payload.
 whole_more : (bytes front payload left more : List ℕ) → bytes ≡ (front ++ payload) ++ left → left ≡ []
     → bytes ++ more ≡ (front ++ (payload ++ more)) ++ []
 whole_more bytes front payload left more parts none =
@@ -106,7 +106,7 @@ whole_more bytes front payload left more parts none =
     (parts ∙ ap (λ (l : List ℕ). (front ++ payload) ++ l) none ∙ append-nil (front ++ payload))
     ∙ sym (append-nil (front ++ (payload ++ more)))
 
--- the type of a payload, whatever cuts it
+-- The ether type of a payload does not depend on its length.
 type_by : (of : MacsecPType) (limit : LenSource) (bytes : List ℕ)
     → macsec_payload_type (payload_by of limit bytes) ≡ ptype_type of
 type_by (ptype.Unmodified type) limit bytes = refl
@@ -114,7 +114,7 @@ type_by ptype.Modified limit bytes = refl
 type_by ptype.Encrypted limit bytes = refl
 type_by ptype.EncryptedUnmodified limit bytes = refl
 
--- an extension of the same tag and type, in whose payload the payload of another one is a front
+-- A link extension with the same tag and ether type whose payload begins with the other payload.
 record MoreExtension (outer : Bool) (type : EtherType) (bytes : List ℕ) (tagged : Tagged) : Type 0 where
   read : Tagged
   is : IsLaxExtension outer type bytes read
@@ -150,9 +150,9 @@ extension_more outer inner type bytes more (macsec tag payload, incomplete) is =
       encodes = packet.stands.encodes;
       parts = parts_more bytes packet.stands.encoded packet.behind more packet.stands.parts;
     } in
-    let longer = lax_cut_is_one len (macsec_says tag) source.MacsecShortLength inner len (packet.behind ++ more)
+    let longer = lax_cut_is_one len (macsec_stated_len tag) source.MacsecShortLength inner len (packet.behind ++ more)
     (omega arith) in
-    let rest = cut_more len (macsec_says tag) source.MacsecShortLength outer inner len packet.behind more cut
+    let rest = cut_more len (macsec_stated_len tag) source.MacsecShortLength outer inner len packet.behind more cut
     longer.value packet.cut longer.is in
     let shown = ap macsec_payload_bytes is.1.2 ∙ payload_by_is tag.ptype cut.source cut.payload in
     let read = lax_macsec_payload tag longer.value in
@@ -175,21 +175,21 @@ extension_more outer inner type bytes more (macsec tag payload, incomplete) is =
       tag = refl;
     }
 
--- ---- what bytes of a type hold
+-- ---- layers in bytes of an ether type
 
--- the headers of link extensions, and those behind them
+-- The headers of link extensions and of the layers after them.
 abbrev pub inside_headers : List Tagged → LaxNet → List LayerHeader
 inside_headers extensions net = map tag_header (map extension_in extensions) ++ inner_headers net
 
--- what bytes of a type hold, which shows what a front of them shows
+-- The layers of bytes of an ether type, which have the headers of a prefix of them.
 record MoreInside (room place : ℕ) (outer : Bool) (type : Option EtherType) (bytes : List ℕ)
     (extensions : List Tagged) (net : LaxNet) : Type 0 where
   others : List Tagged
   read : LaxNet
   is : IsLaxInside room place outer type bytes others read
-  shows : ShowsFront (inside_headers extensions net) net.inside.stop (inside_headers others read) read.inside.stop
+  shows : ShowsPrefix (inside_headers extensions net) net.inside.stop (inside_headers others read) read.inside.stop
 
--- a tag that stands in front of both
+-- A tag before the layers of both.
 tagged_more : (room place : ℕ) (inner : Bool) (type : EtherType) (bytes : List ℕ) (tagged : Tagged)
     (others : List Tagged) (net : LaxNet) → (here : MoreExtension inner type bytes tagged)
     → MoreInside room (place + link_ext_header_len (extension_header here.read.0)) here.read.1
@@ -199,13 +199,13 @@ tagged_more room place inner type bytes tagged others net here next = record {
   others = here.read ∷ next.others;
   read = next.read;
   is = (here.is, next.is);
-  shows = subst (λ (tag : LinkExtHeader). ShowsFront (of_tag tag ∷ inside_headers others net) net.inside.stop
+  shows = subst (λ (tag : LinkExtHeader). ShowsPrefix (of_tag tag ∷ inside_headers others net) net.inside.stop
       (of_tag (extension_header here.read.0) ∷ inside_headers next.others next.read) next.read.inside.stop) here.tag
       (shows_behind (of_tag (extension_header here.read.0) ∷ []) (inside_headers others net)
       (inside_headers next.others next.read) net.inside.stop next.read.inside.stop next.shows);
 }
 
--- no extension
+-- No link extension.
 bare_more : (room place : ℕ) (inner : Bool) (type : Option EtherType) (bytes : List ℕ) (net : LaxNet)
     {Is : LaxNet → Type 0} → ((read : LaxNet) → Is read → IsLaxInside room place inner type bytes [] read)
     → MoreNet Is net → MoreInside room place inner type bytes [] net
@@ -239,8 +239,8 @@ inside_more (suc room) offset place outer inner (Some type) bytes more [] net fi
       others = one.value.0;
       read = one.value.1;
       is = one.is;
-      shows = subst (λ (n : LaxNet). ShowsFront (inside_headers [] n) n.inside.stop all one.value.1.inside.stop)
-          (sym refused.2) (shows_before [] all all (told refused.0) one.value.1.inside.stop refl);
+      shows = subst (λ (n : LaxNet). ShowsPrefix (inside_headers [] n) n.inside.stop all one.value.1.inside.stop)
+          (sym refused.2) (shows_before [] all all (error_with_layer refused.0) one.value.1.inside.stop refl);
     }
 inside_more (suc room) offset place outer inner (Some type) bytes more (tagged ∷ others) net fits is =
     let here = extension_more outer inner type bytes more tagged is.0 in
@@ -255,29 +255,29 @@ inside_more (suc room) offset place outer inner (Some type) bytes more (tagged �
     (subst (λ (l : List ℕ). MoreInside room behind here.read.1 (extension_type tagged.0) l others net)
     (sym here.payload) next))
 
--- ---- the whole
+-- ---- complete packets
 
--- layers that show what those of a front show
+-- Layers that have the headers of the layers of a prefix.
 abbrev MoreLayers : Entry → List ℕ → LaxLayers → Type 0
 MoreLayers entry bytes read =
     (longer : LaxLayers) × IsLax entry bytes longer
-    × ShowsFront (shown_headers read) read.net.inside.stop (shown_headers longer) longer.net.inside.stop
+    × ShowsPrefix (shown_headers read) read.net.inside.stop (shown_headers longer) longer.net.inside.stop
 
--- a link header that stands in front of both
+-- A link header before the layers of both.
 abbrev with_link : LinkLayer → List Tagged → LaxNet → LaxLayers
 with_link link extensions net = record { link = Some link; link_exts = extensions; net = net }
 
 linked_shows : (read : LaxLayers) (link longer : LinkLayer) (others : List Tagged) (net : LaxNet)
     → read.link ≡ Some link → link_headers (Some longer) ≡ link_headers (Some link)
-    → ShowsFront (inside_headers read.link_exts read.net) read.net.inside.stop (inside_headers others net)
+    → ShowsPrefix (inside_headers read.link_exts read.net) read.net.inside.stop (inside_headers others net)
     net.inside.stop
-    → ShowsFront (shown_headers read) read.net.inside.stop (shown_headers (with_link longer others net)) net.inside.stop
+    → ShowsPrefix (shown_headers read) read.net.inside.stop (shown_headers (with_link longer others net)) net.inside.stop
 linked_shows read link longer others net is same shows =
     let shown = inside_headers read.link_exts read.net in
     let all = inside_headers others net in
-    subst (λ (l : Option LinkLayer). ShowsFront (link_headers l ++ shown) read.net.inside.stop
+    subst (λ (l : Option LinkLayer). ShowsPrefix (link_headers l ++ shown) read.net.inside.stop
     (link_headers (Some longer) ++ all) net.inside.stop) (sym is)
-    (subst (λ (l : List LayerHeader). ShowsFront (link_headers (Some link) ++ shown) read.net.inside.stop (l ++ all)
+    (subst (λ (l : List LayerHeader). ShowsPrefix (link_headers (Some link) ++ shown) read.net.inside.stop (l ++ all)
     net.inside.stop) (sym same)
     (shows_behind (link_headers (Some link)) shown all read.net.inside.stop net.inside.stop shows))
 
@@ -325,21 +325,21 @@ more_layers ip front back read fits (link, extensions, net) =
     let next = open_more 0 0 false false front back read.net fits net in (
       record { link = None; link_exts = []; net = next.read },
       (refl, refl, next.is),
-      subst (λ (l : Option LinkLayer). ShowsFront (link_headers l ++ inside_headers read.link_exts read.net)
+      subst (λ (l : Option LinkLayer). ShowsPrefix (link_headers l ++ inside_headers read.link_exts read.net)
           read.net.inside.stop (inner_headers next.read) next.read.inside.stop) (sym link)
-          (subst (λ (l : List Tagged). ShowsFront (inside_headers l read.net) read.net.inside.stop
+          (subst (λ (l : List Tagged). ShowsPrefix (inside_headers l read.net) read.net.inside.stop
           (inner_headers next.read) next.read.inside.stop) (sym extensions) next.shows),
     )
 
--- the headers of a front are a front of the frame's, and all of them where the walk over the front did not stop
-pub cut_shows_front : (entry : Entry) (front back : List ℕ) (layers : Layers) (read : LaxLayers)
+-- The headers of a prefix are the first headers of the frame, and all of them if slicing of the prefix did not stop.
+pub prefix_shows_headers : (entry : Entry) (front back : List ℕ) (layers : Layers) (read : LaxLayers)
     → AreBytes (front ++ back) → IsFrame entry (front ++ back) layers → IsLax entry front read
     → AreFirst (shown_headers read) read.net.inside.stop (frame_headers layers)
-cut_shows_front entry front back layers read fits frame is =
+prefix_shows_headers entry front back layers read fits frame is =
     let longer = more_layers entry front back read fits is in
     let strict = frame_is_whole entry (front ++ back) layers frame in
     let same = (lax_decided entry (front ++ back) fits).one_value longer.0 strict.0 longer.1 strict.1 in
-    let shows = subst (λ (l : LaxLayers). ShowsFront (shown_headers read) read.net.inside.stop (shown_headers l)
+    let shows = subst (λ (l : LaxLayers). ShowsPrefix (shown_headers read) read.net.inside.stop (shown_headers l)
     l.net.inside.stop) same longer.2 in
     elim shows [
       | inl first ↦ subst (λ (l : Layers). AreFirst (shown_headers read) read.net.inside.stop (frame_headers l)) strict.2 first

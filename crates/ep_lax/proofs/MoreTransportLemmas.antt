@@ -1,5 +1,5 @@
--- That a payload of IP with more bytes behind it shows the transport header that it shows without them, but for an ICMPv4
--- timestamp that is too long then.
+-- A payload of IP with more bytes after it has the transport header that it has without them, except for an ICMPv4
+-- timestamp that then is too long.
 use Rattle.std.proofs.Common.{◌≡◌, ◌⊎◌, not, nat_lt, if◌then◌else◌, ℕ, ◌<◌, Bool, false, List, [], ◌∷◌, ◌++◌, length, Option, Some, None, refl, sym, ap, subst, ◌∙◌, inl, inr, append_assoc, length-append, arith}
 use Rattle.std.proofs.lemmas.Bool.{cases_eq, cases_lt, ne_eqb}
 use Rattle.std.proofs.lemmas.Grind.{common_steps}
@@ -8,7 +8,7 @@ use Rattle.ep_base.specs.Bytes.{AreBytes}
 use Rattle.ep_base.specs.IpNumbers.{icmpv4_number}
 use Rattle.ep_base.specs.IpPayload.{IpPayload}
 use Rattle.ep_base.specs.Missing.{HasExactLength}
-use Rattle.ep_base.specs.Readings.{behind_header, headers, len_error}
+use Rattle.ep_base.specs.Readings.{after_header, headers, len_error}
 use Rattle.ep_base.specs.Tables.{first_row, parts_of}
 use Rattle.ep_base.specs.declared.err.layer.Layer.{Layer}
 use Rattle.ep_base.specs.declared.err.layer.Layer.TheVariants as layer
@@ -28,16 +28,16 @@ use Rattle.ep_transport.proofs.TransportLemmas.{icmpv4_refused}
 use Rattle.ep_packet.specs.declared.err.slice_error.SliceError.{SliceError}
 use Rattle.ep_packet.specs.declared.err.slice_error.SliceError.TheVariants.{Len}
 use Rattle.ep_packet.proofs.OffsetLemmas.{transport_encoded}
-use Rattle.ep_lax.specs.Lax.{IsHeaderCutLaxly, IsLaxTransport}
-use Rattle.ep_lax.specs.LaxHeaders.{LayerHeader, of_transport, transport_headers, ShowsFront}
-use Rattle.ep_lax.specs.LaxLayers.{LaxTransport, no_transport, told}
+use Rattle.ep_lax.specs.Lax.{IsHeaderLimitedLaxly, IsLaxTransport}
+use Rattle.ep_lax.specs.LaxHeaders.{LayerHeader, of_transport, transport_headers, ShowsPrefix}
+use Rattle.ep_lax.specs.LaxLayers.{LaxTransport, no_transport, error_with_layer}
 use Rattle.ep_lax.proofs.LaxLawLemmas.{header_cut_is_one, transport_is_one}
 
--- ---- what shows a front
+-- ---- headers of a prefix
 
--- headers that stand in front of both
+-- Headers before both lists.
 pub shows_behind : (before shown whole : List LayerHeader) (end stop : Option (SliceError × Layer))
-    → ShowsFront shown end whole stop → ShowsFront (before ++ shown) end (before ++ whole) stop
+    → ShowsPrefix shown end whole stop → ShowsPrefix (before ++ shown) end (before ++ whole) stop
 shows_behind before shown whole end stop (inl first) = inl (record {
   more = first.more;
   parts = ap (λ (l : List LayerHeader). before ++ l) first.parts ∙ sym (append_assoc before shown first.more);
@@ -54,26 +54,26 @@ shows_behind before shown whole end stop (inr last) = inr (record {
   long = last.long;
 })
 
--- where the walk stopped, whatever stands behind what is shown
+-- If slicing stopped, the headers of the prefix are the first of the headers, whatever comes after them.
 pub shows_before : (shown more whole : List LayerHeader) (end : SliceError × Layer)
-    (stop : Option (SliceError × Layer)) → whole ≡ shown ++ more → ShowsFront shown (Some end) whole stop
+    (stop : Option (SliceError × Layer)) → whole ≡ shown ++ more → ShowsPrefix shown (Some end) whole stop
 shows_before shown more whole end stop parts =
     inl (record { more = more; parts = parts; all = λ none. cc none })
 
--- the same headers
+-- Equal headers.
 pub shows_same : (shown whole : List LayerHeader) (end stop : Option (SliceError × Layer)) → whole ≡ shown
-    → ShowsFront shown end whole stop
+    → ShowsPrefix shown end whole stop
 shows_same shown whole end stop same =
     inl (record { more = []; parts = same ∙ sym (append-nil shown); all = λ none. refl })
 
--- ---- a header with more bytes behind it
+-- ---- a header with more bytes after it
 
--- what follows a header goes on
+-- The bytes after a header can be extended.
 pub parts_more : (bytes front behind more : List ℕ) → bytes ≡ front ++ behind → bytes ++ more ≡ front ++ (behind ++ more)
 parts_more bytes front behind more parts =
     ap (λ (l : List ℕ). l ++ more) parts ∙ append_assoc front behind more
 
--- bytes that begin with the header of a timestamp, and are more than its own
+-- Bytes that begin with the header of a timestamp and are longer than 20 bytes.
 record IsLongTimestamp (number : ℕ) (bytes : List ℕ) (read : TransportHeader) : Type 0 where
   icmp : Icmpv4Header
   number_is : number ≡ icmpv4_number
@@ -84,7 +84,7 @@ record IsLongTimestamp (number : ℕ) (bytes : List ℕ) (read : TransportHeader
   exact : HasExactLength refusal.layer
   long : 20 < refusal.len
 
--- the row of a timestamp, where there are more
+-- A timestamp with more than 20 bytes is rejected by its row.
 timestamp_refused : (value : Icmpv4Type) (n : ℕ) → icmpv4_len (icmpv4_kind value) ≡ 20 → 20 < n
     → (error : LenError) × (first_row (icmpv4_timestamp_rows (icmpv4_kind value) n) ≡ Some error)
     × HasExactLength error.layer × (error.len ≡ n)
@@ -104,7 +104,7 @@ timestamp_refused (message.TimestampReply times) n is long = (
 )
 timestamp_refused _ n is long = absurd (omega (arith, is))
 
--- the same among the rows of ICMP
+-- A timestamp with more than 20 bytes is rejected by the rows of ICMP.
 timestamp_row : (bytes : List ℕ) (value : Icmpv4Type) (error : LenError) → icmpv4_kind_at bytes ≡ icmpv4_kind value
     → 20 < length bytes → first_row (icmpv4_timestamp_rows (icmpv4_kind value) (length bytes)) ≡ Some error
     → first_row (icmpv4_rows bytes) ≡ Some error
@@ -137,7 +137,7 @@ icmpv4_longer number bytes more icmp payload number_is is some twenty =
       long = omega (arith, row.3, long);
     }
 
--- a message of ICMP that is no timestamp goes on, and a timestamp with nothing behind it is the same
+-- An ICMP message other than a timestamp can be extended, and a timestamp without bytes after it stays the same.
 icmpv4_more : (number : ℕ) (bytes more : List ℕ) (icmp : Icmpv4Header) (payload : List ℕ) → number ≡ icmpv4_number
     → IsIcmpv4 bytes (parts_of icmp payload [])
     → IsTransportLayer headers number (bytes ++ more) (header.Icmpv4 icmp) (payload ++ more)
@@ -166,7 +166,7 @@ icmpv4_more number bytes more icmp payload number_is is =
     empty [] none = refl
     empty (byte ∷ others) none = absurd (omega (arith, none))
 
--- a transport layer, where the length field of UDP does not cut, with more bytes behind it
+-- A transport layer, before the length field of UDP applies, with more bytes after it.
 layer_more : (number : ℕ) (bytes more : List ℕ) (h : TransportHeader) (payload : List ℕ)
     → IsTransportLayer headers number bytes h payload
     → IsTransportLayer headers number (bytes ++ more) h (payload ++ more) ⊎ IsLongTimestamp number (bytes ++ more) h
@@ -195,23 +195,23 @@ layer_more number bytes more (header.Icmpv6 icmp) payload is =
       },
     )
 
--- ---- the transport layer
+-- ---- transport layer
 
--- the header of a layer is shown, whatever its length field cuts
+-- The header of a layer is read, whatever its length field limits.
 pub cut_shows : (outer : Bool) (h : TransportHeader) (payload : List ℕ) (lax : LaxTransport)
-    → IsHeaderCutLaxly outer h payload lax → transport_headers lax.layer ≡ of_transport h ∷ []
+    → IsHeaderLimitedLaxly outer h payload lax → transport_headers lax.layer ≡ of_transport h ∷ []
 cut_shows outer (header.Udp udp) payload lax is = ap (λ (l : LaxTransport). transport_headers l.layer) is.2
 cut_shows outer (header.Tcp tcp) payload lax is = ap (λ (l : LaxTransport). transport_headers l.layer) is
 cut_shows outer (header.Icmpv4 icmp) payload lax is = ap (λ (l : LaxTransport). transport_headers l.layer) is
 cut_shows outer (header.Icmpv6 icmp) payload lax is = ap (λ (l : LaxTransport). transport_headers l.layer) is
 
--- what shows the transport header of a payload, and what a payload shows that has more bytes behind it
+-- The transport header of a payload, and of a payload with more bytes after it.
 pub record MoreTransport (offset : ℕ) (outer : Bool) (payload : IpPayload) (lax : LaxTransport) : Type 0 where
   pub read : LaxTransport
   pub is : IsLaxTransport offset outer payload read
-  pub shows : ShowsFront (transport_headers lax.layer) lax.stop (transport_headers read.layer) read.stop
+  pub shows : ShowsPrefix (transport_headers lax.layer) lax.stop (transport_headers read.layer) read.stop
 
--- a payload with more bytes behind it
+-- A payload with more bytes after it.
 abbrev pub payload_with : IpPayload → LenSource → List ℕ → IpPayload
 payload_with payload end more =
     record { number = payload.number; fragmented = payload.fragmented; source = end; bytes = payload.bytes ++ more }
@@ -224,9 +224,9 @@ transport_more offset place outer inner payload end more fits lax (inl refused) 
     record {
       read = one.value;
       is = one.is;
-      shows = subst (λ (l : LaxTransport). ShowsFront (transport_headers l.layer) l.stop
+      shows = subst (λ (l : LaxTransport). ShowsPrefix (transport_headers l.layer) l.stop
           (transport_headers one.value.layer) one.value.stop) (sym refused.2)
-          (shows_before [] (transport_headers one.value.layer) (transport_headers one.value.layer) (told refused.0)
+          (shows_before [] (transport_headers one.value.layer) (transport_headers one.value.layer) (error_with_layer refused.0)
           one.value.stop refl);
     }
 transport_more offset place outer inner payload end more fits lax (inr (None, part, same)) = record {
@@ -248,11 +248,11 @@ transport_more offset place outer inner payload end more fits lax (inr (Some lay
                 (cut_shows inner layer.header (layer.payload ++ more) one.value one.is ∙ sym shown);
           }
       | inr long ↦
-          let error = behind_header place end long.refusal in
+          let error = after_header place end long.refusal in
           let refused = icmpv4_refused headers payload.number payload.fragmented (payload.bytes ++ more) long.refusal
           part.0 long.number_is long.refused in
           record {
-            read = no_transport inner (Some (told (Len error)));
+            read = no_transport inner (Some (error_with_layer (Len error)));
             is = inl (Len error, (transport_error.Len long.refusal, refused, refl), refl);
             shows = inr (record {
               header = long.icmp;

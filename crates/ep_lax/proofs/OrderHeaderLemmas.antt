@@ -13,18 +13,18 @@ use Rattle.ep_packet.specs.FrameBytes.{AreInOrder, EncodesLink, EncodesNet, Enco
 use Rattle.ep_packet.specs.Layers.{Layers, NetLayer, arp, ipv4, ipv6}
 use Rattle.ep_lax.specs.LaxHeaders.{BeginWith, EncodesHeader, LayerHeader, frame_headers, header_len, link_headers, net_headers, of_arp, of_extension, of_ipv4, of_ipv6, of_link, of_transport, tag_header, transport_headers}
 
--- one header, and then others
+-- Bytes that begin with a header and other headers after it begin with all of them.
 header_begins : (header : LayerHeader) (others : List LayerHeader) (bytes rest : List ℕ) → EncodesHeader header bytes
     → length bytes ≡ header_len header → BeginWith others rest → BeginWith (header ∷ others) (bytes ++ rest)
 header_begins header others bytes rest encodes len rest_begins = (bytes, rest, refl, encodes, len, rest_begins)
 
--- no header, and then others
+-- Bytes without header and with other headers after it begin with the others.
 none_begins : (others : List LayerHeader) (bytes rest : List ℕ) → bytes ≡ [] → BeginWith others rest
     → BeginWith others (bytes ++ rest)
 none_begins others bytes rest no_bytes rest_begins =
     subst (λ (b : List ℕ). BeginWith others (b ++ rest)) (sym no_bytes) rest_begins
 
--- a header whose bytes are the first of some
+-- Bytes that begin with a header and other bytes, followed by other headers, begin with all of them.
 first_begins : (header : LayerHeader) (others : List LayerHeader) (bytes first second rest : List ℕ)
     → bytes ≡ first ++ second → EncodesHeader header first → length first ≡ header_len header
     → BeginWith others (second ++ rest) → BeginWith (header ∷ others) (bytes ++ rest)
@@ -32,7 +32,7 @@ first_begins header others bytes first second rest parts encodes len rest_begins
     subst (BeginWith (header ∷ others)) (sym (ap (λ (b : List ℕ). b ++ rest) parts ∙ append_assoc first second rest))
     (header_begins header others first (second ++ rest) encodes len rest_begins)
 
--- the header of a link layer, if present, and then others
+-- Bytes that begin with the header of a link layer, if present, and other headers after it begin with all of them.
 link_begins : (link : Option LinkLayer) (others : List LayerHeader) (bytes rest : List ℕ) → EncodesLink link bytes
     → BeginWith others rest → BeginWith (link_headers link ++ others) (bytes ++ rest)
 link_begins None others bytes rest no_bytes rest_begins = none_begins others bytes rest no_bytes rest_begins
@@ -52,7 +52,7 @@ tag_encodes : (extension : LinkExtension) (bytes : List ℕ) → EncodesTag exte
 tag_encodes (vlan tag payload) bytes encodes = encodes
 tag_encodes (macsec tag payload) bytes encodes = encodes
 
--- the tags of link extensions, and then other headers
+-- Bytes that begin with the tags of link extensions and other headers after them begin with all of them.
 tags_begin : (extensions : List LinkExtension) (others : List LayerHeader) (bytes rest : List ℕ)
     → EncodesTags extensions bytes → BeginWith others rest
     → BeginWith (map tag_header extensions ++ others) (bytes ++ rest)
@@ -62,7 +62,7 @@ tags_begin (extension ∷ inner) others bytes rest (first, second, encodes, are_
     (tag_encodes extension first encodes) (tag_encoded extension first encodes)
     (tags_begin inner others second rest are_tags rest_begins)
 
--- extension headers of IP, and then other headers
+-- Bytes that begin with extension headers of IP and other headers after them begin with all of them.
 parts_begin : (extensions : List ExtensionPart) (others : List LayerHeader) (bytes rest : List ℕ)
     → EncodesParts bytes extensions → BeginWith others rest
     → BeginWith (map of_extension extensions ++ others) (bytes ++ rest)
@@ -71,7 +71,8 @@ parts_begin (extension ∷ inner) others bytes rest (first, second, encodes, are
     first_begins (of_extension extension) (map of_extension inner ++ others) bytes first second rest parts encodes
     (part_encoded extension first encodes) (parts_begin inner others second rest are_headers rest_begins)
 
--- the headers of a network layer, if present, and then others
+-- Bytes that begin with the headers of a network layer, if present, and other headers after them begin with all of
+-- them.
 net_begins : (net : Option NetLayer) (others : List LayerHeader) (bytes rest : List ℕ) → EncodesNet net bytes
     → BeginWith others rest → BeginWith (net_headers net ++ others) (bytes ++ rest)
 net_begins None others bytes rest no_bytes rest_begins = none_begins others bytes rest no_bytes rest_begins
@@ -85,14 +86,14 @@ net_begins (Some (ipv6 header extensions payload)) others bytes rest (fits, (sec
 net_begins (Some (arp packet)) others bytes rest encodes rest_begins =
     header_begins (of_arp packet) others bytes rest encodes (net_encoded (Some (arp packet)) bytes encodes) rest_begins
 
--- the header of a transport layer, if present
+-- Bytes that begin with the header of a transport layer, if present, begin with it.
 transport_begins : (transport : Option TransportLayer) (bytes rest : List ℕ) → EncodesTransport transport bytes
     → BeginWith (transport_headers transport) (bytes ++ rest)
 transport_begins None bytes rest no_bytes = tt
 transport_begins (Some layer) bytes rest encodes =
     header_begins (of_transport layer.header) [] bytes rest encodes (transport_encoded (Some layer) bytes encodes) tt
 
--- the headers of all layers
+-- Bytes with layers in order begin with the headers of all layers.
 pub order_begins : (bytes : List ℕ) (layers : Layers) → AreInOrder bytes layers
     → BeginWith (frame_headers layers) bytes
 order_begins bytes layers order =

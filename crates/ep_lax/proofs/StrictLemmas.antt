@@ -1,5 +1,4 @@
--- That a frame is read laxly as the layers that it is, that none of its payloads is incomplete, and that the walk stops
--- nowhere.
+-- A frame is sliced laxly into its layers, none of its payloads is incomplete, and slicing does not stop at an error.
 use Rattle.std.proofs.Common.{◌≡◌, ◌==◌, ◌&&◌, nat_lt, if◌then◌else◌, ℕ, zero, suc, ◌+◌, ◌<◌, Bool, true, false, List, [], ◌∷◌, ◌++◌, map, length, Option, Some, None, refl, sym, ap, subst, ◌∙◌, inl, inr, append_assoc, length-append, arith}
 use Rattle.std.proofs.lemmas.Bool.{ne_eqb}
 use Rattle.std.proofs.lemmas.Grind.{common_steps}
@@ -30,29 +29,29 @@ use Rattle.ep_transport.specs.TransportParts.{TransportLayer, transport_layer, I
 use Rattle.ep_transport.specs.Udp.{IsUdpHeader, udp_bytes}
 use Rattle.ep_packet.specs.declared.entry.Entry.{Entry}
 use Rattle.ep_packet.specs.declared.entry.Entry.TheVariants.{Ethernet as ethernet, LinuxSll as linux_sll, EtherType as ether_type, Ip as ip}
-use Rattle.ep_packet.specs.Frame.{NetKind, only_ipv4, only_ipv6, only_arp, any_ip, net_kind, most_link_exts, IsFrame, IsInside, IsNetPart, IsTransportBehind, IsTransportIn}
-use Rattle.ep_packet.specs.FrameRefusals.{net_header_len}
+use Rattle.ep_packet.specs.Frame.{NetKind, only_ipv4, only_ipv6, only_arp, any_ip, net_kind, most_link_exts, IsFrame, IsInside, IsNetPart, IsTransportAfterNet, IsTransportIn}
+use Rattle.ep_packet.specs.FrameRefusals.{net_payload_offset}
 use Rattle.ep_packet.specs.Layers.{Layers, NetLayer, arp, ip_layer, ipv4_layer, ipv6_layer, net_payload}
 use Rattle.ep_lax.specs.LaxIp.{LaxIp, IsLaxIpv4, IsLaxIpv6, lax_ipv6_source}
 use Rattle.ep_lax.specs.LaxLayers.{LaxLayers, LaxNet, LaxTransport, net_with, no_net}
-use Rattle.ep_lax.specs.LaxMacsec.{macsec_says}
-use Rattle.ep_lax.specs.Lax.{IsHeaderCutLaxly, IsLaxTransport, IsIpv4Net, IsIpv6Net, IsLaxNet, IsLaxExtension, IsLaxInside, IsLax, arp_net}
+use Rattle.ep_lax.specs.LaxMacsec.{macsec_stated_len}
+use Rattle.ep_lax.specs.Lax.{IsHeaderLimitedLaxly, IsLaxTransport, IsIpv4Net, IsIpv6Net, IsLaxNet, IsLaxExtension, IsLaxInside, IsLax, arp_net}
 use Rattle.ep_lax.specs.StrictFrames.{AreWhole, IsWhole, extension_in, layers_in}
 
--- ---- the transport layer
+-- ---- transport layer
 
--- a transport layer, or none, of which nothing is missing
+-- A transport layer, or none, with complete payload.
 abbrev whole_transport : Option TransportLayer → LaxTransport
 whole_transport layer = record { layer = layer; incomplete = false; stop = None }
 
--- no field that says 0 says more than is there
+-- No length field of 0 is above the available bytes.
 none_more : (n : ℕ) → nat_lt n 0 ≡ false
 none_more n = grind (arith, common_steps)
 
 layer_is_cut : (number : ℕ) (bytes : List ℕ) (h : TransportHeader) (payload : List ℕ)
     → IsTransportLayer slices number bytes h payload
     → (all : List ℕ) × IsTransportLayer headers number bytes h all
-    × IsHeaderCutLaxly false h all (whole_transport (Some (transport_layer h payload)))
+    × IsHeaderLimitedLaxly false h all (whole_transport (Some (transport_layer h payload)))
 layer_is_cut number bytes (header.Udp udp) payload is =
     let left = is.1.0 in
     let datagram = is.1.1 in
@@ -61,13 +60,13 @@ layer_is_cut number bytes (header.Udp udp) payload is =
       parts = datagram.parts ∙ append_assoc (udp_bytes udp) payload left;
     } in
     elim datagram.cut [
-      | inl says ↦ (
+      | inl stated ↦ (
         payload ++ left,
         (is.0, stands),
         (
           record { payload = payload; left = left; source = source.UdpHeaderLen; incomplete = false },
           cut_there 8 udp.length source.UdpHeaderLen false 8 payload left (omega arith)
-              (omega (arith, length-append payload left)) (sym says),
+              (omega (arith, length-append payload left)) (sym stated),
           refl,
         ),
       )
@@ -100,17 +99,17 @@ transport_is_whole offset payload (Some layer) is =
     let cut = layer_is_cut payload.number payload.bytes layer.header layer.payload is.1 in
     inr (Some (transport_layer layer.header cut.0), (is.0, cut.1), cut.2)
 
--- ---- the net layer
+-- ---- network layer
 
--- a packet of which nothing is missing
+-- A complete packet.
 abbrev whole_ip : {Header : Type 0} → IpPacket Header → LaxIp Header
 whole_ip packet = record { packet = packet; incomplete = false; stop = None }
 
--- a cut of which nothing is missing
+-- Limited bytes that are complete.
 abbrev pub whole_cut : List ℕ → List ℕ → LenSource → LaxCut
 whole_cut payload left end = record { payload = payload; left = left; source = end; incomplete = false }
 
--- the header of a packet stands, and its total length cuts
+-- The header of an IPv4 packet is valid, and its total length applies.
 pub ipv4_cuts : (bytes : List ℕ) (packet : Parts Ipv4Header) → IsIpv4Packet bytes packet
     → IsIpv4Header bytes (packet.header, packet.payload ++ packet.left)
     × IsLaxCut (ipv4_header_len packet.header) packet.header.total_len source.Ipv4HeaderTotalLen false
@@ -119,14 +118,14 @@ pub ipv4_cuts : (bytes : List ℕ) (packet : Parts Ipv4Header) → IsIpv4Packet 
 ipv4_cuts bytes packet is =
     let n = ipv4_header_len packet.header in
     let len = encoded_len is.encoded packet.header is.encodes in
-    let says : n + length packet.payload ≡ packet.header.total_len = omega (arith, is.cut, len) in (
+    let stated : n + length packet.payload ≡ packet.header.total_len = omega (arith, is.cut, len) in (
       record {
         encoded = is.encoded;
         encodes = is.encodes;
         parts = is.parts ∙ append_assoc is.encoded packet.payload packet.left;
       },
       cut_there n packet.header.total_len source.Ipv4HeaderTotalLen false n packet.payload packet.left
-          (omega (arith, says)) (omega (arith, says, length-append packet.payload packet.left)) says,
+          (omega (arith, stated)) (omega (arith, stated, length-append packet.payload packet.left)) stated,
     )
 
 ipv4_is_whole : (bytes : List ℕ) (packet : IpPacket Ipv4Header) → IsIpv4 slices bytes packet
@@ -151,20 +150,20 @@ ipv4_is_whole bytes packet is =
       },
     )
 
--- what sets the end of a payload whose length is told
+-- The source of the length of a payload with a stated length.
 told_source : (length_is_0 : Bool) (some : Bool) (named : LenSource) → length_is_0 ≡ false → (end : LenSource)
     → end ≡ (if length_is_0 && some then source.Slice else named)
     → end ≡ (if length_is_0 then (if length_is_0 && some then source.Slice else named) else named)
 told_source true some named untrue end same = cc untrue
 told_source false some named untrue end same = same
 
--- and of one whose length is not
+-- The source of the length of a payload without a stated length.
 untold_source : (length_is_0 : Bool) (same other end : LenSource) → length_is_0 ≡ true → end ≡ same
     → end ≡ (if length_is_0 then same else other)
 untold_source true same other end true_is is = is
 untold_source false same other end true_is is = cc true_is
 
--- the header of a packet stands, and its payload length cuts, or is 0 and leaves nothing
+-- The header of an IPv6 packet is valid, and its payload length applies, or is 0 and leaves no trailing bytes.
 pub ipv6_cuts : (bytes : List ℕ) (packet : Parts Ipv6Header) → IsIpv6Packet bytes packet
     → IsIpv6Header bytes (packet.header, packet.payload ++ packet.left)
     × ((end : LenSource)
@@ -174,7 +173,7 @@ pub ipv6_cuts : (bytes : List ℕ) (packet : Parts Ipv6Header) → IsIpv6Packet 
     ≡ lax_ipv6_source packet.header (whole_cut packet.payload packet.left end)))
 ipv6_cuts bytes packet is =
     let h = packet.header in
-    let says = 40 + h.payload_length in
+    let stated = 40 + h.payload_length in
     let there = 40 + length (packet.payload ++ packet.left) in
     let stands : IsIpv6Header bytes (h, packet.payload ++ packet.left) = record {
       fits = is.fits;
@@ -187,23 +186,23 @@ ipv6_cuts bytes packet is =
             stands,
             (
               source.Ipv6HeaderPayloadLen,
-              cut_there 41 says source.Ipv6HeaderPayloadLen false 40 packet.payload packet.left (omega arith)
+              cut_there 41 stated source.Ipv6HeaderPayloadLen false 40 packet.payload packet.left (omega arith)
                   (omega (arith, length-append packet.payload packet.left)) (omega arith),
               told_source (h.payload_length == 0) (nat_lt 0 (length packet.payload)) source.Ipv6HeaderPayloadLen
                   not_0 end refl,
             ),
           )
       | inr none ↦
-          let no_more : nat_lt there says ≡ false =
+          let no_more : nat_lt there stated ≡ false =
           ap (λ (n : ℕ). nat_lt there (40 + n)) none.0 ∙ past_header (length (packet.payload ++ packet.left)) in
           let is_0 : (h.payload_length == 0) ≡ true = ap (λ (n : ℕ). n == 0) none.0 in (
             stands,
             (
               source.Slice,
-              subst (λ (more : Bool). IsLaxCut 41 says source.Ipv6HeaderPayloadLen false 40
+              subst (λ (more : Bool). IsLaxCut 41 stated source.Ipv6HeaderPayloadLen false 40
                   (packet.payload ++ packet.left) (record (whole_cut packet.payload packet.left source.Slice) {
                     incomplete = more;
-                  })) no_more (cut_nowhere 41 says source.Ipv6HeaderPayloadLen false 40 packet.payload packet.left
+                  })) no_more (cut_nowhere 41 stated source.Ipv6HeaderPayloadLen false 40 packet.payload packet.left
                   (inl (omega (arith, none.0))) (ap length none.1)),
               untold_source (h.payload_length == 0) end source.Slice end is_0 refl,
             ),
@@ -236,22 +235,22 @@ ipv6_is_whole bytes packet is =
       },
     )
 
--- the net layer of a packet of which nothing is missing, with what is read inside it
+-- The network layer of a complete packet, with the layers in it.
 pub ipv4_net_with : (offset : ℕ) (bytes : List ℕ) (packet : IpPacket Ipv4Header) (inside : LaxTransport)
     → IsIpv4 slices bytes packet
-    → IsLaxTransport (offset + net_header_len (ipv4_layer packet)) false packet.payload inside
+    → IsLaxTransport (offset + net_payload_offset (ipv4_layer packet)) false packet.payload inside
     → IsIpv4Net offset false bytes (net_with (ipv4_layer packet) false inside)
 ipv4_net_with offset bytes packet inside is read =
     (whole_ip packet, ipv4_is_whole bytes packet is, (inside, read, refl))
 
 pub ipv6_net_with : (offset : ℕ) (bytes : List ℕ) (packet : IpPacket Ipv6Header) (inside : LaxTransport)
     → IsIpv6 slices bytes packet
-    → IsLaxTransport (offset + net_header_len (ipv6_layer packet)) false packet.payload inside
+    → IsLaxTransport (offset + net_payload_offset (ipv6_layer packet)) false packet.payload inside
     → IsIpv6Net offset false bytes (net_with (ipv6_layer packet) false inside)
 ipv6_net_with offset bytes packet inside is read =
     (whole_ip packet, ipv6_is_whole bytes packet is, (inside, read, refl))
 
--- a net layer of which nothing is missing, with a transport layer or none
+-- A complete network layer with a transport layer or none.
 abbrev whole_net : NetLayer → Option TransportLayer → LaxNet
 whole_net layer transport = net_with layer false (whole_transport transport)
 
@@ -260,16 +259,16 @@ ipv4_net : (offset : ℕ) (bytes : List ℕ) (packet : IpPacket Ipv4Header) (tra
     → IsIpv4Net offset false bytes (whole_net (ipv4_layer packet) transport)
 ipv4_net offset bytes packet transport is inside =
     ipv4_net_with offset bytes packet (whole_transport transport) is
-    (transport_is_whole (offset + net_header_len (ipv4_layer packet)) packet.payload transport inside)
+    (transport_is_whole (offset + net_payload_offset (ipv4_layer packet)) packet.payload transport inside)
 
 ipv6_net : (offset : ℕ) (bytes : List ℕ) (packet : IpPacket Ipv6Header) (transport : Option TransportLayer)
     → IsIpv6 slices bytes packet → IsTransportIn slices packet.payload transport
     → IsIpv6Net offset false bytes (whole_net (ipv6_layer packet) transport)
 ipv6_net offset bytes packet transport is inside =
     ipv6_net_with offset bytes packet (whole_transport transport) is
-    (transport_is_whole (offset + net_header_len (ipv6_layer packet)) packet.payload transport inside)
+    (transport_is_whole (offset + net_payload_offset (ipv6_layer packet)) packet.payload transport inside)
 
--- what is known of a net layer that is read laxly
+-- Facts about a network layer sliced laxly.
 record IsWholeNet (offset : ℕ) (kind : Option NetKind) (bytes : List ℕ) (net : Option NetLayer)
     (transport : Option TransportLayer) : Type 0 where
   read : LaxNet
@@ -278,7 +277,7 @@ record IsWholeNet (offset : ℕ) (kind : Option NetKind) (bytes : List ℕ) (net
   inside : read.inside ≡ whole_transport transport
   whole : read.incomplete ≡ false
 
--- of a packet of IP, in the layer of its net part
+-- Facts about the network layer of an IP packet.
 whole_one : (offset : ℕ) (kind : Option NetKind) (bytes : List ℕ) (layer found : NetLayer) (net : Option NetLayer)
     (transport : Option TransportLayer) → layer ≡ found → net ≡ Some layer
     → IsLaxNet offset false kind bytes (whole_net found transport) → IsWholeNet offset kind bytes net transport
@@ -290,11 +289,11 @@ whole_one offset kind bytes layer found net transport same filled is = record {
   whole = refl;
 }
 
--- what lies in the payload of a layer lies in that of the layer which it is
+-- The layers in the payload of a layer are those in the payload of an equal layer.
 inside_found : (layer found : NetLayer) (transport : Option TransportLayer) → layer ≡ found
-    → IsTransportBehind slices (net_payload layer) transport → IsTransportBehind slices (net_payload found) transport
+    → IsTransportAfterNet slices (net_payload layer) transport → IsTransportAfterNet slices (net_payload found) transport
 inside_found layer found transport same inside =
-    subst (λ (l : NetLayer). IsTransportBehind slices (net_payload l) transport) same inside
+    subst (λ (l : NetLayer). IsTransportAfterNet slices (net_payload l) transport) same inside
 
 net_is_whole : (offset : ℕ) (kind : Option NetKind) (bytes : List ℕ) (net : Option NetLayer)
     (transport : Option TransportLayer) → IsNetPart slices kind bytes net transport
@@ -336,15 +335,15 @@ net_is_whole offset (Some any_ip) bytes net transport part = open_version part.1
 
 -- ---- link extensions
 
--- an extension of which nothing is missing
+-- A complete link extension.
 abbrev pub whole_extension : LinkExtension → LinkExtension × Bool
 whole_extension extension = (extension, false)
 
--- what a short length other than 0 says
+-- The value of a short length other than 0.
 says_some : (short more : ℕ) → 0 < short → (if short == 0 then 0 else more + short) ≡ more + short
 says_some short more some i = if ne_eqb short 0 (λ none. omega arith) i then 0 else more + short
 
--- and what sets the end of a payload then
+-- The source of the payload's length for a short length other than 0.
 short_source : (short : ℕ) → 0 < short → macsec_len_source short ≡ source.MacsecShortLength
 short_source zero some = absurd (omega arith)
 short_source (suc short) some = refl
@@ -365,7 +364,7 @@ extension_is_whole type bytes (macsec tag payload) left is =
     } in
     elim packet.cut [
       | inl some ↦
-          let says : macsec_says tag ≡ 6 + sci_len tag.sci + short = says_some short (6 + sci_len tag.sci) some.0 in
+          let stated : macsec_stated_len tag ≡ 6 + sci_len tag.sci + short = says_some short (6 + sci_len tag.sci) some.0 in
           let cut : LaxCut =
           record { payload = inside; left = left; source = source.MacsecShortLength; incomplete = false } in (
             is.0,
@@ -374,20 +373,20 @@ extension_is_whole type bytes (macsec tag payload) left is =
               record {
                 behind = inside ++ left;
                 stands = stands;
-                cut = cut_there n (macsec_says tag) source.MacsecShortLength false n inside left
-                    (omega (arith, says, some.1)) (omega (arith, says, some.1, length-append inside left))
-                    (omega (arith, says, some.1));
+                cut = cut_there n (macsec_stated_len tag) source.MacsecShortLength false n inside left
+                    (omega (arith, stated, some.1)) (omega (arith, stated, some.1, length-append inside left))
+                    (omega (arith, stated, some.1));
               },
               is.2 ∙ (λ i. payload_by tag.ptype (short_source short some.0 i) inside),
               refl,
             ),
           )
       | inr none ↦
-          let says : macsec_says tag ≡ 0 =
+          let stated : macsec_stated_len tag ≡ 0 =
           ap (λ (s : ℕ). if s == 0 then 0 else 6 + sci_len tag.sci + s) none.0 in
-          let more = nat_lt (n + length (inside ++ left)) (macsec_says tag) in
+          let more = nat_lt (n + length (inside ++ left)) (macsec_stated_len tag) in
           let no_more : more ≡ false =
-          ap (nat_lt (n + length (inside ++ left))) says ∙ none_more (n + length (inside ++ left)) in
+          ap (nat_lt (n + length (inside ++ left))) stated ∙ none_more (n + length (inside ++ left)) in
           let cut : LaxCut = record { payload = inside; left = left; source = source.Slice; incomplete = more } in (
             is.0,
             (
@@ -395,8 +394,8 @@ extension_is_whole type bytes (macsec tag payload) left is =
               record {
                 behind = inside ++ left;
                 stands = stands;
-                cut = cut_nowhere n (macsec_says tag) source.MacsecShortLength false n inside left
-                    (inl (omega (arith, says))) (ap length none.1);
+                cut = cut_nowhere n (macsec_stated_len tag) source.MacsecShortLength false n inside left
+                    (inl (omega (arith, stated))) (ap length none.1);
               },
               is.2 ∙ (λ i. payload_by tag.ptype (macsec_len_source (none.0 i)) inside),
               sym no_more,
@@ -404,7 +403,7 @@ extension_is_whole type bytes (macsec tag payload) left is =
           )
     ]
 
--- extensions of which nothing is missing are those that they are
+-- Complete link extensions are the link extensions themselves.
 same_extensions : (extensions : List LinkExtension) → map extension_in (map whole_extension extensions) ≡ extensions
 same_extensions [] = refl
 same_extensions (extension ∷ others) = ap (λ (more : List LinkExtension). extension ∷ more) (same_extensions others)
@@ -413,7 +412,7 @@ all_whole : (extensions : List LinkExtension) → AreWhole (map whole_extension 
 all_whole [] = tt
 all_whole (extension ∷ others) = (refl, all_whole others)
 
--- what is known of what bytes of a type hold
+-- Facts about the layers in bytes of an ether type.
 record IsWholeInside (room offset : ℕ) (type : Option EtherType) (bytes : List ℕ) (extensions : List LinkExtension)
     (net : Option NetLayer) (transport : Option TransportLayer) : Type 0 where
   read : LaxNet
@@ -452,13 +451,13 @@ inside_is_whole (suc room) offset (Some type) bytes (extension ∷ others) net t
     (extension_type extension) (extension_payload extension) others net transport part.1 in
     record { read = more.read; is = (here, more.is); layer = more.layer; inside = more.inside; whole = more.whole }
 
--- ---- the whole
+-- ---- complete packets
 
--- the layers of a frame, of which nothing is missing
+-- The complete layers of a frame.
 abbrev whole_layers : Option LinkLayer → List LinkExtension → LaxNet → LaxLayers
 whole_layers link extensions net = record { link = link; link_exts = map whole_extension extensions; net = net }
 
--- these are the frame's, nothing is missing, and the walk stopped nowhere
+-- The layers are those of the frame, nothing is missing, and slicing did not stop.
 same_as_frame : (layers : Layers) (room offset : ℕ) (type : Option EtherType) (bytes : List ℕ)
     → (found : IsWholeInside room offset type bytes layers.link_exts layers.net layers.transport)
     → (layers_in (whole_layers layers.link layers.link_exts found.read) ≡ layers)
@@ -478,7 +477,7 @@ same_as_frame layers room offset type bytes found = (
   },
 )
 
--- a frame is read laxly as its layers
+-- Lax slicing reads a frame as its layers.
 pub frame_is_whole : (entry : Entry) (bytes : List ℕ) (layers : Layers) → IsFrame entry bytes layers
     → (read : LaxLayers) × IsLax entry bytes read × (layers_in read ≡ layers) × IsWhole read
 frame_is_whole ethernet bytes layers is =

@@ -1,6 +1,6 @@
--- Which layers bytes are read as laxly, whether or not they are a frame: the layers of a frame up to the first whose
--- header is not there or does not stand. Each layer's bytes are the payload of the layer before it, which is all that is
--- there where a length field says more, or less than its own header.
+-- Lax slicing: the layers of bytes, whether or not they are a frame, up to the first layer whose header is truncated or
+-- invalid. Each layer's bytes are the payload of the layer before it, which has all available bytes if a length field
+-- is above their number or below the length of its own header.
 use Rattle.std.specs.Prelude.{◌≡◌, ◌⊎◌, ◌+◌, ℕ, zero, suc, Bool, false, List, [], ◌∷◌, Option, Some, None}
 use Rattle.ep_base.specs.IpPayload.{IpPayload}
 use Rattle.ep_base.specs.LaxCut.{LaxCut, IsLaxCut}
@@ -34,80 +34,81 @@ use Rattle.ep_packet.specs.declared.entry.Entry.TheVariants.{Ethernet as etherne
 use Rattle.ep_packet.specs.declared.err.slice_error.SliceError.{SliceError}
 use Rattle.ep_packet.specs.declared.err.slice_error.SliceError.TheVariants.{Ipv4Exts, Ipv6Exts}
 use Rattle.ep_packet.specs.Frame.{NetKind, only_ipv4, only_ipv6, only_arp, any_ip, net_kind, most_link_exts}
-use Rattle.ep_packet.specs.FrameRefusals.{RefusesTransportIn, extension_refusal, ipv4_refusal, ipv6_refusal, len_refusal, net_header_len}
+use Rattle.ep_packet.specs.FrameRefusals.{RefusesTransportIn, extension_refusal, ipv4_refusal, ipv6_refusal, len_refusal, net_payload_offset}
 use Rattle.ep_packet.specs.Layers.{NetLayer, arp, ipv4_layer, ipv6_layer}
 use Rattle.ep_lax.specs.LaxIp.{LaxIp, IsLaxIpv4, IsLaxIpv6}
-use Rattle.ep_lax.specs.LaxLayers.{LaxTransport, LaxNet, LaxLayers, layer_cut, net_with, no_transport, no_net, told}
+use Rattle.ep_lax.specs.LaxLayers.{LaxTransport, LaxNet, LaxLayers, layer_cut, net_with, no_transport, no_net, error_with_layer}
 use Rattle.ep_lax.specs.LaxMacsec.{IsLaxMacsec, lax_macsec_payload}
 
--- ---- the transport layer
+-- ---- transport layer
 
--- A header and the payload behind it, of which the length field of UDP cuts what it can, in a payload of IP that is
--- incomplete or not.
-abbrev pub IsHeaderCutLaxly : Bool → TransportHeader → List ℕ → LaxTransport → Type 0
-IsHeaderCutLaxly outer (header.Udp udp) payload lax =
+-- A transport header and the payload after it, which is limited by the length field of UDP, if it applies. `outer` is
+-- true if the payload of IP is incomplete.
+abbrev pub IsHeaderLimitedLaxly : Bool → TransportHeader → List ℕ → LaxTransport → Type 0
+IsHeaderLimitedLaxly outer (header.Udp udp) payload lax =
     (cut : LaxCut) × IsLaxCut 8 udp.length source.UdpHeaderLen outer 8 payload cut
     × (lax ≡ layer_cut (header.Udp udp) cut.payload cut.incomplete)
-IsHeaderCutLaxly outer (header.Tcp tcp) payload lax = lax ≡ layer_cut (header.Tcp tcp) payload outer
-IsHeaderCutLaxly outer (header.Icmpv4 icmp) payload lax = lax ≡ layer_cut (header.Icmpv4 icmp) payload outer
-IsHeaderCutLaxly outer (header.Icmpv6 icmp) payload lax = lax ≡ layer_cut (header.Icmpv6 icmp) payload outer
+IsHeaderLimitedLaxly outer (header.Tcp tcp) payload lax = lax ≡ layer_cut (header.Tcp tcp) payload outer
+IsHeaderLimitedLaxly outer (header.Icmpv4 icmp) payload lax = lax ≡ layer_cut (header.Icmpv4 icmp) payload outer
+IsHeaderLimitedLaxly outer (header.Icmpv6 icmp) payload lax = lax ≡ layer_cut (header.Icmpv6 icmp) payload outer
 
--- the same of the layer that headers are read as, where the length field of UDP does not cut, if there is one
-abbrev pub IsCutLaxly : Bool → Option TransportLayer → LaxTransport → Type 0
-IsCutLaxly outer None lax = lax ≡ no_transport outer None
-IsCutLaxly outer (Some layer) lax = IsHeaderCutLaxly outer layer.header layer.payload lax
+-- The transport layer, if present, with its payload limited by the length field of UDP, if the field applies; before
+-- that, the payload has all bytes after the header.
+abbrev pub IsLimitedLaxly : Bool → Option TransportLayer → LaxTransport → Type 0
+IsLimitedLaxly outer None lax = lax ≡ no_transport outer None
+IsLimitedLaxly outer (Some layer) lax = IsHeaderLimitedLaxly outer layer.header layer.payload lax
 
--- the transport layer in a payload of IP that lies `offset` bytes behind the start
+-- The transport layer in the payload of an IP packet. The payload starts at `offset`.
 abbrev pub IsLaxTransport : ℕ → Bool → IpPayload → LaxTransport → Type 0
 IsLaxTransport offset outer payload lax =
     ((error : SliceError) × RefusesTransportIn headers offset payload error
-    × (lax ≡ no_transport outer (Some (told error))))
+    × (lax ≡ no_transport outer (Some (error_with_layer error))))
     ⊎ ((part : Option TransportLayer)
-    × IsTransportPart headers payload.number payload.fragmented payload.bytes part × IsCutLaxly outer part lax)
+    × IsTransportPart headers payload.number payload.fragmented payload.bytes part × IsLimitedLaxly outer part lax)
 
--- ---- the net layer
+-- ---- network layer
 
--- the refusal of an extension header of a packet that lies `offset` bytes behind the start
+-- The error of an extension header of a packet that starts at `offset`.
 abbrev pub chain_refusal : IpVersion → ℕ → HeaderSliceError → SliceError
 chain_refusal version offset (header_error.Len error) = len_refusal offset error
 chain_refusal version offset (header_error.Content content.HopByHopNotAtStart) = Ipv6Exts content.HopByHopNotAtStart
 chain_refusal ipv4 offset (header_error.Content (content.IpAuth error)) = Ipv4Exts error
 chain_refusal ipv6 offset (header_error.Content (content.IpAuth error)) = Ipv6Exts (content.IpAuth error)
 
--- what is inside a packet whose headers have so many bytes: behind a refused extension header no layer is read
+-- The layers in an IP packet with headers of this length. No layer is read after an invalid extension header.
 abbrev pub IsInsideIp : IpVersion → ℕ → ℕ → Bool → IpPayload → Option HeaderSliceError → LaxTransport → Type 0
 IsInsideIp version offset headers_len incomplete payload None inside =
     IsLaxTransport (offset + headers_len) incomplete payload inside
 IsInsideIp version offset headers_len incomplete payload (Some refused) inside =
-    inside ≡ no_transport incomplete (Some (told (chain_refusal version offset refused)))
+    inside ≡ no_transport incomplete (Some (error_with_layer (chain_refusal version offset refused)))
 
--- the net layer, which lies `offset` bytes behind the start, and what is inside it
+-- The network layer that starts at `offset`, and the layers in it.
 abbrev pub IsIpLayer : {Header : Type 0} → IpVersion → (IpPacket Header → NetLayer) → ℕ → LaxIp Header → LaxNet → Type 0
 IsIpLayer version layer_of offset lax net =
     (inside : LaxTransport)
-    × IsInsideIp version offset (net_header_len (layer_of lax.packet)) lax.incomplete lax.packet.payload lax.stop inside
+    × IsInsideIp version offset (net_payload_offset (layer_of lax.packet)) lax.incomplete lax.packet.payload lax.stop inside
     × (net ≡ net_with (layer_of lax.packet) lax.incomplete inside)
 
--- the bytes are an IPv4 packet with what is inside it
+-- The bytes are an IPv4 packet with the layers in it.
 abbrev pub IsIpv4Net : ℕ → Bool → List ℕ → LaxNet → Type 0
 IsIpv4Net offset outer bytes net =
     (lax : LaxIp Ipv4Header) × IsLaxIpv4 outer bytes lax × IsIpLayer ipv4 ipv4_layer offset lax net
 
--- the same of IPv6
+-- The bytes are an IPv6 packet with the layers in it.
 abbrev pub IsIpv6Net : ℕ → Bool → List ℕ → LaxNet → Type 0
 IsIpv6Net offset outer bytes net =
     (lax : LaxIp Ipv6Header) × IsLaxIpv6 outer bytes lax × IsIpLayer ipv6 ipv6_layer offset lax net
 
--- an ARP packet: its payload is empty, and so complete
+-- An ARP packet: its payload is empty and therefore complete.
 abbrev pub arp_net : Arp → LaxNet
 arp_net packet = net_with (arp packet) false (no_transport false None)
 
--- no net layer stands, for this refusal
+-- No network layer is read, for this reason.
 abbrev pub IsNoNet : Bool → LaxNet → SliceError → Type 0
-IsNoNet outer net error = net ≡ no_net outer (Some (told error))
+IsNoNet outer net error = net ≡ no_net outer (Some (error_with_layer error))
 
--- The net layer of a kind, if any, that bytes are, which lie `offset` bytes behind the start, and are incomplete or not,
--- and what is inside it. A packet of open version is read only where its header stands.
+-- The bytes, which start at `offset`, are a network layer of this kind, if any, with the layers in it. `outer` is true
+-- if the bytes are incomplete. A packet of either IP version is read only if its header is valid.
 abbrev pub IsLaxNet : ℕ → Bool → Option NetKind → List ℕ → LaxNet → Type 0
 IsLaxNet offset outer None bytes net = net ≡ no_net outer None
 IsLaxNet offset outer (Some only_ipv4) bytes net =
@@ -126,7 +127,8 @@ IsLaxNet offset outer (Some any_ip) bytes net = IsIpv4Net offset outer bytes net
 
 -- ---- link extensions
 
--- bytes of a type, incomplete or not, begin with a tag, and its payload is incomplete or not
+-- The bytes with this ether type begin with a tag, and the payload after it is incomplete or not. `outer` is true if
+-- the bytes are incomplete.
 abbrev pub IsLaxExtension : Bool → EtherType → List ℕ → LinkExtension × Bool → Type 0
 IsLaxExtension outer type bytes (vlan tag payload, incomplete) =
     IsVlanType type × IsVlan bytes (parts_of tag payload []) × (incomplete ≡ outer)
@@ -134,14 +136,14 @@ IsLaxExtension outer type bytes (macsec tag payload, incomplete) =
     IsMacsecType type × ((cut : LaxCut) × IsLaxMacsec outer bytes (tag, cut)
     × (payload ≡ lax_macsec_payload tag cut) × (incomplete ≡ cut.incomplete))
 
--- why they begin with none where they must
+-- The bytes do not begin with a link extension where one is expected, for this reason.
 abbrev pub RefusesLaxExtension : ℕ → EtherType → List ℕ → SliceError → Type 0
 RefusesLaxExtension offset type bytes error =
     (IsVlanType type × RefusesAs (len_refusal offset) (RefusesVlan bytes) error)
     ⊎ (IsMacsecType type × RefusesAs (extension_refusal offset) (RefusesMacsecHeader bytes) error)
 
--- What bytes of a type hold: at most so many link extensions, up to the first that is refused, and the net layer behind
--- them with what is inside it.
+-- The layers in bytes with this ether type: a limited number of link extensions, up to the first invalid one, and the
+-- network layer after them with the layers in it.
 abbrev pub IsLaxInside : ℕ → ℕ → Bool → Option EtherType → List ℕ → List (LinkExtension × Bool) → LaxNet → Type 0
 IsLaxInside room offset outer None bytes extensions net = (extensions ≡ []) × (net ≡ no_net outer None)
 IsLaxInside zero offset outer (Some type) bytes [] net = IsLaxNet offset outer (net_kind type) bytes net
@@ -154,9 +156,10 @@ IsLaxInside (suc room) offset outer (Some type) bytes (extension ∷ others) net
     × IsLaxInside room (offset + link_ext_header_len (extension_header extension.0)) extension.1
     (extension_type extension.0) (extension_payload extension.0) others net
 
--- ---- the whole
+-- ---- complete packets
 
--- The bytes are read laxly as these layers. An Ethernet or cooked header, or that of a packet of IP, has to stand.
+-- The bytes are sliced laxly into these layers. An Ethernet header, a Linux cooked capture header or an IP header must
+-- be valid.
 abbrev pub IsLax : Entry → List ℕ → LaxLayers → Type 0
 IsLax ethernet bytes layers =
     (frame : Parts Ethernet2Header) × IsEthernet2 bytes frame

@@ -1,4 +1,4 @@
--- How slices that were read laxly are compared: by what they show, and whether bytes of it are missing.
+-- Equality of slices from lax slicing: by their bytes, and whether bytes are missing.
 use Rattle.std.specs.Prelude.{◌≡◌, ◌&&◌}
 use Rattle.std.specs.Option.{option_eq, option_map}
 use Rattle.std.specs.Cmp.Lexicographic.{pointwise}
@@ -26,16 +26,16 @@ use Rattle.ep_lax.specs.declared.lax_sliced_packet.LaxSlicedPacket.{LaxSlicedPac
 use Rattle.ep_lax.specs.LaxSlices.{lax_ipv4_slice_incomplete, lax_ipv4_slice_payload, lax_ipv6_slice_incomplete, lax_ipv6_slice_payload}
 use Rattle.ep_lax.specs.LaxSlices.{lax_macsec_incomplete, lax_macsec_payload_of}
 
--- the packets show the same bytes as header and as authentication header, and the same payload, complete in both or in
--- neither
+-- The packets have the same bytes of the header and of the authentication header, and the same payload, complete in
+-- both or in neither.
 pub record ShowSameLaxIpv4 (a b : LaxIpv4Slice) : Type 0 where
   pub header : ipv4_header_slice_bytes a.header ≡ ipv4_header_slice_bytes b.header
   pub extensions : option_map ip_auth_slice_bytes a.extensions.auth ≡ option_map ip_auth_slice_bytes b.extensions.auth
   pub incomplete : lax_ipv4_slice_incomplete a ≡ lax_ipv4_slice_incomplete b
   pub payload : lax_ipv4_slice_payload a ≡ lax_ipv4_slice_payload b
 
--- the packets show the same bytes as header and as extension headers, the first of one kind, and the same payload,
--- complete in both or in neither
+-- The packets have the same bytes of the header and of the extension headers, the same kind of first extension header,
+-- and the same payload, complete in both or in neither.
 pub record ShowSameLaxIpv6 (a b : LaxIpv6Slice) : Type 0 where
   pub header : ipv6_header_slice_bytes a.header ≡ ipv6_header_slice_bytes b.header
   pub first : ipv6_slice_number a.extensions ≡ ipv6_slice_number b.extensions
@@ -43,30 +43,31 @@ pub record ShowSameLaxIpv6 (a b : LaxIpv6Slice) : Type 0 where
   pub incomplete : lax_ipv6_slice_incomplete a ≡ lax_ipv6_slice_incomplete b
   pub payload : lax_ipv6_slice_payload a ≡ lax_ipv6_slice_payload b
 
--- the payloads are the same, of which bytes are missing in both or in neither
+-- The payloads are equal, with bytes missing in both or in neither.
 abbrev pub ShowSameLaxPayload : LaxMacsecPayloadSlice → LaxMacsecPayloadSlice → Type 0
 ShowSameLaxPayload a b =
     (lax_macsec_incomplete a ≡ lax_macsec_incomplete b) × (lax_macsec_payload_of a ≡ lax_macsec_payload_of b)
 
--- the packets show the same bytes of a tag, reserved bits among them, and the same payload
+-- The packets have the same bytes of the tag, reserved bits included, and the same payload.
 abbrev pub ShowSameLaxMacsec : LaxMacsecSlice → LaxMacsecSlice → Type 0
 ShowSameLaxMacsec a b =
     (macsec_header_slice_bytes a.header ≡ macsec_header_slice_bytes b.header) × ShowSameLaxPayload a.payload b.payload
 
--- the extensions are of one kind and show the same
+-- The link extensions are of one kind and equal.
 abbrev pub ShowSameLaxExtension : LaxLinkExtSlice → LaxLinkExtSlice → Type 0
 ShowSameLaxExtension (extension.Vlan a) (extension.Vlan b) = vlan_slice_bytes a ≡ vlan_slice_bytes b
 ShowSameLaxExtension (extension.Macsec a) (extension.Macsec b) = ShowSameLaxMacsec a b
 ShowSameLaxExtension a b = ⊥
 
--- the net layers are of one kind and show the same
+-- The network layers are of one kind and equal.
 abbrev pub ShowSameLaxNet : LaxNetSlice → LaxNetSlice → Type 0
 ShowSameLaxNet (net.Ipv4 a) (net.Ipv4 b) = ShowSameLaxIpv4 a b
 ShowSameLaxNet (net.Ipv6 a) (net.Ipv6 b) = ShowSameLaxIpv6 a b
 ShowSameLaxNet (net.Arp a) (net.Arp b) = arp_slice_bytes a ≡ arp_slice_bytes b
 ShowSameLaxNet a b = ⊥
 
--- packets are equal where each layer is, by its own equality, which is there in both or in neither, and the stop
+-- Packets are equal if each layer is present in both or neither and equal by its own equality, and the errors at which
+-- slicing stopped are equal.
 abbrev pub same_lax_packets : Equality LinkSlice → Equality LaxLinkExtSlice → Equality LaxNetSlice
     → Equality TransportSlice → Equality (SliceError × Layer) → Equality LaxSlicedPacket
 same_lax_packets link extension net transport stop a b =

@@ -1,4 +1,4 @@
--- The headers of layers, from the link layer to the transport layer, and which of them a front of the bytes shows.
+-- Headers of layers, from the link layer to the transport layer, and the headers that a prefix of the bytes contains.
 use Rattle.std.specs.Prelude.{◌≡◌, ◌⊎◌, ◌<◌, ℕ, List, [], ◌∷◌, ◌++◌, length, map, Option, Some, None}
 use Rattle.ep_base.specs.Missing.{HasExactLength}
 use Rattle.ep_base.specs.declared.err.layer.Layer.{Layer}
@@ -28,12 +28,12 @@ use Rattle.ep_transport.specs.TransportParts.{TransportLayer}
 use Rattle.ep_packet.specs.declared.err.slice_error.SliceError.{SliceError}
 use Rattle.ep_packet.specs.declared.err.slice_error.SliceError.TheVariants.{Len}
 use Rattle.ep_packet.specs.Layers.{Layers, NetLayer, arp, ipv4, ipv6}
-use Rattle.ep_lax.specs.LaxLayers.{LaxLayers, told}
+use Rattle.ep_lax.specs.LaxLayers.{LaxLayers, error_with_layer}
 use Rattle.ep_lax.specs.StrictFrames.{layers_in}
 
--- ---- the headers
+-- ---- headers
 
--- a header of a layer
+-- The header of a layer.
 pub data LayerHeader : Type 0 where
   of_link : LinkHeader → LayerHeader
   of_tag : LinkExtHeader → LayerHeader
@@ -43,7 +43,7 @@ pub data LayerHeader : Type 0 where
   of_arp : Arp → LayerHeader
   of_transport : TransportHeader → LayerHeader
 
--- that of a link layer, where it has one
+-- The header of a link layer, if present.
 abbrev pub link_headers : Option LinkLayer → List LayerHeader
 link_headers None = []
 link_headers (Some (ethernet2 header payload)) = of_link (Ethernet2 header) ∷ []
@@ -51,35 +51,35 @@ link_headers (Some (linux_sll header payload)) = of_link (LinuxSll header) ∷ [
 link_headers (Some (ether_payload type source payload)) = []
 link_headers (Some (linux_sll_payload protocol payload)) = []
 
--- the tag of a link extension
+-- The tag of a link extension.
 abbrev pub tag_header : LinkExtension → LayerHeader
 tag_header extension = of_tag (extension_header extension)
 
--- that of a net layer, where there is one, with the extension headers behind it
+-- The header of a network layer, if present, and the extension headers after it.
 abbrev pub net_headers : Option NetLayer → List LayerHeader
 net_headers None = []
 net_headers (Some (ipv4 header extensions payload)) = of_ipv4 header ∷ map of_extension extensions
 net_headers (Some (ipv6 header extensions payload)) = of_ipv6 header ∷ map of_extension extensions
 net_headers (Some (arp packet)) = of_arp packet ∷ []
 
--- that of a transport layer, where there is one
+-- The header of a transport layer, if present.
 abbrev pub transport_headers : Option TransportLayer → List LayerHeader
 transport_headers None = []
 transport_headers (Some layer) = of_transport layer.header ∷ []
 
--- the headers of layers, in the order in which they stand
+-- The headers of all layers, in order.
 abbrev pub frame_headers : Layers → List LayerHeader
 frame_headers layers =
     link_headers layers.link
     ++ (map tag_header layers.link_exts ++ (net_headers layers.net ++ transport_headers layers.transport))
 
--- those of layers that were read laxly
+-- The headers of layers sliced laxly, in order.
 abbrev pub shown_headers : LaxLayers → List LayerHeader
 shown_headers read = frame_headers (layers_in read)
 
--- ---- their bytes
+-- ---- wire format
 
--- the bytes are a header's, whatever its reserved bits
+-- The bytes are the wire format of the header, with any reserved bits.
 abbrev pub EncodesHeader : LayerHeader → List ℕ → Type 0
 EncodesHeader (of_link (Ethernet2 header)) bytes = FitsEthernet2 header × (bytes ≡ ethernet2_bytes header)
 EncodesHeader (of_link (LinuxSll header)) bytes = FitsLinuxSll header × (bytes ≡ linux_sll_bytes header)
@@ -91,7 +91,7 @@ EncodesHeader (of_extension part) bytes = EncodesPart bytes part
 EncodesHeader (of_arp packet) bytes = FitsArp packet × (bytes ≡ arp_bytes packet)
 EncodesHeader (of_transport header) bytes = EncodesTransportHeader header bytes
 
--- the number of them
+-- The length of a header in bytes.
 abbrev pub header_len : LayerHeader → ℕ
 header_len (of_link header) = link_header_len header
 header_len (of_tag tag) = link_ext_header_len tag
@@ -101,36 +101,37 @@ header_len (of_extension part) = part_len part
 header_len (of_arp packet) = arp_len packet
 header_len (of_transport header) = transport_header_len header
 
--- The bytes begin with these headers, one after the other, each as long as it says. So where bytes and a front of them
--- begin with the same headers, these are the same bytes.
+-- The bytes begin with these headers, one after another, each with the length it states. If bytes and a prefix of them
+-- begin with the same headers, these have the same bytes.
 abbrev pub BeginWith : List LayerHeader → List ℕ → Type 0
 BeginWith [] bytes = Unit {0}
 BeginWith (header ∷ others) bytes =
     (encoded rest : List ℕ) × (bytes ≡ encoded ++ rest) × EncodesHeader header encoded
     × (length encoded ≡ header_len header) × BeginWith others rest
 
--- ---- what a front shows
+-- ---- prefixes
 
--- The headers of a front of some bytes, the walk over which stopped so, are a front of these headers; and all of them,
--- where it did not stop.
+-- The headers of a prefix are the first of these headers. They are all of them if slicing of the prefix did not stop at
+-- an error.
 pub record AreFirst (shown : List LayerHeader) (stop : Option (SliceError × Layer)) (headers : List LayerHeader) : Type 0
   where
     pub more : List LayerHeader
     pub parts : headers ≡ shown ++ more
     pub all : stop ≡ None → more ≡ []
 
--- The headers of a front are these, and then an ICMPv4 timestamp or timestamp reply, at which the walk over all bytes
--- stops: the message is longer than its 20 bytes there (RFC 792).
+-- The headers of a prefix are these headers, followed by an ICMPv4 timestamp or timestamp reply, at which slicing of
+-- all bytes stops: the message is longer there than its 20 bytes (RFC 792).
 pub record EndInTimestamp (shown headers : List LayerHeader) (stop : Option (SliceError × Layer)) : Type 0 where
   pub header : Icmpv4Header
   pub timestamp : icmpv4_len (icmpv4_kind header.icmp_type) ≡ 20
   pub parts : shown ≡ headers ++ of_transport (Icmpv4 header) ∷ []
   pub refusal : LenError
-  pub stops : stop ≡ Some (told (Len refusal))
+  pub stops : stop ≡ Some (error_with_layer (Len refusal))
   pub exact : HasExactLength refusal.layer
   pub long : 20 < refusal.len
 
--- all bytes show these headers, and a front of them those
-abbrev pub ShowsFront : List LayerHeader → Option (SliceError × Layer) → List LayerHeader → Option (SliceError × Layer)
+-- The headers `shown` of a prefix are the first of `headers`, those of all bytes. Or the prefix has one more, an ICMPv4
+-- timestamp at which slicing of all bytes stops.
+abbrev pub ShowsPrefix : List LayerHeader → Option (SliceError × Layer) → List LayerHeader → Option (SliceError × Layer)
     → Type 0
-ShowsFront shown end headers stop = AreFirst shown end headers ⊎ EndInTimestamp shown headers stop
+ShowsPrefix shown end headers stop = AreFirst shown end headers ⊎ EndInTimestamp shown headers stop

@@ -1,7 +1,7 @@
--- What lies behind the link layer and its extensions of a packet that is read laxly.
+-- Payload after the link layer and its extensions of a packet sliced laxly.
 use Rattle.std.specs.Prelude.{ℕ, Bool, false, List, [], ◌∷◌, map, Option}
 use Rattle.std.specs.Option.{option_map, option_and_then}
-use Rattle.ep_base.specs.Readings.{cut_by}
+use Rattle.ep_base.specs.Readings.{limited_by}
 use Rattle.ep_base.specs.declared.ether_type.EtherType.{EtherType}
 use Rattle.ep_base.specs.declared.len_source.LenSource.{LenSource}
 use Rattle.ep_base.specs.declared.len_source.LenSource.TheVariants as source
@@ -16,14 +16,14 @@ use Rattle.ep_lax.specs.declared.lax_link_ext_slice.LaxLinkExtSlice.TheVariants 
 use Rattle.ep_lax.specs.LaxLayers.{LaxLayers}
 use Rattle.ep_lax.specs.StrictFrames.{extension_in}
 
--- a payload with its type, and whether bytes of it are missing
+-- A payload with its ether type, and whether bytes of it are missing.
 pub record LaxEtherPayload : Type 0 where
   pub ether_type : EtherType
   pub len_source : LenSource
   pub bytes : List ℕ
   pub incomplete : Bool
 
--- the payload that a slice shows
+-- The payload that a slice contains.
 abbrev pub lax_ether_payload_of : LaxEtherPayloadSlice → LaxEtherPayload
 lax_ether_payload_of slice = record {
   ether_type = slice.ether_type;
@@ -32,7 +32,7 @@ lax_ether_payload_of slice = record {
   incomplete = slice.incomplete;
 }
 
--- the payload of a link layer, of which nothing says that bytes are missing
+-- The payload of a link layer; no field states that bytes of it are missing.
 abbrev pub whole_payload : EtherPayload → LaxEtherPayload
 whole_payload payload = record {
   ether_type = payload.ether_type;
@@ -41,23 +41,23 @@ whole_payload payload = record {
   incomplete = false;
 }
 
--- what set the end of an extension's payload, where this set the end of the bytes in which it lies
+-- The source of the length of an extension's payload. `outer` is the source of the length of the enclosing bytes.
 abbrev pub extension_source : LenSource → LinkExtension → LenSource
 extension_source outer (vlan tag payload) = outer
-extension_source outer (macsec tag (unmodified type end bytes)) = cut_by outer end
+extension_source outer (macsec tag (unmodified type end bytes)) = limited_by outer end
 extension_source outer (macsec tag (modified bytes)) = outer
 
--- the same behind some extensions, each in the payload of the one before it
-abbrev pub source_behind : LenSource → List LinkExtension → LenSource
-source_behind outer [] = outer
-source_behind outer (extension ∷ others) = source_behind (extension_source outer extension) others
+-- The source of the length of the payload of the last extension, each in the payload of the one before it.
+abbrev pub source_after : LenSource → List LinkExtension → LenSource
+source_after outer [] = outer
+source_after outer (extension ∷ others) = source_after (extension_source outer extension) others
 
--- the last of some extensions, of which this is the first
-abbrev pub last_behind : LinkExtension × Bool → List (LinkExtension × Bool) → LinkExtension × Bool
-last_behind first [] = first
-last_behind first (next ∷ others) = last_behind next others
+-- The last of some link extensions, starting with the first.
+abbrev pub last_after : LinkExtension × Bool → List (LinkExtension × Bool) → LinkExtension × Bool
+last_after first [] = first
+last_after first (next ∷ others) = last_after next others
 
--- the payload of an extension, whose end this set, of this type
+-- The payload of an extension with this source of its length and this ether type.
 abbrev pub typed_payload : LenSource → LinkExtension × Bool → EtherType → LaxEtherPayload
 typed_payload end tagged type = record {
   ether_type = type;
@@ -66,22 +66,22 @@ typed_payload end tagged type = record {
   incomplete = tagged.1;
 }
 
--- the same, where its type is known
+-- The payload of an extension with this source of its length, if its ether type is known.
 abbrev pub payload_of_tagged : LenSource → LinkExtension × Bool → Option LaxEtherPayload
 payload_of_tagged end tagged = option_map (typed_payload end tagged) (extension_type tagged.0)
 
--- The payload of the last extension, or else of the link layer, where its type is known. Behind extensions the short
--- length of a MACsec tag among them that cut set its end, or else the slice's end did.
-abbrev pub lax_ether_payload_behind : Option LinkLayer → List (LinkExtension × Bool) → Option LaxEtherPayload
-lax_ether_payload_behind link [] = option_map whole_payload (option_and_then link_ether_payload link)
-lax_ether_payload_behind link (first ∷ others) =
-    payload_of_tagged (source_behind source.Slice (map extension_in (first ∷ others))) (last_behind first others)
+-- The payload of the last extension, or else of the link layer, if its ether type is known. With extensions, the source
+-- of the length is the short length of a MACsec tag that limits them, or else the end of the slice.
+abbrev pub lax_ether_payload_after : Option LinkLayer → List (LinkExtension × Bool) → Option LaxEtherPayload
+lax_ether_payload_after link [] = option_map whole_payload (option_and_then link_ether_payload link)
+lax_ether_payload_after link (first ∷ others) =
+    payload_of_tagged (source_after source.Slice (map extension_in (first ∷ others))) (last_after first others)
 
--- the payload behind the link layer and its extensions
+-- The payload after the link layer and its extensions.
 abbrev pub lax_ether_payload_in : LaxLayers → Option LaxEtherPayload
-lax_ether_payload_in layers = lax_ether_payload_behind layers.link layers.link_exts
+lax_ether_payload_in layers = lax_ether_payload_after layers.link layers.link_exts
 
--- the VLAN tags among some slices, from the outside in
+-- The VLAN tags among the link extensions, from the outside in.
 abbrev pub lax_vlan_slices : List LaxLinkExtSlice → List SingleVlanSlice
 lax_vlan_slices [] = []
 lax_vlan_slices (extension.Vlan tag ∷ others) = tag ∷ lax_vlan_slices others

@@ -1,4 +1,4 @@
--- Why nothing of bytes is read, not even laxly: their first header is refused.
+-- Rejection by lax slicing: the first header is invalid or truncated.
 use Rattle.std.specs.Prelude.{ℕ, Bool, ◌==◌, ◌||◌, not, if◌then◌else◌, List, ◌∷◌, length}
 use Rattle.ep_base.specs.Readings.{len_error}
 use Rattle.ep_base.specs.Tables.{Refuses, RefusesAs, rows_as}
@@ -24,7 +24,7 @@ use Rattle.ep_packet.specs.declared.err.slice_error.SliceError.{SliceError}
 use Rattle.ep_packet.specs.declared.err.slice_error.SliceError.TheVariants.{Len, Ip}
 use Rattle.ep_packet.specs.FrameRefusals.{linux_sll_refusal}
 
--- a refusal of a header of IPv4 among those of either version
+-- An error of an IPv4 header as one of an IP header.
 abbrev pub of_ipv4_header : Ipv4HeaderError → LaxHeaderSliceError
 of_ipv4_header (ipv4_error.Len error) = header_error.Len error
 of_ipv4_header (ipv4_error.Content (ipv4_content.UnexpectedVersion version)) =
@@ -32,13 +32,14 @@ of_ipv4_header (ipv4_error.Content (ipv4_content.UnexpectedVersion version)) =
 of_ipv4_header (ipv4_error.Content (ipv4_content.HeaderLengthSmallerThanHeader ihl)) =
     header_error.Content (content.Ipv4HeaderLengthSmallerThanHeader ihl)
 
--- a refusal of a header of IPv6 among those of either version
+-- An error of an IPv6 header as one of an IP header.
 abbrev pub of_ipv6_header : Ipv6HeaderError → LaxHeaderSliceError
 of_ipv6_header (ipv6_error.Len error) = header_error.Len error
 of_ipv6_header (ipv6_error.Content (ipv6_content.UnexpectedVersion version)) =
     header_error.Content (content.UnsupportedIpVersion version)
 
--- when bytes begin with no IP header: they are of neither version, or the header of their version is refused
+-- Refusal table of an IP header: there are no bytes, the version is neither 4 nor 6, or the header of that version is
+-- rejected.
 abbrev pub ip_header_rows : List ℕ → List (Bool × LaxHeaderSliceError)
 ip_header_rows bytes =
     let version = version_of bytes in
@@ -47,16 +48,17 @@ ip_header_rows bytes =
     ∷ (if version == 4 then rows_as of_ipv4_header (ipv4_header_rows bytes)
     else rows_as of_ipv6_header (ipv6_header_rows bytes))
 
--- the error of the first row that holds
+-- The bytes do not begin with an IP header, for this reason: the error of the first row that applies.
 abbrev pub RefusesIpHeader : List ℕ → LaxHeaderSliceError → Type 0
 RefusesIpHeader bytes = Refuses (ip_header_rows bytes)
 
--- the same among the refusals of a packet
+-- The error of an IP header as an error of a packet.
 abbrev pub ip_header_refusal : LaxHeaderSliceError → SliceError
 ip_header_refusal (header_error.Len error) = Len error
 ip_header_refusal (header_error.Content error) = Ip error
 
--- why nothing of the bytes is read: a payload of a known type is always read
+-- The bytes are rejected by lax slicing with this error. Bytes that start after a link header, with a given ether type,
+-- are never rejected.
 abbrev pub RefusesLax : Entry → List ℕ → SliceError → Type 0
 RefusesLax ethernet bytes = RefusesAs Len (RefusesEthernet2 bytes)
 RefusesLax linux_sll bytes = RefusesAs linux_sll_refusal (RefusesLinuxSll bytes)

@@ -1,4 +1,4 @@
--- What slices of single layers show that were read laxly.
+-- Contents of single-layer slices from lax slicing.
 use Rattle.std.specs.Prelude.{◌≡◌, ℕ, ◌++◌, Bool, List, Option}
 use Rattle.std.specs.Option.{option_map}
 use Rattle.ep_base.specs.IpPayload.{IpPayload}
@@ -15,7 +15,7 @@ use Rattle.ep_ip.specs.Ipv6Slices.{ipv6_header_slice_header, ipv6_header_slice_b
 use Rattle.ep_link.specs.Macsec.{MacsecPayload, unmodified, modified, macsec_payload_bytes}
 use Rattle.ep_link.specs.MacsecSlices.{macsec_header_slice_header, macsec_header_slice_bytes}
 use Rattle.ep_link.specs.declared.link_ext.macsec_header.MacsecHeader.{MacsecHeader}
-use Rattle.ep_lax.specs.declared.lax_cut.CutSlice.{CutSlice}
+use Rattle.ep_lax.specs.declared.lax_cut.LimitedSlice.{LimitedSlice}
 use Rattle.ep_lax.specs.declared.lax_ip_payload_slice.LaxIpPayloadSlice.{LaxIpPayloadSlice}
 use Rattle.ep_lax.specs.declared.lax_ipv4_slice.LaxIpv4Slice.{LaxIpv4Slice}
 use Rattle.ep_lax.specs.declared.lax_ipv6_slice.LaxIpv6Slice.{LaxIpv6Slice}
@@ -25,8 +25,8 @@ use Rattle.ep_lax.specs.declared.lax_macsec_slice.LaxMacsecSlice.{LaxMacsecSlice
 use Rattle.ep_lax.specs.LaxIp.{LaxIp}
 use Rattle.ep_lax.specs.LaxMacsec.{IsLaxMacsec, lax_macsec_payload}
 
--- a cut, and what it left
-abbrev pub lax_cut_of : CutSlice → List ℕ → LaxCut
+-- The limited bytes with the trailing bytes.
+abbrev pub lax_cut_of : LimitedSlice → List ℕ → LaxCut
 lax_cut_of slice left = record {
   payload = slice.payload.now;
   left = left;
@@ -36,7 +36,7 @@ lax_cut_of slice left = record {
 
 -- ---- IP
 
--- a payload
+-- The payload.
 abbrev pub lax_ip_payload_of : LaxIpPayloadSlice → IpPayload
 lax_ip_payload_of payload = record {
   number = payload.ip_number.0;
@@ -45,31 +45,31 @@ lax_ip_payload_of payload = record {
   bytes = payload.payload.now;
 }
 
--- the header of a packet of IPv4
+-- The header of an IPv4 packet.
 abbrev pub lax_ipv4_slice_header : LaxIpv4Slice → Ipv4Header
 lax_ipv4_slice_header slice = ipv4_header_slice_header slice.header
 
--- its extension headers that stand
+-- The extension headers that were read.
 abbrev pub lax_ipv4_slice_extensions : LaxIpv4Slice → List ExtensionPart
 lax_ipv4_slice_extensions slice = ipv4_slice_parts slice.extensions
 
--- its payload
+-- The payload.
 abbrev pub lax_ipv4_slice_payload : LaxIpv4Slice → IpPayload
 lax_ipv4_slice_payload slice = lax_ip_payload_of slice.payload
 
--- whether bytes of it are missing
+-- True if bytes of the payload are missing.
 abbrev pub lax_ipv4_slice_incomplete : LaxIpv4Slice → Bool
 lax_ipv4_slice_incomplete slice = slice.payload.incomplete
 
--- the bytes behind its header
+-- The bytes after the header.
 abbrev pub lax_ipv4_slice_content : LaxIpv4Slice → List ℕ
 lax_ipv4_slice_content slice = ipv4_extension_bytes slice.extensions ++ slice.payload.payload.now
 
--- its bytes
+-- The bytes of the packet.
 abbrev pub lax_ipv4_slice_bytes : LaxIpv4Slice → List ℕ
 lax_ipv4_slice_bytes slice = ipv4_header_slice_bytes slice.header ++ lax_ipv4_slice_content slice
 
--- the packet, what its total length left, and why its authentication header is refused
+-- The packet, the bytes excluded by its total length, and the error of its authentication header, if any.
 abbrev pub lax_ipv4_of : LaxIpv4Slice → List ℕ → Option AuthSliceError → LaxIp Ipv4Header
 lax_ipv4_of slice left stop = record {
   packet = record {
@@ -82,31 +82,31 @@ lax_ipv4_of slice left stop = record {
   stop = option_map auth_refusal stop;
 }
 
--- the header of a packet of IPv6
+-- The header of an IPv6 packet.
 abbrev pub lax_ipv6_slice_header : LaxIpv6Slice → Ipv6Header
 lax_ipv6_slice_header slice = ipv6_header_slice_header slice.header
 
--- its extension headers that stand
+-- The extension headers that were read.
 abbrev pub lax_ipv6_slice_extensions : LaxIpv6Slice → List ExtensionPart
 lax_ipv6_slice_extensions slice = ipv6_slice_parts slice.extensions
 
--- its payload
+-- The payload.
 abbrev pub lax_ipv6_slice_payload : LaxIpv6Slice → IpPayload
 lax_ipv6_slice_payload slice = lax_ip_payload_of slice.payload
 
--- whether bytes of it are missing
+-- True if bytes of the payload are missing.
 abbrev pub lax_ipv6_slice_incomplete : LaxIpv6Slice → Bool
 lax_ipv6_slice_incomplete slice = slice.payload.incomplete
 
--- the bytes behind its header
+-- The bytes after the header.
 abbrev pub lax_ipv6_slice_content : LaxIpv6Slice → List ℕ
 lax_ipv6_slice_content slice = ipv6_extension_bytes slice.extensions ++ slice.payload.payload.now
 
--- its bytes
+-- The bytes of the packet.
 abbrev pub lax_ipv6_slice_bytes : LaxIpv6Slice → List ℕ
 lax_ipv6_slice_bytes slice = ipv6_header_slice_bytes slice.header ++ lax_ipv6_slice_content slice
 
--- the packet, what its payload length left, and why an extension header is refused
+-- The packet, the bytes excluded by its payload length, and the error of an extension header, if any.
 abbrev pub lax_ipv6_of : LaxIpv6Slice → List ℕ → Option ExtsSliceError → LaxIp Ipv6Header
 lax_ipv6_of slice left stop = record {
   packet = record {
@@ -121,35 +121,35 @@ lax_ipv6_of slice left stop = record {
 
 -- ---- MACsec
 
--- a payload
+-- The payload.
 abbrev pub lax_macsec_payload_of : LaxMacsecPayloadSlice → MacsecPayload
 lax_macsec_payload_of (slice.Unmodified payload) =
     unmodified payload.ether_type payload.len_source payload.payload.now
 lax_macsec_payload_of (slice.Modified incomplete payload) = modified payload.now
 
--- whether bytes of it are missing
+-- True if bytes of the payload are missing.
 abbrev pub lax_macsec_incomplete : LaxMacsecPayloadSlice → Bool
 lax_macsec_incomplete (slice.Unmodified payload) = payload.incomplete
 lax_macsec_incomplete (slice.Modified incomplete payload) = incomplete
 
--- the tag before a payload
+-- The tag before the payload.
 abbrev pub lax_macsec_slice_header : LaxMacsecSlice → MacsecHeader
 lax_macsec_slice_header slice = macsec_header_slice_header slice.header
 
--- the payload behind a tag
+-- The payload after the tag.
 abbrev pub lax_macsec_slice_payload : LaxMacsecSlice → MacsecPayload
 lax_macsec_slice_payload slice = lax_macsec_payload_of slice.payload
 
--- whether bytes of it are missing
+-- True if bytes of the payload are missing.
 abbrev pub lax_macsec_slice_incomplete : LaxMacsecSlice → Bool
 lax_macsec_slice_incomplete slice = lax_macsec_incomplete slice.payload
 
--- the bytes of tag and payload
+-- The bytes of tag and payload.
 abbrev pub lax_macsec_slice_bytes : LaxMacsecSlice → List ℕ
 lax_macsec_slice_bytes slice =
     macsec_header_slice_bytes slice.header ++ macsec_payload_bytes (lax_macsec_slice_payload slice)
 
--- a slice of MACsec shows these bytes, cut so, and what the cut left stands behind them
+-- The bytes begin with the MACsec slice, limited as `cut` states, followed by the trailing bytes.
 pub record ShowsLaxMacsec (outer : Bool) (bytes : List ℕ) (slice : LaxMacsecSlice) (cut : LaxCut) : Type 0 where
   pub parts : bytes ≡ lax_macsec_slice_bytes slice ++ cut.left
   pub is : IsLaxMacsec outer bytes (lax_macsec_slice_header slice, cut)

@@ -1,4 +1,5 @@
-//! What holds of every list of bytes, each law the contract of a function that does nothing.
+//! Laws of lax slicing, which reads truncated packets: each is the contract of a function that does nothing, and holds
+//! for all bytes.
 
 ghost use Rattle.std.specs.Prelude.{◌≡◌, ◌⊎◌, ◌++◌, ℕ, List, [], Some, false};
 ghost use Rattle.ep_base.specs.Bytes.{AreBytes};
@@ -10,7 +11,7 @@ ghost use Rattle.ep_packet.specs.FrameBytes.{AreInOrder};
 ghost use Rattle.ep_packet.specs.FrameRefusals.{RefusesFrame};
 ghost use Rattle.ep_packet.specs.Layers.{Layers};
 ghost use Rattle.ep_lax.specs.Lax.{IsLax};
-ghost use Rattle.ep_lax.specs.LaxHeaders.{AreFirst, BeginWith, ShowsFront, shown_headers, frame_headers};
+ghost use Rattle.ep_lax.specs.LaxHeaders.{AreFirst, BeginWith, ShowsPrefix, shown_headers, frame_headers};
 ghost use Rattle.ep_lax.specs.LaxLayers.{LaxLayers};
 ghost use Rattle.ep_lax.specs.LaxRefusals.{RefusesLax};
 ghost use Rattle.ep_lax.specs.LaxStops.{IsStrictStop, StopsFor, is_by_length};
@@ -23,55 +24,58 @@ use crate::{LaxLinkExtSlice, LaxSlicedPacket};
 use ep_packet::Entry;
 use ep_packet::err::SliceError;
 
-/// Bytes whose first header stands are read laxly as one list of layers, and others are refused with one error.
+/// States that lax slicing of any bytes either gives exactly one list of layers, or rejects them with exactly one
+/// error. It rejects them only if their first header is invalid or truncated.
 pub fn lax()
     ensures { (entry : Entry) (bytes : List ℕ) → AreBytes bytes
         → IsDecided (IsLax entry bytes) (RefusesLax entry bytes) }
 {}
 
-/// Bytes that are read laxly are the headers that stand, from the outside in, the payload of the last layer, and what the
-/// cuts left.
+/// States that bytes that lax slicing accepts are the headers of the layers, from the outside in, then the payload of
+/// the last layer, then the trailing bytes that length fields exclude.
 pub fn lax_bytes()
     ensures { (entry : Entry) (bytes : List ℕ) (read : LaxLayers) → IsLax entry bytes read
         → AreInOrder bytes (layers_in read) }
 {}
 
-/// A frame is read laxly as the layers that it is, with the same payload; no byte of any payload is missing, and the walk
-/// stops nowhere.
+/// States that lax slicing of a packet that strict slicing accepts finds the same layers and payload. It reports no
+/// payload as incomplete, and does not stop at an error.
 pub fn strict_frames()
     ensures { (entry : Entry) (bytes : List ℕ) (layers : Layers) → IsFrame entry bytes layers
         → (read : LaxLayers) × IsLax entry bytes read × (layers_in read ≡ layers) × IsWhole read }
 {}
 
-/// Where the first header of a front of bytes stands, that of all bytes does, and these show its headers, and then
-/// more; none where the walk over the front did not stop. But for one: an ICMPv4 timestamp at the end of the front may
-/// be longer than 20 bytes in all of them, at which the walk stops.
+/// States that if lax slicing accepts a truncated packet, it accepts the full packet, whose headers begin with those of
+/// the truncated one. Unless slicing of the truncated packet stopped at an error, the full packet has no further
+/// headers. One exception: an ICMPv4 timestamp message must have 20 bytes; if it is truncated to 20 but longer in the
+/// full packet, slicing of the full packet stops there.
 pub fn more_bytes()
     ensures { (entry : Entry) (front back : List ℕ) (read : LaxLayers) → AreBytes (front ++ back)
         → IsLax entry front read
         → (longer : LaxLayers) × IsLax entry (front ++ back) longer
-        × ShowsFront (shown_headers read) read.net.inside.stop (shown_headers longer) longer.net.inside.stop }
+        × ShowsPrefix (shown_headers read) read.net.inside.stop (shown_headers longer) longer.net.inside.stop }
 {}
 
-/// What a front of a frame shows are the frame's first headers; and all of them where the walk over the front did not
-/// stop.
-pub fn cut_shows_front()
+/// States that if a packet that strict slicing accepts is truncated, and lax slicing accepts the truncated packet, it
+/// finds the first headers of the full packet. It finds all of them unless it stops at an error.
+pub fn prefix_shows_headers()
     ensures { (entry : Entry) (front back : List ℕ) (layers : Layers) (read : LaxLayers) → AreBytes (front ++ back)
         → IsFrame entry (front ++ back) layers → IsLax entry front read
         → AreFirst (shown_headers read) read.net.inside.stop (frame_headers layers) }
 {}
 
-/// Bytes begin with the headers that they are read as, one after the other, reserved bits too; and each header says how
-/// long it is. So the headers that a front shows are the same bytes in all of them.
+/// States that bytes that lax slicing accepts begin with the wire formats of the headers it finds, one after another,
+/// reserved bits included. Each header determines its own length, so a header of a truncated packet has the same bytes
+/// in the full packet.
 pub fn header_bytes()
     ensures { (entry : Entry) (bytes : List ℕ) (read : LaxLayers) → IsLax entry bytes read
         → BeginWith (shown_headers read) bytes }
 {}
 
-/// What strict slicing refuses by no row of a length field, lax reading tells with the same error: the first header is
-/// refused for it, or the walk stops there. By such a row lax reading refuses nothing and stops nowhere. What it refuses
-/// strict slicing refuses with the same error, and so it does where lax reading stops, unless it refuses by a length
-/// field before.
+/// States how the errors of strict and lax slicing correspond. If strict slicing fails for another reason than a length
+/// field, lax slicing has the same error, as its result or as the error at which it stops. Lax slicing has no errors of
+/// length fields. Bytes that lax slicing rejects are rejected by strict slicing with the same error. If lax slicing
+/// stops at an error, strict slicing rejects the bytes with this error or with an earlier error of a length field.
 pub fn stops()
     ensures strict { (entry : Entry) (bytes : List ℕ) → AreBytes bytes → (error : SliceError)
         → RefusesFrame entry bytes error → is_by_length error ≡ false
@@ -82,13 +86,15 @@ pub fn stops()
         → (stop : SliceError × Layer) → read.net.inside.stop ≡ Some stop → IsStrictStop entry bytes stop }
 {}
 
-/// The cap that is told is the number of link extensions that are taken at most.
+/// States that `LINK_EXTS_CAP` is 3: lax slicing reads at most three link extensions (VLAN and MACsec tags) of a
+/// packet.
 pub fn constants()
     ensures value { LaxSlicedPacket.LINK_EXTS_CAP ≡ 3 }
     ensures cap { LaxSlicedPacket.LINK_EXTS_CAP ≡ most_link_exts }
 {}
 
-/// The default link extension: a VLAN tag of four bytes 0, and no payload.
+/// Returns the default link extension (tag between link header and network layer): a VLAN tag of four zero bytes, with
+/// an empty payload.
 pub fn default_link_ext() -> LaxLinkExtSlice<'static>
     ensures { lax_extension_of result ≡ vlan
         (record { pcp = 0; drop_eligible_indicator = false; vlan_id = 0; ether_type = record { 0 = 0 } }) [] }

@@ -1,4 +1,4 @@
-//! What a length field cuts where it can.
+//! Limiting a payload by the length field of its layer, in lax slicing: an invalid length field is ignored.
 
 ghost use Rattle.std.specs.Prelude.{◌≤◌, List, ℕ, length, drop};
 ghost use Rattle.ep_base.specs.LaxCut.{IsLaxCut};
@@ -6,54 +6,56 @@ ghost use Rattle.ep_lax.specs.LaxSlices.{lax_cut_of};
 
 use ep_base::LenSource;
 
-/// The length field of a layer.
+/// Length field of a layer that lax slicing reads (IPv4 total length, IPv6 payload length or MACsec short length).
 #[derive(Clone, Copy)]
 pub(crate) struct LengthField {
-    /// The least that it may say.
+    /// Minimum valid length that the layer's length field can state, in bytes from the start of the layer's header.
     pub(crate) least: usize,
-    /// What it says, counted from the layer's start.
-    pub(crate) says: usize,
-    /// Its name.
+    /// Length that the layer's length field states, in bytes from the start of the layer's header.
+    pub(crate) stated: usize,
+    /// Name of the layer's length field, as [`LenSource`].
     pub(crate) source: LenSource,
 }
 
-/// What a length field leaves of the bytes behind a header.
+/// Bytes after the header of a layer, limited by the layer's length field, if the field is valid.
 #[derive(Clone, Copy)]
-pub(crate) struct CutSlice<'a> {
-    /// The bytes.
+pub(crate) struct LimitedSlice<'a> {
+    /// Bytes after the header: up to the end that the layer's length field states, or all bytes if the field is
+    /// ignored.
     pub(crate) payload: &'a [u8],
-    /// What set their end.
+    /// Source of the payload's length: the length field that limits the payload, or the end of the slice.
     pub(crate) len_source: LenSource,
-    /// Whether some of them are missing.
+    /// True if bytes of the payload are missing: a length field counts more bytes than are available.
     pub(crate) incomplete: bool,
 }
 
-/// What a layer's length field leaves of the bytes behind its header, which has `header_len` bytes, where bytes of the
-/// layer are missing (`outer`) or not.
+/// Returns the bytes of `slice` after a header of `header_len` bytes, limited by the layer's length field. A field
+/// below its minimum or above the available bytes is ignored. `outer` is true if bytes of the layer are missing
+/// already; then they are missing from a payload with an ignored field, too.
 #[inline(always)]
-pub(crate) fn cut<'a>(
+pub(crate) fn limit_by_length_field<'a>(
     slice: &'a [u8],
     header_len: usize,
     field: LengthField,
     outer: bool,
-) -> CutSlice<'a>
+) -> LimitedSlice<'a>
     requires header { header_len ≤ length slice.now }
     requires least { header_len ≤ field.least }
-    ensures { (left : List ℕ) × IsLaxCut field.least field.says field.source outer header_len
+    ensures { (left : List ℕ) × IsLaxCut field.least field.stated field.source outer header_len
         (drop header_len slice.now) (lax_cut_of result left) }
 {
     let least = field.least;
-    let says = field.says;
-    if says < least || slice.len() < says {
-        let more = slice.len() < says;
-        return CutSlice {
+    let stated = field.stated;
+    if stated < least || slice.len() < stated {
+        let more = slice.len() < stated;
+        return LimitedSlice {
             payload: &slice[header_len..],
             len_source: LenSource::Slice,
             incomplete: outer | more,
         };
     }
-    CutSlice {
-        payload: &slice[header_len..says],
+    LimitedSlice {
+        payload: &slice[header_len..stated],
         len_source: field.source,
         incomplete: false,
     }

@@ -1,16 +1,18 @@
-//! The payload of a link extension, of which bytes may be missing.
+//! Payload of a link header, VLAN tag or MACsec tag, as lax slicing returns it; bytes may be missing.
 
 use ep_base::{EtherType, LenSource};
 
-/// The payload of a link header or of a link extension, with its type, of which bytes may be missing.
+/// Payload of a link header, VLAN tag or MACsec tag, with its ether type, as lax slicing returns it; bytes may be
+/// missing.
 #[derive(Clone, Debug, PartialEq, Eq, Drop)]
 pub struct LaxEtherPayloadSlice<'a> {
-    /// Whether bytes are missing that a length field says are there.
+    /// True if bytes of this payload are missing: the short length of a MACsec tag counts more bytes than are
+    /// available.
     pub incomplete: bool,
-    /// What the payload is.
+    /// Ether type of the payload, from the link header or tag before it, or as passed to `from_ether_type`.
     pub ether_type: EtherType,
-    /// What set the payload's length.
+    /// Source of the payload's length: the length field that limits the payload, or the end of the slice.
     pub len_source: LenSource,
-    /// The payload's bytes.
+    /// Available bytes of the payload of the link header or tag.
     pub payload: &'a [u8],
 }

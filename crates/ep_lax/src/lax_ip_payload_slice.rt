@@ -1,18 +1,20 @@
-//! The payload of an IP packet, of which bytes may be missing.
+//! Payload of an IP packet, as lax slicing returns it; bytes may be missing.
 
 use ep_base::{IpNumber, LenSource};
 
-/// The payload of an IP header and of the extension headers behind it that stand, of which bytes may be missing.
+/// Payload after an IP header and its valid extension headers, as lax slicing returns it; bytes may be missing.
 #[derive(Clone, Debug, PartialEq, Eq, Drop)]
 pub struct LaxIpPayloadSlice<'a> {
-    /// Whether bytes are missing that a length field says are there.
+    /// True if bytes of the IP payload are missing: a length field (such as the IPv4 total length) counts more bytes
+    /// than are available.
     pub incomplete: bool,
-    /// What the payload is.
+    /// IP number of the bytes at the start of the payload: a transport protocol, or an extension header that was not
+    /// read.
     pub ip_number: IpNumber,
-    /// Whether the payload is one fragment of a longer one.
+    /// True if the payload is a fragment of an IP datagram, by the IPv4 header or an IPv6 fragment header.
     pub fragmented: bool,
-    /// What set the payload's length.
+    /// Source of the IP payload's length: the length field that limits it, or the end of the slice.
     pub len_source: LenSource,
-    /// The payload's bytes.
+    /// Available bytes of the IP payload.
     pub payload: &'a [u8],
 }

@@ -1,20 +1,20 @@
-//! An IPv4 packet of which bytes may be missing (RFC 791).
+//! IPv4 packet in a slice, as lax slicing reads it: bytes of the payload may be missing (RFC 791).
 
 ghost use Rattle.std.specs.Prelude.{◌≡◌, ◌+◌, ◌<◌, ◌^◌};
 ghost use Rattle.std.specs.Option.{ForSome, option_map};
 ghost use Rattle.ep_ext.specs.ExtensionParts.{auth_refusal};
-ghost use Rattle.ep_lax.specs.LaxIp.{stop_behind};
+ghost use Rattle.ep_lax.specs.LaxIp.{stop_after};
 ghost use Rattle.ep_ext.specs.Chains.{offset_of};
 
-use crate::lax_cut::{LengthField, cut};
+use crate::lax_cut::{LengthField, limit_by_length_field};
 use crate::lax_ip_payload_slice::LaxIpPayloadSlice;
 use ep_base::LenSource;
 use ep_base::err::{ip_auth, ipv4};
 use ep_ext::Ipv4ExtensionsSlice;
 use ep_ip::{Ipv4Header, Ipv4HeaderSlice};
 
-/// An IPv4 packet (RFC 791) whose header stands: the header, the authentication header, and the payload, which the total
-/// length cuts where it can.
+/// IPv4 packet read by lax slicing (RFC 791): a valid header, a valid authentication header, if present, and the
+/// payload. The total length limits the payload, unless it is below the header length or above the available bytes.
 #[derive(Clone, Debug, PartialEq, Eq, Drop)]
 pub struct LaxIpv4Slice<'a> {
     header: Ipv4HeaderSlice<'a>,
@@ -32,9 +32,13 @@ impl<'a> LaxIpv4Slice<'a> {
     ghost use Rattle.ep_lax.specs.LaxSlices.{lax_ip_payload_of, lax_ipv4_of, lax_ipv4_slice_bytes, lax_ipv4_slice_content, lax_ipv4_slice_incomplete};
     ghost use Rattle.ep_lax.specs.LaxSlices.{lax_ipv4_slice_extensions, lax_ipv4_slice_header, lax_ipv4_slice_payload};
 
-    /// The packet at the front of the slice, whatever its total length says, and why the authentication header with
-    /// which its payload begins is refused, where one is. The total length cuts the packet where it can, and the payload
-    /// is incomplete where it says more than is there.
+    /// Slices the IPv4 packet at the start of the slice. A total length below the header length or above the available
+    /// bytes is ignored; if it is above, the payload is incomplete. Returns the packet and, if its payload begins with
+    /// an invalid authentication header, the error of that header.
+    ///
+    /// # Errors
+    ///
+    /// Returns an error if the IPv4 header is invalid or truncated.
     pub fn from_slice(
         slice: &'a [u8],
     ) -> Result<(LaxIpv4Slice<'a>, Option<ip_auth::HeaderSliceError>), ipv4::HeaderSliceError>
@@ -47,7 +51,8 @@ impl<'a> LaxIpv4Slice<'a> {
         LaxIpv4Slice::read(slice, false)
     }
 
-    /// The packet at the front of a slice of which bytes are missing or not.
+    /// Slices the IPv4 packet at the start of the slice, as lax slicing does. Returns it with the error of an invalid
+    /// authentication header, if any. `outer` is true if bytes of the enclosing layer (MACsec) are missing.
     #[inline(always)]
     pub(crate) fn read(
         slice: &'a [u8],
@@ -62,19 +67,19 @@ impl<'a> LaxIpv4Slice<'a> {
             Err(error) => return Err(error),
         };
         let header_len = header.header_len();
-        // First, so that between the extension headers and the walk's look at their refusal nothing is left but moves.
+        // Read first, so that only moves remain between reading the extension headers and checking their error.
         let fragmented = header.is_fragmenting_payload();
         let field = LengthField {
             least: header_len,
-            says: header.total_len() as usize,
+            stated: header.total_len() as usize,
             source: LenSource::Ipv4HeaderTotalLen,
         };
-        let content = cut(slice, header_len, field, outer);
+        let content = limit_by_length_field(slice, header_len, field, outer);
         let (extensions, ip_number, payload, refused) = Ipv4ExtensionsSlice::from_slice_lax(
             header.protocol(),
             content.payload,
         );
-        let stop = behind_header(refused, header_len, content.len_source);
+        let stop = after_header(refused, header_len, content.len_source);
         let payload = LaxIpPayloadSlice {
             incomplete: content.incomplete,
             ip_number,
@@ -92,7 +97,7 @@ impl<'a> LaxIpv4Slice<'a> {
         ))
     }
 
-    /// The header.
+    /// IPv4 header of the packet, with its options.
     #[inline]
     pub fn header(&self) -> Ipv4HeaderSlice<'a>
         ensures header { ipv4_header_slice_header result ≡ lax_ipv4_slice_header self.now }
@@ -101,7 +106,7 @@ impl<'a> LaxIpv4Slice<'a> {
         self.header.clone().unwrap()
     }
 
-    /// The number of bytes of the header, with its options and without the authentication header.
+    /// Length in bytes of the IPv4 header with its options: 20 to 60. The authentication header is not counted.
     #[inline]
     pub fn header_len(&self) -> usize
         ensures { result ≡ ipv4_header_len (lax_ipv4_slice_header self.now) }
@@ -109,7 +114,7 @@ impl<'a> LaxIpv4Slice<'a> {
         self.header.header_len()
     }
 
-    /// The number of bytes of the header and of the authentication header.
+    /// Length in bytes of the IPv4 header and the authentication header, if present, together.
     #[inline]
     pub(crate) fn headers_len(&self) -> usize
         ensures { result + length (lax_ipv4_slice_payload self.now).bytes ≡ length (lax_ipv4_slice_bytes self.now) }
@@ -121,7 +126,7 @@ impl<'a> LaxIpv4Slice<'a> {
         }
     }
 
-    /// The header as a value.
+    /// Returns an owned copy of the IPv4 header.
     #[inline]
     pub fn to_header(&self) -> Ipv4Header
         ensures { result ≡ lax_ipv4_slice_header self.now }
@@ -129,7 +134,8 @@ impl<'a> LaxIpv4Slice<'a> {
         self.header.to_header()
     }
 
-    /// The authentication header, where the protocol says that there is one, and it stands.
+    /// IPv4 extension headers of the packet: the authentication header, if the protocol field refers to one and it is
+    /// valid, else none.
     #[inline]
     pub fn extensions(&self) -> Ipv4ExtensionsSlice<'a>
         ensures headers { extension_parts result ≡ lax_ipv4_slice_extensions self.now }
@@ -139,7 +145,7 @@ impl<'a> LaxIpv4Slice<'a> {
         self.extensions.clone().unwrap()
     }
 
-    /// The payload, with what it is, whether it is a fragment, and whether bytes of it are missing.
+    /// Payload of the IPv4 packet, with its IP number, whether it is a fragment, and whether bytes are missing.
     #[inline]
     pub fn payload(&self) -> &LaxIpPayloadSlice<'a>
         ensures payload { lax_ip_payload_of result.now ≡ lax_ipv4_slice_payload self.now }
@@ -148,7 +154,8 @@ impl<'a> LaxIpv4Slice<'a> {
         &self.payload
     }
 
-    /// Whether the payload is one fragment of a longer one.
+    /// Returns true if the payload of the IPv4 packet is a fragment: more fragments follow, or the fragment offset is
+    /// above 0.
     #[inline]
     pub fn is_payload_fragmented(&self) -> bool
         ensures { result ≡ (lax_ipv4_slice_payload self.now).fragmented }
@@ -157,37 +164,38 @@ impl<'a> LaxIpv4Slice<'a> {
     }
 }
 
-/// The refusal of an authentication header, where it is refused, behind a header of this many bytes, where this set the
-/// end of what follows it.
+/// Converts the error of an authentication header, if any, into an error of its IPv4 packet. In a length error, the
+/// length of the IPv4 header is added to the offset, and `len_source` replaces the end of the slice as the limit.
 #[inline]
-fn behind_header(
+fn after_header(
     refused: Option<ip_auth::HeaderSliceError>,
     header_len: usize,
     len_source: LenSource,
 ) -> Option<ip_auth::HeaderSliceError>
     requires { ForSome refused (λ error. offset_of (auth_refusal error) + header_len < 2 ^ 64) }
     ensures { option_map auth_refusal result
-        ≡ option_map (stop_behind header_len len_source) (option_map auth_refusal refused) }
+        ≡ option_map (stop_after header_len len_source) (option_map auth_refusal refused) }
 {
     match refused {
         None => None,
-        Some(error) => Some(further_behind(error, header_len, len_source)),
+        Some(error) => Some(with_further_offset(error, header_len, len_source)),
     }
 }
 
-/// The same of one that is refused.
+/// Converts the error of an authentication header into an error of its IPv4 packet. In a length error, the length of
+/// the IPv4 header is added to the offset, and `len_source` replaces the end of the slice as the limit.
 #[inline]
-fn further_behind(
+fn with_further_offset(
     error: ip_auth::HeaderSliceError,
     header_len: usize,
     len_source: LenSource,
 ) -> ip_auth::HeaderSliceError
     requires { offset_of (auth_refusal error) + header_len < 2 ^ 64 }
-    ensures { auth_refusal result ≡ stop_behind header_len len_source (auth_refusal error) }
+    ensures { auth_refusal result ≡ stop_after header_len len_source (auth_refusal error) }
 {
     match error {
         ip_auth::HeaderSliceError::Len(error) => {
-            ip_auth::HeaderSliceError::Len(error.behind_header(header_len, len_source))
+            ip_auth::HeaderSliceError::Len(error.after_header(header_len, len_source))
         }
         ip_auth::HeaderSliceError::Content(error) => ip_auth::HeaderSliceError::Content(error),
     }

@@ -1,10 +1,10 @@
-//! An IPv6 packet of which bytes may be missing (RFC 8200).
+//! IPv6 packet in a slice, as lax slicing reads it: bytes of the payload may be missing (RFC 8200).
 
 ghost use Rattle.std.specs.Prelude.{◌≡◌};
 ghost use Rattle.ep_ext.specs.Ipv6ExtensionSlices.{ipv6_slice_number as extension_number};
 ghost use Rattle.ep_ip.specs.Ipv6Slices.{ipv6_header_slice_header};
 
-use crate::lax_cut::{CutSlice, LengthField, cut};
+use crate::lax_cut::{LengthField, LimitedSlice, limit_by_length_field};
 use crate::lax_ip_payload_slice::LaxIpPayloadSlice;
 use ep_base::LenSource;
 use ep_base::err::{Layer, ipv6, ipv6_exts};
@@ -12,8 +12,8 @@ use ep_ext::Ipv6ExtensionsSlice;
 use ep_ip::{Ipv6Header, Ipv6HeaderSlice};
 use std::alloc::AllocError;
 
-/// An IPv6 packet (RFC 8200) whose header stands: the header, the extension headers up to the first that is refused, and
-/// the payload, which the payload length cuts where it can.
+/// IPv6 packet read by lax slicing (RFC 8200): a valid header, the extension headers up to the first invalid one, and
+/// the payload. The payload length limits the payload, unless it is 0 or above the available bytes.
 #[derive(Debug, PartialEq, Eq, Drop)]
 pub struct LaxIpv6Slice<'a> {
     header: Ipv6HeaderSlice<'a>,
@@ -44,7 +44,8 @@ impl<'a> Clone for LaxIpv6Slice<'a> {
     }
 }
 
-/// A packet, and why the extension header with which its payload begins is refused, where one is, and which layer that is.
+/// IPv6 packet read by lax slicing. If its payload begins with an invalid extension header, also the error and layer of
+/// that header.
 type WithStop<'a> = (
     LaxIpv6Slice<'a>,
     Option<(ipv6_exts::HeaderSliceError, Layer)>,
@@ -61,14 +62,18 @@ impl<'a> LaxIpv6Slice<'a> {
     ghost use Rattle.ep_ip.specs.declared.ipv6_header.Ipv6Header.{Ipv6Header};
     ghost use Rattle.ep_ip.specs.Ipv6.{RefusesIpv6Header};
     ghost use Rattle.ep_ip.specs.Ipv6Slices.{ipv6_header_slice_bytes};
-    ghost use Rattle.ep_lax.specs.LaxIp.{LaxIp, IsLaxIpv6, lax_ipv6_source, stop_behind};
+    ghost use Rattle.ep_lax.specs.LaxIp.{LaxIp, IsLaxIpv6, lax_ipv6_source, stop_after};
     ghost use Rattle.ep_lax.specs.LaxSlices.{lax_cut_of};
     ghost use Rattle.ep_lax.specs.LaxSlices.{lax_ip_payload_of, lax_ipv6_of, lax_ipv6_slice_bytes, lax_ipv6_slice_content, lax_ipv6_slice_incomplete};
     ghost use Rattle.ep_lax.specs.LaxSlices.{lax_ipv6_slice_extensions, lax_ipv6_slice_header, lax_ipv6_slice_payload};
 
-    /// The packet at the front of the slice, whatever its payload length says, and why the extension header with which
-    /// its payload begins is refused, where one is, and which layer that is. The payload length cuts the packet where it
-    /// can, and the payload is incomplete where it says more than is there. The number 0 cuts nothing.
+    /// Slices the IPv6 packet at the start of the slice. A payload length of 0 or above the available bytes is ignored;
+    /// if it is above, the payload is incomplete. Returns the packet and, if its payload begins with an invalid
+    /// extension header, the error and layer of that header.
+    ///
+    /// # Errors
+    ///
+    /// Returns an error if the IPv6 header is invalid or truncated.
     pub fn from_slice(slice: &'a [u8]) -> Result<WithStop<'a>, ipv6::HeaderSliceError>
         ensures ok { IfOk result (λ read. (left : List ℕ) × (stop : Option HeaderSliceError)
             × (slice.now ≡ lax_ipv6_slice_bytes read.0 ++ left)
@@ -81,7 +86,9 @@ impl<'a> LaxIpv6Slice<'a> {
         LaxIpv6Slice::read(slice, false)
     }
 
-    /// The packet at the front of a slice of which bytes are missing or not.
+    /// Slices the IPv6 packet at the start of the slice, as lax slicing does. Returns it with the error and layer of
+    /// the first invalid extension header, if any. `outer` is true if bytes of the enclosing layer (MACsec) are
+    /// missing.
     #[inline(always)]
     pub(crate) fn read(slice: &'a [u8], outer: bool) -> Result<WithStop<'a>, ipv6::HeaderSliceError>
         ensures ok { IfOk result (λ read. (left : List ℕ) × (stop : Option HeaderSliceError)
@@ -95,16 +102,16 @@ impl<'a> LaxIpv6Slice<'a> {
         };
         let field = LengthField {
             least: Ipv6Header::LEN + 1,
-            says: Ipv6Header::LEN + header.payload_length() as usize,
+            stated: Ipv6Header::LEN + header.payload_length() as usize,
             source: LenSource::Ipv6HeaderPayloadLen,
         };
-        let content = cut(slice, Ipv6Header::LEN, field, outer);
+        let content = limit_by_length_field(slice, Ipv6Header::LEN, field, outer);
         let len_source = LaxIpv6Slice::payload_source(&header, &content);
         let (extensions, ip_number, payload, refused) = Ipv6ExtensionsSlice::from_slice_lax(
             header.next_header(),
             content.payload,
         );
-        let stop = LaxIpv6Slice::behind_header(refused, Ipv6Header::LEN, len_source);
+        let stop = LaxIpv6Slice::after_header(refused, Ipv6Header::LEN, len_source);
         let payload = LaxIpPayloadSlice {
             incomplete: content.incomplete,
             ip_number,
@@ -122,7 +129,7 @@ impl<'a> LaxIpv6Slice<'a> {
         ))
     }
 
-    /// The header.
+    /// IPv6 header of the packet (40 bytes), without its extension headers.
     #[inline]
     pub fn header(&self) -> Ipv6HeaderSlice<'a>
         ensures header { ipv6_header_slice_header result ≡ lax_ipv6_slice_header self.now }
@@ -131,7 +138,7 @@ impl<'a> LaxIpv6Slice<'a> {
         self.header.clone().unwrap()
     }
 
-    /// The number of bytes of the header, without the extension headers: 40.
+    /// Length in bytes of the IPv6 header without extension headers: 40.
     #[inline]
     pub fn header_len(&self) -> usize
         ensures { result ≡ 40 }
@@ -139,7 +146,7 @@ impl<'a> LaxIpv6Slice<'a> {
         self.header.header_len()
     }
 
-    /// The number of bytes of the header and of the extension headers that stand.
+    /// Length in bytes of the IPv6 header and its valid extension headers together.
     #[inline]
     pub(crate) fn headers_len(&self) -> usize
         ensures { result + length (lax_ipv6_slice_payload self.now).bytes ≡ length (lax_ipv6_slice_bytes self.now) }
@@ -147,7 +154,7 @@ impl<'a> LaxIpv6Slice<'a> {
         Ipv6Header::LEN + self.extensions.slice().len()
     }
 
-    /// The header as a value.
+    /// Returns an owned copy of the IPv6 header.
     #[inline]
     pub fn to_header(&self) -> Ipv6Header
         ensures { result ≡ lax_ipv6_slice_header self.now }
@@ -155,7 +162,7 @@ impl<'a> LaxIpv6Slice<'a> {
         self.header.to_header()
     }
 
-    /// The extension headers that stand, in their order.
+    /// Extension headers of the IPv6 packet in the order on the wire, up to the first invalid one.
     #[inline]
     pub fn extensions(&self) -> Ipv6ExtensionsSlice<'a>
         ensures headers { extension_parts result ≡ lax_ipv6_slice_extensions self.now }
@@ -166,7 +173,7 @@ impl<'a> LaxIpv6Slice<'a> {
         self.extensions.clone().unwrap()
     }
 
-    /// The payload, with what it is, whether it is a fragment, and whether bytes of it are missing.
+    /// Payload of the IPv6 packet, with its IP number, whether it is a fragment, and whether bytes are missing.
     #[inline]
     pub fn payload(&self) -> &LaxIpPayloadSlice<'a>
         ensures payload { lax_ip_payload_of result.now ≡ lax_ipv6_slice_payload self.now }
@@ -175,7 +182,8 @@ impl<'a> LaxIpv6Slice<'a> {
         &self.payload
     }
 
-    /// Whether the payload is one fragment of a longer one: whether a fragment header that stands says so.
+    /// Returns true if the payload of the IPv6 packet is a fragment: a valid fragment header has its M flag set, or a
+    /// fragment offset above 0.
     #[inline]
     pub fn is_payload_fragmented(&self) -> bool
         ensures { result ≡ (lax_ipv6_slice_payload self.now).fragmented }
@@ -183,9 +191,10 @@ impl<'a> LaxIpv6Slice<'a> {
         self.payload.fragmented
     }
 
-    /// What set the end of the bytes behind a header. A payload length of 0 sets none where there are bytes.
+    /// Returns the source of the IPv6 payload's length: the payload length field, or the end of the slice if the field
+    /// is ignored. A field of 0 is ignored if there are bytes after the IPv6 header.
     #[inline]
-    fn payload_source(header: &Ipv6HeaderSlice<'_>, content: &CutSlice<'_>) -> LenSource
+    fn payload_source(header: &Ipv6HeaderSlice<'_>, content: &LimitedSlice<'_>) -> LenSource
         ensures { (cut : LaxCut) → cut.payload ≡ content.now.payload.now → cut.source ≡ content.now.len_source
             → result ≡ lax_ipv6_source (ipv6_header_slice_header header.now) cut }
     {
@@ -199,40 +208,42 @@ impl<'a> LaxIpv6Slice<'a> {
         }
     }
 
-    /// The refusal of an extension header with its layer, where one is refused, behind a header of this many bytes, where
-    /// this set the end of what follows it.
+    /// Converts the error of an IPv6 extension header, if any, into an error of its IPv6 packet, and keeps its layer.
+    /// In a length error, the length of the IPv6 header is added to the offset, and `len_source` replaces the end of
+    /// the slice as the limit.
     #[inline]
-    fn behind_header(
+    fn after_header(
         refused: Option<(ipv6_exts::HeaderSliceError, Layer)>,
         header_len: usize,
         len_source: LenSource,
     ) -> Option<(ipv6_exts::HeaderSliceError, Layer)>
         requires { ForSome refused (λ read. offset_of read.0 + header_len < 2 ^ 64) }
         ensures { (stop : Option HeaderSliceError) → refused ≡ option_map chain_stop stop
-            → result ≡ option_map chain_stop (option_map (stop_behind header_len len_source) stop) }
+            → result ≡ option_map chain_stop (option_map (stop_after header_len len_source) stop) }
     {
         match refused {
             None => None,
             Some(read) => Some((
-                LaxIpv6Slice::further_behind(read.0, header_len, len_source),
+                LaxIpv6Slice::with_further_offset(read.0, header_len, len_source),
                 read.1,
             )),
         }
     }
 
-    /// The refusal of an extension header, the same.
+    /// Converts the error of an IPv6 extension header into an error of its IPv6 packet. In a length error, the length
+    /// of the IPv6 header is added to the offset, and `len_source` replaces the end of the slice as the limit.
     #[inline]
-    fn further_behind(
+    fn with_further_offset(
         error: ipv6_exts::HeaderSliceError,
         header_len: usize,
         len_source: LenSource,
     ) -> ipv6_exts::HeaderSliceError
         requires { offset_of error + header_len < 2 ^ 64 }
-        ensures { result ≡ stop_behind header_len len_source error }
+        ensures { result ≡ stop_after header_len len_source error }
     {
         match error {
             ipv6_exts::HeaderSliceError::Len(error) => {
-                ipv6_exts::HeaderSliceError::Len(error.behind_header(header_len, len_source))
+                ipv6_exts::HeaderSliceError::Len(error.after_header(header_len, len_source))
             }
             ipv6_exts::HeaderSliceError::Content(error) => ipv6_exts::HeaderSliceError::Content(
                 error,

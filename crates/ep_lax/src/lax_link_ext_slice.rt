@@ -1,4 +1,4 @@
-//! A link extension that is read laxly.
+//! Link extension (VLAN or MACsec tag) in a slice, as lax slicing reads it.
 
 use crate::lax_macsec_payload_slice::LaxMacsecPayloadSlice;
 use crate::lax_macsec_slice::LaxMacsecSlice;
@@ -6,12 +6,13 @@ use ep_base::err::macsec;
 use ep_base::{EtherType, LenSource, ether_type};
 use ep_link::{LinkExtHeader, LinkExtSlice, SingleVlanSlice};
 
-/// A link extension, from the outside in the part of a frame between link header and net layer, whose tag stands.
+/// Link extension read by lax slicing: a valid VLAN or MACsec tag between link header and network layer, with its
+/// payload.
 #[derive(Clone, Debug, PartialEq, Eq, Drop)]
 pub enum LaxLinkExtSlice<'a> {
-    /// A VLAN tag and what follows it.
+    /// VLAN tag with its payload, all bytes after the tag.
     Vlan(SingleVlanSlice<'a>),
-    /// A MACsec tag and its payload.
+    /// MACsec tag with its payload; bytes of the payload may be missing.
     Macsec(LaxMacsecSlice<'a>),
 }
 
@@ -23,7 +24,7 @@ impl Default for LaxLinkExtSlice<'_> {
 
     ghost is_default = { λ extension. lax_extension_of extension ≡ vlan (vlan_header_of (0 ∷ 0 ∷ 0 ∷ 0 ∷ [])) [] };
 
-    /// The VLAN tag of four bytes 0, and no payload.
+    /// Returns a VLAN tag of four zero bytes, with an empty payload.
     fn default() -> Self {
         match LinkExtSlice::default() {
             LinkExtSlice::Vlan(tag) => LaxLinkExtSlice::Vlan(tag),
@@ -41,8 +42,8 @@ impl<'a> LaxLinkExtSlice<'a> {
     ghost use Rattle.ep_link.specs.LinkExtensions.{extension_header, extension_payload, extension_type, link_ext_header_len};
     ghost use Rattle.ep_lax.specs.LaxViews.{lax_extension_of};
 
-    /// The link extension that bytes of this type begin with, of which some are missing (`outer`) or not; none where the
-    /// type begins no extension.
+    /// Parses the link extension (VLAN or MACsec tag) at the start of bytes with this ether type. Returns `None` if the
+    /// ether type is that of neither. `outer` is true if bytes of the enclosing layer are missing.
     #[inline(always)]
     pub(crate) fn read(
         ether_type: EtherType,
@@ -68,7 +69,8 @@ impl<'a> LaxLinkExtSlice<'a> {
         }
     }
 
-    /// Whether bytes of the payload are missing, where the extension lies in bytes of which some are (`outer`) or not.
+    /// Returns true if bytes of the payload after this VLAN or MACsec tag are missing. `outer` is true if bytes of the
+    /// enclosing layer are missing; a VLAN tag has no length field and returns `outer`.
     #[inline]
     pub(crate) fn incomplete_in(&self, outer: bool) -> bool
         ensures { result ≡ extension_incomplete outer self.now }
@@ -79,7 +81,8 @@ impl<'a> LaxLinkExtSlice<'a> {
         }
     }
 
-    /// What set the end of the payload, where this set the end of the bytes in which the extension lies.
+    /// Returns the source of the length of the payload after this VLAN or MACsec tag: the MACsec short length, if it
+    /// limits an unmodified payload, else `outer`, the source of the enclosing layer's length.
     #[inline]
     pub(crate) fn len_source_in(&self, outer: LenSource) -> LenSource
         ensures { result ≡ extension_source outer (lax_extension_of self.now) }
@@ -88,12 +91,12 @@ impl<'a> LaxLinkExtSlice<'a> {
             return outer;
         };
         match &packet.payload {
-            LaxMacsecPayloadSlice::Unmodified(payload) => payload.len_source.cut_by(outer),
+            LaxMacsecPayloadSlice::Unmodified(payload) => payload.len_source.limited_by(outer),
             LaxMacsecPayloadSlice::Modified { .. } => outer,
         }
     }
 
-    /// The tag as a value.
+    /// Returns an owned copy of the VLAN or MACsec tag, without its payload.
     pub fn to_header(&self) -> LinkExtHeader
         ensures { result ≡ extension_header (lax_extension_of self.now) }
     {
@@ -103,7 +106,8 @@ impl<'a> LaxLinkExtSlice<'a> {
         }
     }
 
-    /// The number of bytes of the tag.
+    /// Length of the VLAN or MACsec tag in bytes, including the ether type of the payload (absent after a MACsec tag
+    /// with a modified payload).
     #[inline]
     pub fn header_len(&self) -> usize
         ensures { result ≡ link_ext_header_len (extension_header (lax_extension_of self.now)) }
@@ -114,7 +118,8 @@ impl<'a> LaxLinkExtSlice<'a> {
         }
     }
 
-    /// The type of what follows the tag, where it can be read.
+    /// Ether type of the payload after the VLAN or MACsec tag; `None` for a MACsec payload that is encrypted or
+    /// modified.
     #[inline]
     pub fn next_ether_type(&self) -> Option<EtherType>
         ensures { result ≡ extension_type (lax_extension_of self.now) }
@@ -125,7 +130,7 @@ impl<'a> LaxLinkExtSlice<'a> {
         }
     }
 
-    /// The bytes behind the tag.
+    /// Payload after the VLAN or MACsec tag, limited to the available bytes.
     #[inline]
     pub fn payload_slice(&self) -> &'a [u8]
         ensures { result.now ≡ extension_payload (lax_extension_of self.now) }

@@ -1,19 +1,19 @@
-//! The payload of a MACsec packet, of which bytes may be missing (IEEE 802.1AE, 9).
+//! Payload of a MACsec packet in a slice, as lax slicing returns it; bytes may be missing (IEEE 802.1AE, 9).
 
-use crate::lax_cut::CutSlice;
+use crate::lax_cut::LimitedSlice;
 use crate::lax_ether_payload_slice::LaxEtherPayloadSlice;
 use ep_link::MacsecHeaderSlice;
 
-/// The payload of a MACsec packet (IEEE 802.1AE, 9), of which bytes may be missing.
+/// Payload after a MACsec tag (IEEE 802.1AE, 9), as lax slicing returns it; bytes may be missing.
 #[derive(Clone, Debug, PartialEq, Eq, Drop)]
 pub enum LaxMacsecPayloadSlice<'a> {
-    /// The payload as it was sent, with its type.
+    /// MACsec payload that is not encrypted or otherwise modified, with its ether type.
     Unmodified(LaxEtherPayloadSlice<'a>),
-    /// A payload that is changed or encrypted, so that nothing is known of its type.
+    /// MACsec payload that is encrypted or otherwise modified, so that its ether type is unknown.
     Modified {
-        /// Whether bytes are missing that the short length says are there.
+        /// True if bytes of the MACsec payload are missing: a MACsec short length counts more bytes than are available.
         incomplete: bool,
-        /// The payload's bytes.
+        /// Available bytes of the modified MACsec payload.
         payload: &'a [u8],
     },
 }
@@ -24,7 +24,7 @@ impl<'a> LaxMacsecPayloadSlice<'a> {
     ghost use Rattle.ep_link.specs.MacsecSlices.{macsec_header_slice_header};
     ghost use Rattle.ep_lax.specs.LaxSlices.{lax_macsec_incomplete, lax_macsec_payload_of};
 
-    /// The payload's bytes.
+    /// Available bytes of the MACsec payload, modified or not.
     #[inline]
     pub fn slice(&self) -> &'a [u8]
         ensures { result.now ≡ macsec_payload_bytes (lax_macsec_payload_of self.now) }
@@ -35,7 +35,8 @@ impl<'a> LaxMacsecPayloadSlice<'a> {
         }
     }
 
-    /// Whether bytes are missing that a length field says are there.
+    /// Returns true if bytes of the MACsec payload are missing: a MACsec short length counts more bytes than are
+    /// available.
     #[inline]
     pub fn incomplete(&self) -> bool
         ensures { result ≡ lax_macsec_incomplete self.now }
@@ -46,11 +47,12 @@ impl<'a> LaxMacsecPayloadSlice<'a> {
         }
     }
 
-    /// The payload of this tag, which was cut so.
+    /// Creates the payload of a MACsec tag from `cut`, the bytes after the tag limited by its short length. The payload
+    /// is unmodified if the tag contains an ether type.
     #[inline(always)]
-    pub(crate) fn behind(
+    pub(crate) fn of_tag(
         header: &MacsecHeaderSlice<'a>,
-        cut: CutSlice<'a>,
+        cut: LimitedSlice<'a>,
     ) -> LaxMacsecPayloadSlice<'a>
         ensures payload { lax_macsec_payload_of result
             ≡ payload_by (macsec_header_slice_header header.now).ptype cut.entry.len_source cut.entry.payload.now }

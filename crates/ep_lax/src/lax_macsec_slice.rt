@@ -1,22 +1,23 @@
-//! A MACsec packet of which bytes may be missing (IEEE 802.1AE, 9).
+//! MACsec packet in a slice, as lax slicing reads it: bytes of the payload may be missing (IEEE 802.1AE, 9).
 
 ghost use Rattle.std.specs.Prelude.{◌≡◌};
 ghost use Rattle.ep_link.specs.MacsecSlices.{macsec_header_slice_header};
-ghost use Rattle.ep_lax.specs.LaxMacsec.{macsec_says};
+ghost use Rattle.ep_lax.specs.LaxMacsec.{macsec_stated_len};
 
-use crate::lax_cut::{LengthField, cut};
+use crate::lax_cut::{LengthField, limit_by_length_field};
 use crate::lax_ether_payload_slice::LaxEtherPayloadSlice;
 use crate::lax_macsec_payload_slice::LaxMacsecPayloadSlice;
 use ep_base::err::macsec::HeaderSliceError;
 use ep_base::{EtherType, LenSource};
 use ep_link::{MacsecHeader, MacsecHeaderSlice, MacsecPType};
 
-/// A MACsec tag (IEEE 802.1AE, 9) that stands, and the payload behind it, which the short length cuts where it can.
+/// MACsec tag (IEEE 802.1AE, 9) with the payload after it, read by lax slicing. The short length limits the payload,
+/// unless it is 0 or above the available bytes.
 #[derive(Clone, Debug, PartialEq, Eq, Drop)]
 pub struct LaxMacsecSlice<'a> {
-    /// The tag.
+    /// MACsec tag (SecTAG) of the packet, with the ether type after it, if the payload is unmodified.
     pub header: MacsecHeaderSlice<'a>,
-    /// The payload.
+    /// Payload after the MACsec tag; bytes of it may be missing.
     pub payload: LaxMacsecPayloadSlice<'a>,
 }
 
@@ -26,11 +27,12 @@ impl<'a> LaxMacsecSlice<'a> {
     ghost use Rattle.ep_link.specs.declared.link_ext.macsec_header.MacsecHeader.{MacsecHeader};
     ghost use Rattle.ep_link.specs.Macsec.{RefusesMacsecHeader, macsec_header_len, macsec_payload_type};
     ghost use Rattle.ep_link.specs.MacsecSlices.{macsec_header_slice_header};
-    ghost use Rattle.ep_lax.specs.LaxMacsec.{IsLaxMacsec, lax_macsec_payload, macsec_says};
+    ghost use Rattle.ep_lax.specs.LaxMacsec.{IsLaxMacsec, lax_macsec_payload, macsec_stated_len};
     ghost use Rattle.ep_lax.specs.LaxSlices.{ShowsLaxMacsec, lax_macsec_slice_bytes, lax_macsec_slice_header, lax_macsec_slice_incomplete, lax_macsec_slice_payload};
 
-    /// The packet at the front of the slice, whatever its short length says. The short length cuts the payload where it
-    /// can, and the payload is incomplete where it says more than is there.
+    /// Slices the MACsec packet at the start of the slice. A short length that is 0 or above the available bytes is
+    /// ignored; if it is above, the payload is incomplete. A short length of 1, too small for the ether type of an
+    /// unmodified payload, is an error of the tag.
     pub fn from_slice(slice: &'a [u8]) -> Result<LaxMacsecSlice<'a>, HeaderSliceError>
         ensures ok { IfOk result (λ shown. (cut : LaxCut) × ShowsLaxMacsec false slice.now shown cut) }
         ensures only { (read : MacsecHeader × LaxCut) → IsLaxMacsec false slice.now read
@@ -42,7 +44,8 @@ impl<'a> LaxMacsecSlice<'a> {
         LaxMacsecSlice::read(slice, false)
     }
 
-    /// The packet at the front of a slice of which bytes are missing or not.
+    /// Slices the MACsec packet at the start of the slice, as lax slicing does. `outer` is true if bytes of the
+    /// enclosing layer are missing.
     #[inline(always)]
     pub(crate) fn read(slice: &'a [u8], outer: bool) -> Result<LaxMacsecSlice<'a>, HeaderSliceError>
         ensures ok { IfOk result (λ shown. (cut : LaxCut) × ShowsLaxMacsec outer slice.now shown cut) }
@@ -55,15 +58,15 @@ impl<'a> LaxMacsecSlice<'a> {
         let header_len = header.header_len();
         let field = LengthField {
             least: header_len,
-            says: macsec_says(&header),
+            stated: macsec_stated_len(&header),
             source: LenSource::MacsecShortLength,
         };
-        let content = cut(slice, header_len, field, outer);
-        let payload = LaxMacsecPayloadSlice::behind(&header, content);
+        let content = limit_by_length_field(slice, header_len, field, outer);
+        let payload = LaxMacsecPayloadSlice::of_tag(&header, content);
         Ok(LaxMacsecSlice { header, payload })
     }
 
-    /// The number of bytes of the tag, with the type of an unmodified payload.
+    /// Length of the MACsec tag in bytes, with the ether type after it, if the payload is unmodified.
     #[inline]
     pub fn header_len(&self) -> usize
         ensures { result ≡ macsec_header_len (lax_macsec_slice_header self.now) }
@@ -71,7 +74,7 @@ impl<'a> LaxMacsecSlice<'a> {
         self.header.header_len()
     }
 
-    /// The tag as a value.
+    /// Returns an owned copy of the MACsec tag.
     #[inline]
     pub fn to_header(&self) -> MacsecHeader
         ensures { result ≡ lax_macsec_slice_header self.now }
@@ -79,7 +82,7 @@ impl<'a> LaxMacsecSlice<'a> {
         self.header.to_header()
     }
 
-    /// The type of the payload, where it is unmodified.
+    /// Ether type of the MACsec payload; `None` if the payload is encrypted or otherwise modified.
     #[inline]
     pub fn next_ether_type(&self) -> Option<EtherType>
         ensures { result ≡ macsec_payload_type (lax_macsec_slice_payload self.now) }
@@ -91,10 +94,11 @@ impl<'a> LaxMacsecSlice<'a> {
     }
 }
 
-/// How many bytes the short length of a tag says that tag and payload have; the number 0 says nothing.
+/// Returns the length in bytes of MACsec tag and payload together, as the short length of the tag states it, or 0 if
+/// the short length is 0 (no length stated).
 #[inline]
-fn macsec_says(header: &MacsecHeaderSlice<'_>) -> usize
-    ensures { result ≡ macsec_says (macsec_header_slice_header header.now) }
+fn macsec_stated_len(header: &MacsecHeaderSlice<'_>) -> usize
+    ensures { result ≡ macsec_stated_len (macsec_header_slice_header header.now) }
 {
     let short_len = header.short_len().value() as usize;
     if short_len == 0 {

@@ -1,4 +1,4 @@
-//! The net layer that is read laxly.
+//! Network layer (IPv4, IPv6 or ARP) in a slice, as lax slicing reads it.
 
 ghost use Rattle.std.specs.Prelude.{◌≡◌, ◌<◌, ◌+◌, ◌^◌, length};
 ghost use Rattle.ep_ext.specs.ExtensionParts.{part_len};
@@ -17,14 +17,15 @@ use ep_ext::{Ipv6ExtensionSlice, Ipv6ExtensionsSlice};
 use ep_ip::Ipv6Header;
 use ep_link::ArpPacketSlice;
 
-/// The net layer of a packet, whose header stands.
+/// Network layer of a packet (IPv4, IPv6 or ARP) read by lax slicing: its header is valid, bytes of an IP payload may
+/// be missing.
 #[derive(Clone, Debug, PartialEq, Eq, Drop)]
 pub enum LaxNetSlice<'a> {
-    /// An IPv4 packet.
+    /// IPv4 packet with a valid header; bytes of its payload may be missing.
     Ipv4(LaxIpv4Slice<'a>),
-    /// An IPv6 packet.
+    /// IPv6 packet with a valid header; bytes of its payload may be missing.
     Ipv6(LaxIpv6Slice<'a>),
-    /// An ARP packet.
+    /// Complete ARP packet.
     Arp(ArpPacketSlice<'a>),
 }
 
@@ -37,7 +38,7 @@ impl<'a> LaxNetSlice<'a> {
     ghost use Rattle.ep_lax.specs.LaxSlices.{lax_ip_payload_of};
     ghost use Rattle.ep_lax.specs.LaxViews.{lax_net_incomplete, lax_net_layer_of};
 
-    /// The payload, where the layer is IP.
+    /// Payload of the IPv4 or IPv6 packet; `None` for an ARP packet.
     #[inline]
     pub fn ip_payload_ref(&self) -> Option<&LaxIpPayloadSlice<'a>>
         ensures payload { option_map lax_ip_payload_of (option_copied result) ≡ net_payload (lax_net_layer_of self.now) }
@@ -50,8 +51,7 @@ impl<'a> LaxNetSlice<'a> {
         }
     }
 
-    /// The number of bytes of the IP header with the extension headers that stand, behind which the payload begins, or of
-    /// the ARP packet.
+    /// Length in bytes of the IP header together with its valid extension headers, or of the whole ARP packet.
     pub fn header_len(&self) -> usize
         ensures value { result ≡ net_layer_len (lax_net_layer_of self.now) }
         ensures bytes { (bytes : List ℕ) → EncodesNet (Some (lax_net_layer_of self.now)) bytes → length bytes ≡ result }
@@ -61,7 +61,7 @@ impl<'a> LaxNetSlice<'a> {
     }
 }
 
-/// The number of bytes of the headers of a net layer.
+/// Returns the length in bytes of the IP header together with its valid extension headers, or of the whole ARP packet.
 fn headers_len(net: &LaxNetSlice<'_>) -> usize
     ensures value { result ≡ net_layer_len (lax_net_layer_of net.now) }
     ensures bound { result < 2 ^ 63 + 64 }
@@ -73,7 +73,7 @@ fn headers_len(net: &LaxNetSlice<'_>) -> usize
     }
 }
 
-/// The number of bytes of an ARP packet.
+/// Returns the length of an ARP packet in bytes.
 fn arp_len(packet: &ArpPacketSlice<'_>) -> usize
     ensures value { result ≡ arp_len (arp_slice_packet packet.now) }
     ensures bound { result < 2 ^ 63 }
@@ -84,7 +84,7 @@ fn arp_len(packet: &ArpPacketSlice<'_>) -> usize
     len
 }
 
-/// The number of bytes of the headers of an IPv4 packet.
+/// Returns the length in bytes of an IPv4 header with its options and the authentication header, if present.
 fn ipv4_len(packet: &LaxIpv4Slice<'_>) -> usize
     ensures value { result
         ≡ ipv4_header_len (lax_ipv4_slice_header packet.now) + parts_len (lax_ipv4_slice_extensions packet.now) }
@@ -97,7 +97,7 @@ fn ipv4_len(packet: &LaxIpv4Slice<'_>) -> usize
     }
 }
 
-/// The number of bytes of the extension headers of an IPv6 packet.
+/// Returns the length in bytes of all extension headers of an IPv6 packet together.
 fn extensions_len(extensions: Ipv6ExtensionsSlice<'_>) -> usize
     ensures value { result ≡ parts_len (ipv6_slice_parts extensions.entry) }
     ensures bound { result < 2 ^ 63 }
@@ -111,7 +111,7 @@ fn extensions_len(extensions: Ipv6ExtensionsSlice<'_>) -> usize
     len
 }
 
-/// The number of bytes of an extension header.
+/// Returns the length of one IPv6 extension header in bytes.
 #[inline]
 fn extension_len(extension: &Ipv6ExtensionSlice<'_>) -> usize
     ensures value { result ≡ part_len (extension_slice_part extension.now) }

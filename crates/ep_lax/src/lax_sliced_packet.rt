@@ -1,4 +1,4 @@
-//! A packet, sliced laxly into the layers that stand.
+//! Packet read by lax slicing: all layers with valid headers, from the outside in.
 
 use crate::lax_link_ext_slice::LaxLinkExtSlice;
 use crate::lax_net_slice::LaxNetSlice;
@@ -11,20 +11,22 @@ use ep_packet::err::SliceError;
 use ep_packet::{Entry, LinkPart};
 use ep_transport::TransportSlice;
 
-/// A packet, sliced laxly: its layers from the outside in, up to the first whose header is not there or does not stand.
-/// A length field that says more than is there, or less than its own header has, cuts nothing, and the payload behind
-/// it tells whether bytes of it are missing.
+/// Packet read by lax slicing: its layers from the outside in, up to the first one whose header is invalid or
+/// truncated. A length field above the available bytes is ignored, and so is an IPv4 or UDP length below that of its
+/// own header. [`LaxSlicedPacket::is_incomplete`] returns whether bytes of the last payload are missing.
 #[derive(Clone, Debug, PartialEq, Eq, Drop)]
 pub struct LaxSlicedPacket<'a> {
-    /// The link layer.
+    /// Link layer of the packet (such as Ethernet II), if any.
     pub link: Option<LinkSlice<'a>>,
-    /// The link extensions, from the outside in, of which at most three are taken.
+    /// Link extensions of the packet (VLAN and MACsec tags), from the outside in, at most three.
     pub link_exts: ArrayVec<LaxLinkExtSlice<'a>, 3>,
-    /// The net layer.
+    /// Network layer of the packet (IPv4, IPv6 or ARP); `None` if absent, of another type or rejected.
     pub net: Option<LaxNetSlice<'a>>,
-    /// The transport layer.
+    /// Transport layer of the packet (such as UDP or TCP); `None` if absent, of another type, rejected or in a
+    /// fragment.
     pub transport: Option<TransportSlice<'a>>,
-    /// Why the layer behind the last one is refused, and which layer that is, where one is.
+    /// Error at which lax slicing stopped, and the layer it is about; `None` if each header read is valid and complete,
+    /// even if bytes of a payload are missing. The rejected layer comes after the last layer of this packet.
     pub stop_err: Option<(SliceError, Layer)>,
 }
 
@@ -37,12 +39,14 @@ impl<'a> LaxSlicedPacket<'a> {
     ghost use Rattle.ep_lax.specs.LaxLayers.{LaxLayers, no_lax_layers};
     ghost use Rattle.ep_lax.specs.LaxRefusals.{RefusesIpHeader, RefusesLax};
     ghost use Rattle.ep_lax.specs.LaxPackets.{ShowsLax, lax_layers_of};
-    ghost use Rattle.ep_lax.specs.LaxWalk.{IsLaxBehind};
+    ghost use Rattle.ep_lax.specs.LaxWalk.{IsLaxAfterLink};
 
-    /// The greatest number of link extensions that are taken. A further one is left as payload.
+    /// Maximum number of link extensions (VLAN and MACsec tags) that lax slicing reads from a packet: 3. Further ones
+    /// are left in the payload.
     pub const LINK_EXTS_CAP: usize = 3;
 
-    /// A packet without layers, for [`LaxSlicedPacket::slice_into`] to fill in.
+    /// Creates a packet without layers, as a value that [`LaxSlicedPacket::slice_into`] overwrites with the layers it
+    /// reads.
     #[inline]
     pub fn new() -> LaxSlicedPacket<'a>
         ensures layers { lax_layers_of result ≡ no_lax_layers }
@@ -57,7 +61,12 @@ impl<'a> LaxSlicedPacket<'a> {
         }
     }
 
-    /// The layers of the packet that begins with an Ethernet II header, which is refused where it is not there.
+    /// Slices a packet that begins with an Ethernet II header, as far as its headers are valid. An error in an inner
+    /// layer is stored in `stop_err`.
+    ///
+    /// # Errors
+    ///
+    /// Returns an error if the slice is too short for the Ethernet II header.
     #[inline]
     pub fn from_ethernet(slice: &'a [u8]) -> Result<LaxSlicedPacket<'a>, LenError>
         ensures ok { IfOk result (λ packet. IsLax ethernet slice.now (lax_layers_of packet)) }
@@ -67,13 +76,17 @@ impl<'a> LaxSlicedPacket<'a> {
         ensures err { IfErr result (RefusesEthernet2 slice.now) }
     {
         match LinkPart::ethernet(slice) {
-            Ok(part) => Ok(LaxSlicedPacket::behind(part)),
+            Ok(part) => Ok(LaxSlicedPacket::of_tag(part)),
             Err(error) => Err(error),
         }
     }
 
-    /// The layers of the packet that begins with the header of a Linux cooked capture (SLL v1), which is refused where it
-    /// does not stand.
+    /// Slices a packet that begins with the header of a Linux cooked capture (SLL v1), as far as its headers are valid.
+    /// An error in an inner layer is stored in `stop_err`.
+    ///
+    /// # Errors
+    ///
+    /// Returns an error if the SLL header is invalid or truncated.
     #[inline]
     pub fn from_linux_sll(
         slice: &'a [u8],
@@ -85,13 +98,13 @@ impl<'a> LaxSlicedPacket<'a> {
         ensures err { IfErr result (RefusesLinuxSll slice.now) }
     {
         match LinkPart::linux_sll(slice) {
-            Ok(part) => Ok(LaxSlicedPacket::behind(part)),
+            Ok(part) => Ok(LaxSlicedPacket::of_tag(part)),
             Err(error) => Err(error),
         }
     }
 
-    /// The layers of the packet that is the payload of a link layer, with the type that the link layer gives. Nothing is
-    /// refused.
+    /// Slices the bytes after a link header, given their ether type, as far as the headers in them are valid. This
+    /// never fails; the first error is stored in `stop_err`.
     #[inline]
     pub fn from_ether_type(ether_type: EtherType, slice: &'a [u8]) -> LaxSlicedPacket<'a>
         ensures ok { IsLax (of_type ether_type) slice.now (lax_layers_of result) }
@@ -99,11 +112,15 @@ impl<'a> LaxSlicedPacket<'a> {
             → lax_layers_of result ≡ layers }
         ensures bytes { ShowsLax slice.now result }
     {
-        LaxSlicedPacket::behind(LinkPart::ether_type(ether_type, slice))
+        LaxSlicedPacket::of_tag(LinkPart::ether_type(ether_type, slice))
     }
 
-    /// The layers of the packet that is an IP packet of either version, which has no link layer. It is refused where its
-    /// header is not there or does not stand.
+    /// Slices an IPv4 or IPv6 packet without a link layer, as far as its headers are valid. An error after the IP
+    /// header is stored in `stop_err`.
+    ///
+    /// # Errors
+    ///
+    /// Returns an error if the IP header is invalid or truncated.
     #[inline]
     pub fn from_ip(slice: &'a [u8]) -> Result<LaxSlicedPacket<'a>, ip::LaxHeaderSliceError>
         ensures ok { IfOk result (λ packet. IsLax ip slice.now (lax_layers_of packet)) }
@@ -119,8 +136,8 @@ impl<'a> LaxSlicedPacket<'a> {
         }
     }
 
-    /// Slices the layers of the packet that begins with what `entry` says into this one, whatever it held: for a caller
-    /// in a loop, which reuses one packet, and so moves none. At `Err` this one is left without layers.
+    /// Slices a packet into this value, which replaces all its layers; `entry` names the header that the bytes start
+    /// with. Reusing one value in a hot loop moves no layers. An error leaves the value without layers.
     #[inline(always)]
     pub fn slice_into(&mut self, entry: Entry, bytes: &'a [u8]) -> Result<(), SliceError>
         ensures ok { IfOk result (λ _. IsLax entry bytes.now (lax_layers_of self.new)) }
@@ -142,7 +159,7 @@ impl<'a> LaxSlicedPacket<'a> {
         }
     }
 
-    /// Takes all layers away. Apart, since inlined it would have the room of the new value zeroed for each packet.
+    /// Removes all layers of this packet. Not inlined, because otherwise the new value would be zeroed for each packet.
     #[inline(never)]
     fn clear(&mut self)
         ensures { lax_layers_of self.new ≡ no_lax_layers }
@@ -150,8 +167,8 @@ impl<'a> LaxSlicedPacket<'a> {
         *self = LaxSlicedPacket::new();
     }
 
-    /// Fills in the layers of the packet that begins with what `entry` says, whatever net and transport layer there
-    /// were. Ethernet alone becomes one piece with the caller.
+    /// Slices a packet into this value, which must have no link extensions; other layers are replaced. `entry` names
+    /// the header that the bytes start with. Only the Ethernet case is inlined into the caller.
     #[inline(always)]
     fn fill(&mut self, entry: Entry, slice: &'a [u8]) -> Result<(), SliceError>
         requires { self.old.link_exts.items ≡ [] }
@@ -162,7 +179,7 @@ impl<'a> LaxSlicedPacket<'a> {
         match entry {
             Entry::Ethernet => match LinkPart::ethernet(slice) {
                 Ok(part) => {
-                    self.fill_behind(part);
+                    self.fill_from_link(part);
                     Ok(())
                 }
                 Err(error) => Err(SliceError::Len(error)),
@@ -180,7 +197,8 @@ impl<'a> LaxSlicedPacket<'a> {
         }
     }
 
-    /// Fills in the layers of the packet that begins with the header of a Linux cooked capture.
+    /// Slices a packet that begins with the header of a Linux cooked capture (SLL v1) into this value, which must have
+    /// no link extensions.
     fn fill_linux_sll(&mut self, slice: &'a [u8]) -> Result<(), SliceError>
         requires { self.old.link_exts.items ≡ [] }
         ensures ok { IfOk result (λ _. IsLax linux_sll slice.now (lax_layers_of self.new)) }
@@ -189,23 +207,24 @@ impl<'a> LaxSlicedPacket<'a> {
     {
         match LinkPart::linux_sll(slice) {
             Ok(part) => {
-                self.fill_behind(part);
+                self.fill_from_link(part);
                 Ok(())
             }
             Err(error) => Err(SliceError::from(error)),
         }
     }
 
-    /// Fills in the layers of the packet that is the payload of a link layer, with its type.
+    /// Slices the bytes after a link header, given their ether type, into this value, which must have no link
+    /// extensions.
     fn fill_ether_type(&mut self, ether_type: EtherType, slice: &'a [u8])
         requires { self.old.link_exts.items ≡ [] }
         ensures ok { IsLax (of_type ether_type) slice.now (lax_layers_of self.new) }
         ensures bytes { ShowsLax slice.now self.new }
     {
-        self.fill_behind(LinkPart::ether_type(ether_type, slice));
+        self.fill_from_link(LinkPart::ether_type(ether_type, slice));
     }
 
-    /// Fills in the layers of the packet that is an IP packet of either version.
+    /// Slices an IPv4 or IPv6 packet without a link layer into this value, which must have no link extensions.
     fn fill_ip(&mut self, slice: &'a [u8]) -> Result<(), ip::LaxHeaderSliceError>
         requires { self.old.link_exts.items ≡ [] }
         ensures ok { IfOk result (λ _. IsLax ip slice.now (lax_layers_of self.new)) }
@@ -221,23 +240,24 @@ impl<'a> LaxSlicedPacket<'a> {
         )
     }
 
-    /// A link layer and the layers in its payload.
+    /// Creates a packet from a parsed link layer, and slices the layers in its payload.
     #[inline(always)]
-    fn behind(part: LinkPart<'a>) -> LaxSlicedPacket<'a>
+    fn of_tag(part: LinkPart<'a>) -> LaxSlicedPacket<'a>
         requires { part.offset + length part.slice.now < 2 ^ 64 }
-        ensures { IsLaxBehind part.entry result }
+        ensures { IsLaxAfterLink part.entry result }
     {
         let mut packet = LaxSlicedPacket::new();
-        packet.fill_behind(part);
+        packet.fill_from_link(part);
         packet
     }
 
-    /// Fills in a link layer and the layers in its payload.
+    /// Stores a parsed link layer in this value, which must have no link extensions, and slices the layers in its
+    /// payload.
     #[inline(always)]
-    fn fill_behind(&mut self, part: LinkPart<'a>)
+    fn fill_from_link(&mut self, part: LinkPart<'a>)
         requires place { part.offset + length part.slice.now < 2 ^ 64 }
         requires empty { self.old.link_exts.items ≡ [] }
-        ensures { IsLaxBehind part.entry self.new }
+        ensures { IsLaxAfterLink part.entry self.new }
     {
         self.link = Some(part.link);
         fill_inside(

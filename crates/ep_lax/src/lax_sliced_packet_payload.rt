@@ -1,4 +1,4 @@
-//! What lies inside the layers of a packet that was sliced laxly: its payloads and its tags.
+//! Payloads, VLAN tags and offsets of a packet read by lax slicing.
 
 ghost use Rattle.std.specs.Prelude.{◌≡◌, ◌≤◌, ◌<◌, ◌+◌, ◌^◌, ℕ, false, IfSome, List, drop, length, map};
 ghost use Rattle.std.specs.Option.{option_copied, option_map};
@@ -6,13 +6,13 @@ ghost use Rattle.ep_base.specs.LaxCut.{is_missing};
 ghost use Rattle.ep_base.specs.declared.len_source.LenSource.TheVariants as source;
 ghost use Rattle.ep_link.specs.LinkSlices.{link_layer_of};
 ghost use Rattle.ep_transport.specs.TransportParts.{transport_layer_of};
-ghost use Rattle.ep_packet.specs.FrameBytes.{AreInOrder, last_payload, link_payload, payload_behind};
+ghost use Rattle.ep_packet.specs.FrameBytes.{AreInOrder, last_payload, link_payload, payload_after_exts};
 ghost use Rattle.ep_packet.specs.Layers.{carries_fragment, ip_payload_in};
 ghost use Rattle.ep_packet.specs.Offsets.{link_len, net_len, payload_offset, tag_len, tags_len, transport_len};
 ghost use Rattle.ep_packet.specs.ShownBytes.{BeginsWith};
 ghost use Rattle.ep_packet.specs.VlanTags.{outer_tags, vlan_ids_in};
 ghost use Rattle.ep_lax.specs.LaxPackets.{extensions_incomplete, lax_layers_of};
-ghost use Rattle.ep_lax.specs.LaxPayloads.{lax_ether_payload_in, lax_ether_payload_of, lax_vlan_slices, source_behind};
+ghost use Rattle.ep_lax.specs.LaxPayloads.{lax_ether_payload_in, lax_ether_payload_of, lax_vlan_slices, source_after};
 ghost use Rattle.ep_lax.specs.LaxSlices.{lax_ip_payload_of};
 ghost use Rattle.ep_lax.specs.LaxViews.{lax_extension_of, lax_net_layer_of};
 ghost use Rattle.ep_lax.specs.StrictFrames.{layers_in};
@@ -28,9 +28,10 @@ use ep_link::{DoubleVlanSlice, LinkSlice, VlanSlice};
 use ep_transport::TransportSlice;
 
 impl<'a> LaxSlicedPacket<'a> {
-    /// The bytes behind the link layer and its extensions, if their type is known, whether or not a layer in them is
-    /// read, and whether bytes of them are missing. Behind extensions, the short length of a MACsec tag among them that
-    /// cut set the end, or else the slice's end did.
+    /// Returns the bytes after the link header and all VLAN and MACsec tags, and whether bytes of them are missing;
+    /// `None` without a link layer, or if their ether type is unknown. After tags, the source of the length is the
+    /// MACsec short length, if it limits the bytes, else the end of the slice. The bytes are returned even if no
+    /// network layer was read from them.
     pub fn ether_payload(&self) -> Option<LaxEtherPayloadSlice<'a>>
         ensures { option_map lax_ether_payload_of result ≡ lax_ether_payload_in (lax_layers_of self.now) }
     {
@@ -52,7 +53,7 @@ impl<'a> LaxSlicedPacket<'a> {
         })
     }
 
-    /// Whether bytes of the payload of the last link extension are missing.
+    /// Returns true if bytes of the payload after the last VLAN or MACsec tag are missing; false without tags.
     fn extensions_incomplete(&self) -> bool
         ensures { result ≡ extensions_incomplete false self.now.link_exts.items }
     {
@@ -63,9 +64,10 @@ impl<'a> LaxSlicedPacket<'a> {
         incomplete
     }
 
-    /// What set the end of the bytes behind the link extensions.
+    /// Returns the source of the length of the bytes after all VLAN and MACsec tags: the MACsec short length, if it
+    /// limits them, else the end of the slice.
     fn extensions_len_source(&self) -> LenSource
-        ensures { result ≡ source_behind source.Slice (map lax_extension_of self.now.link_exts.items) }
+        ensures { result ≡ source_after source.Slice (map lax_extension_of self.now.link_exts.items) }
     {
         let mut len_source = LenSource::Slice;
         for extension in self.link_exts.iter() {
@@ -74,7 +76,7 @@ impl<'a> LaxSlicedPacket<'a> {
         len_source
     }
 
-    /// The payload of the IP packet, if the net layer is one.
+    /// Payload of the packet's IPv4 or IPv6 layer; `None` if the network layer is ARP or absent.
     #[inline]
     pub fn ip_payload(&self) -> Option<&LaxIpPayloadSlice<'a>>
         ensures payload { option_map lax_ip_payload_of (option_copied result)
@@ -88,7 +90,7 @@ impl<'a> LaxSlicedPacket<'a> {
         }
     }
 
-    /// Whether the payload of the IP packet is one fragment of a longer one; false where there is none.
+    /// Returns true if the payload of the packet's IPv4 or IPv6 layer is a fragment; false without an IP layer.
     #[inline]
     pub fn is_ip_payload_fragmented(&self) -> bool
         ensures { result ≡ carries_fragment (layers_in (lax_layers_of self.now)) }
@@ -99,7 +101,8 @@ impl<'a> LaxSlicedPacket<'a> {
         }
     }
 
-    /// The outermost VLAN tag, or the outermost two.
+    /// Returns the outermost VLAN tag of the packet, or the outermost two, if there are two or more; `None` without
+    /// VLAN tags.
     pub fn vlan(&self) -> Option<VlanSlice<'a>>
         ensures { result ≡ outer_tags (lax_vlan_slices self.now.link_exts.items) }
     {
@@ -118,14 +121,15 @@ impl<'a> LaxSlicedPacket<'a> {
         Some(VlanSlice::SingleVlan(outer?))
     }
 
-    /// The identifiers of all VLAN tags, from the outside in.
+    /// Returns the VLAN identifiers of all VLAN tags of the packet, from the outside in.
     pub fn vlan_ids(&self) -> ArrayVec<VlanId, 3>
         ensures { result.items ≡ vlan_ids_in (layers_in (lax_layers_of self.now)).link_exts }
     {
         self.ids_of_tags()
     }
 
-    /// The same, as the slices show them.
+    /// Collects the VLAN identifiers of all VLAN tags among the packet's link extensions, from the outside in; MACsec
+    /// tags are skipped.
     fn ids_of_tags(&self) -> ArrayVec<VlanId, 3>
         ensures { result.items ≡ vlan_ids_in (map lax_extension_of self.now.link_exts.items) }
     {
@@ -138,8 +142,8 @@ impl<'a> LaxSlicedPacket<'a> {
         ids
     }
 
-    /// The bytes of the payload of the last layer that stands, as many as are there; none behind an ARP packet. Behind a
-    /// refused layer they begin with what of it is there.
+    /// Returns the payload of the packet's last layer, limited to the available bytes; empty after an ARP packet. If
+    /// lax slicing stopped at an error, the payload begins with the rejected layer.
     #[inline]
     pub fn payload(&self) -> &'a [u8]
         ensures { result.now ≡ last_payload (layers_in (lax_layers_of self.now)) }
@@ -151,11 +155,12 @@ impl<'a> LaxSlicedPacket<'a> {
             Some(LaxNetSlice::Ipv4(packet)) => packet.payload().payload,
             Some(LaxNetSlice::Ipv6(packet)) => packet.payload().payload,
             Some(LaxNetSlice::Arp(_)) => &[],
-            None => self.open_payload(),
+            None => self.payload_after_link_exts(),
         }
     }
 
-    /// How many bytes of the packet lie before this payload: those of the headers that stand.
+    /// Returns the offset in bytes of the last layer's payload from the start of the packet: the total length of all
+    /// valid headers and tags.
     pub fn payload_offset(&self) -> usize
         ensures value { result ≡ payload_offset (layers_in (lax_layers_of self.now)) }
         ensures place { let layers = layers_in (lax_layers_of self.now) in
@@ -167,7 +172,8 @@ impl<'a> LaxSlicedPacket<'a> {
             + transport_len(&self.transport)
     }
 
-    /// Whether bytes of this payload are missing that a length field in front of it says are there.
+    /// Returns true if bytes of the last layer's payload are missing: a length field of the packet counts more bytes
+    /// than are available.
     #[inline]
     pub fn is_incomplete(&self) -> bool
         ensures { result ≡ (lax_layers_of self.now).net.inside.incomplete }
@@ -187,10 +193,11 @@ impl<'a> LaxSlicedPacket<'a> {
         }
     }
 
-    /// The bytes behind the last link extension, or else behind the link header.
-    fn open_payload(&self) -> &'a [u8]
+    /// Returns the payload after the last VLAN or MACsec tag, or after the link header without tags; empty without a
+    /// link layer.
+    fn payload_after_link_exts(&self) -> &'a [u8]
         ensures { let layers = layers_in (lax_layers_of self.now) in
-            result.now ≡ payload_behind (link_payload layers.link) layers.link_exts }
+            result.now ≡ payload_after_exts (link_payload layers.link) layers.link_exts }
     {
         if let Some(extension) = self.link_exts.last() {
             return extension.payload_slice();
@@ -202,7 +209,7 @@ impl<'a> LaxSlicedPacket<'a> {
     }
 }
 
-/// The number of bytes of the link header.
+/// Returns the length of the link header in bytes, or 0 for `None`.
 fn link_len(link: &Option<LinkSlice<'_>>) -> usize
     ensures value { result ≡ link_len (option_map link_layer_of link.now) }
     ensures bound { result ≤ 16 }
@@ -213,7 +220,7 @@ fn link_len(link: &Option<LinkSlice<'_>>) -> usize
     }
 }
 
-/// The number of bytes of the tags of link extensions.
+/// Returns the length of all VLAN and MACsec tags together in bytes.
 fn tags_len(extensions: &[LaxLinkExtSlice<'_>]) -> usize
     requires { length extensions.now ≤ 3 }
     ensures value { result ≡ tags_len (map lax_extension_of extensions.now) }
@@ -226,7 +233,7 @@ fn tags_len(extensions: &[LaxLinkExtSlice<'_>]) -> usize
     len
 }
 
-/// The number of bytes of the tag of a link extension.
+/// Returns the length of a VLAN or MACsec tag in bytes.
 fn tag_len(extension: &LaxLinkExtSlice<'_>) -> usize
     ensures value { result ≡ tag_len (lax_extension_of extension.now) }
     ensures bound { result ≤ 16 }
@@ -234,7 +241,8 @@ fn tag_len(extension: &LaxLinkExtSlice<'_>) -> usize
     extension.header_len()
 }
 
-/// The number of bytes of the headers of the net layer.
+/// Returns the length in bytes of an IP header together with its valid extension headers, or of a whole ARP packet; 0
+/// for `None`.
 fn net_len(net: &Option<LaxNetSlice<'_>>) -> usize
     ensures value { result ≡ net_len (option_map lax_net_layer_of net.now) }
     ensures bound { result < 2 ^ 63 + 64 }
@@ -245,7 +253,7 @@ fn net_len(net: &Option<LaxNetSlice<'_>>) -> usize
     }
 }
 
-/// The number of bytes of the transport header.
+/// Returns the length of the transport header in bytes, or 0 for `None`.
 fn transport_len(transport: &Option<TransportSlice<'_>>) -> usize
     ensures value { result ≡ transport_len (option_map transport_layer_of transport.now) }
     ensures bound { result ≤ 60 }
@@ -256,13 +264,13 @@ fn transport_len(transport: &Option<TransportSlice<'_>>) -> usize
     }
 }
 
-/// Whether bytes of a datagram's payload are missing, of which the length field says this, and of which so many are
-/// there with the header, in a payload of IP that is incomplete (`outer`) or not.
-fn is_missing(says: usize, there: usize, outer: bool) -> bool
-    ensures { result ≡ is_missing 8 says outer there }
+/// Returns true if bytes of a UDP payload are missing. `stated` is the UDP length field, `there` the number of available
+/// bytes with the UDP header, and `outer` is true if bytes of the IP payload are missing.
+fn is_missing(stated: usize, there: usize, outer: bool) -> bool
+    ensures { result ≡ is_missing 8 stated outer there }
 {
-    if 8 <= says && says <= there {
+    if 8 <= stated && stated <= there {
         return false;
     }
-    outer || there < says
+    outer || there < stated
 }

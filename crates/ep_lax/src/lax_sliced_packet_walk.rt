@@ -1,7 +1,7 @@
-//! The lax walk over a packet from the outside in, which fills in its layers.
+//! Lax slicing of a packet, layer by layer from the outside in, directly into the fields of the packet value.
 //!
-//! Each call has written what it is named for, whatever was there. All of them become one piece of code with the caller,
-//! so that no layer is moved on its way out.
+//! Each `fill_` function overwrites the fields of the layers that it is named for. It is inlined into the caller, so
+//! that no layer is moved when it returns.
 
 ghost use Rattle.std.specs.Prelude.{◌≡◌, ◌+◌, ◌++◌, ◌<◌, ◌^◌, [], length, false, Bool, List, ℕ, IfOk, IfErr, Option, Some};
 ghost use Rattle.std.specs.Option.{ForSome, option_map};
@@ -18,14 +18,14 @@ ghost use Rattle.ep_lax.specs.LaxIp.{IsLaxIpv4, IsLaxIpv6};
 ghost use Rattle.ep_lax.specs.LaxPackets.{ShowsLaxNet, lax_net_of};
 ghost use Rattle.ep_lax.specs.LaxRefusals.{RefusesIpHeader, of_ipv4_header, of_ipv6_header};
 ghost use Rattle.ep_lax.specs.LaxSlices.{lax_ipv4_of, lax_ipv4_slice_bytes, lax_ipv6_of, lax_ipv6_slice_bytes};
-ghost use Rattle.ep_lax.specs.LaxWalk.{HasLaxExtensions, HoldsLaxInside, HoldsLaxNet, StopsBehind};
+ghost use Rattle.ep_lax.specs.LaxWalk.{HasLaxExtensions, HoldsLaxInside, HoldsLaxNet, StopsAfterExtensions};
 
 use crate::lax_ipv4_slice::LaxIpv4Slice;
 use crate::lax_ipv6_slice::LaxIpv6Slice;
 use crate::lax_link_ext_slice::LaxLinkExtSlice;
 use crate::lax_net_slice::LaxNetSlice;
-use crate::lax_stop::{auth_stop, chain_stop, extension_stop, forget_stop, told};
-use crate::lax_transport::fill_behind_ip;
+use crate::lax_stop::{auth_stop, chain_stop, clear_stop, error_with_layer, extension_stop};
+use crate::lax_transport::fill_ip_payload;
 use arrayvec::ArrayVec;
 use ep_base::err::{Layer, LenError, ip, ip_auth, ipv4, ipv6, ipv6_exts};
 use ep_base::{EtherType, LenSource, ether_type};
@@ -33,21 +33,22 @@ use ep_link::ArpPacketSlice;
 use ep_packet::err::SliceError;
 use ep_transport::TransportSlice;
 
-/// The bytes behind link extensions.
+/// Bytes of a packet after its VLAN and MACsec tags, in which the network layer is sliced next.
 #[derive(Drop)]
 struct Inside<'a> {
-    /// How far behind the packet's start they lie.
+    /// Offset in bytes of the network layer from the start of the packet.
     offset: usize,
-    /// Their type, where it is known.
+    /// Ether type of the network layer; `None` if it is unknown.
     ether_type: Option<EtherType>,
-    /// The bytes.
+    /// All bytes of the packet after its VLAN and MACsec tags.
     slice: &'a [u8],
-    /// Whether some of them are missing.
+    /// True if bytes are missing: the short length of a MACsec tag counts more bytes than are available.
     incomplete: bool,
 }
 
-/// Fills in what bytes of a type hold, where it is known: the link extensions, as many as are taken, the net layer and
-/// the transport layer, and where the walk stopped. The bytes lie `offset` bytes behind the packet's start.
+/// Slices the bytes after a link header, with this ether type and at `offset` in the packet. Appends at most three VLAN
+/// and MACsec tags to `link_exts`, which must be empty. Overwrites the network layer, the transport layer, and the
+/// error at which slicing stopped. An unknown ether type has no layers.
 #[inline(always)]
 pub(crate) fn fill_inside<'a>(
     link_exts: &mut ArrayVec<LaxLinkExtSlice<'a>, 3>,
@@ -67,13 +68,14 @@ pub(crate) fn fill_inside<'a>(
         Err(error) => {
             *net = None;
             *transport = None;
-            *stop_err = Some(told(error));
+            *stop_err = Some(error_with_layer(error));
         }
     }
 }
 
-/// Fills in the link extensions that bytes of a type begin with, as many as are taken, up to the first that is refused.
-/// The bytes lie `offset` bytes behind the packet's start.
+/// Parses the VLAN and MACsec tags at the start of bytes with this ether type, which start at `offset` in the packet,
+/// and appends them to `link_exts`. Parsing ends after three tags. Returns the bytes after the tags, or the error of
+/// the first invalid tag.
 #[inline(always)]
 fn fill_extensions<'a>(
     link_exts: &mut ArrayVec<LaxLinkExtSlice<'a>, 3>,
@@ -85,7 +87,7 @@ fn fill_extensions<'a>(
     requires empty { link_exts.old.items ≡ [] }
     ensures ok { IfOk result (λ inside. HasLaxExtensions offset ether_type slice.now link_exts.new.items
         inside.offset inside.ether_type inside.slice.now inside.incomplete) }
-    ensures err { IfErr result (StopsBehind offset ether_type slice.now link_exts.new.items) }
+    ensures err { IfErr result (StopsAfterExtensions offset ether_type slice.now link_exts.new.items) }
 {
     let mut inside = Inside {
         offset,
@@ -113,7 +115,8 @@ fn fill_extensions<'a>(
     Ok(inside)
 }
 
-/// Fills in the net layer that bytes of a type are, where it is known, and what is inside it.
+/// Slices the network layer by its ether type (IPv4, IPv6 or ARP), and the transport layer in it. Overwrites both, and
+/// the error at which slicing stopped; another ether type clears all three.
 #[inline(always)]
 fn fill_net<'a>(
     net: &mut Option<LaxNetSlice<'a>>,
@@ -129,14 +132,14 @@ fn fill_net<'a>(
         Some(ether_type::IPV4) => fill_ipv4(net, transport, stop_err, inside),
         Some(ether_type::IPV6) => fill_ipv6(net, transport, stop_err, inside),
         Some(ether_type::ARP) => fill_arp(net, transport, stop_err, inside),
-        _ => fill_nothing(net, transport, stop_err),
+        _ => clear_layers(net, transport, stop_err),
     }
 }
 
-/// Fills in that there is no net layer, and nothing inside it. Apart, since inlined it would have the room of these
-/// values zeroed for each packet.
+/// Sets the network layer, the transport layer and the error of a packet value to `None`. Not inlined, because
+/// otherwise these fields would be zeroed for each packet.
 #[inline(never)]
-fn fill_nothing<'a>(
+fn clear_layers<'a>(
     net: &mut Option<LaxNetSlice<'a>>,
     transport: &mut Option<TransportSlice<'a>>,
     stop_err: &mut Option<(SliceError, Layer)>,
@@ -150,7 +153,8 @@ fn fill_nothing<'a>(
     *stop_err = None;
 }
 
-/// Fills in the IPv4 packet that bytes are, and what is inside it.
+/// Slices an IPv4 packet and the transport layer in it. Overwrites the network layer, the transport layer, and the
+/// error at which slicing stopped.
 #[inline(always)]
 fn fill_ipv4<'a>(
     net: &mut Option<LaxNetSlice<'a>>,
@@ -170,10 +174,11 @@ fn fill_ipv4<'a>(
     };
     *net = None;
     *transport = None;
-    *stop_err = Some(told(error));
+    *stop_err = Some(error_with_layer(error));
 }
 
-/// Fills in the IPv6 packet that bytes are, the same.
+/// Slices an IPv6 packet and the transport layer in it. Overwrites the network layer, the transport layer, and the
+/// error at which slicing stopped.
 #[inline(always)]
 fn fill_ipv6<'a>(
     net: &mut Option<LaxNetSlice<'a>>,
@@ -193,10 +198,11 @@ fn fill_ipv6<'a>(
     };
     *net = None;
     *transport = None;
-    *stop_err = Some(told(error));
+    *stop_err = Some(error_with_layer(error));
 }
 
-/// Fills in the ARP packet that bytes are, the same.
+/// Slices an ARP packet. Overwrites the network layer and the error at which slicing stopped, and clears the transport
+/// layer.
 #[inline(always)]
 fn fill_arp<'a>(
     net: &mut Option<LaxNetSlice<'a>>,
@@ -212,16 +218,17 @@ fn fill_arp<'a>(
     match ArpPacketSlice::from_slice(inside.slice) {
         Ok(packet) => {
             *net = Some(LaxNetSlice::Arp(packet));
-            forget_stop(stop_err);
+            clear_stop(stop_err);
         }
         Err(error) => {
             *net = None;
-            *stop_err = Some(told(SliceError::Len(error.add_offset(inside.offset))));
+            *stop_err = Some(error_with_layer(SliceError::Len(error.add_offset(inside.offset))));
         }
     }
 }
 
-/// Fills in the IP packet of either version that bytes are, with which the packet begins, and what is inside it.
+/// Slices an IPv4 or IPv6 packet without a link layer, and the transport layer in it. Overwrites the network layer, the
+/// transport layer, and the error at which slicing stopped. An invalid IP header is returned as an error.
 #[inline(always)]
 pub(crate) fn fill_ip<'a>(
     net: &mut Option<LaxNetSlice<'a>>,
@@ -262,14 +269,14 @@ pub(crate) fn fill_ip<'a>(
     Err(unsupported(version_number))
 }
 
-/// The refusal of a version.
+/// Returns the error of an IP header whose version is neither 4 nor 6.
 fn unsupported(version_number: u8) -> ip::LaxHeaderSliceError
     ensures { result ≡ header_error.Content (content.UnsupportedIpVersion version_number) }
 {
     ip::LaxHeaderSliceError::Content(ip::HeaderError::UnsupportedIpVersion { version_number })
 }
 
-/// A refusal of a header of IPv4 among those of either version.
+/// Converts the error of an IPv4 header into the equivalent error of an IP header of either version.
 fn of_ipv4_header(error: ipv4::HeaderSliceError) -> ip::LaxHeaderSliceError
     ensures { result ≡ of_ipv4_header error }
 {
@@ -284,7 +291,7 @@ fn of_ipv4_header(error: ipv4::HeaderSliceError) -> ip::LaxHeaderSliceError
     }
 }
 
-/// A refusal of a header of IPv6 among those of either version.
+/// Converts the error of an IPv6 header into the equivalent error of an IP header of either version.
 fn of_ipv6_header(error: ipv6::HeaderSliceError) -> ip::LaxHeaderSliceError
     ensures { result ≡ of_ipv6_header error }
 {
@@ -295,8 +302,8 @@ fn of_ipv6_header(error: ipv6::HeaderSliceError) -> ip::LaxHeaderSliceError
     }
 }
 
-/// Fills in an IPv4 packet, which lies `offset` bytes behind the start, and what is inside it, where its authentication
-/// header is refused or not.
+/// Stores a sliced IPv4 packet as the network layer, and slices the transport layer in it. The packet starts at
+/// `offset`. If `refused` is the error of an invalid authentication header, slicing stops with it.
 #[inline(always)]
 fn fill_ipv4_packet<'a>(
     net: &mut Option<LaxNetSlice<'a>>,
@@ -315,12 +322,12 @@ fn fill_ipv4_packet<'a>(
 {
     let stop = auth_stop(refused, offset);
     let inside = offset + packet.headers_len();
-    fill_behind_ip(transport, stop_err, inside, packet.payload(), stop);
+    fill_ip_payload(transport, stop_err, inside, packet.payload(), stop);
     *net = Some(LaxNetSlice::Ipv4(packet));
 }
 
-/// Fills in an IPv6 packet, which lies `offset` bytes behind the start, and what is inside it, where an extension header
-/// is refused or not.
+/// Stores a sliced IPv6 packet as the network layer, and slices the transport layer in it. The packet starts at
+/// `offset`. If `refused` is the error of an invalid extension header (with its layer), slicing stops with it.
 #[inline(always)]
 fn fill_ipv6_packet<'a>(
     net: &mut Option<LaxNetSlice<'a>>,
@@ -340,6 +347,6 @@ fn fill_ipv6_packet<'a>(
 {
     let stop = chain_stop(refused, offset);
     let inside = offset + packet.headers_len();
-    fill_behind_ip(transport, stop_err, inside, packet.payload(), stop);
+    fill_ip_payload(transport, stop_err, inside, packet.payload(), stop);
     *net = Some(LaxNetSlice::Ipv6(packet));
 }

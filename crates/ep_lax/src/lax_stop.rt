@@ -1,4 +1,4 @@
-//! Refusals at which the lax walk over a packet stops.
+//! Errors at which lax slicing of a packet stops, with the layer each is about.
 
 ghost use Rattle.std.specs.Prelude.{◌≡◌, ◌+◌, ◌<◌, ◌^◌, None, Option};
 ghost use Rattle.std.specs.Option.{ForSome, option_map};
@@ -8,24 +8,25 @@ ghost use Rattle.ep_ext.specs.ExtensionParts.{auth_refusal};
 ghost use Rattle.ep_ext.specs.FrontChains.{chain_stop};
 ghost use Rattle.ep_packet.specs.FrameRefusals.{extension_refusal};
 ghost use Rattle.ep_lax.specs.Lax.{chain_refusal};
-ghost use Rattle.ep_lax.specs.LaxLayers.{stop_layer, told};
+ghost use Rattle.ep_lax.specs.LaxLayers.{stop_layer, error_with_layer};
 ghost use Rattle.ep_lax.specs.LaxWalk.{extension_start};
 
 use ep_base::err::{Layer, ip_auth, ipv6_exts, macsec};
 use ep_packet::err::SliceError;
 
-/// A refusal, with the layer that it is of.
+/// Pairs an error at which lax slicing stopped with the layer that it is about.
 #[inline]
-pub(crate) fn told(error: SliceError) -> (SliceError, Layer)
-    ensures { result ≡ told error }
+pub(crate) fn error_with_layer(error: SliceError) -> (SliceError, Layer)
+    ensures { result ≡ error_with_layer error }
 {
     let layer = stop_layer(&error);
     (error, layer)
 }
 
-/// Forgets where an earlier walk stopped. Where it did not, as for most packets, none of the value's room is written.
+/// Sets the error at which lax slicing stopped to `None`, in a packet value that is reused. The field is written only
+/// if it had an error, which is rare.
 #[inline(always)]
-pub(crate) fn forget_stop(stop_err: &mut Option<(SliceError, Layer)>)
+pub(crate) fn clear_stop(stop_err: &mut Option<(SliceError, Layer)>)
     ensures { stop_err.new ≡ None }
 {
     if stop_err.is_some() {
@@ -33,7 +34,8 @@ pub(crate) fn forget_stop(stop_err: &mut Option<(SliceError, Layer)>)
     }
 }
 
-/// The layer that a refusal is of.
+/// Returns the layer that a packet error is about: the layer that a length error contains, otherwise the header of the
+/// error's variant.
 fn stop_layer(error: &SliceError) -> Layer
     ensures { result ≡ stop_layer error.now }
 {
@@ -51,7 +53,8 @@ fn stop_layer(error: &SliceError) -> Layer
     }
 }
 
-/// The refusal of a link extension that lies `offset` bytes behind the packet's start.
+/// Converts the error of a VLAN or MACsec tag that starts at `offset` in the packet into a packet error: `offset` is
+/// added to the offset of a length error.
 pub(crate) fn extension_stop(error: macsec::HeaderSliceError, offset: usize) -> SliceError
     requires { extension_start error + offset < 2 ^ 64 }
     ensures { result ≡ extension_refusal offset error }
@@ -62,8 +65,8 @@ pub(crate) fn extension_stop(error: macsec::HeaderSliceError, offset: usize) -> 
     }
 }
 
-/// The refusal of the authentication header of an IPv4 packet that lies `offset` bytes behind the packet's start, where
-/// it is refused.
+/// Converts the error of an authentication header, if any, into a packet error. The IPv4 packet of the header starts at
+/// `offset`, which is added to the offset of a length error.
 #[inline]
 pub(crate) fn auth_stop(
     refused: Option<ip_auth::HeaderSliceError>,
@@ -78,7 +81,8 @@ pub(crate) fn auth_stop(
     }
 }
 
-/// The same of a refusal.
+/// Converts the error of an authentication header into a packet error. The IPv4 packet of the header starts at
+/// `offset`, which is added to the offset of a length error.
 #[inline]
 fn authentication_stop(error: ip_auth::HeaderSliceError, offset: usize) -> SliceError
     requires { offset_of (auth_refusal error) + offset < 2 ^ 64 }
@@ -90,8 +94,8 @@ fn authentication_stop(error: ip_auth::HeaderSliceError, offset: usize) -> Slice
     }
 }
 
-/// The refusal of an extension header of an IPv6 packet that lies `offset` bytes behind the packet's start, where one is
-/// refused.
+/// Converts the error of an IPv6 extension header, if any, into a packet error. The IPv6 packet of the header starts at
+/// `offset`, which is added to the offset of a length error.
 #[inline]
 pub(crate) fn chain_stop(
     refused: Option<(ipv6_exts::HeaderSliceError, Layer)>,
@@ -107,7 +111,8 @@ pub(crate) fn chain_stop(
     }
 }
 
-/// The same of a refusal.
+/// Converts the error of an IPv6 extension header into a packet error. The IPv6 packet of the header starts at
+/// `offset`, which is added to the offset of a length error.
 #[inline]
 fn exts_stop(error: ipv6_exts::HeaderSliceError, offset: usize) -> SliceError
     requires { offset_of error + offset < 2 ^ 64 }

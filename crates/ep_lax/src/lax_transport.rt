@@ -1,25 +1,26 @@
-//! The transport layer in a payload of IP that is read laxly.
+//! Transport layer in the payload of an IP packet, as lax slicing reads it.
 
 ghost use Rattle.std.specs.Prelude.{◌<◌, ◌^◌, None, IfOk, IfErr, Option};
 ghost use Rattle.ep_base.specs.Readings.{headers};
 ghost use Rattle.ep_transport.specs.TransportParts.{TransportLayer, IsTransportPart, RefusesTransportPart};
 ghost use Rattle.ep_packet.specs.ShownBytes.{ShowsTransport};
-ghost use Rattle.ep_lax.specs.Lax.{IsCutLaxly, IsLaxTransport};
+ghost use Rattle.ep_lax.specs.Lax.{IsLimitedLaxly, IsLaxTransport};
 ghost use Rattle.ep_lax.specs.LaxPackets.{inside_of};
 ghost use Rattle.ep_lax.specs.LaxSlices.{lax_ip_payload_of};
-ghost use Rattle.ep_lax.specs.LaxWalk.{IsBehindIp};
+ghost use Rattle.ep_lax.specs.LaxWalk.{IsInIpPayload};
 
 use crate::lax_ip_payload_slice::LaxIpPayloadSlice;
-use crate::lax_stop::{forget_stop, told};
+use crate::lax_stop::{clear_stop, error_with_layer};
 use ep_base::IpNumber;
 use ep_base::err::{Layer, tcp};
 use ep_packet::err::SliceError;
 use ep_transport::{TransportSlice, UdpSlice};
 
-/// Fills in what is inside a packet of IP whose payload lies `offset` bytes behind the start: nothing, where the walk
-/// stopped for an extension header, or the transport layer.
+/// Slices the transport layer in an IP payload that starts at `offset` in the packet. Overwrites the transport layer
+/// and the error at which slicing stopped. If `stop` is the error of an extension header, it is stored instead, and no
+/// transport layer is read.
 #[inline(always)]
-pub(crate) fn fill_behind_ip<'a>(
+pub(crate) fn fill_ip_payload<'a>(
     transport: &mut Option<TransportSlice<'a>>,
     stop_err: &mut Option<(SliceError, Layer)>,
     offset: usize,
@@ -27,7 +28,7 @@ pub(crate) fn fill_behind_ip<'a>(
     stop: Option<SliceError>,
 )
     requires { offset < 2 ^ 64 }
-    ensures inside { IsBehindIp offset payload.now.incomplete (lax_ip_payload_of payload.now) stop
+    ensures inside { IsInIpPayload offset payload.now.incomplete (lax_ip_payload_of payload.now) stop
         (inside_of payload.now.incomplete transport.new stop_err.new) }
     ensures bytes { ShowsTransport payload.now.payload.now transport.new }
 {
@@ -35,12 +36,14 @@ pub(crate) fn fill_behind_ip<'a>(
         None => fill_transport(transport, stop_err, offset, payload),
         Some(error) => {
             *transport = None;
-            *stop_err = Some(told(error));
+            *stop_err = Some(error_with_layer(error));
         }
     }
 }
 
-/// Fills in the transport layer of a payload of IP, where it has one. The payload lies `offset` bytes behind the start.
+/// Slices the transport layer in an IP payload that starts at `offset` in the packet, if the payload is not a fragment
+/// and its protocol is UDP, TCP, ICMPv4 or ICMPv6. Overwrites the transport layer and the error at which slicing
+/// stopped.
 #[inline(always)]
 fn fill_transport<'a>(
     transport: &mut Option<TransportSlice<'a>>,
@@ -53,28 +56,29 @@ fn fill_transport<'a>(
         (inside_of payload.now.incomplete transport.new stop_err.new) }
     ensures bytes { ShowsTransport payload.now.payload.now transport.new }
 {
-    let error = match transport_in(payload) {
+    let error = match read_transport(payload) {
         Ok(found) => {
             *transport = found;
-            return forget_stop(stop_err);
+            return clear_stop(stop_err);
         }
         Err(tcp::HeaderSliceError::Len(error)) => {
-            SliceError::Len(error.behind_header(offset, payload.len_source))
+            SliceError::Len(error.after_header(offset, payload.len_source))
         }
         Err(tcp::HeaderSliceError::Content(error)) => SliceError::Tcp(error),
     };
     *transport = None;
-    *stop_err = Some(told(error));
+    *stop_err = Some(error_with_layer(error));
 }
 
-/// The transport layer at the front of a payload of IP, where it has one, whatever the length field of UDP says.
+/// Parses the transport layer at the start of an IP payload. Returns `None` if the payload is a fragment, or its
+/// protocol is not UDP, TCP, ICMPv4 or ICMPv6. An invalid UDP length field is no error.
 #[inline(always)]
-fn transport_in<'a>(
+fn read_transport<'a>(
     payload: &LaxIpPayloadSlice<'a>,
 ) -> Result<Option<TransportSlice<'a>>, tcp::HeaderSliceError>
     ensures ok { IfOk result (λ part. (read : Option TransportLayer)
         × IsTransportPart headers payload.now.ip_number.0 payload.now.fragmented payload.now.payload.now read
-        × IsCutLaxly payload.now.incomplete read (inside_of payload.now.incomplete part None)) }
+        × IsLimitedLaxly payload.now.incomplete read (inside_of payload.now.incomplete part None)) }
     ensures bytes { IfOk result (ShowsTransport payload.now.payload.now) }
     ensures err { IfErr result
         (RefusesTransportPart headers payload.now.ip_number.0 payload.now.fragmented payload.now.payload.now) }

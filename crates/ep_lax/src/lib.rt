@@ -1,5 +1,6 @@
-//! Packets as captures have them: cut by a snapshot length, or with a length field that says less or more than is there.
-//! What stands is read, and the rest is told as missing.
+//! Lax slicing of packets as captures contain them: truncated by a snapshot length, or with a length field below or
+//! above the available bytes. Layers are read up to the first invalid or truncated header, and missing bytes are
+//! reported.
 #![tactic(auto)]
 
 pub mod laws;

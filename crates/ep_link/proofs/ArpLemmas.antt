@@ -1,4 +1,4 @@
--- The bytes of an ARP packet, and what is read from them.
+-- Lemmas about parsing the bytes of an ARP packet.
 use Rattle.std.proofs.Common.{◌≡◌, ℕ, ◌+◌, ◌-◌, ◌*◌, ◌≤◌, List, [], ◌∷◌, ◌++◌}
 use Rattle.std.proofs.Common.{None, length, get_or, take, drop, slice_range, refl, sym, ap, ◌∙◌, arith}
 use Rattle.std.proofs.lemmas.Grind.{common_steps}
@@ -14,14 +14,14 @@ use Rattle.ep_link.specs.Arp.{arp_address_rows}
 
 -- ---- parts of a list
 
--- what stands from i on is a part that ends at j, and what stands from j on
+-- The bytes from i on consist of the bytes from i to j and the bytes from j on.
 drop_range : (i j : ℕ) (bytes : List ℕ) → i ≤ j → drop i bytes ≡ slice_range bytes i j ++ drop j bytes
 drop_range i j bytes order =
     let behind : drop (j - i) (drop i bytes) ≡ drop j bytes =
     drop-drop (j - i) i bytes ∙ ap (λ (k : ℕ). drop k bytes) (omega arith) in
     sym (take-append-drop (j - i) (drop i bytes)) ∙ ap (λ (s : List ℕ). slice_range bytes i j ++ s) behind
 
--- four parts, one after the other, to the end
+-- The bytes from a on consist of four successive ranges.
 four_parts : (bytes : List ℕ) (a b c d e : ℕ) → a ≤ b → b ≤ c → c ≤ d → length bytes ≤ e
     → drop a bytes
     ≡ slice_range bytes a b ++ slice_range bytes b c ++ slice_range bytes c d ++ slice_range bytes d e
@@ -40,9 +40,9 @@ four_parts bytes a b c d e ab bc cd end =
 AreBytes-range : (i j : ℕ) (bytes : List ℕ) → AreBytes bytes → AreBytes (slice_range bytes i j)
 AreBytes-range i j bytes fits = AreBytes-take (j - i) (drop i bytes) (AreBytes-drop i bytes fits)
 
--- ---- the addresses of a whole packet
+-- ---- addresses of a complete packet
 
--- the addresses have the lengths that stand in front of them, and are all that stands there
+-- The addresses have the lengths in bytes 4 and 5, and are all bytes after the first 8.
 pub record HasAddresses (bytes : List ℕ) (p : Arp) : Type 0 where
   pub sender_hw : length p.sender_hw_addr ≡ get_or bytes 4 0
   pub sender_protocol : length p.sender_protocol_addr ≡ get_or bytes 5 0
@@ -66,12 +66,12 @@ addresses bytes whole =
       behind = four_parts bytes 8 a b c d (omega arith) (omega arith) (omega arith) (omega (arith, whole));
     }
 
--- two addresses of one length each, of at most 255 bytes, are no reason to make no packet
+-- Addresses of equal lengths of at most 255 bytes are accepted for a new packet.
 pub addresses_taken : (a b x y : List ℕ) → length x ≡ length a → length a ≤ 255 → length y ≡ length b
     → length b ≤ 255 → first_row (arp_address_rows a b x y) ≡ None
 addresses_taken a b x y hw hw_len protocol protocol_len = grind (arith, common_steps)
 
--- ---- whole bytes are those of the packet that is read from them
+-- ---- complete bytes are the wire bytes of the parsed packet
 
 whole_fits : (bytes : List ℕ) → AreBytes bytes → length bytes ≡ arp_len_of bytes → FitsArp (arp_packet_of bytes)
 whole_fits bytes fits whole =
@@ -103,9 +103,9 @@ whole_same bytes fits whole =
     ∙ (λ i. word_cells bytes fits 0 refl i ++ word_cells bytes fits 2 refl i ++ hw i ∷ protocol i ∷ []
     ++ word_cells bytes fits 6 refl i ++ each.behind i)
 
--- ---- the bytes of a packet are read as this packet
+-- ---- the wire bytes of a packet are parsed as this packet
 
--- four parts are known by their lengths and what they are together
+-- Four parts with given lengths are determined by their concatenation.
 same_four : (a b c d x y z w : List ℕ) → length a ≡ length x → length b ≡ length y → length c ≡ length z
     → a ++ b ++ c ++ d ≡ x ++ y ++ z ++ w → (a ≡ x) × (b ≡ y) × (c ≡ z) × (d ≡ w)
 same_four a b c d x y z w first second third same =
@@ -117,7 +117,7 @@ same_four a b c d x y z w first second third same =
     let one = same_parts a x b y first two.0 in
     (one.0, one.1, two.1, three.1)
 
--- a packet is as long as its address lengths say
+-- A packet has the length that its address lengths determine.
 len_same : (p : Arp) → FitsArp p → length (arp_bytes p) ≡ arp_len_of (arp_bytes p)
 len_same p fits = simp length-append (omega (arith, fits.same_hw_addr_len, fits.same_protocol_addr_len))
 
@@ -147,7 +147,7 @@ packet_same p fits =
 abbrev pub arp_read : List ℕ → Arp × List ℕ
 arp_read bytes = cut_at arp_len_of arp_parts bytes
 
--- what no row of the table refuses holds a packet
+-- Bytes that no row of the table rejects contain a complete packet.
 stands : (bytes : List ℕ) → first_row (arp_rows bytes) ≡ None
     → (8 ≤ length bytes) × (arp_len_of bytes ≤ length bytes)
 stands bytes none = grind (arith, common_steps)

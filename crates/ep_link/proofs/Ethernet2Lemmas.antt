@@ -1,4 +1,4 @@
--- The bytes of an Ethernet II frame, and what is read from them.
+-- Lemmas about parsing the bytes of an Ethernet II frame.
 use Rattle.std.proofs.Common.{◌≡◌, ℕ, ◌≤◌, List, [], ◌∷◌, ◌++◌, None, length}
 use Rattle.std.proofs.Common.{get_or, drop, sym, ap, subst, ◌∙◌, arith, refl}
 use Rattle.std.proofs.lemmas.Grind.{common_steps}
@@ -11,9 +11,9 @@ use Rattle.ep_link.specs.declared.link.ethernet2_header.Ethernet2Header.{Etherne
 use Rattle.ep_link.specs.Ethernet2.{FitsEthernet2, IsEthernet2, ethernet2_bytes}
 use Rattle.ep_link.specs.Ethernet2.{ethernet2_header_of, ethernet2_parts, ethernet2_rows}
 
--- ---- bytes are those of the header that is read from them
+-- ---- bytes are the wire bytes of the parsed header
 
--- the header that is read fits
+-- The parsed header has fields that fit.
 ethernet2_fits : (bytes : List ℕ) → AreBytes bytes → 14 ≤ length bytes → FitsEthernet2 (ethernet2_header_of bytes)
 ethernet2_fits bytes fits long = record {
   source_length = grind (arith, common_steps);
@@ -23,18 +23,18 @@ ethernet2_fits bytes fits long = record {
   ether_type = omega (arith, fits 12, fits 13);
 }
 
--- its bytes are those at the front
+-- The wire bytes of the parsed header are the first 14 bytes.
 ethernet2_front : (bytes : List ℕ) → AreBytes bytes → 14 ≤ length bytes
     → bytes ≡ ethernet2_bytes (ethernet2_header_of bytes) ++ drop 14 bytes
 ethernet2_front bytes fits long = grind (arith, common_steps)
 
--- ---- the bytes of a header are read as this header
+-- ---- the wire bytes of a header are parsed as this header
 
--- the cells of a list of 6 bytes
+-- The elements of a list of length 6.
 abbrev six_at : List ℕ → List ℕ
 six_at xs = get_or xs 0 0 ∷ get_or xs 1 0 ∷ get_or xs 2 0 ∷ get_or xs 3 0 ∷ get_or xs 4 0 ∷ get_or xs 5 0 ∷ []
 
--- the header with its addresses as lists of six
+-- The header with its addresses written as lists of six elements.
 abbrev pub with_cells : Ethernet2Header → Ethernet2Header
 with_cells h = record h { source = six_at h.source; destination = six_at h.destination }
 
@@ -42,12 +42,12 @@ with_cells-same : (h : Ethernet2Header) → length h.source ≡ 6 → length h.d
 with_cells-same h source destination i =
     record h { source = sym (cells_6 h.source source) i; destination = sym (cells_6 h.destination destination) i }
 
--- the bytes with the addresses as their cells
+-- Writing the addresses as lists of elements keeps the wire bytes.
 pub cells_are_bytes : (h : Ethernet2Header) → length h.source ≡ 6 → length h.destination ≡ 6
     → ethernet2_bytes (with_cells h) ≡ ethernet2_bytes h
 cells_are_bytes h source destination = ap ethernet2_bytes (with_cells-same h source destination)
 
--- what holds of bytes that are a header and its payload
+-- Properties of bytes that are a header and its payload.
 record IsRead (bytes : List ℕ) (h : Ethernet2Header) (payload : List ℕ) : Type 0 where
   long : 14 ≤ length bytes
   header : h ≡ ethernet2_header_of bytes
@@ -68,7 +68,7 @@ with_cells-read h payload fits =
       behind = refl;
     }
 
--- what a frame's bytes are read as
+-- The bytes of a frame have these properties.
 frame_read : (bytes : List ℕ) (frame : Parts Ethernet2Header) → IsEthernet2 bytes frame
     → IsRead bytes frame.header frame.payload
 frame_read bytes frame is =

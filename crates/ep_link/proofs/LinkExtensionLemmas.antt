@@ -1,4 +1,4 @@
--- That bytes of a link extension's type are one extension, or are refused with one error.
+-- Lemmas that bytes of a link extension's ether type are exactly one extension or rejected with exactly one error.
 use Rattle.std.proofs.Common.{◌≡◌, ◌⊎◌, ◌+◌, ◌++◌, ℕ, Bool, List, length, refl, sym, ap, subst, inl, inr, arith}
 use Rattle.std.proofs.lemmas.Bool.{cases_eq}
 use Rattle.std.proofs.lemmas.List.{length-append}
@@ -22,13 +22,13 @@ use Rattle.ep_link.proofs.MacsecLemmas.{macsec_is_read, payload_by_bytes}
 use Rattle.ep_link.proofs.MacsecReadLemmas.{encoded_len}
 use Rattle.ep_link.proofs.VlanLemmas.{vlan_is_read}
 
--- ---- types
+-- ---- ether types
 
--- no type is VLAN's and MACsec's
+-- No ether type belongs to both VLAN and MACsec.
 pub vlan_not_macsec : (type : EtherType) → IsVlanType type → IsMacsecType type → ⊥
 vlan_not_macsec type is_vlan is_macsec = omega arith
 
--- a type begins an extension or begins none
+-- An ether type either starts a link extension or does not.
 pub cases_begins : (type : EtherType) → BeginsLinkExtension type ⊎ (¬ BeginsLinkExtension type)
 cases_begins type =
     elim (cases_eq type.0 vlan_type) [
@@ -45,13 +45,13 @@ cases_begins type =
       ]
     ]
 
--- an extension's type is one that begins extensions
+-- The ether type of a link extension starts a link extension.
 pub extension_begins : (type : EtherType) (bytes : List ℕ) (part : LinkExtension × List ℕ)
     → IsLinkExtension type bytes part → BeginsLinkExtension type
 extension_begins type bytes (vlan header payload, left) is = inl is.0
 extension_begins type bytes (macsec header payload, left) is = inr is.0
 
--- bytes of no other type are refused
+-- Bytes are only rejected if their ether type starts a link extension.
 pub refused_begins : (type : EtherType) (bytes : List ℕ) (error : HeaderSliceError)
     → RefusesLinkExtension type bytes error → BeginsLinkExtension type
 refused_begins type bytes error (inl refused) = inl refused.0
@@ -59,7 +59,7 @@ refused_begins type bytes error (inr refused) = inr refused.0
 
 -- ---- one extension or one error
 
--- what is read where no row refuses is read where no row under another name does
+-- Converting the errors of a table does not change the values that are read.
 renamed : {V E F : Type 0} {Is : List ℕ → V → Type 0} {rows : List ℕ → List (Bool × E)} {read : List ℕ → V}
     (name : E → F) → IsReadBy Is rows read → IsReadBy Is (λ bytes. rows_as name (rows bytes)) read
 renamed {rows = rows} name layer = record {
@@ -68,22 +68,22 @@ renamed {rows = rows} name layer = record {
       let read = layer.is_read bytes value is in (first_row-as_none name (rows bytes) read.0, read.1);
 }
 
--- the extension that a tag and its payload are
+-- The link extension of a VLAN tag and its payload.
 abbrev vlan_part : Parts SingleVlanHeader → LinkExtension × List ℕ
 vlan_part tagged = (vlan tagged.header tagged.payload, tagged.left)
 
--- the extension that a MACsec packet is
+-- The link extension of a MACsec packet.
 abbrev macsec_part : Parts MacsecHeader → LinkExtension × List ℕ
 macsec_part packet = (macsec packet.header (macsec_payload packet.header packet.payload), packet.left)
 
--- bytes of VLAN's type are no other extension than VLAN
+-- A link extension with a VLAN ether type is a VLAN tag.
 vlan_back : (type : EtherType) (bytes : List ℕ) → IsVlanType type → (part : LinkExtension × List ℕ)
     → IsLinkExtension type bytes part
     → (tagged : Parts SingleVlanHeader) × IsVlan bytes tagged × (part ≡ vlan_part tagged)
 vlan_back type bytes is_vlan (vlan header payload, left) is = (parts_of header payload left, is.1, refl)
 vlan_back type bytes is_vlan (macsec header payload, left) is = absurd (vlan_not_macsec type is_vlan is.0)
 
--- bytes of MACsec's type are no other extension than MACsec
+-- A link extension with the MACsec ether type is a MACsec packet.
 pub macsec_back : (type : EtherType) (bytes : List ℕ) → IsMacsecType type → (part : LinkExtension × List ℕ)
     → IsLinkExtension type bytes part
     → (packet : Parts MacsecHeader) × IsMacsec bytes packet × (part ≡ macsec_part packet)
@@ -92,7 +92,7 @@ macsec_back type bytes is_macsec (macsec header payload, left) is =
     let packet = parts_of header (macsec_payload_bytes payload) left in
     (packet, is.1, ap (λ (x : MacsecPayload). (macsec header x, left)) is.2)
 
--- a MACsec packet is an extension
+-- A MACsec packet is a link extension.
 macsec_there : (type : EtherType) (bytes : List ℕ) → IsMacsecType type → (packet : Parts MacsecHeader)
     → IsMacsec bytes packet → IsLinkExtension type bytes (macsec_part packet)
 macsec_there type bytes is_macsec packet is =
@@ -103,19 +103,19 @@ macsec_there type bytes is_macsec packet is =
       ap (macsec_payload header) (sym same),
     )
 
--- bytes of VLAN's type are refused as VLAN's
+-- Bytes with a VLAN ether type are rejected by the VLAN table.
 vlan_refused : (type : EtherType) (bytes : List ℕ) → IsVlanType type → (error : HeaderSliceError)
     → RefusesLinkExtension type bytes error → Refuses (rows_as refusal.Len (vlan_rows bytes)) error
 vlan_refused type bytes is_vlan error (inl refused) = refused.1
 vlan_refused type bytes is_vlan error (inr refused) = absurd (vlan_not_macsec type is_vlan refused.0)
 
--- bytes of MACsec's type are refused as MACsec's
+-- Bytes with the MACsec ether type are rejected by the MACsec table.
 macsec_refused : (type : EtherType) (bytes : List ℕ) → IsMacsecType type → (error : HeaderSliceError)
     → RefusesLinkExtension type bytes error → RefusesMacsec bytes error
 macsec_refused type bytes is_macsec error (inl refused) = absurd (vlan_not_macsec type refused.0 is_macsec)
 macsec_refused type bytes is_macsec error (inr refused) = refused.1
 
--- bytes of a type that begins an extension are one, or are refused
+-- Bytes with an ether type that starts a link extension are exactly one extension or rejected with exactly one error.
 pub extension_decided : (type : EtherType) (bytes : List ℕ) → AreBytes bytes → BeginsLinkExtension type
     → IsDecided (IsLinkExtension type bytes) (RefusesLinkExtension type bytes)
 extension_decided type bytes fits (inl is_vlan) =
@@ -127,22 +127,22 @@ extension_decided type bytes fits (inr is_macsec) =
     (record { there = macsec_there type bytes is_macsec; back = macsec_back type bytes is_macsec })
     (same_image (λ error refused. inr (is_macsec, refused)) (macsec_refused type bytes is_macsec))
 
--- ---- the bytes of an extension
+-- ---- bytes of an extension
 
--- a tag, the payload, and what is left
+-- The bytes of a link extension consist of its tag, its payload and the trailing bytes.
 pub extension_bytes : (type : EtherType) (bytes : List ℕ) (part : LinkExtension × List ℕ)
     → IsLinkExtension type bytes part
     → (tag : List ℕ) × EncodesTag part.0 tag × (bytes ≡ (tag ++ extension_payload part.0) ++ part.1)
 extension_bytes type bytes (vlan tag payload, left) is = (vlan_bytes tag, (is.1.fits, refl), is.1.parts)
 extension_bytes type bytes (macsec tag payload, left) is = (is.1.encoded, is.1.encodes, is.1.parts)
 
--- three parts of bytes
+-- The length of three concatenated parts is the sum of their lengths.
 three_parts : (bytes front payload left : List ℕ) → bytes ≡ (front ++ payload) ++ left
     → length bytes ≡ length front + length payload + length left
 three_parts bytes front payload left parts =
     omega (arith, ap length parts, length-append (front ++ payload) left, length-append front payload)
 
--- how many bytes there are
+-- The length of a link extension is the sum of the lengths of its tag, its payload and the trailing bytes.
 pub extension_len : (type : EtherType) (bytes : List ℕ) (part : LinkExtension × List ℕ)
     → IsLinkExtension type bytes part
     → length bytes ≡ link_ext_header_len (extension_header part.0) + length (extension_payload part.0) + length part.1

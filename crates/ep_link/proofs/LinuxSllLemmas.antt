@@ -1,4 +1,4 @@
--- The bytes of a Linux cooked capture, and what is read from them.
+-- Lemmas about parsing the bytes of a Linux cooked capture.
 use Rattle.std.proofs.Common.{◌≡◌, ℕ, ◌+◌, ◌/◌, ◌%◌, ◌^◌, ◌<◌, ◌≤◌, true, List, [], ◌∷◌, ◌++◌, None, length, get_or}
 use Rattle.std.proofs.Common.{take, drop, sym, ap, ap₂, subst, ◌∙◌, slice_index, slice_range, arith, inl, inr, refl}
 use Rattle.std.proofs.lemmas.Grind.{common_steps}
@@ -18,16 +18,16 @@ use Rattle.ep_link.specs.LinuxSll.{linux_sll_bytes, linux_sll_header_of, linux_s
 
 -- ---- the protocol field
 
--- the number stays what it was
+-- The parsed protocol type has the number of the protocol field.
 protocol_of-number : (hardware number : ℕ) → protocol_number (protocol_of hardware number) ≡ number
 protocol_of-number hardware number = grind (arith, nat_tests)
 
--- what is read at known hardware is of the kind that it gives
+-- The protocol type parsed for a supported hardware type is allowed for it.
 protocol_of-kind : (hardware number : ℕ) → knows_hardware hardware ≡ true
     → IsProtocolOf hardware (protocol_of hardware number)
 protocol_of-kind hardware number known = grind (arith, nat_tests)
 
--- a protocol of the kind that the hardware gives is read from its number
+-- An allowed protocol type is parsed from its number.
 protocol_read : (hardware : ℕ) (p : LinuxSllProtocolType) → IsProtocolOf hardware p
     → p ≡ protocol_of hardware (protocol_number p)
 protocol_read hardware (protocol.EtherType type) kind = grind (arith, nat_tests)
@@ -36,7 +36,7 @@ protocol_read hardware (protocol.Ignored number) kind = grind (arith, nat_tests)
 protocol_read hardware (protocol.NetlinkProtocolType number) kind = grind (arith, nat_tests)
 protocol_read hardware (protocol.GenericRoutingEncapsulationProtocolType number) kind = grind (arith, nat_tests)
 
--- only known hardware gives a kind
+-- Only supported hardware types allow protocol types.
 knows_ether_types : (hardware : ℕ) → HasEtherTypes hardware → knows_hardware hardware ≡ true
 knows_ether_types hardware (inl ethernet) = rw ethernet refl
 knows_ether_types hardware (inr loopback) = rw loopback refl
@@ -52,9 +52,9 @@ protocol_known hardware (protocol.Ignored number) kind = knows_no_protocol hardw
 protocol_known hardware (protocol.NetlinkProtocolType number) kind = rw kind refl
 protocol_known hardware (protocol.GenericRoutingEncapsulationProtocolType number) kind = rw kind refl
 
--- ---- bytes are those of the header that is read from them
+-- ---- bytes are the wire bytes of the parsed header
 
--- the header that is read fits
+-- The parsed header has fields that fit.
 linux_sll_fits : (bytes : List ℕ) → AreBytes bytes → 16 ≤ length bytes → word_at bytes 0 ≤ 7
     → knows_hardware (word_at bytes 2) ≡ true → FitsLinuxSll (linux_sll_header_of bytes)
 linux_sll_fits bytes fits long low known =
@@ -70,7 +70,7 @@ linux_sll_fits bytes fits long low known =
       kind = protocol_of-kind (word_at bytes 2) (word_at bytes 14) known;
     }
 
--- the bytes of a header with this number in its protocol field
+-- The wire bytes of the header with this number in its protocol field.
 abbrev bytes_with : List ℕ → ℕ → List ℕ
 bytes_with bytes number =
     to_be_bytes w16 (word_at bytes 0) ++ to_be_bytes w16 (word_at bytes 2) ++ to_be_bytes w16 (word_at bytes 4)
@@ -92,16 +92,16 @@ front_with bytes fits long =
     ∷ ((address i ++ (upper 14 i ∷ lower 14 i ∷ [])) ++ behind) in
     drop-elements 16 0 bytes (omega arith) ∙ joined
 
--- its bytes are those at the front
+-- The wire bytes of the parsed header are the first 16 bytes.
 linux_sll_front : (bytes : List ℕ) → AreBytes bytes → 16 ≤ length bytes
     → bytes ≡ linux_sll_bytes (linux_sll_header_of bytes) ++ drop 16 bytes
 linux_sll_front bytes fits long =
     let number = protocol_of-number (word_at bytes 2) (word_at bytes 14) in
     front_with bytes fits long ∙ ap (λ (n : ℕ). bytes_with bytes n ++ drop 16 bytes) (sym number)
 
--- ---- the bytes of a header are read as this header
+-- ---- the wire bytes of a header are parsed as this header
 
--- the cells of a list of 8 bytes
+-- The elements of a list of length 8.
 abbrev eight_at : List ℕ → List ℕ
 eight_at xs =
     get_or xs 0 0 ∷ get_or xs 1 0 ∷ get_or xs 2 0 ∷ get_or xs 3 0
@@ -111,19 +111,19 @@ cells_8 : (xs : List ℕ) → length xs ≡ 8 → xs ≡ eight_at xs
 cells_8 (a ∷ b ∷ c ∷ d ∷ e ∷ f ∷ g ∷ h ∷ []) len = refl
 cells_8 _ len = absurd (omega arith)
 
--- the header with its address as a list of eight
+-- The header with its address written as a list of eight elements.
 abbrev pub with_eight : LinuxSllHeader → LinuxSllHeader
 with_eight h = record h { sender_address = eight_at h.sender_address }
 
 with_eight-same : (h : LinuxSllHeader) → length h.sender_address ≡ 8 → with_eight h ≡ h
 with_eight-same h len i = record h { sender_address = sym (cells_8 h.sender_address len) i }
 
--- the bytes with the address as its cells
+-- Writing the address as a list of elements keeps the wire bytes.
 pub cells_are_bytes : (h : LinuxSllHeader) → length h.sender_address ≡ 8
     → linux_sll_bytes (with_eight h) ≡ linux_sll_bytes h
 cells_are_bytes h len = ap linux_sll_bytes (with_eight-same h len)
 
--- what holds of bytes that are a header and its payload
+-- Properties of bytes that are a header and its payload.
 record IsRead (bytes : List ℕ) (h : LinuxSllHeader) (payload : List ℕ) : Type 0 where
   long : 16 ≤ length bytes
   header : h ≡ linux_sll_header_of bytes
@@ -152,7 +152,7 @@ with_eight-read h payload fits =
       behind = refl;
     }
 
--- what a packet's bytes are read as
+-- The bytes of a packet have these properties.
 packet_read : (bytes : List ℕ) (packet : Parts LinuxSllHeader) → IsLinuxSll bytes packet
     → IsRead bytes packet.header packet.payload
 packet_read bytes packet is =
@@ -170,7 +170,7 @@ packet_read bytes packet is =
 abbrev pub linux_sll_read : List ℕ → Parts LinuxSllHeader
 linux_sll_read bytes = linux_sll_parts bytes []
 
--- what no row of the table refuses
+-- Properties of bytes that no row of the table rejects.
 record Stands (bytes : List ℕ) : Type 0 where
   long : 16 ≤ length bytes
   packet_type : word_at bytes 0 ≤ 7

@@ -1,4 +1,4 @@
--- MACsec tags and packets at the front of bytes.
+-- Lemmas about MACsec tags and packets at the start of bytes.
 use Rattle.std.proofs.Common.{◌≡◌, ◌⊎◌, Bool, ltb, ℕ, zero, suc, ◌+◌, ◌-◌, ◌*◌, ◌/◌, ◌%◌, ◌<◌, ◌≤◌, List, [], ◌∷◌, None}
 use Rattle.std.proofs.Common.{Some, ◌++◌, length, take, drop, get_or, refl, sym, ap, subst, ◌∙◌, arith, inl, inr}
 use Rattle.std.proofs.lemmas.Bool.{cases_eq, lt-ltb}
@@ -20,17 +20,17 @@ use Rattle.ep_link.specs.declared.link_ext.macsec_ptype.MacsecPType.{MacsecPType
 use Rattle.ep_link.specs.declared.link_ext.macsec_ptype.MacsecPType.TheVariants as ptype
 use Rattle.ep_link.specs.declared.link_ext.macsec_header.MacsecHeader.{MacsecHeader}
 use Rattle.ep_link.specs.Macsec.{ptype_len, macsec_len_of, IsMacsecHeader, IsMacsec, IsMacsecCut, macsec_header_rows}
-use Rattle.ep_link.specs.Macsec.{macsec_rows, HasNoRoomForType, short_len_of, modification_of, sci_bit_of, type_len_by}
+use Rattle.ep_link.specs.Macsec.{macsec_rows, IsTooShortForType, short_len_of, modification_of, sci_bit_of, type_len_by}
 use Rattle.ep_link.specs.Macsec.{tag_len_of, payload_len_of, macsec_header_of, macsec_payload_bytes, payload_by}
 use Rattle.ep_link.proofs.MacsecReadLemmas.{IsWhole, encoded_read, encoded_whole, whole_encodes, type_len_by_same}
 
--- ---- a whole tag at the front of bytes
+-- ---- complete tags at the start of bytes
 
--- the bytes begin with a whole tag: they meet no row of the table
+-- The bytes start with a complete tag: no row of the table rejects them.
 record BeginsMacsec (bytes : List ℕ) : Type 0 where
   fixed : 6 ≤ length bytes
   version : get_or bytes 0 0 < 128
-  room : ¬ HasNoRoomForType bytes
+  room : ¬ IsTooShortForType bytes
   whole : tag_len_of bytes ≤ length bytes
 
 begins : (bytes : List ℕ) → first_row (macsec_header_rows bytes) ≡ None → BeginsMacsec bytes
@@ -44,7 +44,7 @@ begins bytes none = record {
 none_refuses_header : (bytes : List ℕ) → BeginsMacsec bytes → first_row (macsec_header_rows bytes) ≡ None
 none_refuses_header bytes a = grind (arith, common_steps)
 
--- what bytes 0 and 1 say is the same in bytes that share them
+-- Two lists have the same bytes 0 and 1, and so the same flags and short length.
 record SharesFlags (x y : List ℕ) : Type 0 where
   first : get_or x 0 0 ≡ get_or y 0 0
   second : get_or x 1 0 ≡ get_or y 1 0
@@ -55,7 +55,7 @@ same_tag_len x y a = ap (λ (n : ℕ). 6 + 8 * (n / 32 % 2) + type_len_by (n / 4
 same_payload_len : (x y : List ℕ) → SharesFlags x y → payload_len_of x ≡ payload_len_of y
 same_payload_len x y a = λ i. a.second i % 64 - type_len_by (a.first i / 4 % 4)
 
-same_room : (x y : List ℕ) → SharesFlags x y → HasNoRoomForType x → HasNoRoomForType y
+same_room : (x y : List ℕ) → SharesFlags x y → IsTooShortForType x → IsTooShortForType y
 same_room x y a none =
     (ap (λ (n : ℕ). n / 4 % 4) (sym a.first) ∙ none.0, ap (λ (n : ℕ). n % 64) (sym a.second) ∙ none.1)
 
@@ -85,7 +85,7 @@ front_begins e rest a =
 front_len : (e rest : List ℕ) → IsWhole e → length e ≡ tag_len_of (e ++ rest)
 front_len e rest a = a.whole ∙ sym (same_tag_len (e ++ rest) e (front_shares e rest a))
 
--- what begins with a tag of n bytes has a whole one as its front
+-- If bytes start with a tag of n bytes, their first n bytes are a complete tag.
 begins_whole : (bytes : List ℕ) (n : ℕ) → BeginsMacsec bytes → n ≡ tag_len_of bytes → IsWhole (take n bytes)
 begins_whole bytes n a size =
     let shares : SharesFlags (take n bytes) bytes = take_shares bytes n (omega (arith, size)) in
@@ -99,11 +99,11 @@ begins_whole bytes n a size =
 
 -- ---- tags
 
--- the tag that bytes are, and what is behind it
+-- The tag that the bytes are, and the bytes after it.
 abbrev pub macsec_header_parts : List ℕ → List ℕ → MacsecHeader × List ℕ
 macsec_header_parts bytes rest = (macsec_header_of bytes, rest)
 
--- a tag at the front of bytes
+-- The tag at the start of the bytes, and the bytes after it.
 abbrev pub macsec_header_read : List ℕ → MacsecHeader × List ℕ
 macsec_header_read bytes = cut_at tag_len_of macsec_header_parts bytes
 
@@ -130,22 +130,22 @@ header_is_read bytes read a =
       same ∙ cut_same tag_len_of macsec_header_parts bytes e read.1 a.parts len,
     )
 
--- a tag is read
+-- The table and the reading function of tags agree with their definition.
 pub macsec_header_is_read : IsReadBy IsMacsecHeader macsec_header_rows macsec_header_read
 macsec_header_is_read = record { reads = header_reads; is_read = header_is_read }
 
 -- ---- packets
 
--- the packet that bytes are, and what its cut left
+-- The packet that the bytes are, and the trailing bytes.
 abbrev macsec_parts : List ℕ → List ℕ → Parts MacsecHeader
 macsec_parts bytes left =
     parts_of (macsec_header_of (take (tag_len_of bytes) bytes)) (drop (tag_len_of bytes) bytes) left
 
--- a packet at the front of bytes
+-- The packet at the start of the bytes.
 abbrev pub macsec_read : List ℕ → Parts MacsecHeader
 macsec_read bytes = cut_at macsec_len_of macsec_parts bytes
 
--- what a packet's table says besides its tag's
+-- Properties of bytes that no row of the packet's table rejects.
 record Stands (bytes : List ℕ) : Type 0 where
   header : first_row (macsec_header_rows bytes) ≡ None
   within : macsec_len_of bytes ≤ length bytes
@@ -160,14 +160,14 @@ none_refuses : (bytes : List ℕ) → first_row (macsec_header_rows bytes) ≡ N
     → first_row (macsec_rows bytes) ≡ None
 none_refuses bytes header within = grind (arith, common_steps)
 
--- what the flags and the short length of a whole tag say at the front of other bytes
+-- Bytes have the tag length, short length and ether type length of a complete tag.
 record SaysAtFront (bytes tag : List ℕ) : Type 0 where
   tag_len : tag_len_of bytes ≡ length tag
   short_len : short_len_of bytes ≡ short_len_of tag
   type : type_len_by (modification_of bytes) ≡ ptype_len (macsec_header_of tag).ptype
 
-says : (tag rest : List ℕ) → IsWhole tag → SaysAtFront (tag ++ rest) tag
-says tag rest whole =
+stated : (tag rest : List ℕ) → IsWhole tag → SaysAtFront (tag ++ rest) tag
+stated tag rest whole =
     let shares = front_shares tag rest whole in
     record {
       tag_len = sym (front_len tag rest whole);
@@ -175,14 +175,14 @@ says tag rest whole =
       type = ap (λ (n : ℕ). type_len_by (n / 4 % 4)) shares.first ∙ type_len_by_same (modification_of tag) _;
     }
 
--- a packet has as many bytes as its tag says
+-- A packet has the length that its tag determines.
 len_same : (bytes tag payload left : List ℕ) → bytes ≡ tag ++ (payload ++ left) → SaysAtFront bytes tag
     → IsMacsecCut (parts_of (macsec_header_of tag) payload left) → length (tag ++ payload) ≡ macsec_len_of bytes
 len_same bytes tag payload left parts a (inl cut) =
     grind (arith, common_steps, a.tag_len, a.short_len, a.type, cut.0, cut.1)
 len_same bytes tag payload left parts a (inr all) = grind (arith, common_steps, a.short_len, all.0, all.1)
 
--- the tag that a packet's bytes show
+-- The tag and the payload can be parsed from the bytes of a packet.
 shown_tag : (tag payload : List ℕ) → IsWhole tag
     → (take (tag_len_of (tag ++ payload)) (tag ++ payload) ≡ tag)
     × (drop (tag_len_of (tag ++ payload)) (tag ++ payload) ≡ payload)
@@ -199,7 +199,7 @@ is_read bytes packet a =
     let behind = packet.payload ++ packet.left in
     let parts : bytes ≡ tag ++ behind = a.parts ∙ append_assoc tag packet.payload packet.left in
     let Says : List ℕ → Type 0 = λ x. SaysAtFront x tag in
-    let front : SaysAtFront bytes tag = subst Says (sym parts) (says tag behind whole) in
+    let front : SaysAtFront bytes tag = subst Says (sym parts) (stated tag behind whole) in
     let cut : IsMacsecCut (parts_of (macsec_header_of tag) packet.payload packet.left) =
     subst (λ h. IsMacsecCut (parts_of h packet.payload packet.left)) header a.cut in
     let len = len_same bytes tag packet.payload packet.left parts front cut in
@@ -217,7 +217,7 @@ is_read bytes packet a =
       same ∙ cut_same macsec_len_of macsec_parts bytes (tag ++ packet.payload) packet.left a.parts len,
     )
 
--- a short length other than 0 has room for the type
+-- A short length other than 0 includes the ether type, if it is not rejected as too small.
 room_enough : (m short_len : ℕ) → ¬ ((m ≡ 0) × (short_len ≡ 1)) → 0 < short_len → type_len_by m ≤ short_len
 room_enough zero zero room there = absurd (omega arith)
 room_enough zero (suc zero) room there = absurd (room (refl, refl))
@@ -228,13 +228,13 @@ none : (xs : List ℕ) → length xs ≡ 0 → xs ≡ []
 none [] len = refl
 none (x ∷ xs) len = absurd (omega arith)
 
--- a tag cuts the bytes behind it where it says that the packet ends
+-- The short length limits the payload to the length of the packet.
 cuts : (bytes tag payload left : List ℕ) → IsWhole tag → bytes ≡ (tag ++ payload) ++ left
     → length (tag ++ payload) ≡ macsec_len_of bytes → IsMacsecCut (parts_of (macsec_header_of tag) payload left)
 cuts bytes tag payload left whole parts len =
     let Says : List ℕ → Type 0 = λ x. SaysAtFront x tag in
     let a : SaysAtFront bytes tag =
-    subst Says (sym (parts ∙ append_assoc tag payload left)) (says tag (payload ++ left) whole) in
+    subst Says (sym (parts ∙ append_assoc tag payload left)) (stated tag (payload ++ left) whole) in
     elim (cases_eq (short_len_of bytes) 0) [
       | inl all ↦ inr (sym a.short_len ∙ all, none left (grind (arith, common_steps)))
       | inr some ↦
@@ -244,11 +244,11 @@ cuts bytes tag payload left whole parts len =
           inl (there, grind (arith, common_steps, a.tag_len, a.short_len, a.type, enough, type_len))
     ]
 
--- the tag lies within the packet
+-- The tag is not longer than the packet.
 tag_within : (bytes : List ℕ) → BeginsMacsec bytes → tag_len_of bytes ≤ macsec_len_of bytes
 tag_within bytes a = grind (arith, common_steps, a.whole)
 
--- a front that has the tag begins with it
+-- A prefix that includes the tag starts with a complete tag.
 begins_front : (bytes : List ℕ) (m : ℕ) → BeginsMacsec bytes → tag_len_of bytes ≤ m → BeginsMacsec (take m bytes)
 begins_front bytes m a within =
     let shares : SharesFlags (take m bytes) bytes = take_shares bytes m (omega arith) in
@@ -282,11 +282,11 @@ reads bytes fits none =
       cut = cuts bytes tag payload left whole parts len;
     }
 
--- a packet is read
+-- The table and the reading function of packets agree with their definition.
 pub macsec_is_read : IsReadBy IsMacsec macsec_rows macsec_read
 macsec_is_read = record { reads = reads; is_read = is_read }
 
--- no packet stands where its tag is refused
+-- Bytes whose tag is rejected are no packet.
 pub tag_refused : (bytes : List ℕ) (packet : Parts MacsecHeader) (error : HeaderSliceError)
     → first_row (macsec_header_rows bytes) ≡ Some error → IsMacsec bytes packet → ⊥
 tag_refused bytes packet error refused a =
@@ -294,7 +294,7 @@ tag_refused bytes packet error refused a =
 
 -- ---- slices
 
--- where a packet ends whose tag has n of all bytes
+-- The end of a packet in bytes, if its tag has n bytes and the slice has `all` bytes.
 abbrev pub EndsAt : List ℕ → ℕ → ℕ → ℕ → Type 0
 EndsAt tag n all end =
     ((0 < short_len_of tag) × (end ≡ n + payload_len_of tag)) ⊎ ((short_len_of tag ≡ 0) × (end ≡ all))
@@ -318,7 +318,7 @@ ends bytes tag rest n end parts whole len at =
       )
     ]
 
--- bytes that end before the packet whose tag stands in front of them are refused
+-- Bytes that end before the packet of their tag are rejected.
 pub cut_refused : (bytes tag rest : List ℕ) (n end : ℕ) → bytes ≡ tag ++ rest → IsWhole tag → n ≡ length tag
     → EndsAt tag n (length bytes) end → length bytes < end
     → first_row (macsec_rows bytes)
@@ -332,7 +332,7 @@ cut_refused bytes tag rest n end parts whole len at past =
     ∙ ap (λ (m : ℕ). first_row (row m)) (ends bytes tag rest n end parts whole len at).1
     ∙ ap (λ (r : Bool). first_row ((r, error end) ∷ [])) (lt-ltb (length bytes) end past)
 
--- a packet in two slices: its tag, and what follows up to its end
+-- A packet in two slices: its tag, and the payload up to the end of the packet.
 pub record IsSliced (bytes tag payload left : List ℕ) : Type 0 where
   pub parts : bytes ≡ (tag ++ payload) ++ left
   pub is : IsMacsec bytes (parts_of (macsec_header_of tag) payload left)
@@ -367,7 +367,7 @@ sliced_packet bytes tag rest n end fits parts whole len at within =
       is = subst (IsMacsec bytes) (λ i. parts_of (macsec_header_of (shown.0 i)) (shown.1 i) left) is.0;
     }
 
--- the payload of a tag has the bytes that it is made of
+-- The payload of a tag has the bytes that it was made from.
 pub payload_by_bytes : (p : MacsecPType) (source : LenSource) (bytes : List ℕ)
     → macsec_payload_bytes (payload_by p source bytes) ≡ bytes
 payload_by_bytes (ptype.Unmodified type) source bytes = refl

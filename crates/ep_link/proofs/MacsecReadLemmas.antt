@@ -1,4 +1,4 @@
--- The fields of a MACsec tag, read from its bytes.
+-- Lemmas about parsing the fields of a MACsec tag from its bytes.
 use Rattle.std.proofs.Common.{◌≡◌, ℕ, zero, suc, ◌+◌, ◌*◌, ◌/◌, ◌%◌, ◌^◌, ◌<◌, ◌≤◌, Option}
 use Rattle.std.proofs.Common.{Some, None, List, [], ◌∷◌, ◌++◌, length, drop, get_or, refl}
 use Rattle.std.proofs.Common.{sym, ap, add-zero, subst, ◌∙◌, arith, slice_index, slice_range}
@@ -14,13 +14,13 @@ use Rattle.ep_link.specs.declared.link_ext.macsec_header.MacsecHeader.{MacsecHea
 use Rattle.ep_link.specs.Macsec.{encryption_bit, changed_text_bit, ptype_bytes, sci_bit, sci_bytes}
 use Rattle.ep_link.specs.Macsec.{macsec_bytes_with, ptype_len, sci_len, macsec_header_len, FitsPType, FitsSci}
 use Rattle.ep_link.specs.Macsec.{FitsMacsec, EncodesMacsec, short_len_of, modification_of, sci_bit_of}
-use Rattle.ep_link.specs.Macsec.{type_len_by, tag_len_of, HasNoRoomForType, ptype_by, sci_by, macsec_header_of}
+use Rattle.ep_link.specs.Macsec.{type_len_by, tag_len_of, IsTooShortForType, ptype_by, sci_by, macsec_header_of}
 
--- the bytes are a whole tag: as long as their flags say
+-- The bytes are a complete tag, as long as its flags determine.
 pub record IsWhole (bytes : List ℕ) : Type 0 where
   pub fixed : 6 ≤ length bytes
   pub version : slice_index bytes 0 < 128
-  pub room : ¬ HasNoRoomForType bytes
+  pub room : ¬ IsTooShortForType bytes
   pub whole : length bytes ≡ tag_len_of bytes
 
 -- ---- flags
@@ -41,17 +41,17 @@ sci_bit_le : (sci : Option ℕ) → sci_bit sci ≤ 1
 sci_bit_le None = omega arith
 sci_bit_le (Some sci) = omega arith
 
--- the first byte, made of its flags and the association number
+-- The first byte, built from the flags and the association number.
 abbrev first_of : ℕ → ℕ → ℕ → ℕ → ℕ → ℕ → ℕ
 first_of station sci single encrypted changed an =
     2 ^ 6 * station + 2 ^ 5 * sci + 2 ^ 4 * single + 2 ^ 3 * encrypted + 2 ^ 2 * changed + an
 
--- the first byte of a tag
+-- The first byte of a tag.
 abbrev first_byte : MacsecHeader → ℕ
 first_byte h =
     first_of (bit h.endstation_id) (sci_bit h.sci) (bit h.scb) (encryption_bit h.ptype) (changed_text_bit h.ptype) h.an
 
--- each flag is one bit
+-- Each flag is one bit, and the association number has two bits.
 record AreFlags (t s b e c a : ℕ) : Type 0 where
   station : t ≤ 1
   sci : s ≤ 1
@@ -72,34 +72,34 @@ flags_of h fits = record {
   an = fits.an;
 }
 
--- what is read from such a byte: the version, and each flag
+-- The version, the flags and the association number can be parsed from the first byte.
 first_apart : (t s b e c a : ℕ) → AreFlags t s b e c a → (n : ℕ) → n ≡ first_of t s b e c a
     → (n < 128) × (n / 64 % 2 ≡ t) × (n / 32 % 2 ≡ s) × (n / 16 % 2 ≡ b) × (n / 4 % 4 ≡ 2 * e + c) × (n % 4 ≡ a)
 first_apart t s b e c a f n same = (omega arith, omega arith, omega arith, omega arith, omega arith, omega arith)
 
--- the flags of the first byte, put together again
+-- The first byte can be rebuilt from its flags and association number.
 first_again : (n t s b e c a : ℕ) → n < 128 → t ≡ n / 64 % 2 → s ≡ n / 32 % 2 → b ≡ n / 16 % 2
     → 2 * e + c ≡ n / 4 % 4 → a ≡ n % 4 → n ≡ first_of t s b e c a
 first_again n t s b e c a below station sci single modification an = omega arith
 
--- ---- the bytes of a tag are read as this tag
+-- ---- the wire bytes of a tag are parsed as this tag
 
--- the number of 4 bytes has 32 bits
+-- A number of 4 bytes has 32 bits.
 four_below : (xs : List ℕ) → length xs ≡ 4 → AreBytes xs → from_be_bytes w32 xs < 2 ^ 32
 four_below (a ∷ b ∷ c ∷ d ∷ []) len fits = omega (arith, fits 0, fits 1, fits 2, fits 3)
 four_below _ len fits = absurd (omega arith)
 
--- the number of 8 bytes has 64 bits
+-- A number of 8 bytes has 64 bits.
 eight_below : (xs : List ℕ) → length xs ≡ 8 → AreBytes xs → from_be_bytes w64 xs < 2 ^ 64
 eight_below (a ∷ b ∷ c ∷ d ∷ e ∷ f ∷ g ∷ h ∷ []) len fits =
     omega (arith, fits 0, fits 1, fits 2, fits 3, fits 4, fits 5, fits 6, fits 7)
 eight_below _ len fits = absurd (omega arith)
 
--- the two bytes of a type are its number
+-- The ether type is parsed from its two bytes.
 type_read : (type : ℕ) → type < 2 ^ 16 → word_at (to_be_bytes w16 type) 0 ≡ type
 type_read type below = omega arith
 
--- a tag's type, read where its flags say
+-- The ether type of a tag is parsed from the offset that the flag SC determines.
 ptype_read : (a b c d e f : ℕ) (sci : Option ℕ) (p : MacsecPType) (short_len : ℕ) → FitsPType p short_len
     → ptype_by (2 * encryption_bit p + changed_text_bit p)
     (word_at (a ∷ b ∷ c ∷ d ∷ e ∷ f ∷ (sci_bytes sci ++ ptype_bytes p)) (6 + 8 * sci_bit sci)) ≡ p
@@ -111,7 +111,7 @@ ptype_read a b c d e f sci ptype.Modified short_len fits = refl
 ptype_read a b c d e f sci ptype.Encrypted short_len fits = refl
 ptype_read a b c d e f sci ptype.EncryptedUnmodified short_len fits = refl
 
--- a tag's identifier, read where its flag says that it is there
+-- The secure channel identifier of a tag is parsed if its flag is set.
 sci_read : (a b c d e f : ℕ) (sci : Option ℕ) (rest : List ℕ) → FitsSci sci →
     sci_by (sci_bit sci) (from_be_bytes w64 (slice_range (a ∷ b ∷ c ∷ d ∷ e ∷ f ∷ (sci_bytes sci ++ rest)) 6 14)) ≡ sci
 sci_read a b c d e f None rest fits = refl
@@ -144,7 +144,7 @@ with_read r h bits fits =
 pub encoded_read : (e : List ℕ) (h : MacsecHeader) → EncodesMacsec e h → h ≡ macsec_header_of e
 encoded_read e h a = with_read a.reserved h a.bits a.fits ∙ ap macsec_header_of (sym a.same)
 
--- how many bytes of the type the flags demand
+-- The flags determine the length of the ether type.
 type_len_same : (p : MacsecPType) → type_len_by (2 * encryption_bit p + changed_text_bit p) ≡ ptype_len p
 type_len_same (ptype.Unmodified type) = refl
 type_len_same ptype.Modified = refl
@@ -165,7 +165,7 @@ tail_len (Some sci) ptype.Modified = refl
 tail_len (Some sci) ptype.Encrypted = refl
 tail_len (Some sci) ptype.EncryptedUnmodified = refl
 
--- a type that fits a short length has room
+-- A short length that fits an unmodified payload is not 1.
 room_of : (p : MacsecPType) (short_len : ℕ) → FitsPType p short_len
     → 2 * encryption_bit p + changed_text_bit p ≡ 0 → short_len ≡ 1 → ⊥
 room_of (ptype.Unmodified type) short_len fits none one = fits.1 one
@@ -173,7 +173,7 @@ room_of ptype.Modified short_len fits none one = omega (arith, none)
 room_of ptype.Encrypted short_len fits none one = omega (arith, none)
 room_of ptype.EncryptedUnmodified short_len fits none one = omega (arith, none)
 
--- the number of bytes of a tag
+-- The length of a tag in bytes.
 with_len : (r : ℕ) (h : MacsecHeader) → length (macsec_bytes_with r h) ≡ macsec_header_len h
 with_len r h = omega (arith, tail_len h.sci h.ptype)
 
@@ -196,11 +196,11 @@ with_whole r h bits fits =
 pub encoded_whole : (e : List ℕ) (h : MacsecHeader) → EncodesMacsec e h → IsWhole e
 encoded_whole e h a = subst IsWhole (sym a.same) (with_whole a.reserved h a.bits a.fits)
 
--- the number of bytes of a tag, whatever its reserved bits
+-- The length of a tag in bytes, whatever its reserved bits.
 pub encoded_len : (e : List ℕ) (h : MacsecHeader) → EncodesMacsec e h → length e ≡ macsec_header_len h
 encoded_len e h a = ap length a.same ∙ with_len a.reserved h
 
--- ---- whole bytes are those of the tag that is read from them
+-- ---- complete bytes are the wire bytes of the parsed tag
 
 bits_by : (m type : ℕ) → m < 4 → 2 * encryption_bit (ptype_by m type) + changed_text_bit (ptype_by m type) ≡ m
 bits_by zero type below = refl
@@ -221,7 +221,7 @@ FitsPType_by (suc zero) type short_len below room = tt
 FitsPType_by (suc (suc zero)) type short_len below room = tt
 FitsPType_by (suc (suc (suc m))) type short_len below room = tt
 
--- two bytes are those of their number
+-- Two bytes are the big-endian bytes of their number.
 two_again : (xs : List ℕ) → length xs ≡ 2 → AreBytes xs → to_be_bytes w16 (word_at xs 0) ≡ xs
 two_again (a ∷ b ∷ []) len fits = sym (word_cells (a ∷ b ∷ []) fits 0 refl)
 two_again _ len fits = absurd (omega arith)
@@ -229,7 +229,7 @@ two_again _ len fits = absurd (omega arith)
 none_left : (k : ℕ) (e : List ℕ) → length e ≡ k → [] ≡ drop k e
 none_left k e len = sym (drop_all k e (omega arith))
 
--- what stands at the end of a tag is its type, where its flags say so
+-- The end of a tag consists of the bytes of the ether type that the flags determine.
 type_again : (e : List ℕ) (k m : ℕ) → AreBytes e → length e ≡ k + type_len_by m
     → ptype_bytes (ptype_by m (word_at e k)) ≡ drop k e
 type_again e k zero fits len =
@@ -241,7 +241,7 @@ type_again e k (suc zero) fits len = none_left k e (omega arith)
 type_again e k (suc (suc zero)) fits len = none_left k e (omega arith)
 type_again e k (suc (suc (suc m))) fits len = none_left k e (omega arith)
 
--- the bytes of the identifier are those of its number
+-- The bytes of the secure channel identifier are the big-endian bytes of its number.
 sci_again : (e : List ℕ) → AreBytes e → 14 ≤ length e
     → to_be_bytes w64 (from_be_bytes w64 (slice_range e 6 14)) ≡ slice_range e 6 14
 sci_again e fits long =
@@ -252,7 +252,7 @@ FitsSci_by : (s sci : ℕ) → (0 < s → sci < 2 ^ 64) → FitsSci (sci_by s sc
 FitsSci_by zero sci below = tt
 FitsSci_by (suc s) sci below = below (omega arith)
 
--- the identifier and the type stand behind the first 6 bytes
+-- The bytes after the first 6 are the secure channel identifier and the ether type.
 tail_again : (e : List ℕ) (s m : ℕ) → AreBytes e → s < 2 → length e ≡ 6 + 8 * s + type_len_by m
     → sci_bytes (sci_by s (from_be_bytes w64 (slice_range e 6 14))) ++ ptype_bytes (ptype_by m (word_at e (6 + 8 * s)))
     ≡ drop 6 e
@@ -263,11 +263,11 @@ tail_again e (suc zero) m fits below len =
     ∙ take-append-drop 8 (drop 6 e)
 tail_again e (suc (suc s)) m fits below len = absurd (omega arith)
 
--- the first 6 bytes, one by one
+-- The bytes of a tag are bytes 0 and 1, the packet number, and the bytes after the first 6.
 six : (e : List ℕ) → 6 ≤ length e → e ≡ get_or e 0 0 ∷ get_or e 1 0 ∷ (slice_range e 2 6 ++ drop 6 e)
 six e long = grind (arith, common_steps)
 
--- the bytes of the packet number
+-- The packet number has 4 bytes.
 four_long : (e : List ℕ) → 6 ≤ length e → length (slice_range e 2 6) ≡ 4
 four_long e fixed = omega (arith, length-take 4 (drop 2 e), length-drop 2 e)
 
@@ -291,7 +291,7 @@ whole_fits e fits a =
       sci = FitsSci_by (sci_bit_of e) _ (λ there. sci_below e fits (omega (arith, a.whole, there)));
     }
 
--- the flags of a first byte of a tag are read from it
+-- The first byte of a complete tag is the first byte of the parsed tag.
 first_byte_again : (e : List ℕ) → IsWhole e → get_or e 0 0 ≡ first_byte (macsec_header_of e)
 first_byte_again e a =
     let station = bit_of_read (get_or e 0 0 / 64 % 2) (omega arith) in
@@ -322,7 +322,7 @@ type_len_by_same (suc zero) type = refl
 type_len_by_same (suc (suc zero)) type = refl
 type_len_by_same (suc (suc (suc m))) type = refl
 
--- both flags
+-- If both flags E and C are set, the payload is encrypted.
 pub encrypted_by : (m type : ℕ) → 2 < m → ptype.Encrypted ≡ ptype_by m type
 encrypted_by zero type both = absurd (omega arith)
 encrypted_by (suc zero) type both = absurd (omega arith)

@@ -1,7 +1,8 @@
--- What refusals of link layers, link extensions and ARP say of the bytes that are missing.
+-- Lemmas about length errors of link layers, link extensions and ARP packets, and the bytes that they report as
+-- missing.
 use Rattle.std.proofs.Common.{ℕ, List, length, inl, inr}
 use Rattle.std.specs.Prelude.{⊤}
-use Rattle.ep_base.specs.Missing.{CountsMissing, TellsMissing}
+use Rattle.ep_base.specs.Missing.{CountsMissing, ReportsMissing}
 use Rattle.ep_base.specs.Tables.{rows_as}
 use Rattle.ep_base.proofs.MissingLemmas.{counted, refusal_where, tells_missing}
 use Rattle.ep_base.specs.declared.ether_type.EtherType.{EtherType}
@@ -19,38 +20,38 @@ use Rattle.ep_link.specs.LinuxSll.{RefusesLinuxSll, linux_sll_rows}
 use Rattle.ep_link.specs.Macsec.{RefusesMacsec, RefusesMacsecHeader, macsec_header_rows, macsec_len_of, macsec_rows, tag_len_of}
 use Rattle.ep_link.specs.Vlan.{RefusesVlan, vlan_rows}
 
--- the refusals of a cooked capture that count bytes
+-- The length errors of a Linux cooked capture count the available bytes.
 abbrev SllCounts : ℕ → SllError → Type 0
 SllCounts bound (sll_error.Len error) = CountsMissing bound error
 SllCounts bound (sll_error.Content error) = ⊤
 
--- and those of a link extension
+-- The length errors of a link extension count the available bytes.
 abbrev ExtensionCounts : ℕ → MacsecError → Type 0
 ExtensionCounts bound (macsec_error.Len error) = CountsMissing bound error
 ExtensionCounts bound (macsec_error.Content error) = ⊤
 
-pub ethernet2_tells : TellsMissing RefusesEthernet2
+pub ethernet2_tells : ReportsMissing RefusesEthernet2
 ethernet2_tells = tells_missing RefusesEthernet2
     (λ bytes error refused. refusal_where (CountsMissing (length bytes)) (ethernet2_rows bytes)
     (counted bytes 14 source.Slice layer.Ethernet2Header, tt) error refused)
 
-pub linux_sll_tells : TellsMissing (λ bytes error. RefusesLinuxSll bytes (sll_error.Len error))
+pub linux_sll_tells : ReportsMissing (λ bytes error. RefusesLinuxSll bytes (sll_error.Len error))
 linux_sll_tells = tells_missing (λ bytes error. RefusesLinuxSll bytes (sll_error.Len error))
     (λ bytes error refused. refusal_where (SllCounts (length bytes)) (linux_sll_rows bytes)
     (counted bytes 16 source.Slice layer.LinuxSllHeader, (λ holds. tt, (λ holds. tt, tt))) (sll_error.Len error) refused)
 
-pub arp_tells : TellsMissing RefusesArp
+pub arp_tells : ReportsMissing RefusesArp
 arp_tells = tells_missing RefusesArp
     (λ bytes error refused. refusal_where (CountsMissing (length bytes)) (arp_rows bytes)
     (counted bytes 8 source.Slice layer.Arp, (counted bytes (arp_len_of bytes) source.ArpAddrLengths layer.Arp, tt))
     error refused)
 
-pub vlan_tells : TellsMissing RefusesVlan
+pub vlan_tells : ReportsMissing RefusesVlan
 vlan_tells = tells_missing RefusesVlan
     (λ bytes error refused. refusal_where (CountsMissing (length bytes)) (vlan_rows bytes)
     (counted bytes 4 source.Slice layer.VlanHeader, tt) error refused)
 
-pub macsec_header_tells : TellsMissing (λ bytes error. RefusesMacsecHeader bytes (macsec_error.Len error))
+pub macsec_header_tells : ReportsMissing (λ bytes error. RefusesMacsecHeader bytes (macsec_error.Len error))
 macsec_header_tells = tells_missing (λ bytes error. RefusesMacsecHeader bytes (macsec_error.Len error))
     (λ bytes error refused. refusal_where (ExtensionCounts (length bytes)) (macsec_header_rows bytes) (
       counted bytes 6 source.Slice layer.MacsecHeader,
@@ -75,7 +76,7 @@ macsec_counts bytes error refused = refusal_where (ExtensionCounts (length bytes
 )
     (macsec_error.Len error) refused
 
-pub macsec_tells : TellsMissing (λ bytes error. RefusesMacsec bytes (macsec_error.Len error))
+pub macsec_tells : ReportsMissing (λ bytes error. RefusesMacsec bytes (macsec_error.Len error))
 macsec_tells = tells_missing (λ bytes error. RefusesMacsec bytes (macsec_error.Len error)) macsec_counts
 
 extension_counts : (type : EtherType) (bytes : List ℕ) (error : LenError)
@@ -86,6 +87,6 @@ extension_counts type bytes error (inl refused) =
 extension_counts type bytes error (inr refused) = macsec_counts bytes error refused.1
 
 pub extension_tells : (type : EtherType)
-    → TellsMissing (λ bytes error. RefusesLinkExtension type bytes (macsec_error.Len error))
+    → ReportsMissing (λ bytes error. RefusesLinkExtension type bytes (macsec_error.Len error))
 extension_tells type =
     tells_missing (λ bytes error. RefusesLinkExtension type bytes (macsec_error.Len error)) (extension_counts type)

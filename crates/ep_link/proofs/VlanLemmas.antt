@@ -1,4 +1,4 @@
--- The bytes of VLAN tags, and what is read from them.
+-- Lemmas about parsing the bytes of VLAN tags.
 use Rattle.std.proofs.Common.{◌≡◌, ℕ, ◌+◌, ◌*◌, ◌/◌, ◌%◌, ◌^◌, ◌<◌, ◌≤◌, ◌==◌, List, [], ◌∷◌}
 use Rattle.std.proofs.Common.{◌++◌, None, length, slice_index, drop, sym, ap, ◌∙◌, arith, refl}
 use Rattle.std.proofs.lemmas.Grind.{common_steps}
@@ -12,13 +12,13 @@ use Rattle.ep_link.specs.declared.link_ext.double_vlan_header.DoubleVlanHeader.{
 use Rattle.ep_link.specs.Vlan.{FitsVlan, IsVlan, vlan_bytes, vlan_header_of, vlan_parts}
 use Rattle.ep_link.specs.Vlan.{vlan_rows, IsDoubleVlan, double_vlan_rows}
 
--- the tags that stand at the front of 8 bytes and more
+-- The two tags at the start of at least 8 bytes.
 abbrev pub double_vlan_header_of : List ℕ → DoubleVlanHeader
 double_vlan_header_of bytes = record { outer = vlan_header_of bytes; inner = vlan_header_of (drop 4 bytes) }
 
 -- ---- one tag
 
--- the bytes of a tag are read as this tag, whatever follows them
+-- The wire bytes of a tag are parsed as this tag, whatever follows them.
 header_read : (h : SingleVlanHeader) (rest : List ℕ) → FitsVlan h → h ≡ vlan_header_of (vlan_bytes h ++ rest)
 header_read h rest fits =
     let bytes = vlan_bytes h ++ rest in
@@ -35,12 +35,12 @@ header_read h rest fits =
       ether_type = record { 0 = ether_type i };
     }
 
--- the priority, the flag and the identifier of bytes 0 and 1, put together again
+-- Bytes 0 and 1 can be rebuilt from the priority code point, the drop eligible indicator and the VLAN identifier.
 tag_same : (upper lower : ℕ) → lower < 256 → {d : ℕ} → d ≡ upper / 16 % 2
     → 2 ^ 13 * (upper / 32) + 2 ^ 12 * d + (256 * upper + lower) % 4096 ≡ 256 * upper + lower
 tag_same upper lower below d = omega (arith, d, below)
 
--- 4 bytes are those of the tag that is read from them
+-- The first 4 bytes are the wire bytes of the tag that is parsed from them.
 vlan_front : (bytes : List ℕ) → AreBytes bytes → 4 ≤ length bytes
     → bytes ≡ vlan_bytes (vlan_header_of bytes) ++ drop 4 bytes
 vlan_front bytes fits long =
@@ -60,13 +60,13 @@ vlan_fits bytes fits = record {
   ether_type = omega (arith, fits 2, fits 3);
 }
 
--- nothing is left behind a payload
+-- A payload without trailing bytes extends to the end.
 all_parts : (bytes front payload left : List ℕ) → bytes ≡ (front ++ payload) ++ left → left ≡ []
     → bytes ≡ front ++ payload
 all_parts bytes front payload left parts cut =
     parts ∙ ap (λ (l : List ℕ). (front ++ payload) ++ l) cut ∙ append-nil (front ++ payload)
 
--- a tag and its payload, to the end
+-- A tag, and its payload up to the end of the bytes.
 abbrev pub vlan_read : List ℕ → Parts SingleVlanHeader
 vlan_read bytes = vlan_parts bytes []
 
@@ -77,7 +77,7 @@ vlan_whole bytes fits long = record {
   cut = refl;
 }
 
--- tag and payload are what is read, and there are 4 bytes
+-- The tag and the payload are the parsed ones, and there are at least 4 bytes.
 record ShowsVlan (bytes : List ℕ) (tagged : Parts SingleVlanHeader) : Type 0 where
   same : tagged ≡ vlan_read bytes
   long : 4 ≤ length bytes
@@ -99,7 +99,7 @@ vlan_reads bytes fits none = vlan_whole bytes fits (grind (arith, common_steps))
 vlan_none : (bytes : List ℕ) → 4 ≤ length bytes → first_row (vlan_rows bytes) ≡ None
 vlan_none bytes long = grind (arith, common_steps)
 
--- a tag and its payload are read
+-- The table and the reading function of a tag agree with its definition.
 pub vlan_is_read : IsReadBy IsVlan vlan_rows vlan_read
 vlan_is_read = record {
   reads = vlan_reads;
@@ -108,11 +108,11 @@ vlan_is_read = record {
 
 -- ---- two tags
 
--- two tags and their payload, to the end
+-- Two tags, and their payload up to the end of the bytes.
 abbrev pub double_vlan_read : List ℕ → Parts DoubleVlanHeader
 double_vlan_read bytes = parts_of (double_vlan_header_of bytes) (drop 4 (drop 4 bytes)) []
 
--- a tag whose payload is a tag and its payload
+-- A tag followed by a tag and its payload is two tags and a payload.
 double_vlan_whole : (bytes : List ℕ) → AreBytes bytes → 8 ≤ length bytes → IsDoubleVlan bytes (double_vlan_read bytes)
 double_vlan_whole bytes fits long =
     let tagged = drop 4 bytes in
@@ -128,7 +128,7 @@ double_vlan_whole bytes fits long =
       cut = refl;
     }
 
--- two tags are a tag, and a tag behind it
+-- Two tags are a tag whose payload starts with the inner tag.
 double_vlan_outer : (bytes : List ℕ) (tagged : Parts DoubleVlanHeader) → IsDoubleVlan bytes tagged
     → IsVlan bytes (parts_of tagged.header.outer (vlan_bytes tagged.header.inner ++ tagged.payload) [])
 double_vlan_outer bytes tagged a =
@@ -146,7 +146,7 @@ double_vlan_inner : (header : SingleVlanHeader) (payload : List ℕ) → FitsVla
 double_vlan_inner header payload fits =
     record { fits = fits; parts = sym (append-nil (vlan_bytes header ++ payload)); cut = refl }
 
--- tags and payload are what is read, and there are 8 bytes
+-- The tags and the payload are the parsed ones, and there are at least 8 bytes.
 record ShowsDoubleVlan (bytes : List ℕ) (tagged : Parts DoubleVlanHeader) : Type 0 where
   same : tagged ≡ double_vlan_read bytes
   long : 8 ≤ length bytes
@@ -176,7 +176,7 @@ double_vlan_reads bytes fits none = double_vlan_whole bytes fits (grind (arith, 
 double_vlan_none : (bytes : List ℕ) → 8 ≤ length bytes → first_row (double_vlan_rows bytes) ≡ None
 double_vlan_none bytes long = grind (arith, common_steps)
 
--- two tags and their payload are read
+-- The table and the reading function of two tags agree with their definition.
 pub double_vlan_is_read : IsReadBy IsDoubleVlan double_vlan_rows double_vlan_read
 double_vlan_is_read = record {
   reads = double_vlan_reads;

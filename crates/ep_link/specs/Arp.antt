@@ -1,4 +1,4 @@
--- ARP (RFC 826).
+-- ARP, the Address Resolution Protocol (RFC 826).
 use Rattle.std.specs.Prelude.{◌≡◌, ℕ, ◌+◌, ◌*◌, ◌^◌, ◌<◌, ◌≤◌, ◌==◌, ◌&&◌, if◌then◌else◌, Bool, not, nat_le, nat_lt}
 use Rattle.std.specs.Prelude.{List, [], ◌∷◌, ◌++◌, Option, Some, None, codes, length, slice_index, slice_range}
 use Rattle.std.specs.Int.{w16, to_be_bytes}
@@ -17,12 +17,12 @@ use Rattle.ep_link.specs.declared.err.arp.arp_proto_addr_error.ArpProtoAddrError
 use Rattle.ep_link.specs.declared.err.arp.arp_new_error.ArpNewError.{ArpNewError}
 use Rattle.ep_link.specs.declared.err.arp.arp_new_error.ArpNewError.TheVariants as new_error
 
--- the bytes of the name of the constant that an operation is; none where it is no constant
+-- The name of the constant of an operation, or None if there is no constant.
 abbrev pub arp_operation_name : ℕ → Option (List ℕ)
 arp_operation_name operation =
     if operation == 1 then Some (codes "REQUEST") else (if operation == 2 then Some (codes "REPLY") else None)
 
--- a packet as plain data, each address as its bytes
+-- An ARP packet as plain data, each address as its bytes.
 pub record Arp : Type 0 where
   pub hw_addr_type : ArpHardwareId
   pub proto_addr_type : EtherType
@@ -32,7 +32,7 @@ pub record Arp : Type 0 where
   pub target_hw_addr : List ℕ
   pub target_protocol_addr : List ℕ
 
--- each field fits its place, and the addresses of sender and target have one length
+-- Each field fits its width, and the addresses of sender and target have equal lengths.
 pub record FitsArp (packet : Arp) : Type 0 where
   pub hw_addr_type : packet.hw_addr_type.0 < 2 ^ 16
   pub proto_addr_type : packet.proto_addr_type.0 < 2 ^ 16
@@ -46,11 +46,12 @@ pub record FitsArp (packet : Arp) : Type 0 where
   pub target_hw_addr : AreBytes packet.target_hw_addr
   pub target_protocol_addr : AreBytes packet.target_protocol_addr
 
--- the number of bytes of a packet
+-- The length of a packet in bytes.
 abbrev pub arp_len : Arp → ℕ
 arp_len packet = 8 + 2 * length packet.sender_hw_addr + 2 * length packet.sender_protocol_addr
 
--- The bytes of a packet: two types, the two address lengths, the operation, and the addresses of sender and target.
+-- The wire bytes of a packet: hardware and protocol type, the two address lengths, the operation, and the addresses of
+-- sender and target.
 abbrev pub arp_bytes : Arp → List ℕ
 arp_bytes packet =
     to_be_bytes w16 packet.hw_addr_type.0 ++ to_be_bytes w16 packet.proto_addr_type.0
@@ -58,16 +59,16 @@ arp_bytes packet =
     ++ to_be_bytes w16 packet.operation.0
     ++ packet.sender_hw_addr ++ packet.sender_protocol_addr ++ packet.target_hw_addr ++ packet.target_protocol_addr
 
--- the bytes are a packet, and what is left behind it
+-- The bytes are an ARP packet and the bytes after it.
 pub record IsArp (bytes : List ℕ) (read : Arp × List ℕ) : Type 0 where
   pub fits : FitsArp read.0
   pub parts : bytes ≡ arp_bytes read.0 ++ read.1
 
--- the number of bytes of the packet that the two address lengths, bytes 4 and 5, demand
+-- The length of the packet according to its two address lengths, bytes 4 and 5.
 abbrev pub arp_len_of : List ℕ → ℕ
 arp_len_of bytes = 8 + 2 * slice_index bytes 4 + 2 * slice_index bytes 5
 
--- why bytes begin with no packet
+-- The refusal table of ARP packets.
 abbrev pub arp_rows : List ℕ → List (Bool × LenError)
 arp_rows bytes =
     let whole = arp_len_of bytes in
@@ -75,17 +76,17 @@ arp_rows bytes =
     ∷ (nat_lt (length bytes) whole, len_error whole (length bytes) source.ArpAddrLengths layer.Arp)
     ∷ []
 
--- the error of the first row that holds
+-- The bytes are rejected with the error of the first row that holds.
 abbrev pub RefusesArp : List ℕ → LenError → Type 0
 RefusesArp bytes = Refuses (arp_rows bytes)
 
--- what sets the limit where a cut left too few bytes of the packet that starts here: the address lengths, once they are
--- there
+-- The length source of an error for truncated bytes: the address lengths if the error is of the ARP packet at offset
+-- `start` and at least 8 bytes of the packet are available, and the end of the slice otherwise.
 abbrev pub arp_cut_limit : ℕ → LenError → LenSource
 arp_cut_limit start error =
     if (error.layer_start_offset == start) && nat_le 8 error.len then source.ArpAddrLengths else source.Slice
 
--- the packet that stands at the front of bytes
+-- The packet at the start of the bytes.
 abbrev pub arp_packet_of : List ℕ → Arp
 arp_packet_of bytes =
     let hw = slice_index bytes 4 in
@@ -100,11 +101,11 @@ arp_packet_of bytes =
       target_protocol_addr = slice_range bytes (8 + 2 * hw + protocol) (8 + 2 * hw + 2 * protocol);
     }
 
--- the packet that bytes are, and what stands behind them
+-- The packet that the bytes are, and the bytes after it.
 abbrev pub arp_parts : List ℕ → List ℕ → Arp × List ℕ
 arp_parts bytes left = (arp_packet_of bytes, left)
 
--- why no packet is made of these addresses
+-- The refusal table of new packets with these addresses.
 abbrev pub arp_address_rows : List ℕ → List ℕ → List ℕ → List ℕ → List (Bool × ArpNewError)
 arp_address_rows sender_hw sender_protocol target_hw target_protocol =
     let hw = length sender_hw in
@@ -117,7 +118,7 @@ arp_address_rows sender_hw sender_protocol target_hw target_protocol =
     ∷ (nat_lt 255 protocol, new_error.ProtoAddr (proto_error.LenTooBig protocol))
     ∷ []
 
--- the error of the first row that holds
+-- The addresses are rejected with the error of the first row that holds.
 abbrev pub RefusesArpAddresses : List ℕ → List ℕ → List ℕ → List ℕ → ArpNewError → Type 0
 RefusesArpAddresses sender_hw sender_protocol target_hw target_protocol =
     Refuses (arp_address_rows sender_hw sender_protocol target_hw target_protocol)

@@ -11,7 +11,7 @@ pub mod ArpSlices
 pub mod EtherPayloads
 pub mod LinkSlices
 pub mod LinkExtensions
--- what the contracts name of the crates below
+-- definitions of the crates below that contracts of this crate name
 pub use Rattle.ep_base.specs.Bytes
 pub use Rattle.ep_base.specs.NumberComparisons
 pub use Rattle.ep_base.specs.Readings

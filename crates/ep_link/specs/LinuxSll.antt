@@ -17,39 +17,39 @@ use Rattle.ep_link.specs.declared.link.linux_sll_header.LinuxSllHeader.{LinuxSll
 
 -- ---- hardware types (ARPHRD)
 
--- Ethernet
+-- Ethernet.
 abbrev pub ethernet_hardware : ℕ
 ethernet_hardware = 1
 
--- a Frame Relay access device
+-- Frame Relay access device.
 abbrev pub frame_relay_hardware : ℕ
 frame_relay_hardware = 770
 
--- the loopback device
+-- Loopback device.
 abbrev pub loopback_hardware : ℕ
 loopback_hardware = 772
 
--- a GRE tunnel over IP
+-- GRE tunnel over IP.
 abbrev pub gre_hardware : ℕ
 gre_hardware = 778
 
--- IEEE 802.11 with a radiotap header
+-- IEEE 802.11 with a radiotap header.
 abbrev pub radiotap_hardware : ℕ
 radiotap_hardware = 803
 
--- netlink
+-- Netlink.
 abbrev pub netlink_hardware : ℕ
 netlink_hardware = 824
 
--- the hardware types whose protocol field is an ether type
+-- Hardware types whose protocol field is an ether type, or a Linux specific number below the least ether type.
 abbrev pub HasEtherTypes : ℕ → Type 0
 HasEtherTypes hardware = (hardware ≡ ethernet_hardware) ⊎ (hardware ≡ loopback_hardware)
 
--- the hardware types whose protocol field says nothing
+-- Hardware types whose protocol field is ignored.
 abbrev pub HasNoProtocol : ℕ → Type 0
 HasNoProtocol hardware = (hardware ≡ frame_relay_hardware) ⊎ (hardware ≡ radiotap_hardware)
 
--- whether the protocol field of a hardware type can be read
+-- True if the protocol field of the hardware type can be interpreted.
 abbrev pub knows_hardware : ℕ → Bool
 knows_hardware hardware =
     (hardware == ethernet_hardware) || (hardware == loopback_hardware) || (hardware == frame_relay_hardware)
@@ -57,12 +57,12 @@ knows_hardware hardware =
 
 -- ---- the protocol field
 
--- the least number that is an ether type (IEEE 802.3, 3.2.6)
+-- The least ether type (IEEE 802.3, 3.2.6).
 abbrev pub least_ether_type : ℕ
 least_ether_type = 0x0600
 
--- What the protocol field says, by the hardware type: an ether type, or below the least of them one of Linux's own
--- numbers, nothing, a netlink protocol or a GRE protocol.
+-- The hardware type allows the protocol type: an ether type, a Linux specific number below the least ether type, an
+-- ignored number, a netlink protocol or a GRE protocol.
 abbrev pub IsProtocolOf : ℕ → LinuxSllProtocolType → Type 0
 IsProtocolOf hardware (protocol.EtherType type) = HasEtherTypes hardware × (least_ether_type ≤ type.0)
 IsProtocolOf hardware (protocol.LinuxNonstandardEtherType number) = HasEtherTypes hardware × (number < least_ether_type)
@@ -70,7 +70,7 @@ IsProtocolOf hardware (protocol.Ignored number) = HasNoProtocol hardware
 IsProtocolOf hardware (protocol.NetlinkProtocolType number) = hardware ≡ netlink_hardware
 IsProtocolOf hardware (protocol.GenericRoutingEncapsulationProtocolType number) = hardware ≡ gre_hardware
 
--- the number in the protocol field
+-- The number in the protocol field.
 abbrev pub protocol_number : LinuxSllProtocolType → ℕ
 protocol_number (protocol.EtherType type) = type.0
 protocol_number (protocol.LinuxNonstandardEtherType number) = number
@@ -80,7 +80,7 @@ protocol_number (protocol.GenericRoutingEncapsulationProtocolType number) = numb
 
 -- ---- packets
 
--- each field fits its place, and the protocol is of the kind that the hardware type gives
+-- The packet type is at most 7, each other field fits its width, and the hardware type allows the protocol type.
 pub record FitsLinuxSll (header : LinuxSllHeader) : Type 0 where
   pub packet_type : header.packet_type.0 ≤ 7
   pub arp_hrd_type : header.arp_hrd_type.0 < 2 ^ 16
@@ -90,24 +90,24 @@ pub record FitsLinuxSll (header : LinuxSllHeader) : Type 0 where
   pub protocol : protocol_number header.protocol_type < 2 ^ 16
   pub kind : IsProtocolOf header.arp_hrd_type.0 header.protocol_type
 
--- the number of bytes of a header
+-- The length of a header in bytes.
 abbrev pub linux_sll_header_len : ℕ
 linux_sll_header_len = 16
 
--- the bytes of a header
+-- The wire bytes of a header.
 abbrev pub linux_sll_bytes : LinuxSllHeader → List ℕ
 linux_sll_bytes header =
     to_be_bytes w16 header.packet_type.0 ++ to_be_bytes w16 header.arp_hrd_type.0
     ++ to_be_bytes w16 header.sender_address_valid_length ++ header.sender_address
     ++ to_be_bytes w16 (protocol_number header.protocol_type)
 
--- the bytes are a header and its payload, and nothing is left behind them
+-- The bytes are a header and its payload, without trailing bytes.
 pub record IsLinuxSll (bytes : List ℕ) (packet : Parts LinuxSllHeader) : Type 0 where
   pub fits : FitsLinuxSll packet.header
   pub parts : bytes ≡ (linux_sll_bytes packet.header ++ packet.payload) ++ packet.left
   pub cut : packet.left ≡ []
 
--- why bytes begin with no header
+-- The refusal table of Linux cooked captures.
 abbrev pub linux_sll_rows : List ℕ → List (Bool × HeaderSliceError)
 linux_sll_rows bytes =
     let packet_type = word_at bytes 0 in
@@ -117,11 +117,11 @@ linux_sll_rows bytes =
     ∷ (not (knows_hardware hardware), header_error.Content (content.UnsupportedArpHardwareId hardware))
     ∷ []
 
--- the error of the first row that holds
+-- The bytes are rejected with the error of the first row that holds.
 abbrev pub RefusesLinuxSll : List ℕ → HeaderSliceError → Type 0
 RefusesLinuxSll bytes = Refuses (linux_sll_rows bytes)
 
--- the protocol field's meaning, for a hardware type that is known
+-- The protocol type of a number for a supported hardware type.
 abbrev pub protocol_of : ℕ → ℕ → LinuxSllProtocolType
 protocol_of hardware number =
     if hardware == netlink_hardware then protocol.NetlinkProtocolType number else
@@ -130,7 +130,7 @@ protocol_of hardware number =
     (if nat_lt number least_ether_type then protocol.LinuxNonstandardEtherType number else
     protocol.EtherType (record { 0 = number }))))
 
--- the header that stands at the front of 16 bytes and more
+-- The header at the start of at least 16 bytes.
 abbrev pub linux_sll_header_of : List ℕ → LinuxSllHeader
 linux_sll_header_of bytes = record {
   packet_type = record { 0 = word_at bytes 0 };
@@ -140,11 +140,11 @@ linux_sll_header_of bytes = record {
   protocol_type = protocol_of (word_at bytes 2) (word_at bytes 14);
 }
 
--- the packet that bytes are, and what stands behind them
+-- The packet that the bytes are, and the bytes after it.
 abbrev pub linux_sll_parts : List ℕ → List ℕ → Parts LinuxSllHeader
 linux_sll_parts bytes left = parts_of (linux_sll_header_of bytes) (drop 16 bytes) left
 
--- the ether type of the payload, where the protocol is one
+-- The ether type of the payload, or None if the protocol is not an ether type.
 abbrev pub protocol_ether_type : LinuxSllProtocolType → Option EtherType
 protocol_ether_type (protocol.EtherType type) = Some type
 protocol_ether_type (protocol.LinuxNonstandardEtherType number) = None

@@ -1,4 +1,4 @@
--- What a slice of a Linux cooked capture shows.
+-- Contents of Linux cooked capture slices.
 use Rattle.std.specs.Prelude.{◌≡◌, ℕ, List, drop}
 use Rattle.ep_base.specs.Tables.{Parts}
 use Rattle.ep_link.specs.declared.link.linux_sll_header.LinuxSllHeader.{LinuxSllHeader}
@@ -6,22 +6,22 @@ use Rattle.ep_link.specs.declared.link.linux_sll_slice.LinuxSllSlice.{LinuxSllSl
 use Rattle.ep_link.specs.declared.link.linux_sll_payload_slice.LinuxSllPayloadSlice.{LinuxSllPayloadSlice}
 use Rattle.ep_link.specs.LinuxSll.{linux_sll_header_of, linux_sll_parts}
 
--- the bytes of header and payload
+-- the bytes of the header and the payload
 abbrev pub linux_sll_slice_bytes : LinuxSllSlice → List ℕ
 linux_sll_slice_bytes slice = slice.bytes.slice.now
 
--- its header
+-- the header
 abbrev pub linux_sll_slice_header : LinuxSllSlice → LinuxSllHeader
 linux_sll_slice_header slice = linux_sll_header_of (linux_sll_slice_bytes slice)
 
--- the bytes after its header
+-- the payload
 abbrev pub linux_sll_slice_payload : LinuxSllSlice → List ℕ
 linux_sll_slice_payload slice = drop 16 (linux_sll_slice_bytes slice)
 
--- both, and what stands behind the packet
+-- the header, the payload, and the bytes after the packet
 abbrev pub linux_sll_slice_parts : LinuxSllSlice → List ℕ → Parts LinuxSllHeader
 linux_sll_slice_parts slice left = linux_sll_parts (linux_sll_slice_bytes slice) left
 
--- two payloads are the same bytes with the same protocol
+-- two payloads have equal bytes and the same protocol
 abbrev pub ShowSameSllPayload : LinuxSllPayloadSlice → LinuxSllPayloadSlice → Type 0
 ShowSameSllPayload a b = (a.protocol_type ≡ b.protocol_type) × (a.payload.now ≡ b.payload.now)

@@ -1,4 +1,4 @@
-//! ARP (RFC 826).
+//! ARP, the Address Resolution Protocol (RFC 826): packets, addresses and operations.
 
 mod arp_address;
 mod arp_hardware_id;

@@ -1,4 +1,4 @@
-//! The errors of link layers.
+//! Errors of parsing link headers, VLAN and MACsec tags and ARP packets, and of creating ARP packets.
 
 pub mod arp;
 

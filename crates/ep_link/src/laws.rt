@@ -1,10 +1,10 @@
-//! What holds of every list of bytes, each law the contract of a function that does nothing.
+//! Laws of parsing link layers, of their constants, and of equality: each is a function whose contract states the law.
 
 ghost use Rattle.std.specs.Prelude.{◌≡◌, ◌↔◌, ◌+◌, ◌++◌, ◌⊎◌, IsTrue, false, ℕ, List, [], length};
 ghost use Rattle.std.specs.Ordering.{nat_cmp};
 ghost use Rattle.ep_base.specs.Bytes.{AreBytes};
-ghost use Rattle.ep_base.specs.NumberComparisons.{TellsSame, ClonesExactly};
-ghost use Rattle.ep_base.specs.Missing.{TellsCut, TellsMissing, slice_end};
+ghost use Rattle.ep_base.specs.NumberComparisons.{DecidesEquality, ClonesExactly};
+ghost use Rattle.ep_base.specs.Missing.{ReportsTruncation, ReportsMissing, slice_end};
 ghost use Rattle.ep_base.specs.declared.err.len_error.LenError.{LenError};
 ghost use Rattle.ep_base.specs.declared.err.linux_sll.HeaderSliceError.TheVariants as sll_error;
 ghost use Rattle.ep_base.specs.declared.err.macsec.HeaderSliceError.TheVariants as macsec_error;
@@ -49,40 +49,45 @@ use crate::{
     SingleVlanHeader, SingleVlanSlice, VlanHeader, VlanSlice,
 };
 
-/// Bytes are an Ethernet II frame, of one header and payload, or are refused with one error, and never both.
+/// States that any bytes either have exactly one reading as an Ethernet II frame (header and payload), or are rejected
+/// with exactly one error, and never both.
 pub fn ethernet2()
     ensures { (bytes : List ℕ) → AreBytes bytes → IsDecided (IsEthernet2 bytes) (RefusesEthernet2 bytes) }
 {}
 
-/// Bytes are a packet of a Linux cooked capture, of one header and payload, or are refused with one error, and never
-/// both.
+/// States that any bytes either have exactly one reading as a packet of a Linux cooked capture (SLL v1 header and
+/// payload), or are rejected with exactly one error, and never both.
 pub fn linux_sll()
     ensures { (bytes : List ℕ) → AreBytes bytes → IsDecided (IsLinuxSll bytes) (RefusesLinuxSll bytes) }
 {}
 
-/// Bytes are a VLAN tag and its payload in one way, or are refused with one error, and never both.
+/// States that any bytes either have exactly one reading as a VLAN tag and its payload, or are rejected with exactly
+/// one error, and never both.
 pub fn vlan()
     ensures { (bytes : List ℕ) → AreBytes bytes → IsDecided (IsVlan bytes) (RefusesVlan bytes) }
 {}
 
-/// Bytes are two VLAN tags and a payload in one way, or are refused with one error, and never both.
+/// States that any bytes either have exactly one reading as two successive VLAN tags and a payload, or are rejected
+/// with exactly one error, and never both.
 pub fn double_vlan()
     ensures { (bytes : List ℕ) → AreBytes bytes → IsDecided (IsDoubleVlan bytes) (RefusesDoubleVlan bytes) }
 {}
 
-/// Bytes begin with a MACsec tag, of one value and with one rest behind it, or are refused with one error, and never
-/// both.
+/// States that any bytes either start with a MACsec tag, whose fields and length are unique, or are rejected with
+/// exactly one error, and never both.
 pub fn macsec_header()
     ensures { (bytes : List ℕ) → AreBytes bytes → IsDecided (IsMacsecHeader bytes) (RefusesMacsecHeader bytes) }
 {}
 
-/// Bytes are a MACsec packet, of one tag, payload and rest, or are refused with one error, and never both.
+/// States that any bytes either have exactly one reading as a MACsec tag, payload and trailing bytes, or are rejected
+/// with exactly one error, and never both.
 pub fn macsec()
     ensures { (bytes : List ℕ) → AreBytes bytes → IsDecided (IsMacsec bytes) (RefusesMacsec bytes) }
 {}
 
-/// Each type begins a link extension or begins none. Bytes of one that does are an extension, of one value and with one
-/// rest behind it, or are refused with one error, and never both. Bytes of any other type are none and are not refused.
+/// States for each ether type whether a link extension (VLAN or MACsec tag with its payload) follows it. If so, any
+/// bytes either have exactly one reading as this extension and trailing bytes, or are rejected with exactly one error,
+/// and never both. If not, no bytes are read as an extension or rejected as one.
 pub fn link_extension()
     ensures cases { (type : EtherType) → BeginsLinkExtension type ⊎ (¬ BeginsLinkExtension type) }
     ensures decided { (type : EtherType) (bytes : List ℕ) → AreBytes bytes → BeginsLinkExtension type
@@ -93,48 +98,52 @@ pub fn link_extension()
         → RefusesLinkExtension type bytes error → BeginsLinkExtension type }
 {}
 
-/// Bytes that are a link extension are its tag, whatever the tag's reserved bits, its payload, and what is left.
+/// States that bytes read as a link extension (VLAN or MACsec tag) consist of the tag, its payload and the trailing
+/// bytes. The reserved bits of the tag may have any value.
 pub fn link_extension_bytes()
     ensures { (type : EtherType) (bytes : List ℕ) (part : LinkExtension × List ℕ) → IsLinkExtension type bytes part
         → (tag : List ℕ) × EncodesTag part.0 tag × (bytes ≡ (tag ++ extension_payload part.0) ++ part.1) }
 {}
 
-/// The tag of a link extension has as many bytes as its fields say, whatever its reserved bits.
+/// States that bytes read as a link extension (VLAN or MACsec tag) have the length of the tag, which its fields
+/// determine, plus the lengths of the payload and of the trailing bytes.
 pub fn link_extension_len()
     ensures { (type : EtherType) (bytes : List ℕ) (part : LinkExtension × List ℕ) → IsLinkExtension type bytes part
         → length bytes
         ≡ link_ext_header_len (extension_header part.0) + length (extension_payload part.0) + length part.1 }
 {}
 
-/// A refusal for want of bytes at hand counts the bytes that are there, and with as many behind them as are missing,
-/// the bytes are not refused by that row again: for each layer, and for link extensions of any type.
-pub fn tell_missing()
-    ensures ethernet2 { TellsMissing RefusesEthernet2 }
-    ensures linux_sll { TellsMissing (λ bytes error. RefusesLinuxSll bytes (sll_error.Len error)) }
-    ensures vlan { TellsMissing RefusesVlan }
-    ensures macsec_header { TellsMissing (λ bytes error. RefusesMacsecHeader bytes (macsec_error.Len error)) }
-    ensures macsec { TellsMissing (λ bytes error. RefusesMacsec bytes (macsec_error.Len error)) }
-    ensures arp { TellsMissing RefusesArp }
+/// States for each link layer, VLAN and MACsec tags and ARP that a length error reports exactly how many bytes are
+/// available, and that it does not recur once at least the missing number of bytes is appended.
+pub fn missing_bytes()
+    ensures ethernet2 { ReportsMissing RefusesEthernet2 }
+    ensures linux_sll { ReportsMissing (λ bytes error. RefusesLinuxSll bytes (sll_error.Len error)) }
+    ensures vlan { ReportsMissing RefusesVlan }
+    ensures macsec_header { ReportsMissing (λ bytes error. RefusesMacsecHeader bytes (macsec_error.Len error)) }
+    ensures macsec { ReportsMissing (λ bytes error. RefusesMacsec bytes (macsec_error.Len error)) }
+    ensures arp { ReportsMissing RefusesArp }
     ensures link_extension { (type : EtherType)
-        → TellsMissing (λ bytes error. RefusesLinkExtension type bytes (macsec_error.Len error)) }
+        → ReportsMissing (λ bytes error. RefusesLinkExtension type bytes (macsec_error.Len error)) }
 {}
 
-/// Where the front of bytes that are a layer is refused, it is for want of the bytes that the cut took: the offset plus
-/// `len` is the number of bytes up to the cut, `required_len` is more than `len`, and the offset plus `required_len` at
-/// most the number of all bytes. The limit is the end of the bytes at hand, but the address lengths of ARP, once they
-/// are there.
-pub fn tell_cut()
-    ensures ethernet2 { TellsCut IsEthernet2 RefusesEthernet2 (λ (error : LenError). error) (λ frame. slice_end) }
-    ensures linux_sll { TellsCut IsLinuxSll RefusesLinuxSll sll_error.Len (λ packet. slice_end) }
-    ensures vlan { TellsCut IsVlan RefusesVlan (λ (error : LenError). error) (λ tagged. slice_end) }
-    ensures macsec_header { TellsCut IsMacsecHeader RefusesMacsecHeader macsec_error.Len (λ read. slice_end) }
-    ensures macsec { TellsCut IsMacsec RefusesMacsec macsec_error.Len (λ packet. slice_end) }
-    ensures arp { TellsCut IsArp RefusesArp (λ (error : LenError). error) (λ read. arp_cut_limit 0) }
+/// States for each link layer, VLAN and MACsec tags and ARP: a rejected prefix of valid bytes is rejected with a length
+/// error. The error's offset plus `len` is the length of the prefix, `required_len` is greater than `len`, and offset
+/// plus `required_len` is at most the length of the valid bytes. The length source is the end of the slice, except for
+/// an ARP packet if the prefix has at least 8 bytes: then it is the address lengths of the packet.
+pub fn truncation()
+    ensures ethernet2 { ReportsTruncation IsEthernet2 RefusesEthernet2 (λ (error : LenError). error) (λ frame. slice_end) }
+    ensures linux_sll { ReportsTruncation IsLinuxSll RefusesLinuxSll sll_error.Len (λ packet. slice_end) }
+    ensures vlan { ReportsTruncation IsVlan RefusesVlan (λ (error : LenError). error) (λ tagged. slice_end) }
+    ensures macsec_header { ReportsTruncation IsMacsecHeader RefusesMacsecHeader macsec_error.Len (λ read. slice_end) }
+    ensures macsec { ReportsTruncation IsMacsec RefusesMacsec macsec_error.Len (λ packet. slice_end) }
+    ensures arp { ReportsTruncation IsArp RefusesArp (λ (error : LenError). error) (λ read. arp_cut_limit 0) }
     ensures link_extension { (type : EtherType)
-        → TellsCut (IsLinkExtension type) (RefusesLinkExtension type) macsec_error.Len (λ part. slice_end) }
+        → ReportsTruncation (IsLinkExtension type) (RefusesLinkExtension type) macsec_error.Len (λ part. slice_end) }
 {}
 
-/// The numbers are those that IANA and Linux assign, and each length is that of its header or packet.
+/// States that the constants for packet types, hardware types and ARP operations have the values that Linux and IANA
+/// assign. Also states the lengths of headers in bytes (minimum and maximum for MACsec tags), and the maximum length of
+/// an ARP packet.
 pub fn constants()
     ensures ethernet2_len { Ethernet2Header.LEN ≡ 14 }
 
@@ -159,31 +168,32 @@ pub fn constants()
     ensures macsec { (MacsecHeader.MIN_LEN ≡ 6) × (MacsecHeader.MAX_LEN ≡ 16) }
 {}
 
-/// Hardware types and operations are ordered as numbers.
+/// States that ARP hardware types (ARPHRD) and ARP operations are ordered numerically.
 pub fn comparisons()
     ensures hardware_types { (a b : ArpHardwareId) → ⟦<ArpHardwareId as Ord>⟧.cmp a b ≡ nat_cmp a.0 b.0 }
     ensures operations { (a b : ArpOperation) → ⟦<ArpOperation as Ord>⟧.cmp a b ≡ nat_cmp a.0 b.0 }
 {}
 
-/// Headers and errors are equal where each of their parts is, ARP packets by the bytes of their addresses. Slices are
-/// equal where they show the same: the same bytes, reserved bits among them, or the same payload of the same type.
+/// States when `==` is true for the types of this crate. Headers and errors are equal exactly if all their parts are,
+/// and ARP packets compare the bytes of their addresses. Slices are equal exactly if they have the same bytes,
+/// including reserved bits. Payloads are equal exactly if their fields are.
 pub fn equalities()
-    ensures hardware_types { TellsSame ⟦<ArpHardwareId as PartialEq>⟧.eq }
-    ensures operations { TellsSame ⟦<ArpOperation as PartialEq>⟧.eq }
-    ensures arp_hw_addr_error { TellsSame ⟦<ArpHwAddrError as PartialEq>⟧.eq }
-    ensures arp_proto_addr_error { TellsSame ⟦<ArpProtoAddrError as PartialEq>⟧.eq }
-    ensures arp_new_error { TellsSame ⟦<ArpNewError as PartialEq>⟧.eq }
-    ensures ethernet2_header { TellsSame ⟦<Ethernet2Header as PartialEq>⟧.eq }
-    ensures packet_types { TellsSame ⟦<LinuxSllPacketType as PartialEq>⟧.eq }
-    ensures protocol_types { TellsSame ⟦<LinuxSllProtocolType as PartialEq>⟧.eq }
-    ensures linux_sll_header { TellsSame ⟦<LinuxSllHeader as PartialEq>⟧.eq }
-    ensures link_header { TellsSame ⟦<LinkHeader as PartialEq>⟧.eq }
-    ensures vlan_header { TellsSame ⟦<SingleVlanHeader as PartialEq>⟧.eq }
-    ensures double_vlan_header { TellsSame ⟦<DoubleVlanHeader as PartialEq>⟧.eq }
-    ensures vlan_tags { TellsSame ⟦<VlanHeader as PartialEq>⟧.eq }
-    ensures macsec_ptype { TellsSame ⟦<MacsecPType as PartialEq>⟧.eq }
-    ensures macsec_header { TellsSame ⟦<MacsecHeader as PartialEq>⟧.eq }
-    ensures link_ext_header { TellsSame ⟦<LinkExtHeader as PartialEq>⟧.eq }
+    ensures hardware_types { DecidesEquality ⟦<ArpHardwareId as PartialEq>⟧.eq }
+    ensures operations { DecidesEquality ⟦<ArpOperation as PartialEq>⟧.eq }
+    ensures arp_hw_addr_error { DecidesEquality ⟦<ArpHwAddrError as PartialEq>⟧.eq }
+    ensures arp_proto_addr_error { DecidesEquality ⟦<ArpProtoAddrError as PartialEq>⟧.eq }
+    ensures arp_new_error { DecidesEquality ⟦<ArpNewError as PartialEq>⟧.eq }
+    ensures ethernet2_header { DecidesEquality ⟦<Ethernet2Header as PartialEq>⟧.eq }
+    ensures packet_types { DecidesEquality ⟦<LinuxSllPacketType as PartialEq>⟧.eq }
+    ensures protocol_types { DecidesEquality ⟦<LinuxSllProtocolType as PartialEq>⟧.eq }
+    ensures linux_sll_header { DecidesEquality ⟦<LinuxSllHeader as PartialEq>⟧.eq }
+    ensures link_header { DecidesEquality ⟦<LinkHeader as PartialEq>⟧.eq }
+    ensures vlan_header { DecidesEquality ⟦<SingleVlanHeader as PartialEq>⟧.eq }
+    ensures double_vlan_header { DecidesEquality ⟦<DoubleVlanHeader as PartialEq>⟧.eq }
+    ensures vlan_tags { DecidesEquality ⟦<VlanHeader as PartialEq>⟧.eq }
+    ensures macsec_ptype { DecidesEquality ⟦<MacsecPType as PartialEq>⟧.eq }
+    ensures macsec_header { DecidesEquality ⟦<MacsecHeader as PartialEq>⟧.eq }
+    ensures link_ext_header { DecidesEquality ⟦<LinkExtHeader as PartialEq>⟧.eq }
     ensures arp { (a b : ArpPacket) → IsTrue (⟦<ArpPacket as PartialEq>⟧.eq a b) ↔ (arp_of a ≡ arp_of b) }
     ensures arp_slice { (a b : ArpPacketSlice) → IsTrue (⟦<ArpPacketSlice<'static> as PartialEq>⟧.eq a b)
         ↔ (arp_slice_bytes a ≡ arp_slice_bytes b) }
@@ -213,7 +223,8 @@ pub fn equalities()
     ep_base::laws::equalities();
 }
 
-/// A clone is there whatever memory there is, and is the same as its source.
+/// States that cloning a header, slice or error of a link layer, VLAN or MACsec tag or ARP packet never fails, and that
+/// the clone is equal to its source.
 pub fn clones()
     ensures hardware_types { ClonesExactly
         ⟦<ArpHardwareId as Clone>⟧.is_infallible ⟦<ArpHardwareId as Clone>⟧.is_clone }
@@ -268,7 +279,8 @@ pub fn clones()
         ⟦<LinkExtSlice<'static> as Clone>⟧.is_infallible ⟦<LinkExtSlice<'static> as Clone>⟧.is_clone }
 {}
 
-/// The default of a link extension and of its slice: a VLAN tag of four bytes 0, and no payload.
+/// Returns the default of `LinkExtHeader` and that of `LinkExtSlice`: both are a VLAN tag of four zero bytes, the
+/// latter with an empty payload.
 pub fn link_ext_defaults() -> (LinkExtHeader, LinkExtSlice<'static>)
     ensures header { result.0 ≡ header.Vlan
         (record { pcp = 0; drop_eligible_indicator = false; vlan_id = 0; ether_type = record { 0 = 0 } }) }
@@ -278,8 +290,8 @@ pub fn link_ext_defaults() -> (LinkExtHeader, LinkExtSlice<'static>)
     (LinkExtHeader::default(), LinkExtSlice::default())
 }
 
-/// Bytes begin with an ARP packet, of one value and with one rest behind it, or are refused with one error, and never
-/// both.
+/// States that any bytes either start with an ARP packet, whose fields and length are unique, or are rejected with
+/// exactly one error, and never both.
 pub fn arp()
     ensures { (bytes : List ℕ) → AreBytes bytes → IsDecided (IsArp bytes) (RefusesArp bytes) }
 {}

@@ -1,4 +1,4 @@
-//! Link layers.
+//! Link layers: Ethernet II, Linux cooked captures, VLAN and MACsec tags, and ARP, as owned headers and as slices.
 #![tactic(auto)]
 
 mod arp;

@@ -1,4 +1,4 @@
-//! The headers of link layers.
+//! Link headers: Ethernet II and Linux cooked captures (SLL v1).
 
 mod ethernet2_header;
 mod ethernet2_slice;

@@ -1,4 +1,4 @@
-//! Link extensions: VLAN and MACsec tags, between the link header and the net layer.
+//! Link extensions: VLAN and MACsec tags between the link header and the network layer.
 
 mod double_vlan_header;
 mod double_vlan_slice;

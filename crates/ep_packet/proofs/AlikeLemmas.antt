@@ -1,9 +1,10 @@
--- That bytes which are refused as headers are read are refused alike as slices are read, and what slices alone refuse.
+-- Bytes that the reading as headers rejects are rejected alike by the reading as slices; and the errors of the reading
+-- as slices alone.
 use Rattle.std.proofs.Common.{◌≡◌, ◌⊎◌, ℕ, zero, suc, ◌+◌, Bool, true, List, [], ◌∷◌, Option, Some, None, sym, ap, subst, inl, inr, arith}
 use Rattle.std.proofs.lemmas.Grind.{common_steps}
 use Rattle.ep_base.specs.Bytes.{AreBytes}
 use Rattle.ep_base.specs.IpPayload.{IpPayload}
-use Rattle.ep_base.specs.Readings.{Reading, slices, headers, cut_by}
+use Rattle.ep_base.specs.Readings.{Reading, slices, headers, limited_by}
 use Rattle.ep_base.specs.Tables.{Parts}
 use Rattle.ep_base.proofs.BytesLemmas.{AreBytes-payload}
 use Rattle.ep_base.specs.declared.ether_type.EtherType.{EtherType}
@@ -30,12 +31,12 @@ use Rattle.ep_packet.specs.declared.entry.Entry.TheVariants.{Ethernet as etherne
 use Rattle.ep_packet.specs.declared.err.slice_error.SliceError.{SliceError}
 use Rattle.ep_packet.specs.Layers.{NetLayer, ipv4, ipv6, arp, Layers, ipv6_layer, net_payload}
 use Rattle.ep_packet.specs.Frame.{NetKind, only_ipv4, only_ipv6, only_arp, any_ip, net_kind, most_link_exts, IsFrameIn, IsInside, IsNetLayer, IsNetPart}
-use Rattle.ep_packet.specs.FrameRefusals.{RefusesFrameIn, RefusesInside, RefusesNetLayer, RefusesNetPart, RefusesTransportBehind, net_header_len, transport_refusal}
+use Rattle.ep_packet.specs.FrameRefusals.{RefusesFrameIn, RefusesInside, RefusesNetLayer, RefusesNetPart, RefusesTransportAfterNet, net_payload_offset, transport_refusal}
 use Rattle.ep_packet.specs.TwoParsers.{IsUdpLengthRefusal, StopsAtSecondKind}
 use Rattle.ep_packet.proofs.DeciderLemmas.{Deciders, ExtensionPart}
 use Rattle.ep_packet.proofs.NetLemmas.{layer_decided, net_decided}
 
--- what is known of the two readings of chains and of transport layers
+-- The laws about the two readings of extension chains and transport layers.
 pub record ReadingLaws : Type 0 where
   pub chain : (version : IpVersion) (number : ℕ) (bytes : List ℕ) (chain : ExtensionChain)
       → IsExtensionChain version headers number bytes chain → IsExtensionChain version slices number bytes chain
@@ -52,9 +53,9 @@ pub record ReadingLaws : Type 0 where
   pub none : (reading : Reading) (number : ℕ) (fragmented : Bool) (bytes : List ℕ) (error : TransportError)
       → HasNoHeader number → RefusesTransportPart reading number fragmented bytes error → ⊥
 
--- ---- the net layer
+-- ---- network layer
 
--- a net layer of IPv6 whose extension headers stop at a second one of a kind
+-- An IPv6 network layer whose extension headers stop at a second one of a kind.
 abbrev Stops : NetLayer → Type 0
 Stops (ipv4 header extensions payload) = ⊥
 Stops (ipv6 header extensions payload) =
@@ -95,7 +96,7 @@ ipv6_in_slices laws bytes packet is =
       | inr second ↦ inr (second.1, second.2)
     ]
 
--- a net layer as headers are read is one as slices are, or stops
+-- A network layer in the reading as headers is one in the reading as slices, or stops at a second header of a kind.
 layer_in_slices : ReadingLaws → (kind : NetKind) (bytes : List ℕ) (layer : NetLayer)
     → IsNetLayer headers kind bytes layer → IsNetLayer slices kind bytes layer ⊎ Stops layer
 layer_in_slices laws only_ipv4 bytes layer is = inl (is.0, ipv4_in_slices laws bytes is.0 is.1, is.2)
@@ -157,10 +158,10 @@ layer_refused laws only_arp offset bytes error refused = refused
 layer_refused laws any_ip offset bytes error refused =
     (refused.0, ip_refused laws bytes refused.0 refused.1, refused.2)
 
--- ---- the transport layer
+-- ---- transport layer
 
 behind_refused : ReadingLaws → (offset : ℕ) (payload : Option IpPayload) (error : SliceError)
-    → RefusesTransportBehind headers offset payload error → RefusesTransportBehind slices offset payload error
+    → RefusesTransportAfterNet headers offset payload error → RefusesTransportAfterNet slices offset payload error
 behind_refused laws offset None error refused = refused
 behind_refused laws offset (Some payload) error refused =
     (refused.0, laws.refused payload.number payload.fragmented payload.bytes refused.0 refused.1, refused.2)
@@ -168,13 +169,13 @@ behind_refused laws offset (Some payload) error refused =
 length_refusal : (offset : ℕ) (limit : LenSource) (error : TransportError) → IsUdpLengthError error
     → IsUdpLengthRefusal (transport_refusal offset limit error)
 length_refusal offset limit (transport_error.Len error) (inl source) =
-    inl (ap (λ (s : LenSource). cut_by limit s) source)
+    inl (ap (λ (s : LenSource). limited_by limit s) source)
 length_refusal offset limit (transport_error.Len error) (inr layer) = inr layer
 length_refusal offset limit (transport_error.Content error) never = absurd never
 
 behind_alone : ReadingLaws → (offset : ℕ) (payload : Option IpPayload) (error : SliceError)
-    → RefusesTransportBehind slices offset payload error
-    → RefusesTransportBehind headers offset payload error ⊎ IsUdpLengthRefusal error
+    → RefusesTransportAfterNet slices offset payload error
+    → RefusesTransportAfterNet headers offset payload error ⊎ IsUdpLengthRefusal error
 behind_alone laws offset None error refused = inl refused
 behind_alone laws offset (Some payload) error refused =
     elim (laws.alone payload.number payload.fragmented payload.bytes refused.0 refused.1) [
@@ -183,7 +184,7 @@ behind_alone laws offset (Some payload) error refused =
           (length_refusal offset payload.source refused.0 alone))
     ]
 
--- an extension header has no transport layer's number
+-- The number of an IPv6 extension header is no number of a transport layer.
 no_header : (number : ℕ) → is_ipv6_extension number ≡ true → HasNoHeader number
 no_header number extension = (
   λ same. is_udp number extension same,
@@ -204,16 +205,16 @@ no_header number extension = (
     is_icmpv6 : (number : ℕ) → is_ipv6_extension number ≡ true → number ≡ 58 → ⊥
     is_icmpv6 number extension same = grind (arith, common_steps)
 
--- where the extension headers stop, nothing is refused behind them
+-- After a network layer that stops at a second header of a kind, no transport layer is rejected.
 none_behind : ReadingLaws → (reading : Reading) (offset : ℕ) (layer : NetLayer) (error : SliceError) → Stops layer
-    → RefusesTransportBehind reading offset (net_payload layer) error → ⊥
+    → RefusesTransportAfterNet reading offset (net_payload layer) error → ⊥
 none_behind laws reading offset (ipv4 header extensions payload) error stops refused = stops
 none_behind laws reading offset (ipv6 header extensions payload) error stops refused =
     laws.none reading payload.number payload.fragmented payload.bytes refused.0 (no_header payload.number stops.1)
     refused.1
 none_behind laws reading offset (arp packet) error stops refused = stops
 
--- ---- what headers refuse
+-- ---- errors in the reading as headers
 
 net_refused : ReadingLaws → (offset : ℕ) (kind : Option NetKind) (bytes : List ℕ) (error : SliceError)
     → RefusesNetPart headers offset kind bytes error → RefusesNetPart slices offset kind bytes error
@@ -225,9 +226,9 @@ net_refused laws offset (Some kind) bytes error (inr refused) =
       | inl is ↦ inr (
         refused.0,
         is,
-        behind_refused laws (offset + net_header_len refused.0) (net_payload refused.0) error refused.2,
+        behind_refused laws (offset + net_payload_offset refused.0) (net_payload refused.0) error refused.2,
       )
-      | inr stops ↦ absurd (none_behind laws headers (offset + net_header_len refused.0) refused.0 error stops
+      | inr stops ↦ absurd (none_behind laws headers (offset + net_payload_offset refused.0) refused.0 error stops
           refused.2)
     ]
 
@@ -247,7 +248,7 @@ inside_refused laws (suc room) offset (Some type) bytes error (inr (inr refused)
       (extension_payload refused.0) error refused.3,
 ))
 
--- what is refused as headers are read is refused as slices are
+-- A frame that the reading as headers rejects is rejected with an equal error by the reading as slices.
 pub frame_refused : ReadingLaws → (entry : Entry) (bytes : List ℕ) (error : SliceError)
     → RefusesFrameIn headers entry bytes error → RefusesFrameIn slices entry bytes error
 frame_refused laws ethernet bytes error (inl refused) = inl refused
@@ -268,7 +269,7 @@ frame_refused laws (ether_type type) bytes error refused =
     inside_refused laws most_link_exts 0 (Some type) bytes error refused
 frame_refused laws ip bytes error refused = net_refused laws 0 (Some any_ip) bytes error refused
 
--- ---- what slices alone refuse
+-- ---- errors in the reading as slices alone
 
 abbrev IsAlone : SliceError → Option NetLayer → Type 0
 IsAlone error net = IsUdpLengthRefusal error ⊎ StopsAtSecondKind net
@@ -282,7 +283,7 @@ net_alone laws deciders offset (Some kind) bytes fits error refused net transpor
     elim (layer_in_slices laws kind bytes is.0 is.1) [
       | inl also ↦ elim refused [
         | inl none ↦ absurd ((layer_decided deciders slices kind offset bytes fits).not_both is.0 error also none)
-        | inr behind ↦ elim (behind_alone laws (offset + net_header_len behind.0) (net_payload behind.0) error
+        | inr behind ↦ elim (behind_alone laws (offset + net_payload_offset behind.0) (net_payload behind.0) error
             behind.2) [
               | inl both ↦
                   let same = (layer_decided deciders slices kind offset bytes fits).one_value behind.0 is.0 behind.1
@@ -291,7 +292,7 @@ net_alone laws deciders offset (Some kind) bytes fits error refused net transpor
                   (inr (
                     is.0,
                     is.1,
-                    subst (λ (layer : NetLayer). RefusesTransportBehind headers (offset + net_header_len layer)
+                    subst (λ (layer : NetLayer). RefusesTransportAfterNet headers (offset + net_payload_offset layer)
                         (net_payload layer) error) same both,
                   )))
               | inr alone ↦ inl alone
@@ -337,7 +338,8 @@ inside_alone laws deciders (suc room) offset (Some type) bytes fits error (inr (
     same refused.3)
     others net transport is.1
 
--- what slices alone refuse is refused by the length field of UDP, or where headers stop at a second kind
+-- An error in the reading as slices alone is one of the UDP length field, or the reading as headers stops at a second
+-- extension header of a kind.
 pub frame_alone : ReadingLaws → Deciders → (entry : Entry) (bytes : List ℕ) → AreBytes bytes → (error : SliceError)
     → RefusesFrameIn slices entry bytes error → (layers : Layers) → IsFrameIn headers entry bytes layers
     → IsAlone error layers.net

@@ -1,11 +1,11 @@
--- That the cut of a frame is refused for want of what the cut took.
+-- A truncated frame is rejected for the missing bytes.
 use Rattle.std.proofs.Common.{◌≡◌, ◌⊎◌, ℕ, zero, suc, ◌+◌, ◌<◌, ◌≤◌, ◌==◌, if◌then◌else◌, ◌-◌, Bool, false, List, [], ◌∷◌, ◌++◌, length, Option, Some, None, refl, sym, ap, subst, ◌∙◌, inl, inr, arith, length-append}
 use Rattle.std.specs.Prelude.{◌&&◌, nat_le}
 use Rattle.std.proofs.lemmas.Grind.{common_steps}
 use Rattle.ep_base.specs.Bytes.{AreBytes}
 use Rattle.ep_base.specs.IpPayload.{IpPayload}
-use Rattle.ep_base.specs.Readings.{Reading, cut_by}
-use Rattle.ep_base.specs.Missing.{IsCutRefusal, IsCutShort, TellsCut, slice_end}
+use Rattle.ep_base.specs.Readings.{Reading, limited_by}
+use Rattle.ep_base.specs.Missing.{IsTruncationError, IsTruncationLenError, ReportsTruncation, slice_end}
 use Rattle.ep_base.specs.Tables.{Parts, parts_of}
 use Rattle.ep_base.proofs.BytesLemmas.{AreBytes-payload}
 use Rattle.ep_base.proofs.CutRefusalLemmas.{further_short, longer_rest}
@@ -37,7 +37,7 @@ use Rattle.ep_ip.specs.IpPackets.{IpPacket, IpPart, IsIpv6, ip_cut_limit, ipv4_p
 use Rattle.ep_ip.proofs.CutRefusalLemmas.{ip_cut, ipv4_cut, ipv6_cut, longer_ipv4, longer_ipv6, open_limit, with_left, with_more}
 use Rattle.ep_ip.proofs.IpBytesLemmas.{ipv6_len, ipv6_packet_bytes}
 use Rattle.ep_transport.specs.TransportParts.{TransportLayer}
-use Rattle.ep_transport.proofs.CutRefusalLemmas.{transport_cut}
+use Rattle.ep_transport.proofs.CutRefusalLemmas.{transport_with_trailing_bytes}
 use Rattle.ep_transport.proofs.TransportLemmas.{transport_is_read}
 use Rattle.ep_packet.specs.declared.entry.Entry.{Entry}
 use Rattle.ep_packet.specs.declared.entry.Entry.TheVariants.{Ethernet as ethernet, LinuxSll as linux_sll, EtherType as ether_type, Ip as ip}
@@ -45,8 +45,8 @@ use Rattle.ep_packet.specs.declared.err.slice_error.SliceError.{SliceError}
 use Rattle.ep_packet.specs.declared.err.slice_error.SliceError.TheVariants as slice_error
 use Rattle.ep_packet.specs.FrameCuts.{frame_cut_limit, net_cut_limit, net_start}
 use Rattle.ep_packet.specs.Layers.{NetLayer, arp, ip_layer, ipv4, ipv4_layer, ipv6, ipv6_layer, net_payload}
-use Rattle.ep_packet.specs.Frame.{IsFrameIn, IsInside, IsNetLayer, IsNetPart, IsTransportBehind, NetKind, any_ip, most_link_exts, net_kind, only_arp, only_ipv4, only_ipv6}
-use Rattle.ep_packet.specs.FrameRefusals.{RefusesExtensionAt, RefusesFrameIn, RefusesInside, RefusesNetLayer, RefusesNetPart, RefusesTransportIn, extension_refusal, further_behind, ip_refusal, ipv4_refusal, ipv6_refusal, len_refusal, linux_sll_refusal, transport_refusal}
+use Rattle.ep_packet.specs.Frame.{IsFrameIn, IsInside, IsNetLayer, IsNetPart, IsTransportAfterNet, NetKind, any_ip, most_link_exts, net_kind, only_arp, only_ipv4, only_ipv6}
+use Rattle.ep_packet.specs.FrameRefusals.{RefusesExtensionAt, RefusesFrameIn, RefusesInside, RefusesNetLayer, RefusesNetPart, RefusesTransportIn, extension_refusal, with_further_offset, ip_refusal, ipv4_refusal, ipv6_refusal, len_refusal, linux_sll_refusal, transport_refusal}
 use Rattle.ep_packet.specs.UncutTags.{CutsNothing}
 use Rattle.ep_packet.proofs.DeciderLemmas.{ExtensionPart}
 use Rattle.ep_packet.proofs.InsideLemmas.{inside_decided}
@@ -54,33 +54,33 @@ use Rattle.ep_packet.proofs.LayerLawLemmas.{layer_laws}
 use Rattle.ep_packet.proofs.MissingLemmas.{ExtensionStart, RefusesBehind, SllStart, ethernet2_len, ethernet2_start, extension_at_start, linux_sll_len, longer_ethernet2, longer_extension, longer_linux_sll, sll_at_start, tag_len, uncut_left, whole_len}
 use Rattle.ep_packet.proofs.NetLemmas.{layer_decided}
 
--- a refusal of a frame for want of what the cut took
+-- The error of a truncated frame for its missing bytes.
 abbrev IsCut : (LenError → LenSource) → ℕ → ℕ → SliceError → Type 0
-IsCut = IsCutRefusal slice_error.Len
+IsCut = IsTruncationError slice_error.Len
 
--- the same in a frame with this net layer, which starts here, of the bytes of a layer that starts there
+-- The error of a truncated frame with this network layer at `start`, for a layer at `offset` with the bytes `front`.
 abbrev NetCut : Option NetLayer → ℕ → ℕ → List ℕ → List ℕ → SliceError → Type 0
 NetCut net start offset front back =
     IsCut (net_cut_limit net start) (offset + length front) (offset + length (front ++ back))
 
--- a layer's refusal as one of the frame
+-- The error of a truncated layer, moved to its offset, is that of the truncated frame.
 placed : {E : Type 0} (named : LenError → E) (place : E → SliceError) (offset : ℕ)
     (limit in_frame : LenError → LenSource)
-    → ((missing : LenError) → place (named missing) ≡ slice_error.Len (further_behind offset missing))
-    → (cut whole : ℕ) (refusal : E) (is : IsCutRefusal named limit cut whole refusal)
-    → limit is.missing ≡ in_frame (further_behind offset is.missing)
+    → ((missing : LenError) → place (named missing) ≡ slice_error.Len (with_further_offset offset missing))
+    → (cut whole : ℕ) (refusal : E) (is : IsTruncationError named limit cut whole refusal)
+    → limit is.missing ≡ in_frame (with_further_offset offset is.missing)
     → (error : SliceError) → error ≡ place refusal → IsCut in_frame (offset + cut) (offset + whole) error
 placed named place offset limit in_frame places cut whole refusal is limits error same = record {
-  missing = further_behind offset is.missing;
+  missing = with_further_offset offset is.missing;
   is = same ∙ ap place is.is ∙ places is.missing;
   short = further_short offset cut whole is.missing.len_source is.missing is.short;
   source = is.source ∙ limits;
 }
 
--- ---- the net layer
+-- ---- network layer
 
 moved_ipv6 : (start : ℕ) (header : Ipv6Header) (missing : LenError)
-    → ipv6_cut_limit 0 header missing ≡ ipv6_cut_limit start header (further_behind start missing)
+    → ipv6_cut_limit 0 header missing ≡ ipv6_cut_limit start header (with_further_offset start missing)
 moved_ipv6 start header missing =
     let test : (missing.layer_start_offset == 40) ≡ (missing.layer_start_offset + start == start + 40) =
     grind (arith, common_steps) in
@@ -88,14 +88,14 @@ moved_ipv6 start header missing =
     else source.Slice) test
 
 moved_arp : (start : ℕ) (missing : LenError) → arp_cut_limit 0 missing ≡ arp_cut_limit start
-    (further_behind start missing)
+    (with_further_offset start missing)
 moved_arp start missing =
     let test : (missing.layer_start_offset == 0) ≡ (missing.layer_start_offset + start == start) =
     grind (arith, common_steps) in
     ap (λ (b : Bool). if b && nat_le 8 missing.len then source.ArpAddrLengths else source.Slice) test
 
 moved_ip : (start : ℕ) (part : IpPart) (missing : LenError)
-    → ip_cut_limit 0 part missing ≡ net_cut_limit (Some (ip_layer part)) start (further_behind start missing)
+    → ip_cut_limit 0 part missing ≡ net_cut_limit (Some (ip_layer part)) start (with_further_offset start missing)
 moved_ip start (ipv4_part packet) missing = refl
 moved_ip start (ipv6_part packet) missing = moved_ipv6 start packet.header missing
 
@@ -127,27 +127,27 @@ layer_cut reading any_ip start front back fits layer is error refused =
     (λ missing. refl) (length front) (length (front ++ back)) refused.0 known (moved_ip start is.0 known.missing) error
     refused.2)
 
--- ---- the transport layer
+-- ---- transport layer
 
--- a payload that has its transport layer is not refused for it
+-- A payload that has its transport layer is not rejected for it.
 no_refusal : (reading : Reading) (offset : ℕ) (payload : IpPayload) (transport : Option TransportLayer)
-    → IsTransportBehind reading (Some payload) transport → (error : SliceError)
+    → IsTransportAfterNet reading (Some payload) transport → (error : SliceError)
     → RefusesTransportIn reading offset payload error → ⊥
 no_refusal reading offset payload transport is error refused =
     refused_is_not (transport_is_read reading payload.number payload.fragmented) payload.bytes transport refused.0
     refused.1
     is
 
--- a packet of IPv4 that stands on the front has all of its payload
+-- An IPv4 packet that is valid in the truncated bytes has its full payload, which is not rejected.
 ipv4_behind : (reading : Reading) (start : ℕ) (front back : List ℕ) (layer : NetLayer)
     (transport : Option TransportLayer)
-    → IsTransportBehind reading (net_payload layer) transport → (packet : IpPacket Ipv4Header)
+    → IsTransportAfterNet reading (net_payload layer) transport → (packet : IpPacket Ipv4Header)
     → layer ≡ ipv4_layer packet → (error : SliceError) → RefusesBehind reading start error (ipv4_layer packet) → ⊥
 ipv4_behind reading start front back layer transport is packet same error refused =
     no_refusal reading (start + ipv4_headers_len packet.header packet.extensions) packet.payload transport
-    (subst (λ (l : NetLayer). IsTransportBehind reading (net_payload l) transport) same is) error refused
+    (subst (λ (l : NetLayer). IsTransportAfterNet reading (net_payload l) transport) same is) error refused
 
--- how the bytes of a packet of IPv6 that leaves nothing are counted
+-- The two counts of an IPv6 packet without trailing bytes: headers and payload, and header and content.
 record Counted (packet : IpPacket Ipv6Header) (content : List ℕ) (bytes : List ℕ) : Type 0 where
   by_payload : ipv6_headers_len packet.extensions + length packet.payload.bytes ≡ length bytes
   by_content : 40 + length content ≡ length bytes
@@ -175,15 +175,16 @@ counted reading bytes packet is nothing =
       );
     }
 
--- a packet of IPv6 whose payload length is 0 has of its payload what stands on the front
-open_behind : (reading : Reading) (start : ℕ) (front back : List ℕ) → AreBytes (front ++ back)
+-- In a truncated IPv6 packet with a payload length of 0, the payload is limited by the truncation, and its error is
+-- that of the truncated frame.
+open_after : (reading : Reading) (start : ℕ) (front back : List ℕ) → AreBytes (front ++ back)
     → (transport : Option TransportLayer) (packet : IpPacket Ipv6Header) (is : IsIpv6 reading front packet)
     → packet.header.payload_length ≡ 0 → packet.left ≡ []
     → IsIpv6 reading (front ++ back) (with_more packet is.content back)
-    → IsTransportBehind reading (net_payload (ipv6_layer (with_more packet is.content back))) transport
+    → IsTransportAfterNet reading (net_payload (ipv6_layer (with_more packet is.content back))) transport
     → (error : SliceError) → RefusesBehind reading start error (ipv6_layer packet)
     → NetCut (Some (ipv6_layer (with_more packet is.content back))) start start front back error
-open_behind reading start front back fits transport packet is none nothing longer transport_is error refused =
+open_after reading start front back fits transport packet is none nothing longer transport_is error refused =
     let payload = packet.payload.bytes in
     let limit = packet.payload.source in
     let headers = ipv6_headers_len packet.extensions in
@@ -191,7 +192,7 @@ open_behind reading start front back fits transport packet is none nothing longe
     let lens = counted reading front packet is nothing in
     let bytes = ipv6_packet_bytes reading (front ++ back) (with_more packet is.content back) longer in
     let payload_fits = AreBytes-payload (front ++ back) bytes.headers (payload ++ back) [] fits bytes.parts in
-    let known = transport_cut reading packet.payload.number packet.payload.fragmented payload back payload_fits
+    let known = transport_with_trailing_bytes reading packet.payload.number packet.payload.fragmented payload back payload_fits
     transport
     transport_is refused.0 refused.1 in
     let missing = known.missing in
@@ -212,10 +213,10 @@ open_behind reading start front back fits transport packet is none nothing longe
       is = refused.2 ∙ ap (transport_refusal offset limit) known.is
           ∙ ap (λ (s : LenSource). slice_error.Len (record missing {
             layer_start_offset = missing.layer_start_offset + offset;
-            len_source = cut_by limit s;
+            len_source = limited_by limit s;
           })) known.source;
-      short = subst (λ (n : ℕ). IsCutShort n (start + length (front ++ back)) moved) here
-          (subst (λ (n : ℕ). IsCutShort (offset + length payload) n moved) whole
+      short = subst (λ (n : ℕ). IsTruncationLenError n (start + length (front ++ back)) moved) here
+          (subst (λ (n : ℕ). IsTruncationLenError (offset + length payload) n moved) whole
           (further_short offset (length payload) (length (payload ++ back)) limit missing known.short));
       source = is.source
           ∙ open_limit start (missing.layer_start_offset + extensions) missing.len (length is.content)
@@ -226,25 +227,25 @@ open_behind reading start front back fits transport packet is none nothing longe
 
 ipv6_behind : (reading : Reading) (start : ℕ) (front back : List ℕ) → AreBytes (front ++ back) → (layer : NetLayer)
     → ((longer : IpPacket Ipv6Header) → IsIpv6 reading (front ++ back) longer → layer ≡ ipv6_layer longer)
-    → (transport : Option TransportLayer) → IsTransportBehind reading (net_payload layer) transport
+    → (transport : Option TransportLayer) → IsTransportAfterNet reading (net_payload layer) transport
     → (packet : IpPacket Ipv6Header) → IsIpv6 reading front packet → (error : SliceError)
     → RefusesBehind reading start error (ipv6_layer packet) → NetCut (Some layer) start start front back error
 ipv6_behind reading start front back fits layer one transport transport_is packet is error refused =
     elim (longer_ipv6 reading front back packet is) [
       | inl stands ↦ absurd (no_refusal reading (start + ipv6_headers_len packet.extensions) packet.payload transport
-          (subst (λ (l : NetLayer). IsTransportBehind reading (net_payload l) transport)
+          (subst (λ (l : NetLayer). IsTransportAfterNet reading (net_payload l) transport)
           (one (with_left packet back) stands) transport_is) error refused)
       | inr (none, nothing, stands) ↦
           let same = one (with_more packet is.content back) stands in
           subst (λ (l : NetLayer). NetCut (Some l) start start front back error) (sym same)
-          (open_behind reading start front back fits transport packet is none nothing stands
-          (subst (λ (l : NetLayer). IsTransportBehind reading (net_payload l) transport) same transport_is) error
+          (open_after reading start front back fits transport packet is none nothing stands
+          (subst (λ (l : NetLayer). IsTransportAfterNet reading (net_payload l) transport) same transport_is) error
           refused)
     ]
 
 behind_cut : (reading : Reading) (kind : NetKind) (start : ℕ) (front back : List ℕ) → AreBytes (front ++ back)
     → (layer : NetLayer) → IsNetLayer reading kind (front ++ back) layer
-    → (transport : Option TransportLayer) → IsTransportBehind reading (net_payload layer) transport
+    → (transport : Option TransportLayer) → IsTransportAfterNet reading (net_payload layer) transport
     → (here : NetLayer) → IsNetLayer reading kind front here
     → (error : SliceError) → RefusesBehind reading start error here → NetCut (Some layer) start start front back error
 behind_cut reading only_ipv4 start front back fits layer layer_is transport is here (packet, packet_is, same) error
@@ -279,7 +280,7 @@ behind_cut reading any_ip start front back fits layer layer_is transport is here
     (ipv6_layer longer) layer_is (ipv6_part longer, stands, refl))
     transport is packet packet_is error (subst (RefusesBehind reading start error) same refused)
 
--- both
+-- The error of a truncated network layer, or of the transport layer in it, is that of the truncated frame.
 net_cut : (reading : Reading) (start : ℕ) (kind : Option NetKind) (front back : List ℕ) → AreBytes (front ++ back)
     → (net : Option NetLayer) (transport : Option TransportLayer) → IsNetPart reading kind (front ++ back) net transport
     → (error : SliceError) → RefusesNetPart reading start kind front error → NetCut net start start front back error
@@ -296,7 +297,7 @@ net_cut reading start (Some kind) front back fits net transport (layer, layer_is
 
 -- ---- link extensions
 
--- a layer that starts before the net layer has the end of the bytes at hand as its limit
+-- The limit of a layer before the network layer is the end of the slice.
 near_limit : (net : Option NetLayer) (start : ℕ) (missing : LenError) → missing.layer_start_offset < start
     → source.Slice ≡ net_cut_limit net start missing
 near_limit None start missing before = refl
@@ -309,7 +310,7 @@ near_limit (Some (arp packet)) start missing before =
     let test : (missing.layer_start_offset == start) ≡ false = grind (arith, common_steps) in
     ap (λ (b : Bool). if b && nat_le 8 missing.len then source.ArpAddrLengths else source.Slice) (sym test)
 
--- the net layer does not start before the link extensions
+-- The network layer does not start before the link extensions.
 start_behind : (offset : ℕ) (extensions : List LinkExtension) → offset ≤ net_start offset extensions
 start_behind offset [] = omega arith
 start_behind offset (extension ∷ others) =
@@ -324,9 +325,9 @@ tag_cut offset type front back fits part is net start before error refused =
     subst ExtensionStart known.is (extension_at_start type front refused.0 refused.1) in
     placed extension_error.Len (extension_refusal offset) offset slice_end (net_cut_limit net start) (λ missing. refl)
     (length front) (length (front ++ back)) refused.0 known
-    (near_limit net start (further_behind offset known.missing) (omega (arith, at_start, before))) error refused.2
+    (near_limit net start (with_further_offset offset known.missing) (omega (arith, at_start, before))) error refused.2
 
--- an extension that stands on the front has no short length, or has all of its payload there
+-- A link extension that is valid in the truncated bytes has no short length, or has its full payload.
 part_stands : (type : EtherType) (front back : List ℕ) (extension : LinkExtension) (left : List ℕ)
     → IsLinkExtension type front (extension, left)
     → CutsNothing extension ⊎ IsLinkExtension type (front ++ back) (extension, left ++ back)
@@ -346,9 +347,9 @@ part_stands type front back (macsec tag payload) left is =
       | inr whole ↦ inl whole.0
     ]
 
--- what the payload of an extension holds
-abbrev HoldsBehind : Reading → ℕ → List LinkExtension → Option NetLayer → Option TransportLayer → ExtensionPart → Type 0
-HoldsBehind reading room others net transport part =
+-- The layers of a link extension's payload.
+abbrev HoldsAfterLink : Reading → ℕ → List LinkExtension → Option NetLayer → Option TransportLayer → ExtensionPart → Type 0
+HoldsAfterLink reading room others net transport part =
     IsInside reading room (extension_type part.0) (extension_payload part.0) others net transport
 
 inside_cut : (reading : Reading) (room offset : ℕ) (type : Option EtherType) (front back : List ℕ)
@@ -383,7 +384,7 @@ inside_cut reading (suc room) offset (Some type) front back fits (extension ∷ 
     elim (part_stands type front back here left here_is) [
       | inr stands ↦
           let same = one (here, left ++ back) is.0.1 stands in
-          let holds = subst (HoldsBehind reading room others net transport) same is.1 in
+          let holds = subst (HoldsAfterLink reading room others net transport) same is.1 in
           let parts = layer_laws.extension.bytes type (front ++ back) (here, left ++ back) stands in
           let payload_fits = AreBytes-payload (front ++ back) parts.0 (extension_payload here) (left ++ back) fits
           parts.2 in
@@ -395,7 +396,7 @@ inside_cut reading (suc room) offset (Some type) front back fits (extension ∷ 
           let header = link_ext_header_len (extension_header here) in
           let longer = longer_extension type front back here left here_is uncut in
           let same = one (longer.0, []) is.0.1 longer.1 in
-          let holds = subst (HoldsBehind reading room others net transport) same is.1 in
+          let holds = subst (HoldsAfterLink reading room others net transport) same is.1 in
           let by_type = subst (λ (t : Option EtherType). IsInside reading room t (extension_payload longer.0) others net
           transport) longer.2.type holds in
           let inside = subst (λ (l : List ℕ). IsInside reading room (extension_type here) l others net transport)
@@ -423,10 +424,10 @@ inside_cut reading (suc room) offset (Some type) front back fits (extension ∷ 
 
 -- ---- frames
 
--- a refusal at the start of a frame has the end of the bytes at hand as its limit
+-- The limit of an error at the start of a frame is the end of the slice.
 at_front : {E : Type 0} (named : LenError → E) (place : E → SliceError) (front back : List ℕ) (refusal : E)
     → ((missing : LenError) → place (named missing) ≡ slice_error.Len missing)
-    → (is : IsCutRefusal named slice_end (length front) (length (front ++ back)) refusal)
+    → (is : IsTruncationError named slice_end (length front) (length (front ++ back)) refusal)
     → is.missing.layer_start_offset ≡ 0 → (net : Option NetLayer) (start : ℕ) → 0 < start
     → (error : SliceError) → error ≡ place refusal
     → IsCut (net_cut_limit net start) (length front) (length (front ++ back)) error
@@ -437,7 +438,7 @@ at_front named place front back refusal places is at_start net start behind erro
   source = is.source ∙ near_limit net start is.missing (omega (arith, at_start, behind));
 }
 
--- what stands behind a header of a frame that leaves nothing, counted from the frame's start
+-- The error of a truncated payload after a header of a frame, counted from the start of the frame.
 from_start : (limit : LenError → LenSource) (header : ℕ) (front payload back : List ℕ) (error : SliceError)
     → header + length payload ≡ length front
     → IsCut limit (header + length payload) (header + length (payload ++ back)) error
@@ -449,7 +450,7 @@ from_start limit header front payload back error len is =
     (subst (λ (n : ℕ). IsCut limit (header + length payload) n error) whole is)
 
 pub frame_cut : (reading : Reading) (entry : Entry)
-    → TellsCut (IsFrameIn reading entry) (RefusesFrameIn reading entry) slice_error.Len (frame_cut_limit entry)
+    → ReportsTruncation (IsFrameIn reading entry) (RefusesFrameIn reading entry) slice_error.Len (frame_cut_limit entry)
 frame_cut reading ethernet front back fits layers is error (inl refused) =
     let known = ethernet2_cut front back fits is.0 is.1 refused.0 refused.1 in
     let at_start = ap (λ (e : LenError). e.layer_start_offset) (sym known.is) ∙ ethernet2_start front refused.0

@@ -1,4 +1,4 @@
--- What is known of each layer: bytes are one, or are refused with one error.
+-- The laws of each layer: bytes are one value of it, or are rejected with one error.
 use Rattle.std.proofs.Common.{◌≡◌, ◌⊎◌, ℕ, Bool, List, ◌++◌, Option}
 use Rattle.ep_base.specs.Bytes.{AreBytes}
 use Rattle.ep_base.specs.Readings.{Reading}
@@ -15,11 +15,11 @@ use Rattle.ep_ip.specs.IpBytes.{AreIpv4Bytes, AreIpv6Bytes}
 use Rattle.ep_ip.specs.IpPackets.{IpPacket, IsIpv4, RefusesIpv4, IsIpv6, RefusesIpv6, IsIp, RefusesIp}
 use Rattle.ep_transport.specs.TransportParts.{TransportLayer, AreTransport, IsTransportPart, RefusesTransportPart}
 
--- a link extension and what its cut leaves
+-- A link extension, and the trailing bytes that its short length excludes.
 abbrev pub ExtensionPart : Type 0
 ExtensionPart = LinkExtension × List ℕ
 
--- the laws of the link extensions
+-- The laws of the link extensions.
 pub record ExtensionLaws : Type 0 where
   pub cases : (type : EtherType) → BeginsLinkExtension type ⊎ (¬ BeginsLinkExtension type)
   pub decided : (type : EtherType) (bytes : List ℕ) → AreBytes bytes → BeginsLinkExtension type
@@ -31,7 +31,7 @@ pub record ExtensionLaws : Type 0 where
   pub bytes : (type : EtherType) (bytes : List ℕ) (part : ExtensionPart) → IsLinkExtension type bytes part
       → (tag : List ℕ) × EncodesTag part.0 tag × (bytes ≡ (tag ++ extension_payload part.0) ++ part.1)
 
--- the laws of all layers
+-- The laws of all layers.
 pub record Deciders : Type 0 where
   pub ethernet2 : (bytes : List ℕ) → AreBytes bytes → IsDecided (IsEthernet2 bytes) (RefusesEthernet2 bytes)
   pub linux_sll : (bytes : List ℕ) → AreBytes bytes → IsDecided (IsLinuxSll bytes) (RefusesLinuxSll bytes)

@@ -1,4 +1,4 @@
--- What the entries find, from the link layer and what lies behind it.
+-- Slicing a frame from each entry, given the link layer and the layers after it.
 use Rattle.std.proofs.Common.{◌≡◌, ℕ, List, Option, Some, Result, refl, sym, ap, subst, ◌∙◌, inr}
 use Rattle.std.specs.Prelude.{IfOk, IfErr, IsOkAnd}
 use Rattle.std.specs.Option.{option_map}
@@ -18,26 +18,26 @@ use Rattle.ep_packet.specs.declared.sliced_packet.SlicedPacket.{SlicedPacket}
 use Rattle.ep_packet.specs.Layers.{Layers, layers_of}
 use Rattle.ep_packet.specs.Frame.{IsFrame, IsInside, most_link_exts}
 use Rattle.ep_packet.specs.FrameRefusals.{RefusesFrame, RefusesInside}
-use Rattle.ep_packet.specs.LinkParts.{BeginsPacket, IsLinkFront, LinkFront, front_of}
+use Rattle.ep_packet.specs.LinkParts.{BeginsPacket, IsLinkStart, LinkStart, link_start_of}
 use Rattle.ep_packet.specs.ShownBytes.{ShowsBytes, ShowsInside, ShowsLink}
-use Rattle.ep_packet.specs.Walk.{HoldsBehind}
+use Rattle.ep_packet.specs.Walk.{HoldsAfterLink}
 use Rattle.ep_packet.proofs.LayerLawLemmas.{frame_law}
 
--- the payload of a link layer is that which the layer carries
-carried : (front known : LinkFront) → front ≡ known → known.payload ≡ link_layer_payload known.link
+-- The payload found after a link layer is the payload of that link layer.
+carried : (front known : LinkStart) → front ≡ known → known.payload ≡ link_layer_payload known.link
     → front.payload ≡ link_layer_payload front.link
 carried front known same there =
-    ap (λ (f : LinkFront). f.payload) same ∙ there ∙ sym (ap (λ (f : LinkFront). link_layer_payload f.link) same)
+    ap (λ (f : LinkStart). f.payload) same ∙ there ∙ sym (ap (λ (f : LinkStart). link_layer_payload f.link) same)
 
-pub payload_there : (entry : Entry) (bytes : List ℕ) (front : LinkFront) → IsLinkFront entry bytes front
+pub payload_there : (entry : Entry) (bytes : List ℕ) (front : LinkStart) → IsLinkStart entry bytes front
     → front.payload ≡ link_layer_payload front.link
 payload_there ethernet bytes front is = carried front _ is.2 refl
 payload_there linux_sll bytes front is = carried front _ is.2 refl
 payload_there (ether_type type) bytes front is = carried front _ is refl
 payload_there ip bytes front is = absurd is
 
--- a link layer and what its payload holds are a frame
-is_frame : (entry : Entry) (bytes : List ℕ) (front : LinkFront) (layers : Layers) → IsLinkFront entry bytes front
+-- A link layer and the layers in its payload are a frame.
+is_frame : (entry : Entry) (bytes : List ℕ) (front : LinkStart) (layers : Layers) → IsLinkStart entry bytes front
     → layers.link ≡ Some front.link
     → IsInside slices most_link_exts front.type front.payload layers.link_exts layers.net layers.transport
     → IsFrame entry bytes layers
@@ -62,8 +62,8 @@ is_frame (ether_type type) bytes front layers is link inside = (
 )
 is_frame ip bytes front layers is link inside = absurd is
 
--- and what refuses its payload refuses the frame
-is_refused : (entry : Entry) (bytes : List ℕ) (front : LinkFront) (error : SliceError) → IsLinkFront entry bytes front
+-- An error of the payload of the link layer is an error of the frame.
+is_refused : (entry : Entry) (bytes : List ℕ) (front : LinkStart) (error : SliceError) → IsLinkStart entry bytes front
     → RefusesInside slices most_link_exts front.offset front.type front.payload error → RefusesFrame entry bytes error
 is_refused ethernet bytes front error is refused =
     inr (
@@ -83,19 +83,19 @@ is_refused (ether_type type) bytes front error is refused =
     transport (λ i. RefusesInside slices most_link_exts (is i).offset (is i).type (is i).payload error) refused
 is_refused ip bytes front error is refused = absurd is
 
--- slices that show what lies in a link layer show the bytes
+-- Slices that show the layers in the payload of a link layer show the bytes of the frame.
 shows_behind : (entry : Entry) (bytes : List ℕ) (part : LinkPart) (packet : SlicedPacket)
-    → BeginsPacket entry bytes part → HoldsBehind part.link part.ether_type part.slice.now packet
+    → BeginsPacket entry bytes part → HoldsAfterLink part.link part.ether_type part.slice.now packet
     → ShowsBytes bytes packet
 shows_behind entry bytes part packet begins behind =
     subst (λ (l : Option LinkSlice). ShowsLink bytes l packet.link_exts.items packet.net packet.transport)
     (sym behind.has_link) (
       begins.shows,
       subst (λ (b : List ℕ). ShowsInside b packet.link_exts.items packet.net packet.transport)
-          (payload_there entry bytes (front_of part) begins.is) behind.shows,
+          (payload_there entry bytes (link_start_of part) begins.is) behind.shows,
     )
 
--- what a call answers that reads the frame behind a link layer, whose packet is shown by its answer
+-- The clauses of a call that slices the layers after a link layer, and whose result shows the packet.
 pub record EntersFrame (A : Type 0) (entry : Entry) (bytes : List ℕ) (result : Result A SliceError)
     (shown : A → SlicedPacket) : Type 0 where
   pub ok : IfOk result (λ a. IsFrame entry bytes (layers_of (shown a)))
@@ -105,15 +105,15 @@ pub record EntersFrame (A : Type 0) (entry : Entry) (bytes : List ℕ) (result :
 
 pub enters_frame : {A : Type 0} (entry : Entry) (bytes : List ℕ) (part : LinkPart) (result : Result A SliceError)
     (shown : A → SlicedPacket) → AreBytes bytes → BeginsPacket entry bytes part
-    → IfOk result (λ a. HoldsBehind part.link part.ether_type part.slice.now (shown a))
+    → IfOk result (λ a. HoldsAfterLink part.link part.ether_type part.slice.now (shown a))
     → IfErr result (RefusesInside slices most_link_exts part.offset part.ether_type part.slice.now)
     → EntersFrame A entry bytes result shown
 enters_frame entry bytes part result shown fits begins ok err =
     let is = IfOk-weaker result _ (λ a. IsFrame entry bytes (layers_of (shown a)))
-    (λ a behind. is_frame entry bytes (front_of part) (layers_of (shown a)) begins.is
+    (λ a behind. is_frame entry bytes (link_start_of part) (layers_of (shown a)) begins.is
     (ap (option_map link_layer_of) behind.has_link) behind.inside) ok in
     let refuses = IfErr-weaker result _ (RefusesFrame entry bytes)
-    (λ error refused. is_refused entry bytes (front_of part) error begins.is refused) err in
+    (λ error refused. is_refused entry bytes (link_start_of part) error begins.is refused) err in
     record {
       ok = is;
       only = only_of (λ a. layers_of (shown a)) (frame_law entry bytes fits) result is refuses;

@@ -1,4 +1,4 @@
--- That the bytes of a frame are the headers of its layers in order, the payload of the last layer, and trailing bytes.
+-- The bytes of a frame are the headers of its layers in order, the payload of the last layer, and trailing bytes.
 use Rattle.std.proofs.Common.{ℕ, zero, suc, List, [], ◌∷◌, Option, Some, None, refl, sym, subst}
 use Rattle.std.proofs.lemmas.List.{append-nil}
 use Rattle.ep_base.specs.Readings.{Reading}
@@ -15,13 +15,13 @@ use Rattle.ep_packet.proofs.OrderLemmas.{InsideBytes, frame_bytes, ip_bytes, net
 use Rattle.ep_packet.specs.declared.entry.Entry.{Entry}
 use Rattle.ep_packet.specs.declared.entry.Entry.TheVariants.{Ethernet as ethernet, LinuxSll as linux_sll, EtherType as ether_type, Ip as ip}
 use Rattle.ep_packet.specs.Layers.{NetLayer, ipv4, ipv6, arp, Layers, net_payload}
-use Rattle.ep_packet.specs.Frame.{NetKind, any_ip, net_kind, IsNetPart, IsTransportBehind, IsInside, most_link_exts, IsFrameIn}
-use Rattle.ep_packet.specs.FrameBytes.{behind_net, AreInOrder}
+use Rattle.ep_packet.specs.Frame.{NetKind, any_ip, net_kind, IsNetPart, IsTransportAfterNet, IsInside, most_link_exts, IsFrameIn}
+use Rattle.ep_packet.specs.FrameBytes.{after_net, AreInOrder}
 
--- the transport layer in the payload of a network layer
+-- The payload of a network layer is the transport header and its payload.
 transport_in_layer : Deciders → (reading : Reading) (layer : NetLayer) (transport : Option TransportLayer)
-    → IsTransportBehind reading (net_payload layer) transport
-    → AreTransport (behind_net [] (Some layer)) transport
+    → IsTransportAfterNet reading (net_payload layer) transport
+    → AreTransport (after_net [] (Some layer)) transport
 transport_in_layer deciders reading (ipv4 header extensions payload) transport is =
     deciders.transport_bytes reading payload.number payload.fragmented payload.bytes transport is
 transport_in_layer deciders reading (ipv6 header extensions payload) transport is =
@@ -29,7 +29,7 @@ transport_in_layer deciders reading (ipv6 header extensions payload) transport i
 transport_in_layer deciders reading (arp packet) transport no_transport =
     subst (AreTransport []) (sym no_transport) (record { header = []; left = []; encodes = refl; parts = refl })
 
--- a network layer of some kinds, if present, with the transport layer in its payload
+-- Bytes of a network layer, if present, are its headers, the transport header, the last payload and trailing bytes.
 net_bytes : Deciders → (reading : Reading) (kind : Option NetKind) (bytes : List ℕ)
     (net : Option NetLayer) (transport : Option TransportLayer)
     → IsNetPart reading kind bytes net transport → InsideBytes bytes [] net transport
@@ -42,7 +42,7 @@ net_bytes deciders reading (Some kind) bytes net transport (layer, is, net_is, i
     (net_layer_bytes bytes are.front are.left layer transport are.encodes are.parts
     (transport_in_layer deciders reading layer transport inside))
 
--- the layers in bytes of a type, from the link extensions on
+-- Bytes of an ether type are tags, headers, the last payload and trailing bytes.
 inside_bytes : Deciders → (reading : Reading) (room : ℕ) (type : Option EtherType) (bytes : List ℕ)
     (extensions : List LinkExtension) (net : Option NetLayer) (transport : Option TransportLayer)
     → IsInside reading room type bytes extensions net transport → InsideBytes bytes extensions net transport
@@ -60,7 +60,7 @@ inside_bytes deciders reading (suc room) (Some type) bytes (extension ∷ others
     (inside_bytes deciders reading room (extension_type extension) (extension_payload extension)
     others net transport part.1)
 
--- a frame of any kind
+-- The bytes of a frame are its headers in order, the last payload and trailing bytes.
 pub frame_in_order : Deciders → (reading : Reading) (entry : Entry) (bytes : List ℕ) (layers : Layers)
     → IsFrameIn reading entry bytes layers → AreInOrder bytes layers
 frame_in_order deciders reading ethernet bytes layers (frame, is, link, inside) =

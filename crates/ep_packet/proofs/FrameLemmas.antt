@@ -1,4 +1,4 @@
--- That bytes are a frame of one list of layers, or are refused with one error, from the same of each layer.
+-- Bytes are a frame with one list of layers, or are rejected with one error, if this holds for each layer.
 use Rattle.std.proofs.Common.{◌≡◌, ℕ, List, [], Option, Some, None, refl, ap, ◌∙◌}
 use Rattle.ep_base.specs.Bytes.{AreBytes}
 use Rattle.ep_base.specs.Readings.{Reading}
@@ -22,49 +22,49 @@ use Rattle.ep_packet.proofs.DeciderLemmas.{Deciders}
 use Rattle.ep_packet.proofs.InsideLemmas.{Inside, inside_decided}
 use Rattle.ep_packet.proofs.NetLemmas.{NetPart, net_decided}
 
--- a header with its payload and what its cut leaves, and what the payload holds
+-- A header with its payload and trailing bytes, and the layers in its payload.
 abbrev FramePart : Type 0 → Type 0
 FramePart H = Parts H × Inside
 
--- the layers inside a link layer
+-- The layers of a link layer and of its payload.
 abbrev layers_in : LinkLayer → Inside → Layers
 layers_in link inside = record { link = Some link; link_exts = inside.0; net = inside.1; transport = inside.2 }
 
--- the link layer of a header of this kind
+-- The link layer of a header of type `H`.
 abbrev link_in : {H : Type 0} → (H → List ℕ → LinkLayer) → Parts H → LinkLayer
 link_in link frame = link frame.header frame.payload
 
--- the layers of a frame that was read
+-- The layers of a frame after a header of type `H`.
 abbrev frame_layers : {H : Type 0} → (H → List ℕ → LinkLayer) → FramePart H → Layers
 frame_layers link part = layers_in (link_in link part.0) part.1
 
--- the bytes are a frame of these layers, behind a link header of this kind
+-- The bytes are a frame of these layers, after a link header of type `H`.
 abbrev IsFrameOf : {H : Type 0} → Reading → (Parts H → Type 0) → (H → List ℕ → LinkLayer) → (H → Option EtherType)
     → Layers → Type 0
 IsFrameOf {H = H} reading Is link type layers =
     (frame : Parts H) × Is frame × (layers.link ≡ Some (link_in link frame))
     × IsInside reading most_link_exts (type frame.header) frame.payload layers.link_exts layers.net layers.transport
 
--- why bytes have no link header of this kind, which is so long, or are refused behind it
+-- The errors of bytes without a valid link header of type `H`, or of the bytes after it, at offset `len`.
 abbrev RefusesFrameOf : {H : Type 0} → Reading → (Parts H → Type 0) → (SliceError → Type 0) → (H → Option EtherType)
     → ℕ → SliceError → Type 0
 RefusesFrameOf reading Is Refuses type len =
     RefusesEither Is Refuses
     (λ frame. RefusesInside reading most_link_exts len (type frame.header) frame.payload)
 
--- layers whose link layer is this one lie in it
+-- Layers with this link layer are it and the layers in its payload.
 same_layers : (link : LinkLayer) (layers : Layers) → layers.link ≡ Some link
     → layers ≡ layers_in link (layers.link_exts, layers.net, layers.transport)
 same_layers link layers same = ap (λ (x : Option LinkLayer). record layers { link = x }) same
 
--- layers without a link layer and link extensions are a net layer and a transport layer
+-- Layers without link layer and link extensions are a network layer and a transport layer.
 no_link_layers : (layers : Layers) → layers.link ≡ None → layers.link_exts ≡ []
     → layers ≡ record { link = None; link_exts = []; net = layers.net; transport = layers.transport }
 no_link_layers layers no_link no_tags =
     ap (λ (x : Option LinkLayer). record layers { link = x }) no_link
     ∙ ap (λ (x : List LinkExtension). record layers { link = None; link_exts = x }) no_tags
 
--- bytes are one frame behind a link header of this kind, or are refused
+-- Bytes are one frame after a link header of type `H`, or are rejected.
 frame_decided : {H : Type 0} {Is : Parts H → Type 0} {Refuses : SliceError → Type 0}
     (link : H → List ℕ → LinkLayer) (type : H → Option EtherType) → Deciders → (reading : Reading) (len : ℕ)
     → IsDecided Is Refuses → ((frame : Parts H) → Is frame → AreBytes frame.payload)
@@ -84,7 +84,7 @@ frame_decided link type deciders reading len decided payload_fits =
     })
     (same_image (λ error refused. refused) (λ error refused. refused))
 
--- bytes are one frame, or are refused
+-- Bytes are one frame, or are rejected.
 pub frames_decided : Deciders → (reading : Reading) (entry : Entry) (bytes : List ℕ) → AreBytes bytes
     → IsDecided (IsFrameIn reading entry bytes) (RefusesFrameIn reading entry bytes)
 frames_decided deciders reading ethernet bytes fits =

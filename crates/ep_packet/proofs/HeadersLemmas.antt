@@ -1,4 +1,4 @@
--- What the walk over a frame fills in, one step after another, from what the layers' calls ensure.
+-- Decoding a frame step by step, from the contracts of the layers' functions.
 use Rattle.std.proofs.Common.{◌≡◌, ◌⊎◌, ℕ, zero, suc, ◌+◌, ◌≤◌, ◌<◌, ◌==◌, if◌then◌else◌, Bool, List, [], ◌∷◌, ◌++◌}
 use Rattle.std.proofs.Common.{length, Option, Some, None, refl, sym, ap, subst, ◌∙◌, inl, inr, arith, length-append}
 use Rattle.std.specs.Option.{option_map}
@@ -14,7 +14,7 @@ use Rattle.ep_base.specs.declared.err.ip.SliceError.TheVariants as slice_error
 use Rattle.ep_base.specs.declared.ip_payload_slice.IpPayloadSlice.{IpPayloadSlice}
 use Rattle.ep_link.specs.Arp.{Arp, IsArp}
 use Rattle.ep_link.specs.EtherPayloads.{EtherPayload}
-use Rattle.ep_link.specs.LinkSlices.{whole_ether_payload}
+use Rattle.ep_link.specs.LinkSlices.{unlimited_ether_payload}
 use Rattle.ep_link.specs.Macsec.{unmodified, modified}
 use Rattle.ep_link.specs.declared.link_ext.link_ext_header.LinkExtHeader.{LinkExtHeader}
 use Rattle.ep_link.specs.LinkExtensions.{LinkExtension, vlan, macsec, BeginsLinkExtension, extension_ether_payload}
@@ -29,19 +29,19 @@ use Rattle.ep_transport.specs.TransportParts.{TransportLayer}
 use Rattle.ep_packet.specs.declared.err.slice_error.SliceError.{SliceError}
 use Rattle.ep_packet.specs.declared.net_headers.NetHeaders.{NetHeaders}
 use Rattle.ep_packet.specs.Layers.{NetLayer, arp, ip_layer, net_payload}
-use Rattle.ep_packet.specs.Frame.{NetKind, any_ip, only_arp, net_kind, IsNetLayer, IsTransportBehind, IsTransportIn}
+use Rattle.ep_packet.specs.Frame.{NetKind, any_ip, only_arp, net_kind, IsNetLayer, IsTransportAfterNet, IsTransportIn}
 use Rattle.ep_packet.specs.IpHeaders.{ip_headers_of, ip_part_payload, of_slice_error}
 use Rattle.ep_packet.specs.NetHeaders.{net_headers_of}
 use Rattle.ep_packet.specs.PacketHeaders.{Headers, arp_packet, net_header_in, net_header_of, transport_header_in}
 use Rattle.ep_packet.specs.PayloadParts.{PayloadPart, empty, ether, ip, innermost_part}
-use Rattle.ep_packet.specs.FrameRefusals.{RefusesNetLayer, RefusesNetPart, RefusesTransportBehind, RefusesTransportIn}
-use Rattle.ep_packet.specs.FrameRefusals.{ip_content_refusal, net_header_len}
+use Rattle.ep_packet.specs.FrameRefusals.{RefusesNetLayer, RefusesNetPart, RefusesTransportAfterNet, RefusesTransportIn}
+use Rattle.ep_packet.specs.FrameRefusals.{ip_content_refusal, net_payload_offset}
 use Rattle.ep_packet.proofs.WalkLemmas.{ends_at}
 use Rattle.ep_packet.specs.HeadersWalk.{FillsInside, FillsNet, FillsIp, FillsTransport, with_net}
 use Rattle.ep_packet.specs.declared.ip_headers.IpHeaders.{IpHeaders}
 use Rattle.ep_packet.specs.declared.ip_headers.IpHeaders.TheVariants as variant
 
--- where the content ends that the length field of IP headers counts, from the header's first byte on, of so many bytes
+-- End of the bytes that the length field of the IP header counts, from the first byte of the header, in `len` bytes.
 abbrev pub content_end : IpHeaders → ℕ → ℕ
 content_end (variant.Ipv4 header extensions) len = header.total_len
 content_end (variant.Ipv6 header extensions) len =
@@ -49,17 +49,17 @@ content_end (variant.Ipv6 header extensions) len =
 
 -- ---- IP packets
 
--- the payload of a packet is that of the net layer
+-- The payload of a packet is the payload of its network layer.
 part_payload : (part : IpPart) → net_payload (ip_layer part) ≡ Some (ip_part_payload part)
 part_payload (ipv4_part packet) = refl
 part_payload (ipv6_part packet) = refl
 
--- its headers are those of the net layer
+-- The headers of a packet are the headers of its network layer.
 part_headers : (part : IpPart) → net_header_of (net_headers_of (ip_headers_of part)) ≡ net_header_in (ip_layer part)
 part_headers (ipv4_part packet) = refl
 part_headers (ipv6_part packet) = refl
 
--- and so is the payload of the last layer
+-- The payload after the transport layer of a packet is the last payload of its network layer.
 part_innermost : (part : IpPart) (transport : Option TransportLayer)
     → innermost_part (ip (ip_part_payload part)) None transport
     ≡ innermost_part empty (Some (ip_layer part)) transport
@@ -67,7 +67,7 @@ part_innermost (ipv4_part packet) None = refl
 part_innermost (ipv6_part packet) None = refl
 part_innermost part (Some layer) = refl
 
--- what was filled in of a packet and of its payload is the net layer
+-- Headers and payload decoded from a packet are those of the network layer.
 pub fills_ip : (kind : NetKind) (bytes : List ℕ) (part : IpPart) (net : Option NetHeaders) (payload : IpPayload)
     (offset : ℕ) (old new : Headers)
     → IsNetLayer headers kind bytes (ip_layer part) → FillsIp part bytes net payload offset
@@ -86,7 +86,7 @@ fills_ip kind bytes part net payload offset old new is read fills =
         layer,
         is,
         refl,
-        subst (λ (p : Option IpPayload). IsTransportBehind headers p fills.transport) (sym (part_payload part)) inside,
+        subst (λ (p : Option IpPayload). IsTransportAfterNet headers p fills.transport) (sym (part_payload part)) inside,
       );
       filled = fills.filled
           ∙ ap (λ n. record old {
@@ -106,9 +106,9 @@ fills_ip kind bytes part net payload offset old new is read fills =
           }) (part_innermost part fills.transport);
     }
 
--- ---- where the payload of a packet lies
+-- ---- place of the payload of a packet
 
--- where the content of IPv6 ends, which its length field counts or nothing cuts
+-- End of the content of an IPv6 packet: that of its payload length, or the end of the bytes if it is 0.
 ipv6_end : (field len content : ℕ) (left : List ℕ) (sum : ℕ)
     → (((0 < field) × (field ≡ content)) ⊎ ((field ≡ 0) × (left ≡ []))) → len ≡ sum + length left
     → len ≡ 40 + content + length left → (if field == 0 then len else 40 + field) ≡ sum
@@ -118,35 +118,35 @@ ipv6_end (suc n) len content left sum (inl cut) whole same =
     ap (λ (b : Bool). if b then len else 40 + suc n) (eqb-suc-zero n) ∙ omega (arith, cut.1, whole, same)
 ipv6_end (suc n) len content left sum (inr cut) whole same = absurd (omega (arith, cut.0))
 
--- how many bytes a front, what is behind it and what is left have
+-- The length of three consecutive lists is the sum of their lengths.
 parts_len : (bytes front behind left : List ℕ) (len : ℕ) → length front ≡ len → bytes ≡ (front ++ behind) ++ left
     → length bytes ≡ (len + length behind) + length left
 parts_len bytes front behind left len len_is parts =
     omega (arith, len_is, ap length parts, length-append (front ++ behind) left, length-append front behind)
 
 ipv4_whole : (bytes : List ℕ) (packet : IpPacket Ipv4Header) → IsIpv4 headers bytes packet
-    → length bytes ≡ (net_header_len (ip_layer (ipv4_part packet)) + length packet.payload.bytes) + length packet.left
+    → length bytes ≡ (net_payload_offset (ip_layer (ipv4_part packet)) + length packet.payload.bytes) + length packet.left
 ipv4_whole bytes packet is =
     let are = ipv4_packet_bytes headers bytes packet is in
     parts_len bytes are.headers packet.payload.bytes packet.left _ are.len_is are.parts
 
 ipv6_whole : (bytes : List ℕ) (packet : IpPacket Ipv6Header) → IsIpv6 headers bytes packet
-    → length bytes ≡ (net_header_len (ip_layer (ipv6_part packet)) + length packet.payload.bytes) + length packet.left
+    → length bytes ≡ (net_payload_offset (ip_layer (ipv6_part packet)) + length packet.payload.bytes) + length packet.left
 ipv6_whole bytes packet is =
     let are = ipv6_packet_bytes headers bytes packet is in
     parts_len bytes are.headers packet.payload.bytes packet.left _ are.len_is are.parts
 
--- the content of a packet of IPv6 is what is behind its header
+-- The content of an IPv6 packet is the bytes after its header, without trailing bytes.
 content_len : (bytes : List ℕ) (packet : IpPacket Ipv6Header) (is : IsIpv6 headers bytes packet)
     → length bytes ≡ (40 + length is.content) + length packet.left
 content_len bytes packet is =
     parts_len bytes (ipv6_bytes packet.header) is.content packet.left 40 (ipv6_len packet.header is.cut.fits)
     is.cut.parts
 
--- the content of a packet is its headers and its payload
+-- The content of a packet is its headers and its payload.
 part_content : (bytes : List ℕ) (part : IpPart) → IsIp headers bytes part
     → content_end (ip_headers_of part) (length bytes)
-    ≡ net_header_len (ip_layer part) + length (ip_part_payload part).bytes
+    ≡ net_payload_offset (ip_layer part) + length (ip_part_payload part).bytes
 part_content bytes (ipv4_part packet) is =
     let cut = is.cut in
     omega (
@@ -157,31 +157,31 @@ part_content bytes (ipv4_part packet) is =
     )
 part_content bytes (ipv6_part packet) is =
     ipv6_end packet.header.payload_length (length bytes) (length is.content) packet.left
-    (net_header_len (ip_layer (ipv6_part packet)) + length packet.payload.bytes) is.cut.cut
+    (net_payload_offset (ip_layer (ipv6_part packet)) + length packet.payload.bytes) is.cut.cut
     (ipv6_whole bytes packet is) (content_len bytes packet is)
 
--- headers and payload are some of the bytes
+-- Headers and payload are at most as long as the bytes.
 part_within : (bytes : List ℕ) (part : IpPart) → IsIp headers bytes part
-    → net_header_len (ip_layer part) + length (ip_part_payload part).bytes ≤ length bytes
+    → net_payload_offset (ip_layer part) + length (ip_part_payload part).bytes ≤ length bytes
 part_within bytes (ipv4_part packet) is = omega (arith, ipv4_whole bytes packet is)
 part_within bytes (ipv6_part packet) is = omega (arith, ipv6_whole bytes packet is)
 
--- the content that the length field of IPv4 counts is the headers and the payload
+-- The bytes that the length field of an IP header counts are the headers and the payload.
 pub behind_headers : (bytes : List ℕ) (part : IpPart) (payload : IpPayloadSlice) → IsIp headers bytes part
     → ip_payload_of payload ≡ ip_part_payload part
-    → content_end (ip_headers_of part) (length bytes) ≡ net_header_len (ip_layer part) + length payload.payload.now
+    → content_end (ip_headers_of part) (length bytes) ≡ net_payload_offset (ip_layer part) + length payload.payload.now
 behind_headers bytes part payload is same =
-    part_content bytes part is ∙ ap (λ (p : IpPayload). net_header_len (ip_layer part) + length p.bytes) (sym same)
+    part_content bytes part is ∙ ap (λ (p : IpPayload). net_payload_offset (ip_layer part) + length p.bytes) (sym same)
 
--- and so is what is behind the header of IPv6, with that header
+-- The IPv6 header and its content are as long as the headers and the payload.
 pub ipv6_content : (bytes : List ℕ) (packet : IpPacket Ipv6Header) (is : IsIpv6 headers bytes packet)
-    → 40 + length is.content ≡ net_header_len (ip_layer (ipv6_part packet)) + length packet.payload.bytes
+    → 40 + length is.content ≡ net_payload_offset (ip_layer (ipv6_part packet)) + length packet.payload.bytes
 ipv6_content bytes packet is = omega (arith, ipv6_whole bytes packet is, content_len bytes packet is)
 
--- what was read of a packet of bytes was filled in
+-- Headers and payload that were read from a packet were decoded.
 pub fills_read : (bytes : List ℕ) (part : IpPart) (net : Option NetHeaders) (payload : IpPayloadSlice) (offset : ℕ)
     → IsIp headers bytes part → net ≡ Some (net_headers_of (ip_headers_of part))
-    → ip_payload_of payload ≡ ip_part_payload part → offset ≡ net_header_len (ip_layer part)
+    → ip_payload_of payload ≡ ip_part_payload part → offset ≡ net_payload_offset (ip_layer part)
     → FillsIp part bytes net (ip_payload_of payload) offset
 fills_read bytes part net payload offset is filled same place = record {
   filled = filled;
@@ -190,7 +190,7 @@ fills_read bytes part net payload offset is filled same place = record {
   within = omega (arith, place, part_within bytes part is);
 }
 
--- a refusal of the transport layer in a packet is one of the bytes
+-- An error of the transport layer in a packet is an error of the bytes.
 pub ip_refused : (kind : NetKind) (bytes : List ℕ) (part : IpPart) (net : Option NetHeaders) (payload : IpPayload)
     (offset at place : ℕ) (error : SliceError)
     → IsNetLayer headers kind bytes (ip_layer part) → FillsIp part bytes net payload at → place ≡ offset + at
@@ -200,14 +200,14 @@ ip_refused kind bytes part net payload offset at place error is read there refus
     inr (
       ip_layer part,
       is,
-      subst (λ (p : Option IpPayload). RefusesTransportBehind headers (offset + net_header_len (ip_layer part)) p error)
+      subst (λ (p : Option IpPayload). RefusesTransportAfterNet headers (offset + net_payload_offset (ip_layer part)) p error)
           (sym (part_payload part))
           (subst (λ (n : ℕ). RefusesTransportIn headers n (ip_part_payload part) error)
           (there ∙ ap (λ (n : ℕ). offset + n) read.place)
           (subst (λ (p : IpPayload). RefusesTransportIn headers place p error) read.same_payload refused)),
     )
 
--- a refusal of what the headers say is one of the bytes
+-- An error of the content of the headers is an error of the bytes.
 pub ip_content_refused : (bytes : List ℕ) (found : HeadersSliceError) (error : HeadersError)
     → RefusesAs of_slice_error (RefusesIp headers bytes) found → found ≡ headers_error.Content error
     → RefusesNetLayer headers any_ip 0 bytes (ip_content_refusal error)
@@ -216,9 +216,9 @@ ip_content_refused bytes found error (slice_error.IpHeaders refusal, refused, sa
     let inner : error ≡ refusal = cc (sym same ∙ is) in
     (slice_error.IpHeaders refusal, refused, ap ip_content_refusal inner)
 
--- ---- no net layer, and ARP
+-- ---- ARP, and no network layer
 
--- an ARP packet has no payload
+-- An ARP packet has no payload.
 pub fills_arp : (bytes left : List ℕ) (packet : Arp) (old new : Headers) → IsArp bytes (packet, left)
     → new ≡ record old { net = Some (arp_packet packet); transport = None; payload = empty }
     → FillsNet (Some only_arp) bytes empty old new
@@ -229,7 +229,7 @@ fills_arp bytes left packet old new is filled = record {
   filled = filled;
 }
 
--- where a net layer stands, what would be left open does not matter
+-- With a network layer, the last payload does not depend on `unread`.
 pub net_innermost : (layer : NetLayer) (transport : Option TransportLayer) (unread other : PayloadPart)
     → innermost_part unread (Some layer) transport ≡ innermost_part other (Some layer) transport
 net_innermost layer None unread other = refl
@@ -251,23 +251,23 @@ fills_no_more room payload old new why fills = record {
       (sym (append-nil old.link_exts));
 }
 
--- what is there is one value
+-- Equal `Some` values contain equal payloads.
 pub some_inside : (one other : EtherPayload) → Some one ≡ Some other → one ≡ other
 some_inside one other same = cc same
 
--- a payload whose type can be read is one with this type and these bytes
+-- A link extension's payload of known type has the extension's type and bytes.
 pub typed_there : (extension : LinkExtension) (inside : EtherPayload)
     → extension_ether_payload extension ≡ Some inside
     → (extension_type extension ≡ Some inside.ether_type) × (extension_payload extension ≡ inside.bytes)
 typed_there (vlan tag payload) inside same =
-    let is = some_inside (whole_ether_payload payload tag.ether_type) inside same in
+    let is = some_inside (unlimited_ether_payload payload tag.ether_type) inside same in
     (ap (λ (p : EtherPayload). Some p.ether_type) is, ap (λ (p : EtherPayload). p.bytes) is)
 typed_there (macsec tag (unmodified type source bytes)) inside same =
     let is = some_inside (record { ether_type = type; len_source = source; bytes = bytes }) inside same in
     (ap (λ (p : EtherPayload). Some p.ether_type) is, ap (λ (p : EtherPayload). p.bytes) is)
 typed_there (macsec tag (modified bytes)) inside same = absurd (cc same)
 
--- one whose type can't be read has none
+-- A link extension without a payload of known type has no type.
 pub untyped_there : (extension : LinkExtension) → extension_ether_payload extension ≡ None
     → extension_type extension ≡ None
 untyped_there (vlan tag payload) none = absurd (cc none)
@@ -276,7 +276,7 @@ untyped_there (macsec tag (modified bytes)) none = refl
 
 -- ---- VLAN tags
 
--- the tags with one before them, where there is one
+-- The tags with an optional tag before them.
 abbrev pub headers_with : Option SingleVlanHeader → List SingleVlanHeader → List SingleVlanHeader
 headers_with None tags = tags
 headers_with (Some tag) tags = tag ∷ tags

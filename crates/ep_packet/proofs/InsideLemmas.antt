@@ -1,5 +1,5 @@
--- That bytes of a type hold one list of link extensions with one net layer and one transport layer, or are refused with
--- one error.
+-- Bytes of an ether type have one list of link extensions with one network layer and one transport layer, or are
+-- rejected with one error.
 use Rattle.std.proofs.Common.{◌≡◌, ℕ, zero, suc, ◌+◌, List, [], ◌∷◌, Option, Some, None, refl, ap, ◌∙◌, inl, inr}
 use Rattle.ep_base.specs.Bytes.{AreBytes}
 use Rattle.ep_base.specs.Readings.{Reading}
@@ -16,37 +16,37 @@ use Rattle.ep_packet.specs.FrameRefusals.{RefusesNetPart, RefusesExtensionAt, Re
 use Rattle.ep_packet.proofs.DeciderLemmas.{Deciders, ExtensionLaws, ExtensionPart}
 use Rattle.ep_packet.proofs.NetLemmas.{NetPart, IsNetPartOf, net_decided}
 
--- the link extensions, the net layer and the transport layer
+-- The link extensions, the network layer and the transport layer.
 abbrev pub Inside : Type 0
 Inside = List LinkExtension × Option NetLayer × Option TransportLayer
 
--- bytes of a type hold these
+-- The bytes, of an ether type, have these layers.
 abbrev pub HoldsInside : Reading → ℕ → Option EtherType → List ℕ → Inside → Type 0
 HoldsInside reading room type bytes inside = IsInside reading room type bytes inside.0 inside.1 inside.2
 
--- a net layer without link extensions before it
+-- A network layer without link extensions before it.
 abbrev bare : NetPart → Inside
 bare part = ([], part.0, part.1)
 
--- an extension and what its payload holds
+-- A link extension, and the layers in its payload.
 abbrev TagInside : Type 0
 TagInside = ExtensionPart × Inside
 
--- the layers that these are
+-- The layers of a link extension and its payload.
 abbrev tagged : TagInside → Inside
 tagged layers = (layers.0.0 ∷ layers.1.0, layers.1.1, layers.1.2)
 
--- the bytes are an extension whose payload holds these
+-- The bytes are a link extension, whose payload has these layers.
 abbrev IsTagInside : Reading → ℕ → EtherType → List ℕ → TagInside → Type 0
 IsTagInside reading room type bytes = IsBoth
     (IsLinkExtension type bytes)
     (λ (part : ExtensionPart). HoldsInside reading room (extension_type part.0) (extension_payload part.0))
 
--- how far behind the start the payload of an extension lies
+-- Offset of the payload of a link extension.
 abbrev behind : ℕ → ExtensionPart → ℕ
 behind offset part = offset + link_ext_header_len (extension_header part.0)
 
--- the bytes are no extension, or its payload is refused
+-- The errors of bytes that are no link extension, or whose payload is rejected.
 abbrev RefusesTagInside : Reading → ℕ → ℕ → EtherType → List ℕ → SliceError → Type 0
 RefusesTagInside reading room offset type bytes = RefusesEither
     (IsLinkExtension type bytes)
@@ -54,7 +54,7 @@ RefusesTagInside reading room offset type bytes = RefusesEither
     (λ (part : ExtensionPart). RefusesInside reading room (behind offset part)
     (extension_type part.0) (extension_payload part.0))
 
--- bytes whose type can't be read hold nothing
+-- Bytes of unknown type have no layers.
 untyped_only : (reading : Reading) (room : ℕ) (bytes : List ℕ) (inside : Inside)
     → HoldsInside reading room None bytes inside → inside ≡ ([], None, None)
 untyped_only reading room bytes (extensions, net, transport) part =
@@ -62,14 +62,14 @@ untyped_only reading room bytes (extensions, net, transport) part =
     ∙ ap (λ (x : Option NetLayer). ([], x, transport)) part.1
     ∙ ap (λ (x : Option TransportLayer). ([], None, x)) part.2
 
--- where no extensions are taken, bytes hold a net layer alone
+-- If no further link extension is read, bytes have a network layer alone.
 no_room_back : (reading : Reading) (type : EtherType) (bytes : List ℕ) (inside : Inside)
     → HoldsInside reading zero (Some type) bytes inside
     → (part : NetPart) × IsNetPartOf reading (net_kind type) bytes part × (inside ≡ bare part)
 no_room_back reading type bytes ([], net, transport) part = ((net, transport), part, refl)
 no_room_back reading type bytes (extension ∷ others, net, transport) part = absurd part
 
--- where the type begins no extension, bytes hold a net layer alone
+-- If the ether type is none of a link extension, bytes have a network layer alone.
 no_tag_back : ExtensionLaws → (reading : Reading) (room : ℕ) (type : EtherType) (bytes : List ℕ)
     → (¬ BeginsLinkExtension type)
     → (inside : Inside) → HoldsInside reading (suc room) (Some type) bytes inside
@@ -78,7 +78,7 @@ no_tag_back laws reading room type bytes none ([], net, transport) part = ((net,
 no_tag_back laws reading room type bytes none (extension ∷ others, net, transport) part =
     absurd (none (laws.begins type bytes (extension, part.0.0) part.0.1))
 
--- and they are refused as such
+-- If the ether type is none of a link extension, the errors of the bytes are those of the network layer.
 no_tag_refused_back : ExtensionLaws → (reading : Reading) (room offset : ℕ) (type : EtherType) (bytes : List ℕ)
     → (¬ BeginsLinkExtension type) → (error : SliceError)
     → RefusesInside reading (suc room) offset (Some type) bytes error
@@ -89,7 +89,7 @@ no_tag_refused_back laws reading room offset type bytes none error (inr (inl ref
 no_tag_refused_back laws reading room offset type bytes none error (inr (inr refused)) =
     absurd (none (laws.begins type bytes (refused.0, refused.1) refused.2))
 
--- where the type begins an extension, bytes hold one and what its payload holds
+-- If the ether type is that of a link extension, bytes are one and the layers of its payload.
 tag_back : (reading : Reading) (room : ℕ) (type : EtherType) (bytes : List ℕ) → BeginsLinkExtension type
     → (inside : Inside) → HoldsInside reading (suc room) (Some type) bytes inside
     → (layers : TagInside) × IsTagInside reading room type bytes layers × (inside ≡ tagged layers)
@@ -97,7 +97,7 @@ tag_back reading room type bytes begins ([], net, transport) part = absurd (part
 tag_back reading room type bytes begins (extension ∷ others, net, transport) part =
     (((extension, part.0.0), (others, net, transport)), (part.0.1, part.1), refl)
 
--- they are refused as an extension or in its payload
+-- An error of a link extension or of its payload is an error of the bytes.
 tag_refused_there : (reading : Reading) (room offset : ℕ) (type : EtherType) (bytes : List ℕ) (error : SliceError)
     → RefusesTagInside reading room offset type bytes error
     → RefusesInside reading (suc room) offset (Some type) bytes error
@@ -105,7 +105,7 @@ tag_refused_there reading room offset type bytes error (inl refused) = inr (inl 
 tag_refused_there reading room offset type bytes error (inr refused) =
     inr (inr (refused.0.0, refused.0.1, refused.1, refused.2))
 
--- and so the other way round
+-- An error of bytes with the ether type of a link extension is one of the extension or of its payload.
 tag_refused_back : (reading : Reading) (room offset : ℕ) (type : EtherType) (bytes : List ℕ) → BeginsLinkExtension type
     → (error : SliceError) → RefusesInside reading (suc room) offset (Some type) bytes error
     → RefusesTagInside reading room offset type bytes error
@@ -114,7 +114,7 @@ tag_refused_back reading room offset type bytes begins error (inr (inl refused))
 tag_refused_back reading room offset type bytes begins error (inr (inr refused)) =
     inr ((refused.0, refused.1), refused.2, refused.3)
 
--- bytes of a type hold one list of layers, or are refused
+-- Bytes of an ether type have one list of layers, or are rejected.
 pub inside_decided : Deciders → (reading : Reading) (room offset : ℕ) (type : Option EtherType) (bytes : List ℕ)
     → AreBytes bytes → IsDecided (HoldsInside reading room type bytes) (RefusesInside reading room offset type bytes)
 inside_decided deciders reading room offset None bytes fits =

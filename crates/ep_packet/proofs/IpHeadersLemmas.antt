@@ -1,4 +1,4 @@
--- IP headers by value: what is read of a packet, and what is written and read back.
+-- Owned IP headers: reading them from a packet, and reading back written ones.
 use Rattle.std.proofs.Common.{◌≡◌, ◌⊎◌, ◌↔◌, ℕ, ◌+◌, ◌-◌, ◌^◌, ◌<◌, ◌==◌, ◌&&◌, ◌≤◌, false, if◌then◌else◌, List, []}
 use Rattle.std.proofs.Common.{◌∷◌, ◌++◌, length, Option, Some, None, Result, Ok, Err, refl, sym, ap, subst}
 use Rattle.std.proofs.Common.{◌∙◌, inl, inr, arith}
@@ -30,7 +30,7 @@ use Rattle.ep_base.proofs.DecidedLemmas.{refused_as}
 use Rattle.ep_ext.specs.declared.ip_auth_header.IpAuthHeader.{IpAuthHeader}
 use Rattle.ep_ext.specs.declared.ipv4_exts.Ipv4Extensions.{Ipv4Extensions}
 use Rattle.ep_ext.specs.declared.ipv6_exts.Ipv6Extensions.{Ipv6Extensions}
-use Rattle.ep_ext.specs.Chains.{IsChainBehind, IsExtensionChain, FitParts, chain_of}
+use Rattle.ep_ext.specs.Chains.{IsChainAfter, IsExtensionChain, FitParts, chain_of}
 use Rattle.ep_ext.specs.Chains.{chain_fragments, ipv4, ipv6, is_ipv6_extension, parts_bytes}
 use Rattle.ep_ext.specs.ExtensionParts.{ExtensionPart, part_next}
 use Rattle.ep_ext.specs.Ipv4Chains.{ipv4_first, ipv4_linked, ipv4_parts, ipv4_walk}
@@ -52,28 +52,28 @@ use Rattle.ep_packet.specs.declared.ip_headers.IpHeaders.{IpHeaders}
 use Rattle.ep_packet.specs.declared.ip_headers.IpHeaders.TheVariants as variant
 use Rattle.ep_packet.specs.IpHeaders.{AreOfPart, AreReadAs, EndsExtensions, FitIpHeaders, HasBytes, LeadThrough}
 use Rattle.ep_packet.specs.IpHeaders.{RefusesLeading, headers_for, ip_extensions_len, ip_headers_parts}
-use Rattle.ep_packet.specs.IpHeaders.{most_behind_header, payload_len_rows, with_payload_len, ipv4_extensions_of}
+use Rattle.ep_packet.specs.IpHeaders.{most_after_header, payload_len_rows, with_payload_len, ipv4_extensions_of}
 use Rattle.ep_packet.specs.IpHeaders.{of_slice_error, of_walk_error, payload_of_headers, with_checksum, written_headers}
 
--- ---- an answer that is right shows the one value that there is
+-- ---- a correct result shows the only value
 
--- whatever is there is answered, where each answer is right
+-- If each result of a decided grammar is correct, the value that the bytes are is returned.
 pub only_by : {A V E : Type 0} {Is : V → Type 0} {Refuses : E → Type 0} (Shows : V → A → Type 0) → IsDecided Is Refuses
     → (answer : Result A E) → IfOk answer (λ a. (value : V) × Is value × Shows value a) → IfErr answer Refuses
     → (value : V) → Is value → IsOkAnd answer (Shows value)
 only_by Shows decided (Ok a) ok err value is = subst (λ v. Shows v a) (decided.one_value ok.0 value ok.1 is) ok.2
 only_by Shows decided (Err e) ok err value is = absurd (decided.not_both value e is err)
 
--- the decision of the headers of either version
+-- Bytes are IP headers of one version, or are rejected.
 pub headers_decided : (bytes : List ℕ) → AreBytes bytes
     → IsDecided (IsIp by_value bytes) (RefusesAs of_slice_error (RefusesIp by_value bytes))
 headers_decided bytes fits = refused_as of_slice_error (ip_decided by_value bytes fits)
 
--- ---- IPv4 has one chain, whatever the reading
+-- ---- an IPv4 chain is one in both readings
 
 chain_in : (reading other : Reading) (taken : List ℕ) (number : ℕ) (bytes : List ℕ) (parts : List ExtensionPart)
-    (last : ℕ) (rest : List ℕ) → IsChainBehind ipv4 reading taken number bytes parts last rest
-    → IsChainBehind ipv4 other taken number bytes parts last rest
+    (last : ℕ) (rest : List ℕ) → IsChainAfter ipv4 reading taken number bytes parts last rest
+    → IsChainAfter ipv4 other taken number bytes parts last rest
 chain_in reading other taken number bytes [] last rest is = is
 chain_in reading other taken number bytes (part ∷ parts) last rest is = (
   is.0,
@@ -91,7 +91,7 @@ ipv4_by_value bytes packet is = record {
   source = is.source;
 }
 
--- the value of an authentication header, where there is one, is that of the headers
+-- The owned IPv4 extension headers of an authentication header, if any, are that header.
 auth_value : (auth : Option IpAuthHeader)
     → ipv4_extensions_of (ipv4_parts (record { auth = auth })) ≡ record { auth = auth }
 auth_value None = refl
@@ -100,7 +100,7 @@ auth_value (Some header) = refl
 pub ipv4_value : (extensions : Ipv4Extensions) → ipv4_extensions_of (ipv4_parts extensions) ≡ extensions
 ipv4_value extensions = auth_value extensions.auth
 
--- ---- numbers that lead from header to header
+-- ---- next header values
 
 one_number : (walk : Result IpNumber Ipv4WalkError) (a b : IpNumber) → walk ≡ Ok a → walk ≡ Ok b → a ≡ b
 one_number walk a b first second = cc
@@ -121,7 +121,7 @@ one_way (variant.Ipv4 header extensions) parts other last end a b =
 one_way (variant.Ipv6 header extensions) parts other last end a b =
     one_walk extensions [] header.next_header.0 parts other last end a.0 b.0
 
--- numbers that lead through all headers are not refused
+-- Headers whose next header values lead through all headers have no error.
 pub not_refused : (headers : IpHeaders) (parts : List ExtensionPart) (last : ℕ) (error : ExtsWalkError)
     → LeadThrough headers parts last → RefusesLeading headers error → ⊥
 not_refused (variant.Ipv4 header extensions) parts last error leads refused =
@@ -129,9 +129,9 @@ not_refused (variant.Ipv4 header extensions) parts last error leads refused =
 not_refused (variant.Ipv6 header extensions) parts last error leads refused =
     walks_not_refused extensions header.next_header.0 parts last refused.0 leads refused.1
 
--- ---- what is written and read back
+-- ---- writing and reading back
 
--- a header of IPv4, its chain and the payload
+-- An IPv4 header, its chain and the payload are the header and the rest, without trailing bytes.
 group : (front chain payload : List ℕ) → (front ++ chain) ++ payload ≡ (front ++ (chain ++ payload)) ++ []
 group front chain payload =
     append_assoc front chain payload ∙ sym (append-nil (front ++ (chain ++ payload)))
@@ -139,7 +139,7 @@ group front chain payload =
 ipv4_len : (header : Ipv4Header) → FitsIpv4 header → length (ipv4_bytes header) ≡ ipv4_header_len header
 ipv4_len header fits = grind (arith, common_steps, fits.source_len, fits.destination_len)
 
--- a header with another checksum
+-- A header fits its fields with the computed checksum too.
 checked : (header : Ipv4Header) → FitsIpv4 header
     → FitsIpv4 (record header { header_checksum = ipv4_checksum header })
 checked header fits = record {
@@ -160,7 +160,7 @@ checked header fits = record {
   options = fits.options;
 }
 
--- a packet behind which nothing is left
+-- A packet without trailing bytes.
 abbrev whole_packet : {Header : Type 0} → Header → List ExtensionPart → IpPayload → IpPacket Header
 whole_packet header parts payload = record { header = header; extensions = parts; payload = payload; left = [] }
 
@@ -201,7 +201,7 @@ read_ipv4 header extensions last payload fits fit protocol total other =
       nothing_left = refl;
     }
 
--- what sets the end of a payload that the length counts
+-- The source of the end of an IPv6 payload that the payload length counts is that field.
 counted : (field len : ℕ) → field ≡ len
     → source.Ipv6HeaderPayloadLen ≡ (if (field == 0) && nat_lt 0 len then source.Slice else source.Ipv6HeaderPayloadLen)
 counted field len same = grind (arith, common_steps)
@@ -260,15 +260,15 @@ read (variant.Ipv4 header extensions) last payload fit other =
 read (variant.Ipv6 header extensions) last payload fit other =
     read_ipv6 _ extensions last payload fit.0 fit.1 refl refl other
 
--- ---- what is refused, of headers that are written
+-- ---- errors of writing headers
 
--- numbers of IPv4 that are not refused lead to a last one
+-- IPv4 next header values without an error lead to a last number.
 pub walk_end_4 : (walk : Result IpNumber Ipv4WalkError) → ((error : Ipv4WalkError) → walk ≡ Err error → ⊥)
     → (last : IpNumber) × (walk ≡ Ok last)
 walk_end_4 (Ok last) never = (last, refl)
 walk_end_4 (Err error) never = absurd (never error refl)
 
--- a refusal is the only one
+-- Headers have at most one error of their next header values.
 pub one_refusal : (headers : IpHeaders) (error other : ExtsWalkError) → RefusesLeading headers error
     → RefusesLeading headers other → error ≡ other
 one_refusal (variant.Ipv4 header extensions) error other a b =
@@ -277,7 +277,7 @@ one_refusal (variant.Ipv4 header extensions) error other a b =
 one_refusal (variant.Ipv6 header extensions) error other a b =
     a.2 ∙ ap walk_error.Ipv6Exts (one_walk_refusal extensions header.next_header.0 a.0 b.0 a.1 b.1) ∙ sym b.2
 
--- refusals keep apart under their other name
+-- Different errors of next header values are different errors of writing.
 same_walk_error : (error other : ExtsWalkError) → of_walk_error error ≡ of_walk_error other → error ≡ other
 same_walk_error (walk_error.Ipv4Exts a) (walk_error.Ipv4Exts b) same = cc
 same_walk_error (walk_error.Ipv4Exts a) (walk_error.Ipv6Exts b) same = absurd (cc)
@@ -288,7 +288,7 @@ pub not_memory : (error : ExtsWalkError) → write_error.OutOfMemory ≡ of_walk
 not_memory (walk_error.Ipv4Exts a) same = absurd (cc)
 not_memory (walk_error.Ipv6Exts a) same = absurd (cc)
 
--- an answer is a refusal of the numbers exactly where they are refused so
+-- A result is an error of the next header values exactly if the headers have that error.
 abbrev pub TellsLeading : IpHeaders → Result (Unit {0}) HeadersWriteError → Type 0
 TellsLeading headers answer =
     (error : ExtsWalkError) → RefusesLeading headers error ↔ (answer ≡ Err (of_walk_error error))
@@ -315,7 +315,7 @@ pub tells_ok : (headers : IpHeaders) → ((error : ExtsWalkError) → RefusesLea
     → TellsLeading headers (Ok tt)
 tells_ok headers never other = ((λ refused. absurd (never other refused)), (λ same. absurd (cc)))
 
--- where the extension headers of a version are not refused, the headers are not
+-- If the extension headers of a version have no error, the headers have none.
 pub never_4 : (headers : IpHeaders) (header : Ipv4Header) (extensions : Ipv4Extensions)
     → headers ≡ variant.Ipv4 header extensions
     → ((error : Ipv4WalkError) → ipv4_walk extensions header.protocol ≡ Err error → ⊥)
@@ -330,7 +330,7 @@ pub never_6 : (headers : IpHeaders) (header : Ipv6Header) (extensions : Ipv6Exte
 never_6 headers header extensions is never error refused =
     let there = subst (λ (h : IpHeaders). RefusesLeading h error) is refused in never there.0 there.1
 
--- numbers lead through as many bytes as the extension headers have
+-- The extension headers that the next header values lead through are as long as all extension headers.
 pub leading_len : (headers : IpHeaders) (parts : List ExtensionPart) (last : ℕ) → LeadThrough headers parts last
     → length (parts_bytes parts) ≡ ip_extensions_len headers
 leading_len (variant.Ipv4 header extensions) parts last leads =
@@ -338,7 +338,7 @@ leading_len (variant.Ipv4 header extensions) parts last leads =
 leading_len (variant.Ipv6 header extensions) parts last leads =
     walk_len extensions header.next_header.0 parts last leads
 
--- extension headers to which the numbers lead are written where there is room for them
+-- Writing extension headers that the next header values lead to succeeds if the buffer has capacity for them.
 pub extensions_succeed : (headers : IpHeaders) (parts : List ExtensionPart) (last len room : ℕ)
     (answer : Result (Unit {0}) HeadersWriteError) → LeadThrough headers parts last
     → len + ip_extensions_len headers ≤ room → TellsLeading headers answer
@@ -355,14 +355,14 @@ extensions_succeed headers parts last len room (Err (write_error.Ipv6Exts error)
     absurd (not_refused headers parts last (walk_error.Ipv6Exts error) leads
     ((leading (walk_error.Ipv6Exts error)).1 refl))
 
--- numbers that lead from a header of IPv4 to a number
+-- IPv4 headers whose next header values lead to `last` lead through all extension headers.
 pub leads_4 : (headers : IpHeaders) (header : Ipv4Header) (extensions : Ipv4Extensions) (last : IpNumber)
     → headers ≡ variant.Ipv4 header extensions → ipv4_walk extensions header.protocol ≡ Ok last
     → LeadThrough headers (ipv4_parts extensions) last.0
 leads_4 headers header extensions last is walk =
     subst (λ (h : IpHeaders). LeadThrough h (ipv4_parts extensions) last.0) (sym is) (refl, walk)
 
--- ---- when the length field cannot count a payload
+-- ---- length fields that cannot count a payload
 
 pub sum_above : {E : Type 0} (len extensions most : ℕ) (first second : E) → len + extensions < 2 ^ 64
     → most < len + extensions
@@ -370,7 +370,8 @@ pub sum_above : {E : Type 0} (len extensions most : ℕ) (first second : E) → 
     ≡ Some second
 sum_above len extensions most first second fits above = grind (arith, common_steps)
 
--- what the total length of IPv4 counts, and what it cannot
+-- Setting the IPv4 total length for header and content sets it for a payload of `len` bytes, or returns the error of
+-- the table.
 pub set_ipv4 : (headers : IpHeaders) (header new : Ipv4Header) (extensions : Ipv4Extensions) (len content : ℕ)
     (answer : Result (Unit {0}) (ValueTooBigError ℕ)) → headers ≡ variant.Ipv4 header extensions
     → content ≡ len + length (parts_bytes (ipv4_parts extensions)) → content < 2 ^ 64 → ipv4_header_len header ≤ 60
@@ -383,7 +384,7 @@ pub set_ipv4 : (headers : IpHeaders) (header new : Ipv4Header) (extensions : Ipv
       value_type = value_type.Ipv4PayloadLength;
     }))
     → MatchResult answer
-    (λ _. (len + ip_extensions_len headers ≤ most_behind_header headers)
+    (λ _. (len + ip_extensions_len headers ≤ most_after_header headers)
     × (variant.Ipv4 new extensions ≡ with_payload_len headers len))
     (λ error. (variant.Ipv4 new extensions ≡ headers) × Refuses (payload_len_rows headers len) error)
 set_ipv4 headers header new extensions len content answer is sum fits short set =
@@ -396,7 +397,7 @@ set_ipv4 headers header new extensions len content answer is sum fits short set 
       value_type = value_type.Ipv4PayloadLength;
     } in
     let weaker : MatchResult answer
-    (λ _. (len + ip_extensions_len here ≤ most_behind_header here)
+    (λ _. (len + ip_extensions_len here ≤ most_after_header here)
     × (variant.Ipv4 new extensions ≡ with_payload_len here len))
     (λ error. (variant.Ipv4 new extensions ≡ here) × Refuses (payload_len_rows here len) error) =
     MatchResult-weaker answer set
@@ -412,12 +413,12 @@ set_ipv4 headers header new extensions len content answer is sum fits short set 
           ∙ ap Some (sym (refused.2 ∙ ap error_of sum)),
     )) in
     subst (λ (h : IpHeaders). MatchResult answer
-    (λ _. (len + ip_extensions_len h ≤ most_behind_header h) × (variant.Ipv4 new extensions ≡ with_payload_len h len))
+    (λ _. (len + ip_extensions_len h ≤ most_after_header h) × (variant.Ipv4 new extensions ≡ with_payload_len h len))
     (λ error. (variant.Ipv4 new extensions ≡ h) × Refuses (payload_len_rows h len) error)) (sym is) weaker
 
--- ---- what is read
+-- ---- reading
 
--- a packet of IPv6 whose extension headers are read by value
+-- An IPv6 packet whose extension headers are read as owned values.
 pub ipv6_by_value : (bytes content left : List ℕ) (header : Ipv6Header) (parts : List ExtensionPart) (number : ℕ)
     (rest : List ℕ) → IsIpv6Packet bytes (parts_of header content left)
     → IsExtensionChain ipv6 by_value header.next_header.0 content (chain_of parts number rest)
@@ -426,7 +427,7 @@ pub ipv6_by_value : (bytes content left : List ℕ) (header : Ipv6Header) (parts
 ipv6_by_value bytes content left header parts number rest cut chain =
     record { content = content; cut = cut; chain = chain; fragmented = refl; source = refl }
 
--- the number and the bytes of a payload
+-- Headers and payload of a packet have the packet's protocol number and payload bytes.
 pub has_bytes : (part : IpPart) (headers : IpHeaders) (payload : IpPayloadSlice) → AreOfPart part (headers, payload)
     → HasBytes part (headers, payload.ip_number, payload.payload.now)
 has_bytes part headers payload of =
@@ -441,14 +442,14 @@ row_version : (bytes : List ℕ) → 0 < length bytes → (version_of bytes ≡ 
     (slice_error.IpHeaders (headers_error.Ip (content.UnsupportedIpVersion (version_of bytes))))
 row_version bytes some not_4 not_6 = grind (arith, common_steps)
 
--- no bytes are refused
+-- An empty slice is rejected.
 pub empty_refused : (bytes : List ℕ) (error : HeadersSliceError) → length bytes ≡ 0
     → error ≡ headers_slice_error.Len (len_error 1 0 source.Slice layer.IpHeader)
     → RefusesAs of_slice_error (RefusesIp by_value bytes) error
 empty_refused bytes error none same =
     (slice_error.Len (len_error 1 0 source.Slice layer.IpHeader), inl (row_empty bytes none), same)
 
--- bytes of another version are refused
+-- Bytes of an unsupported IP version are rejected.
 pub version_refused : (bytes : List ℕ) (version : ℕ) (error : HeadersSliceError)
     → error ≡ headers_slice_error.Content (headers_error.Ip (content.UnsupportedIpVersion version))
     → version ≡ version_of bytes → 0 < length bytes → (version ≡ 4 → ⊥) → (version ≡ 6 → ⊥)

@@ -1,4 +1,4 @@
--- The laws of the layers, as the proofs of the walk cite them.
+-- The laws of the layers, as the proofs of slicing and decoding cite them.
 use Rattle.std.proofs.Common.{ℕ, List}
 use Rattle.ep_base.specs.Bytes.{AreBytes}
 use Rattle.ep_base.specs.Readings.{slices}
@@ -17,7 +17,7 @@ use Rattle.ep_packet.specs.FrameRefusals.{RefusesFrame}
 use Rattle.ep_packet.proofs.DeciderLemmas.{Deciders}
 use Rattle.ep_packet.proofs.FrameLemmas.{frames_decided}
 
--- what is known of each layer
+-- The laws of each layer.
 pub layer_laws : Deciders
 layer_laws = record {
   ethernet2 = decided ethernet2_is_read;
@@ -39,7 +39,7 @@ layer_laws = record {
   transport_bytes = transport_bytes_are;
 }
 
--- bytes are one frame, or are refused
+-- Bytes are one frame, or are rejected.
 pub frame_law : (entry : Entry) (bytes : List ℕ) → AreBytes bytes
     → IsDecided (IsFrame entry bytes) (RefusesFrame entry bytes)
 frame_law entry bytes fits = frames_decided layer_laws slices entry bytes fits

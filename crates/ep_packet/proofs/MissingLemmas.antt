@@ -1,10 +1,10 @@
--- What refusals of frames say of the bytes that are missing.
+-- Errors of frames, and the number of missing bytes that they report.
 use Rattle.std.proofs.Common.{◌≡◌, ◌⊎◌, ℕ, zero, suc, ◌+◌, ◌<◌, ◌≤◌, List, [], ◌++◌, length, Option, Some, None, refl, sym, ap, subst, ◌∙◌, inl, inr, arith, length-append}
 use Rattle.std.specs.Prelude.{⊤}
 use Rattle.std.specs.Int.{w16, to_be_bytes}
 use Rattle.ep_base.specs.Bytes.{AreBytes}
 use Rattle.ep_base.specs.IpPayload.{IpPayload}
-use Rattle.ep_base.specs.Readings.{Reading, cut_by}
+use Rattle.ep_base.specs.Readings.{Reading, limited_by}
 use Rattle.ep_base.specs.Missing.{CountsMissing, HasExactLength, IsOfBytesAtHand, that_row}
 use Rattle.ep_base.specs.Tables.{Parts, parts_of, rows_as}
 use Rattle.ep_base.proofs.BytesLemmas.{AreBytes-payload}
@@ -57,41 +57,41 @@ use Rattle.ep_packet.specs.declared.err.slice_error.SliceError.{SliceError}
 use Rattle.ep_packet.specs.declared.err.slice_error.SliceError.TheVariants as slice_error
 use Rattle.ep_packet.specs.Layers.{NetLayer, ipv4_layer, ipv6_layer, net_payload}
 use Rattle.ep_packet.specs.Frame.{NetKind, only_ipv4, only_ipv6, only_arp, any_ip, net_kind, most_link_exts, IsNetLayer}
-use Rattle.ep_packet.specs.FrameRefusals.{RefusesExtensionAt, RefusesFrameIn, RefusesInside, RefusesNetLayer, RefusesNetPart, RefusesTransportBehind, RefusesTransportIn, extension_refusal, further_behind, ip_content_refusal, ip_refusal, ipv4_refusal, ipv6_refusal, linux_sll_refusal, net_header_len, transport_refusal}
+use Rattle.ep_packet.specs.FrameRefusals.{RefusesExtensionAt, RefusesFrameIn, RefusesInside, RefusesNetLayer, RefusesNetPart, RefusesTransportAfterNet, RefusesTransportIn, extension_refusal, with_further_offset, ip_content_refusal, ip_refusal, ipv4_refusal, ipv6_refusal, linux_sll_refusal, net_payload_offset, transport_refusal}
 use Rattle.ep_packet.specs.UncutTags.{AreUncut, CutsNothing, HasNoShortLength}
 use Rattle.ep_packet.proofs.DeciderLemmas.{ExtensionPart}
 use Rattle.ep_packet.proofs.LayerLawLemmas.{layer_laws}
 
--- ---- what refusals are
+-- ---- length errors
 
--- a refusal by a length has this
+-- The error is no length error, or has this property.
 abbrev OfLen : (LenError → Type 0) → SliceError → Type 0
 OfLen Such (slice_error.Len error) = Such error
 OfLen Such error = ⊤
 
--- a refusal counts the bytes at hand up to this end
+-- The error is no length error, or counts the available bytes up to `limit`.
 abbrev Counts : ℕ → SliceError → Type 0
 Counts limit = OfLen (CountsMissing limit)
 
--- the layer that it names starts here, or behind
+-- The error is no length error, or its layer starts at `offset` or later.
 abbrev StartsAt : ℕ → SliceError → Type 0
 StartsAt offset = OfLen (λ (error : LenError). offset ≤ error.layer_start_offset)
 
--- what can't be read says nothing of lengths
+-- An error of the content of headers has any property of length errors.
 content_has : (Such : LenError → Type 0) (error : IpHeadersError)
     → OfLen Such (ip_content_refusal error)
 content_has Such (ip_content.Ip error) = tt
 content_has Such (ip_content.Ipv4Ext error) = tt
 content_has Such (ip_content.Ipv6Ext error) = tt
 
--- further behind, it counts up to an end further behind
+-- A length error moved by `offset` counts the bytes up to an end moved by `offset`.
 further : (offset limit : ℕ) (error : LenError) → CountsMissing limit error
-    → CountsMissing (offset + limit) (further_behind offset error)
+    → CountsMissing (offset + limit) (with_further_offset offset error)
 further offset limit error counts at_hand inexact =
     let short = counts at_hand inexact in
     record { there = omega (arith, short.there); needed = short.needed }
 
--- ---- the net layer
+-- ---- network layer
 
 ipv4_at : (reading : Reading) (offset : ℕ) (bytes : List ℕ) (refusal : Ipv4SliceError)
     → RefusesIpv4 reading bytes refusal → Counts (offset + length bytes) (ipv4_refusal offset refusal)
@@ -126,17 +126,17 @@ layer_counts reading only_arp offset bytes error refused =
 layer_counts reading any_ip offset bytes error refused =
     subst (Counts (offset + length bytes)) (sym refused.2) (ip_at reading offset bytes refused.0 refused.1)
 
--- ---- the transport layer
+-- ---- transport layer
 
--- the limit of a layer within another is the bytes at hand where both limits are
+-- The limit of a layer within another is the end of the slice only if both limits are.
 both_at_hand : (outer inner : LenSource) → (inner ≡ source.Slice) ⊎ (inner ≡ source.UdpHeaderLen)
-    → IsOfBytesAtHand (cut_by outer inner) → (inner ≡ source.Slice) × IsOfBytesAtHand outer
+    → IsOfBytesAtHand (limited_by outer inner) → (inner ≡ source.Slice) × IsOfBytesAtHand outer
 both_at_hand outer inner (inl same) at_hand =
-    (same, subst (λ (s : LenSource). IsOfBytesAtHand (cut_by outer s)) same at_hand)
+    (same, subst (λ (s : LenSource). IsOfBytesAtHand (limited_by outer s)) same at_hand)
 both_at_hand outer inner (inr field) at_hand =
-    absurd (not_udp (subst (λ (s : LenSource). IsOfBytesAtHand (cut_by outer s)) field at_hand))
+    absurd (not_udp (subst (λ (s : LenSource). IsOfBytesAtHand (limited_by outer s)) field at_hand))
 
--- a payload that ends with the bytes at hand has so many of them behind so many of headers
+-- A payload that ends at the end of the slice is the bytes after the headers.
 abbrev EndsWith : ℕ → ℕ → IpPayload → Type 0
 EndsWith total headers payload = IsOfBytesAtHand payload.source → total ≡ headers + length payload.bytes
 
@@ -178,10 +178,10 @@ ipv6_ends reading bytes packet is at_hand =
       length-append are.headers packet.payload.bytes,
     )
 
--- what refuses behind a net layer
+-- The errors of the transport layer after a network layer.
 abbrev pub RefusesBehind : Reading → ℕ → SliceError → NetLayer → Type 0
 RefusesBehind reading offset error layer =
-    RefusesTransportBehind reading (offset + net_header_len layer) (net_payload layer) error
+    RefusesTransportAfterNet reading (offset + net_payload_offset layer) (net_payload layer) error
 
 behind_ipv4 : (reading : Reading) (offset : ℕ) (bytes : List ℕ) (layer : NetLayer) (packet : IpPacket Ipv4Header)
     → IsIpv4 reading bytes packet → layer ≡ ipv4_layer packet → (error : SliceError)
@@ -232,7 +232,7 @@ tag_counts : (offset : ℕ) (type : EtherType) (bytes : List ℕ) (error : Slice
 tag_counts offset type bytes error refused =
     subst (Counts (offset + length bytes)) (sym refused.2) (extension_at offset type bytes refused.0 refused.1)
 
--- an extension without a short length leaves nothing
+-- A link extension without a short length has no trailing bytes.
 pub uncut_left : (type : EtherType) (bytes : List ℕ) (extension : LinkExtension) (left : List ℕ)
     → IsLinkExtension type bytes (extension, left) → CutsNothing extension → left ≡ []
 uncut_left type bytes (vlan tag payload) left is uncut = is.1.cut
@@ -263,7 +263,7 @@ inside_counts reading (suc room) offset (Some type) bytes error (inr (inr refuse
     (inside_counts reading room (offset + header) (extension_type extension) (extension_payload extension) error
     refused.3 stands.1)
 
--- ---- where refusals lie
+-- ---- offsets of errors
 
 transport_starts : (offset start : ℕ) (limit : LenSource) (error : TransportError) → offset ≤ start
     → StartsAt offset (transport_refusal start limit error)
@@ -271,7 +271,7 @@ transport_starts offset start limit (transport_error.Len error) within = omega (
 transport_starts offset start limit (transport_error.Content error) within = tt
 
 behind_starts : (reading : Reading) (offset start : ℕ) (payload : Option IpPayload) (error : SliceError)
-    → offset ≤ start → RefusesTransportBehind reading start payload error → StartsAt offset error
+    → offset ≤ start → RefusesTransportAfterNet reading start payload error → StartsAt offset error
 behind_starts reading offset start None error within refused = absurd refused
 behind_starts reading offset start (Some payload) error within refused =
     subst (StartsAt offset) (sym refused.2) (transport_starts offset start payload.source refused.0 within)
@@ -311,10 +311,10 @@ net_starts : (reading : Reading) (offset : ℕ) (kind : Option NetKind) (bytes :
 net_starts reading offset None bytes error refused = absurd refused
 net_starts reading offset (Some kind) bytes error (inl refused) = layer_starts reading kind offset bytes error refused
 net_starts reading offset (Some kind) bytes error (inr refused) =
-    behind_starts reading offset (offset + net_header_len refused.0) (net_payload refused.0) error (omega arith)
+    behind_starts reading offset (offset + net_payload_offset refused.0) (net_payload refused.0) error (omega arith)
     refused.2
 
--- a refusal further behind starts further behind
+-- An error whose layer starts at `far` or later starts at `near` or later.
 earlier : (near far : ℕ) (error : SliceError) → near ≤ far → StartsAt far error → StartsAt near error
 earlier near far (slice_error.Len error) within starts = omega (arith, within, starts)
 earlier near far (slice_error.LinuxSll error) within starts = tt
@@ -326,7 +326,7 @@ earlier near far (slice_error.Ipv4Exts error) within starts = tt
 earlier near far (slice_error.Ipv6Exts error) within starts = tt
 earlier near far (slice_error.Tcp error) within starts = tt
 
--- a refusal within bytes starts where these do, or behind
+-- The layer of an error in a payload does not start before the payload.
 inside_starts : (reading : Reading) (room offset : ℕ) (type : Option EtherType) (bytes : List ℕ) (error : SliceError)
     → RefusesInside reading room offset type bytes error → StartsAt offset error
 inside_starts reading room offset None bytes error refused = absurd refused
@@ -342,9 +342,9 @@ inside_starts reading (suc room) offset (Some type) bytes error (inr (inr refuse
     (inside_starts reading room (offset + header) (extension_type refused.0) (extension_payload refused.0) error
     refused.3)
 
--- ---- bytes behind layers that stand
+-- ---- valid layers with more bytes after them
 
--- the same extension with these bytes behind its payload
+-- The link extension with more bytes in its payload.
 pub record IsLonger (extension longer : LinkExtension) (more : List ℕ) : Type 0 where
   pub header : extension_header longer ≡ extension_header extension
   pub type : extension_type longer ≡ extension_type extension
@@ -357,7 +357,7 @@ type_of_payload ptype.Modified limit bytes = refl
 type_of_payload ptype.Encrypted limit bytes = refl
 type_of_payload ptype.EncryptedUnmodified limit bytes = refl
 
--- an extension without a short length stands with any bytes behind it, which belong to its payload
+-- A link extension without a short length is valid with any bytes after it, which belong to its payload.
 pub longer_extension : (type : EtherType) (bytes more : List ℕ) (extension : LinkExtension) (left : List ℕ)
     → IsLinkExtension type bytes (extension, left) → CutsNothing extension
     → (longer : LinkExtension) × IsLinkExtension type (bytes ++ more) (longer, []) × IsLonger extension longer more
@@ -398,14 +398,14 @@ longer_extension type bytes more (macsec tag payload) left is uncut =
       },
     )
 
--- a tag has bytes
+-- A tag has at least one byte.
 pub tag_len : (header : LinkExtHeader) → 0 < link_ext_header_len header
 tag_len (tag_header.Vlan tag) = omega arith
 tag_len (tag_header.Macsec tag) = omega arith
 
--- ---- that row again
+-- ---- the check that failed, with more bytes
 
--- the row refuses bytes, of which so many are there
+-- The error of that check with `len` bytes available.
 abbrev Again : LenError → ℕ → SliceError
 Again error len = slice_error.Len (that_row error len)
 
@@ -413,7 +413,7 @@ abbrev pub ExtensionStart : ExtensionError → Type 0
 ExtensionStart (extension_error.Len error) = error.layer_start_offset ≡ 0
 ExtensionStart (extension_error.Content error) = ⊤
 
--- a link extension is refused at its start
+-- The error of a link extension has the offset of the link extension.
 pub extension_at_start : (type : EtherType) (bytes : List ℕ) (error : ExtensionError)
     → RefusesLinkExtension type bytes error → ExtensionStart error
 extension_at_start type bytes error (inl refused) =
@@ -424,7 +424,7 @@ extension_at_start type bytes error (inr refused) =
 start_of_tag : (offset : ℕ) (refusal : ExtensionError) (error : LenError) → ExtensionStart refusal
     → slice_error.Len error ≡ extension_refusal offset refusal → error.layer_start_offset ≡ offset
 start_of_tag offset (extension_error.Len refusal) error start same =
-    let known : error ≡ further_behind offset refusal = cc in
+    let known : error ≡ with_further_offset offset refusal = cc in
     omega (arith, start, ap (λ (e : LenError). e.layer_start_offset) known)
 start_of_tag offset (extension_error.Content refusal) error start same = absurd cc
 
@@ -433,7 +433,7 @@ tag_start : (offset : ℕ) (type : EtherType) (bytes : List ℕ) (error : LenErr
 tag_start offset type bytes error refused =
     start_of_tag offset refused.0 error (extension_at_start type bytes refused.0 refused.1) refused.2
 
--- where bytes are refused, and the same row refuses them with bytes behind them, it counts all of these
+-- If bytes are rejected, and that check fails again with more bytes after them, it counts all of them.
 again_inside : (reading : Reading) (room offset : ℕ) (type : Option EtherType) (bytes more : List ℕ)
     → AreBytes (bytes ++ more) → (error : LenError) (len : ℕ)
     → RefusesInside reading room offset type bytes (slice_error.Len error) → AreUncut room type bytes
@@ -511,7 +511,7 @@ linux_sll_len header fits = omega (
   length-append header.sender_address (to_be_bytes w16 (protocol_number header.protocol_type)),
 )
 
--- bytes are a header, its payload, and nothing else
+-- Without trailing bytes, header and payload are as long as the bytes.
 pub whole_len : (bytes header payload left : List ℕ) → bytes ≡ (header ++ payload) ++ left → left ≡ []
     → length header + length payload ≡ length bytes
 whole_len bytes header payload left parts nothing =
@@ -528,7 +528,7 @@ sll_counts : (bytes : List ℕ) (refusal : SllError) → RefusesLinuxSll bytes r
 sll_counts bytes (sll_error.Len error) refused = linux_sll_tells.counts bytes error refused
 sll_counts bytes (sll_error.Content error) refused = tt
 
--- a refusal of a frame counts the bytes at hand
+-- A length error of a frame counts the available bytes.
 pub frame_counts : (reading : Reading) (entry : Entry) (bytes : List ℕ) (error : LenError)
     → RefusesFrameIn reading entry bytes (slice_error.Len error) → HasNoShortLength entry bytes
     → CountsMissing (length bytes) error
@@ -561,7 +561,7 @@ frame_counts reading ip bytes error refused uncut =
     subst (λ (n : ℕ). CountsMissing n error) same
     (net_counts reading 0 (Some any_ip) bytes (slice_error.Len error) refused)
 
--- a link header stands with any bytes behind it
+-- A link header is valid with any bytes after it, which belong to its payload.
 pub longer_ethernet2 : (bytes more : List ℕ) (frame : Parts Ethernet2Header) → IsEthernet2 bytes frame
     → IsEthernet2 (bytes ++ more) (parts_of frame.header (frame.payload ++ more) [])
 longer_ethernet2 bytes more frame is = record {
@@ -661,7 +661,7 @@ again_frame reading ip bytes more fits error len refused uncut again =
     subst (λ (n : ℕ). CountsMissing n (that_row error len)) same
     (net_counts reading 0 (Some any_ip) (bytes ++ more) (Again error len) again)
 
--- behind as many bytes as are missing, the row does not refuse again
+-- With at least the missing number of bytes appended, the check does not fail again.
 pub frame_not_again : (reading : Reading) (entry : Entry) (bytes more : List ℕ) → AreBytes (bytes ++ more)
     → (error : LenError) (len : ℕ) → RefusesFrameIn reading entry bytes (slice_error.Len error)
     → HasNoShortLength entry bytes → IsOfBytesAtHand error.len_source → (¬ HasExactLength error.layer)

@@ -1,4 +1,4 @@
--- That the bytes of a net layer are its headers, its payload, and what its cut left.
+-- The bytes of a network layer are its headers, its payload, and trailing bytes.
 use Rattle.std.proofs.Common.{◌≡◌, ℕ, List, [], ◌++◌, length, Some, refl, sym, ap, subst, ◌∙◌}
 use Rattle.std.specs.Prelude.{IfSome}
 use Rattle.std.proofs.lemmas.List.{append-nil}
@@ -11,19 +11,19 @@ use Rattle.ep_ip.specs.IpBytes.{AreIpv4Bytes, AreIpv6Bytes}
 use Rattle.ep_ip.specs.IpPackets.{IpPacket, IpPart, ipv4_part, ipv6_part, IsIp}
 use Rattle.ep_packet.specs.Layers.{NetLayer, ipv4, ipv6, arp, ipv4_layer, ipv6_layer, ip_layer, net_payload}
 use Rattle.ep_packet.specs.Frame.{NetKind, only_ipv4, only_ipv6, only_arp, any_ip, IsNetLayer}
-use Rattle.ep_packet.specs.FrameBytes.{EncodesNet, behind_net}
-use Rattle.ep_packet.specs.FrameRefusals.{net_header_len}
+use Rattle.ep_packet.specs.FrameBytes.{EncodesNet, after_net}
+use Rattle.ep_packet.specs.FrameRefusals.{net_payload_offset}
 use Rattle.ep_packet.proofs.DeciderLemmas.{Deciders}
 
--- the bytes of a net layer: its headers, the payload of an IP packet, and what is left
+-- The bytes of a network layer: its headers, the payload of an IP packet, and trailing bytes.
 pub record LayerBytes (bytes : List ℕ) (layer : NetLayer) : Type 0 where
   pub front : List ℕ
   pub left : List ℕ
   pub encodes : EncodesNet (Some layer) front
-  pub parts : bytes ≡ (front ++ behind_net [] (Some layer)) ++ left
-  pub len_is : IfSome (net_payload layer) (λ payload. length front ≡ net_header_len layer)
+  pub parts : bytes ≡ (front ++ after_net [] (Some layer)) ++ left
+  pub len_is : IfSome (net_payload layer) (λ payload. length front ≡ net_payload_offset layer)
 
--- those of an IPv4 packet
+-- The bytes of an IPv4 packet are those of its network layer.
 ipv4_layer_bytes : (bytes : List ℕ) (packet : IpPacket Ipv4Header) → AreIpv4Bytes bytes packet
     → LayerBytes bytes (ipv4_layer packet)
 ipv4_layer_bytes bytes packet are = record {
@@ -34,7 +34,7 @@ ipv4_layer_bytes bytes packet are = record {
   len_is = are.len_is;
 }
 
--- those of an IPv6 packet
+-- The bytes of an IPv6 packet are those of its network layer.
 ipv6_layer_bytes : (bytes : List ℕ) (packet : IpPacket Ipv6Header) → AreIpv6Bytes bytes packet
     → LayerBytes bytes (ipv6_layer packet)
 ipv6_layer_bytes bytes packet are = record {
@@ -45,7 +45,7 @@ ipv6_layer_bytes bytes packet are = record {
   len_is = are.len_is;
 }
 
--- those of an IP packet of either version
+-- The bytes of an IP packet of either version are those of its network layer.
 ip_layer_bytes : Deciders → (reading : Reading) (bytes : List ℕ) (part : IpPart) → IsIp reading bytes part
     → LayerBytes bytes (ip_layer part)
 ip_layer_bytes deciders reading bytes (ipv4_part packet) is =
@@ -53,7 +53,7 @@ ip_layer_bytes deciders reading bytes (ipv4_part packet) is =
 ip_layer_bytes deciders reading bytes (ipv6_part packet) is =
     ipv6_layer_bytes bytes packet (deciders.ipv6_bytes reading bytes packet is)
 
--- those of a net layer of any kind
+-- The bytes of any network layer are its headers, its payload and trailing bytes.
 pub layer_bytes : Deciders → (reading : Reading) (kind : NetKind) (bytes : List ℕ) (layer : NetLayer)
     → IsNetLayer reading kind bytes layer → LayerBytes bytes layer
 layer_bytes deciders reading only_ipv4 bytes layer (packet, is, same) =
@@ -71,9 +71,9 @@ layer_bytes deciders reading only_arp bytes layer (part, is, same) =
 layer_bytes deciders reading any_ip bytes layer (part, is, same) =
     subst (LayerBytes bytes) (sym same) (ip_layer_bytes deciders reading bytes part is)
 
--- the payload of an IP packet lies behind its headers
+-- The payload of an IP packet is the bytes after its headers.
 pub behind_payload : (layer : NetLayer) (payload : IpPayload) → net_payload layer ≡ Some payload
-    → behind_net [] (Some layer) ≡ payload.bytes
+    → after_net [] (Some layer) ≡ payload.bytes
 behind_payload (ipv4 header extensions inside) payload same = cc same
 behind_payload (ipv6 header extensions inside) payload same = cc same
 behind_payload (arp packet) payload same = absurd (cc same)

@@ -1,4 +1,4 @@
--- IP headers that are read into room: what is read of a packet, and that it was filled in.
+-- Decoding IP headers in place: the headers of a packet, and that they were decoded.
 use Rattle.std.proofs.Common.{◌≡◌, ℕ, ◌+◌, false, List, [], length, refl}
 use Rattle.ep_base.specs.Readings.{headers}
 use Rattle.ep_base.specs.Tables.{parts_of}
@@ -13,7 +13,7 @@ use Rattle.ep_ip.proofs.PacketLemmas.{shown_packet}
 use Rattle.ep_packet.proofs.HeadersLemmas.{ipv6_content}
 use Rattle.ep_packet.proofs.IpHeadersLemmas.{ipv6_by_value}
 
--- a packet of IPv6 without extension headers
+-- An IPv6 packet without extension headers is its header and its payload.
 pub plain_ipv6 : (bytes content left : List ℕ) (header : Ipv6Header) → IsIpv6Packet bytes (parts_of header content left)
     → is_ipv6_extension header.next_header.0 ≡ false
     → IsIpv6 headers bytes (shown_packet header (chain_of [] header.next_header.0 content) false
@@ -22,7 +22,7 @@ plain_ipv6 bytes content left header cut none =
     ipv6_by_value bytes content left header [] header.next_header.0 content cut
     (headers_end [] header.next_header.0 none, refl, refl)
 
--- what is behind the header of IPv6, with that header, is the headers and the payload
+-- The IPv6 header and its content are as long as the headers and the payload.
 pub chain_content : (bytes content left : List ℕ) (header : Ipv6Header) (parts : List ExtensionPart) (number : ℕ)
     (rest : List ℕ) → IsIpv6Packet bytes (parts_of header content left)
     → IsExtensionChain ipv6 headers header.next_header.0 content (chain_of parts number rest)

@@ -1,4 +1,4 @@
--- The net layer in the walk over a frame, from what the calls of its slices ensure.
+-- Slicing the network layer of a frame, from the contracts of its slices.
 use Rattle.std.proofs.Common.{◌≡◌, ℕ, ◌+◌, List, ◌++◌, length, Option, Some, refl, sym, ap, subst, inr, arith, length-append}
 use Rattle.std.specs.Option.{option_map}
 use Rattle.ep_base.specs.IpPayload.{IpPayload}
@@ -18,21 +18,21 @@ use Rattle.ep_packet.specs.declared.err.slice_error.SliceError.{SliceError}
 use Rattle.ep_packet.specs.declared.net_slice.NetSlice.{NetSlice}
 use Rattle.ep_packet.specs.declared.net_slice.NetSlice.TheVariants as slice
 use Rattle.ep_packet.specs.Layers.{net_layer_of, net_payload}
-use Rattle.ep_packet.specs.Frame.{NetKind, only_ipv4, only_ipv6, any_ip, IsNetLayer, IsTransportBehind}
+use Rattle.ep_packet.specs.Frame.{NetKind, only_ipv4, only_ipv6, any_ip, IsNetLayer, IsTransportAfterNet}
 use Rattle.ep_packet.specs.NetSlices.{net_slice_of}
-use Rattle.ep_packet.specs.FrameRefusals.{RefusesNetPart, RefusesTransportBehind, RefusesTransportIn, net_header_len}
+use Rattle.ep_packet.specs.FrameRefusals.{RefusesNetPart, RefusesTransportAfterNet, RefusesTransportIn, net_payload_offset}
 use Rattle.ep_packet.specs.ShownBytes.{ShowsTransport, net_slice_bytes, net_slice_payload}
 use Rattle.ep_packet.specs.Walk.{HasHeaders, HoldsNet}
 use Rattle.ep_packet.proofs.WalkLemmas.{along}
 
--- a slice of an IP packet is the net layer of a kind that bytes are, and shows their front
+-- A slice is the network layer of this protocol at the start of the bytes, and shows a prefix of them.
 pub record IsShown (kind : NetKind) (bytes : List ℕ) (net : NetSlice) : Type 0 where
   pub left : List ℕ
   pub begins : bytes ≡ net_slice_bytes net ++ left
   pub is : IsNetLayer slices kind bytes (net_layer_of net)
   pub headers : HasHeaders net
 
--- what a slice shows has as many bytes as its headers and its payload
+-- A slice shows as many bytes as its headers and its payload have.
 shown_len : (bytes shown left headers payload : List ℕ) (len : ℕ) → bytes ≡ shown ++ left
     → bytes ≡ (headers ++ payload) ++ left → length headers ≡ len → length shown ≡ len + length payload
 shown_len bytes shown left headers payload len begins parts len_is = omega (
@@ -45,7 +45,7 @@ shown_len bytes shown left headers payload len begins parts len_is = omega (
   len_is,
 )
 
--- of an IPv4 packet
+-- An IPv4 slice is the network layer at the start of the bytes, and shows a prefix of them.
 pub ipv4_shown : (bytes left : List ℕ) (packet : Ipv4Slice) → bytes ≡ ipv4_slice_bytes packet ++ left
     → IsIpv4 slices bytes (ipv4_slice_packet packet left) → IsShown only_ipv4 bytes (slice.Ipv4 packet)
 ipv4_shown bytes left packet begins is =
@@ -55,10 +55,10 @@ ipv4_shown bytes left packet begins is =
       begins = begins;
       is = (ipv4_slice_packet packet left, is, refl);
       headers = shown_len bytes (ipv4_slice_bytes packet) left are.headers (ipv4_slice_packet packet left).payload.bytes
-          (net_header_len (net_layer_of (slice.Ipv4 packet))) begins are.parts are.len_is;
+          (net_payload_offset (net_layer_of (slice.Ipv4 packet))) begins are.parts are.len_is;
     }
 
--- of an IPv6 packet
+-- An IPv6 slice is the network layer at the start of the bytes, and shows a prefix of them.
 pub ipv6_shown : (bytes left : List ℕ) (packet : Ipv6Slice) → bytes ≡ ipv6_slice_bytes packet ++ left
     → IsIpv6 slices bytes (ipv6_slice_packet packet left) → IsShown only_ipv6 bytes (slice.Ipv6 packet)
 ipv6_shown bytes left packet begins is =
@@ -68,10 +68,10 @@ ipv6_shown bytes left packet begins is =
       begins = begins;
       is = (ipv6_slice_packet packet left, is, refl);
       headers = shown_len bytes (ipv6_slice_bytes packet) left are.headers (ipv6_slice_packet packet left).payload.bytes
-          (net_header_len (net_layer_of (slice.Ipv6 packet))) begins are.parts are.len_is;
+          (net_payload_offset (net_layer_of (slice.Ipv6 packet))) begins are.parts are.len_is;
     }
 
--- of an IP packet of either version
+-- An IP slice of either version is the network layer at the start of the bytes, and shows a prefix of them.
 pub ip_shown : (bytes left : List ℕ) (packet : IpSlice) → bytes ≡ ip_slice_bytes packet ++ left
     → IsIp slices bytes (ip_slice_packet packet left) → IsShown any_ip bytes (net_slice_of packet)
 ip_shown bytes left (ip_slice.Ipv4 packet) begins is =
@@ -91,24 +91,24 @@ ip_shown bytes left (ip_slice.Ipv6 packet) begins is =
       headers = shown.headers;
     }
 
--- a net layer and the transport layer in it
+-- A network layer slice and the transport slice in its payload are the layers of the bytes, and show them.
 pub net_holds : (kind : NetKind) (bytes : List ℕ) (net : NetSlice) (transport : Option TransportSlice)
     → IsShown kind bytes net
-    → IsTransportBehind slices (net_payload (net_layer_of net)) (option_map transport_layer_of transport)
+    → IsTransportAfterNet slices (net_payload (net_layer_of net)) (option_map transport_layer_of transport)
     → ShowsTransport (net_slice_payload net) transport → HoldsNet (Some kind) bytes (Some net) transport
 net_holds kind bytes net transport shown inside shows = record {
   part = (net_layer_of net, shown.is, refl, inside);
   shows = ((shown.left, shown.begins), shows);
 }
 
--- a refusal of the transport layer in a net layer is one of the bytes
+-- An error of the transport layer in a network layer is an error of the bytes.
 pub net_refused : (kind : NetKind) (offset : ℕ) (bytes : List ℕ) (net : NetSlice) (error : SliceError)
     → IsShown kind bytes net
-    → RefusesTransportBehind slices (offset + net_header_len (net_layer_of net)) (net_payload (net_layer_of net)) error
+    → RefusesTransportAfterNet slices (offset + net_payload_offset (net_layer_of net)) (net_payload (net_layer_of net)) error
     → RefusesNetPart slices offset (Some kind) bytes error
 net_refused kind offset bytes net error shown refused = inr (net_layer_of net, shown.is, refused)
 
--- the bytes of the headers in front of a payload are those of the header and of the extension headers
+-- The bytes before a payload are those of the header and of the extension headers.
 pub headers_len : (whole header content extensions payload : List ℕ) (len : ℕ) → header ++ content ≡ whole
     → extensions ++ payload ≡ content → length whole ≡ len + length payload → length header + length extensions ≡ len
 headers_len whole header content extensions payload len first second total = omega (
@@ -120,14 +120,14 @@ headers_len whole header content extensions payload len first second total = ome
   total,
 )
 
--- a refusal of the payload of an IPv4 packet is one behind the packet's headers
+-- An error of the payload of an IPv4 packet is an error after the headers of the packet.
 pub ipv4_payload_refused : (offset len : ℕ) (net : NetSlice) (packet : Ipv4Slice) (payload : IpPayload)
     (error : SliceError) → net ≡ slice.Ipv4 packet → payload ≡ ipv4_slice_payload packet
-    → len ≡ net_header_len (net_layer_of (slice.Ipv4 packet)) → RefusesTransportIn slices (offset + len) payload error
-    → RefusesTransportBehind slices (offset + net_header_len (net_layer_of net)) (net_payload (net_layer_of net)) error
+    → len ≡ net_payload_offset (net_layer_of (slice.Ipv4 packet)) → RefusesTransportIn slices (offset + len) payload error
+    → RefusesTransportAfterNet slices (offset + net_payload_offset (net_layer_of net)) (net_payload (net_layer_of net)) error
 ipv4_payload_refused offset len net packet payload error is same lens refused =
-    subst (λ (n : NetSlice). RefusesTransportBehind slices (offset + net_header_len (net_layer_of n))
+    subst (λ (n : NetSlice). RefusesTransportAfterNet slices (offset + net_payload_offset (net_layer_of n))
     (net_payload (net_layer_of n)) error)
     (sym is)
     (along (λ (l : ℕ) (p : IpPayload). RefusesTransportIn slices (offset + l) p error)
-    len (net_header_len (net_layer_of (slice.Ipv4 packet))) payload (ipv4_slice_payload packet) lens same refused)
+    len (net_payload_offset (net_layer_of (slice.Ipv4 packet))) payload (ipv4_slice_payload packet) lens same refused)

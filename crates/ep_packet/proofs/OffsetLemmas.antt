@@ -1,4 +1,4 @@
--- How many bytes the headers of a frame have, and that its payload begins behind them.
+-- Lengths of the headers of a frame, and the offset of its payload after them.
 use Rattle.std.proofs.Common.{◌≡◌, ◌==◌, if◌then◌else◌, Bool, true, false, take, drop, ℕ, ◌+◌, ◌≤◌, List, [], ◌∷◌, ◌++◌, length, Option, Some, None, refl, ap, sym, ◌∙◌, arith, append_assoc, length-append}
 use Rattle.std.proofs.Math.Seq.{drop-append_seam}
 use Rattle.std.proofs.lemmas.Grind.{common_steps}
@@ -29,7 +29,7 @@ use Rattle.ep_packet.specs.Layers.{Layers, NetLayer, ipv4, ipv6, arp}
 use Rattle.ep_packet.specs.Offsets.{link_len, net_len, parts_len, payload_offset, tag_len, tags_len, transport_len}
 use Rattle.ep_packet.specs.ShownBytes.{BeginsWith}
 
--- bytes that encode headers are as many as the headers say: of a link header
+-- Bytes that encode a link header are as long as the header states.
 pub link_encoded : (link : Option LinkLayer) (bytes : List ℕ) → EncodesLink link bytes → length bytes ≡ link_len link
 link_encoded None bytes encodes = ap length encodes
 link_encoded (Some (ethernet2 header payload)) bytes encodes =
@@ -39,7 +39,7 @@ link_encoded (Some (linux_sll header payload)) bytes encodes =
 link_encoded (Some (ether_payload type source payload)) bytes encodes = ap length encodes
 link_encoded (Some (linux_sll_payload protocol payload)) bytes encodes = ap length encodes
 
--- of a link extension, and of some
+-- Bytes that encode a link extension, or a list of them, are as long as the tags state.
 pub tag_encoded : (extension : LinkExtension) (bytes : List ℕ) → EncodesTag extension bytes
     → length bytes ≡ tag_len extension
 tag_encoded (vlan tag payload) bytes encodes = ap length encodes.1
@@ -56,7 +56,7 @@ tags_encoded (extension ∷ others) bytes encodes = omega (
   tags_encoded others encodes.1 encodes.3,
 )
 
--- the length of an extension header of IP, and of a list of them
+-- Bytes that encode an IP extension header, or a list of them, are as long as the headers state.
 pub part_encoded : (part : ExtensionPart) (bytes : List ℕ) → EncodesPart bytes part → length bytes ≡ part_len part
 part_encoded (hop_by_hop header) bytes encodes = ap length encodes.1 ∙ grind (arith, common_steps)
 part_encoded (destination_options header) bytes encodes = ap length encodes.1 ∙ grind (arith, common_steps)
@@ -75,7 +75,7 @@ parts_encoded (part ∷ parts) bytes encodes = omega (
   parts_encoded parts encodes.1 encodes.3,
 )
 
--- of the headers of a net layer
+-- Bytes that encode the headers of a network layer are as long as the headers state.
 pub net_encoded : (net : Option NetLayer) (bytes : List ℕ) → EncodesNet net bytes → length bytes ≡ net_len net
 net_encoded None bytes encodes = ap length encodes
 net_encoded (Some (ipv4 header extensions payload)) bytes encodes = omega (
@@ -96,13 +96,13 @@ net_encoded (Some (arp packet)) bytes encodes =
     ap length encodes.1
     ∙ grind (arith, common_steps, encodes.0.same_hw_addr_len, encodes.0.same_protocol_addr_len)
 
--- what is chosen of two lists of one length
+-- A choice of two lists of one length has that length.
 chosen_len : (choice : Bool) (xs ys : List ℕ) (len : ℕ) → length xs ≡ len → length ys ≡ len
     → length (if choice then xs else ys) ≡ len
 chosen_len true xs ys len first second = first
 chosen_len false xs ys len first second = second
 
--- of a message of ICMP, behind its checksum
+-- The bytes of an ICMPv4 header after its checksum are as long as its type states.
 icmpv4_rest_len : (unused : List ℕ) (type : Icmpv4Type) → length unused ≡ 4 → FitsIcmpv4Fields type
     → 4 + length (icmpv4_rest_with unused type) ≡ icmpv4_len (icmpv4_kind type)
 icmpv4_rest_len unused (v4.Unknown type code bytes) four fits = omega (arith, fits.2)
@@ -132,7 +132,7 @@ icmpv6_rest_len unused (v6.ParameterProblem code pointer) four fits = refl
 icmpv6_rest_len unused (v6.EchoRequest echo) four fits = refl
 icmpv6_rest_len unused (v6.EchoReply echo) four fits = refl
 
--- of a transport header, and of one that may be there
+-- Bytes that encode a transport header, or an optional one, are as long as the header states.
 header_encoded : (header : TransportHeader) (bytes : List ℕ) → EncodesTransportHeader header bytes
     → length bytes ≡ transport_header_len header
 header_encoded (transport.Udp header) bytes encodes = ap length encodes.1
@@ -155,7 +155,7 @@ pub transport_encoded : (transport : Option TransportLayer) (bytes : List ℕ) �
 transport_encoded None bytes encodes = ap length encodes
 transport_encoded (Some layer) bytes encodes = header_encoded layer.header bytes encodes
 
--- how long the headers of a frame are together
+-- The headers of a frame are as long as the offset of its payload.
 headers_len : (bytes : List ℕ) (layers : Layers) (order : AreInOrder bytes layers)
     → length (((order.link ++ order.tags) ++ order.net) ++ order.transport) ≡ payload_offset layers
 headers_len bytes layers order = omega (
@@ -169,7 +169,7 @@ headers_len bytes layers order = omega (
   length-append ((order.link ++ order.tags) ++ order.net) order.transport,
 )
 
--- the payload of a frame's last layer begins behind its headers
+-- The payload of the last layer of a frame starts at its offset.
 pub payload_there : (bytes : List ℕ) (layers : Layers) (offset : ℕ) → offset ≡ payload_offset layers
     → AreInOrder bytes layers → BeginsWith (drop offset bytes) (last_payload layers)
 payload_there bytes layers offset same order =
@@ -183,7 +183,7 @@ payload_there bytes layers offset same order =
           ∙ ap (λ (b : List ℕ). drop (length headers) b) grouped ∙ drop-append_seam headers behind,
     )
 
--- a tag is short
+-- The secure channel identifier (SCI) of a MACsec tag is at most 8 bytes long.
 sci_bound : (sci : Option ℕ) → sci_len sci ≤ 8
 sci_bound None = omega arith
 sci_bound (Some number) = omega arith

@@ -9,10 +9,10 @@ use Rattle.ep_link.specs.declared.link_ext.link_ext_slice.LinkExtSlice.{LinkExtS
 use Rattle.ep_link.specs.EtherPayloads.{EtherPayload}
 use Rattle.ep_link.specs.LinkSlices.{LinkLayer}
 use Rattle.ep_link.specs.LinkExtensions.{LinkExtension, link_extension_of, extension_ether_payload, extension_payload}
-use Rattle.ep_packet.specs.FrameBytes.{payload_behind}
-use Rattle.ep_packet.specs.Payloads.{ether_payload_behind, ether_payload_of_parts, extensions_len_source}
+use Rattle.ep_packet.specs.FrameBytes.{payload_after_exts}
+use Rattle.ep_packet.specs.Payloads.{ether_payload_after, ether_payload_of_parts, extensions_len_source}
 
--- the last of one extension and others behind it
+-- The last of one link extension and others after it.
 last_of : LinkExtension → List LinkExtension → LinkExtension
 last_of extension [] = extension
 last_of extension (next ∷ others) = last_of next others
@@ -23,21 +23,21 @@ unfolding last_of
 get_last extension [] = refl
 get_last extension (next ∷ others) = get_last next others
 
--- behind them lies the payload of the last
+-- The payload after link extensions is the payload of the last one.
 behind_last : (extension : LinkExtension) (others : List LinkExtension)
-    → payload_behind (extension_payload extension) others ≡ extension_payload (last_of extension others)
+    → payload_after_exts (extension_payload extension) others ≡ extension_payload (last_of extension others)
 unfolding last_of
 behind_last extension [] = refl
 behind_last extension (next ∷ others) = behind_last next others
 
 ether_behind_last : (extension : LinkExtension) (others : List LinkExtension)
-    → ether_payload_behind (extension_ether_payload extension) others
+    → ether_payload_after (extension_ether_payload extension) others
     ≡ extension_ether_payload (last_of extension others)
 unfolding last_of
 ether_behind_last extension [] = refl
 ether_behind_last extension (next ∷ others) = ether_behind_last next others
 
--- the last of some extensions is found at the end
+-- The element at the last index of link extensions is the last one.
 found_last : (extension : LinkExtension) (others : List LinkExtension) (last : LinkExtension)
     → slice_get (extension ∷ others) (length (extension ∷ others) - 1) ≡ Some last → last_of extension others ≡ last
 found_last extension others last is =
@@ -46,7 +46,7 @@ found_last extension others last is =
     sym (get_last extension others) ∙ ap (slice_get (extension ∷ others)) place ∙ is in
     cc same
 
--- the extension that the last of some slices shows is the last one
+-- The last slice of a list shows the last link extension.
 pub last_shown : (slices : List LinkExtSlice) (last : LinkExtSlice) → slice_get slices (length slices - 1) ≡ Some last
     → slice_get (map link_extension_of slices) (length (map link_extension_of slices) - 1)
     ≡ Some (link_extension_of last)
@@ -54,19 +54,19 @@ last_shown slices last is =
     ap (λ (n : ℕ). slice_get (map link_extension_of slices) (n - 1)) (length-map slices link_extension_of)
     ∙ slice_get-map link_extension_of slices (length slices - 1) ∙ ap (option_map link_extension_of) is
 
--- the payload behind extensions is the last one's
+-- The payload after link extensions is the payload of the last one.
 pub payload_of_last : (bytes : List ℕ) (extensions : List LinkExtension) (last : LinkExtension)
     → slice_get extensions (length extensions - 1) ≡ Some last
-    → payload_behind bytes extensions ≡ extension_payload last
+    → payload_after_exts bytes extensions ≡ extension_payload last
 payload_of_last bytes [] last is = absurd (cc is)
 payload_of_last bytes (extension ∷ others) last is =
     behind_last extension others ∙ ap extension_payload (found_last extension others last is)
 
--- a payload whose end this set
+-- A payload with the given source of its end.
 abbrev pub with_source : LenSource → EtherPayload → EtherPayload
 with_source source payload = record payload { len_source = source }
 
--- and so it is with its type
+-- The payload after link extensions, with its ether type, is that of the last one.
 pub ether_payload_of_last : (link : Option LinkLayer) (extensions : List LinkExtension) (last : LinkExtension)
     → slice_get extensions (length extensions - 1) ≡ Some last
     → ether_payload_of_parts link extensions

@@ -1,9 +1,9 @@
--- That bytes which are a frame as slices are read are one as headers are read.
+-- A frame in the reading as slices is one in the reading as headers.
 use Rattle.std.proofs.Common.{◌≡◌, ℕ, zero, suc, Bool, List, [], ◌∷◌, ◌++◌, Option, Some, None, refl, sym, ap, subst, ◌∙◌, append_assoc}
 use Rattle.ep_base.specs.IpPayload.{IpPayload}
 use Rattle.ep_base.specs.Readings.{slices, headers}
 use Rattle.ep_base.specs.declared.ether_type.EtherType.{EtherType}
-use Rattle.ep_ext.specs.Chains.{IpVersion, ipv4 as version_4, ipv6 as version_6, ExtensionChain, IsChainBehind, IsExtensionChain, NoKindTwice, chain_of}
+use Rattle.ep_ext.specs.Chains.{IpVersion, ipv4 as version_4, ipv6 as version_6, ExtensionChain, IsChainAfter, IsExtensionChain, NoKindTwice, chain_of}
 use Rattle.ep_ext.specs.ExtensionParts.{ExtensionPart}
 use Rattle.ep_ip.specs.declared.ipv4_header.Ipv4Header.{Ipv4Header}
 use Rattle.ep_ip.specs.declared.ipv6_header.Ipv6Header.{Ipv6Header}
@@ -17,26 +17,26 @@ use Rattle.ep_transport.specs.Udp.{udp_bytes}
 use Rattle.ep_packet.specs.declared.entry.Entry.{Entry}
 use Rattle.ep_packet.specs.declared.entry.Entry.TheVariants.{Ethernet as ethernet, LinuxSll as linux_sll, EtherType as ether_type, Ip as ip}
 use Rattle.ep_packet.specs.Layers.{NetLayer, Layers, net_payload}
-use Rattle.ep_packet.specs.Frame.{NetKind, only_ipv4, only_ipv6, only_arp, any_ip, net_kind, IsFrameIn, IsInside, IsNetLayer, IsNetPart, IsTransportBehind, most_link_exts}
-use Rattle.ep_packet.specs.FrameBytes.{inner_payload, link_payload, payload_behind}
+use Rattle.ep_packet.specs.Frame.{NetKind, only_ipv4, only_ipv6, only_arp, any_ip, net_kind, IsFrameIn, IsInside, IsNetLayer, IsNetPart, IsTransportAfterNet, most_link_exts}
+use Rattle.ep_packet.specs.FrameBytes.{inner_payload, link_payload, payload_after_exts}
 use Rattle.ep_packet.specs.TwoParsers.{Agree, HasNoSecondKind, LastAgrees, PayloadAgrees, TransportAgrees}
 
--- a chain in the reading of slices in which no kind stands twice is one in the reading of headers
+-- A chain in the reading as slices without two headers of a kind is one in the reading as headers.
 abbrev pub ChainLaw : Type 0
 ChainLaw = (version : IpVersion) (number : ℕ) (bytes : List ℕ) (chain : ExtensionChain)
     → IsExtensionChain version slices number bytes chain → NoKindTwice [] chain.parts
     → IsExtensionChain version headers number bytes chain
 
--- ---- the net layer
+-- ---- network layer
 
--- no kind stands twice in IPv4, where one header is taken at most
+-- An IPv4 chain has at most one header, so that no kind occurs twice.
 one_at_most : (number : ℕ) (bytes : List ℕ) (parts : List ExtensionPart) (last : ℕ) (rest : List ℕ)
-    → IsChainBehind version_4 slices [] number bytes parts last rest → NoKindTwice [] parts
+    → IsChainAfter version_4 slices [] number bytes parts last rest → NoKindTwice [] parts
 one_at_most number bytes [] last rest is = tt
 one_at_most number bytes (part ∷ []) last rest is = (refl, tt)
 one_at_most number bytes (part ∷ second ∷ others) last rest is = absurd (cc is.1.2.0)
 
--- a packet of IPv4 is the same in both readings
+-- An IPv4 packet in the reading as slices is one in the reading as headers.
 pub ipv4_reads : ChainLaw → (bytes : List ℕ) (packet : IpPacket Ipv4Header) → IsIpv4 slices bytes packet
     → IsIpv4 headers bytes packet
 ipv4_reads law bytes packet is = record {
@@ -50,7 +50,7 @@ ipv4_reads law bytes packet is = record {
   source = is.source;
 }
 
--- one of IPv6 where no kind stands twice
+-- An IPv6 packet without two extension headers of a kind is one in the reading as headers.
 pub ipv6_reads : ChainLaw → (bytes : List ℕ) (packet : IpPacket Ipv6Header) → IsIpv6 slices bytes packet
     → NoKindTwice [] packet.extensions → IsIpv6 headers bytes packet
 ipv6_reads law bytes packet is once = record {
@@ -62,7 +62,7 @@ ipv6_reads law bytes packet is once = record {
   source = is.source;
 }
 
--- a net layer of any kind where no kind of extension header stands twice
+-- A network layer without two extension headers of a kind is one in the reading as headers.
 net_reads : ChainLaw → (kind : NetKind) (bytes : List ℕ) (layer : NetLayer) → IsNetLayer slices kind bytes layer
     → HasNoSecondKind (Some layer) → IsNetLayer headers kind bytes layer
 net_reads law only_ipv4 bytes layer (packet, is, same) once = (packet, ipv4_reads law bytes packet is, same)
@@ -77,9 +77,9 @@ net_reads law any_ip bytes layer (ipv6_part packet, is, same) once = (
   same,
 )
 
--- ---- the transport layer
+-- ---- transport layer
 
--- a transport header is the same in both readings, and the payloads agree
+-- A transport header is read equally in both readings, and the payloads agree.
 layer_reads : (number : ℕ) (bytes : List ℕ) (read : TransportHeader) (payload : List ℕ)
     → IsTransportLayer slices number bytes read payload
     → (other : List ℕ) × IsTransportLayer headers number bytes read other × PayloadAgrees read payload other
@@ -92,7 +92,7 @@ layer_reads number bytes (header.Tcp segment) payload is = (payload, is, refl)
 layer_reads number bytes (header.Icmpv4 message) payload is = (payload, is, refl)
 layer_reads number bytes (header.Icmpv6 message) payload is = (payload, is, refl)
 
--- an IP payload has the same transport header in both readings, or none in both
+-- An IP payload has an equal transport header in both readings, or none in both.
 part_reads : (number : ℕ) (fragmented : Bool) (bytes : List ℕ) (transport : Option TransportLayer)
     → IsTransportPart slices number fragmented bytes transport
     → (other : Option TransportLayer) × IsTransportPart headers number fragmented bytes other
@@ -103,18 +103,18 @@ part_reads number fragmented bytes (Some layer) (whole, is) =
     let second = transport_layer layer.header reads.0 in
     (Some second, (whole, reads.1), (second, refl, refl, reads.2))
 
--- where there is no transport layer in the one, there is none in the other
+-- Two absent transport layers agree.
 none_agree : (transport : Option TransportLayer) → transport ≡ None → TransportAgrees transport None
 none_agree transport none = subst (λ (t : Option TransportLayer). TransportAgrees t None) (sym none) refl
 
--- the transport layer in the payload of a net layer
+-- The payload of a network layer has a transport layer in both readings, and they agree.
 behind_reads : (payload : Option IpPayload) (transport : Option TransportLayer)
-    → IsTransportBehind slices payload transport
-    → (other : Option TransportLayer) × IsTransportBehind headers payload other × TransportAgrees transport other
+    → IsTransportAfterNet slices payload transport
+    → (other : Option TransportLayer) × IsTransportAfterNet headers payload other × TransportAgrees transport other
 behind_reads None transport none = (None, refl, none_agree transport none)
 behind_reads (Some payload) transport is = part_reads payload.number payload.fragmented payload.bytes transport is
 
--- the last payloads agree
+-- The last payloads agree if the transport layers do.
 last_agrees : (bytes : List ℕ) (net : Option NetLayer) (transport other : Option TransportLayer)
     → TransportAgrees transport other
     → LastAgrees transport (inner_payload bytes net transport) (inner_payload bytes net other)
@@ -123,9 +123,9 @@ last_agrees bytes net (Some layer) other (second, is, same, agrees) =
     subst (λ (o : Option TransportLayer). LastAgrees (Some layer) layer.payload (inner_payload bytes net o))
     (sym is) agrees
 
--- ---- the frame
+-- ---- frame
 
--- the net layer of a kind, where there is one, and the transport layer in it
+-- A network layer, if present, and the transport layer in it are read in both readings, and agree.
 net_part_reads : ChainLaw → (kind : Option NetKind) (bytes : List ℕ) (net : Option NetLayer)
     (transport : Option TransportLayer)
     → IsNetPart slices kind bytes net transport → HasNoSecondKind net
@@ -135,7 +135,7 @@ net_part_reads law (Some kind) bytes net transport (layer, is, same, inside) onc
     let reads = behind_reads (net_payload layer) transport inside in
     (reads.0, (layer, net_reads law kind bytes layer is (subst HasNoSecondKind same once), same, reads.1), reads.2)
 
--- what bytes of a type hold
+-- The layers of bytes of an ether type are read in both readings, and agree.
 inside_reads : ChainLaw → (room : ℕ) (type : Option EtherType) (bytes : List ℕ) (extensions : List LinkExtension)
     (net : Option NetLayer) (transport : Option TransportLayer)
     → IsInside slices room type bytes extensions net transport → HasNoSecondKind net
@@ -154,11 +154,11 @@ inside_reads law (suc room) (Some type) bytes (extension ∷ others) net transpo
     others net transport part once in
     (reads.0, (tag, reads.1), reads.2)
 
--- the same layers with another transport layer
+-- The layers with another transport layer.
 abbrev with_transport : Layers → Option TransportLayer → Layers
 with_transport layers other = record layers { transport = other }
 
--- they agree where the transport layers do
+-- Layers with another transport layer agree if the transport layers do.
 transport_agrees : (layers : Layers) (other : Option TransportLayer) → TransportAgrees layers.transport other
     → Agree layers (with_transport layers other)
 transport_agrees layers other agrees = record {
@@ -166,11 +166,11 @@ transport_agrees layers other agrees = record {
   link_exts = refl;
   net = refl;
   transport = agrees;
-  payload = last_agrees (payload_behind (link_payload layers.link) layers.link_exts) layers.net
+  payload = last_agrees (payload_after_exts (link_payload layers.link) layers.link_exts) layers.net
       layers.transport other agrees;
 }
 
--- a frame as slices are read is one as headers are read
+-- A frame in the reading as slices is one in the reading as headers, and their layers agree.
 pub frame_reads : ChainLaw → (entry : Entry) (bytes : List ℕ) (layers : Layers) → IsFrameIn slices entry bytes layers
     → HasNoSecondKind layers.net
     → (other : Layers) × IsFrameIn headers entry bytes other × Agree layers other

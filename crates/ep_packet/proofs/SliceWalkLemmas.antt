@@ -1,4 +1,4 @@
--- The link extensions of a packet, as the walk reads one after the other.
+-- Slicing the link extensions of a packet, one after the other.
 use Rattle.std.proofs.Common.{◌≡◌, ◌⊎◌, ℕ, zero, suc, ◌+◌, ◌≤◌, List, [], ◌∷◌, ◌++◌, map, length, Option, Some, None, refl, sym, ap, subst, ◌∙◌, inl, inr, append_assoc, arith}
 use Rattle.std.specs.Option.{option_map}
 use Rattle.std.proofs.lemmas.List.{append-nil, map-append}
@@ -18,8 +18,8 @@ use Rattle.ep_packet.specs.ShownBytes.{BeginsWith, ShowsInside}
 use Rattle.ep_packet.specs.Walk.{HasExtensions, net_kind_in}
 use Rattle.ep_packet.proofs.WalkLemmas.{ends_at}
 
--- These link extensions were read at the front of bytes of a type, and there is room for so many more: what the bytes
--- behind them hold is what the bytes hold behind these extensions, and so with refusals.
+-- Link extensions read at the start of the bytes, and the number of further ones that are read: the layers of the rest,
+-- and its errors, are those of the bytes after these link extensions.
 pub record Reads (offset : ℕ) (type : Option EtherType) (bytes : List ℕ) (extensions : List LinkExtSlice) (room : ℕ)
     (rest_offset : ℕ) (rest_type : Option EtherType) (rest : List ℕ) : Type 0 where
   pub place : rest_offset + length rest ≤ offset + length bytes
@@ -31,21 +31,21 @@ pub record Reads (offset : ℕ) (type : Option EtherType) (bytes : List ℕ) (ex
   pub refused : (error : SliceError) → RefusesInside slices room rest_offset rest_type rest error
       → RefusesInside slices most_link_exts offset type bytes error
 
--- the type begins no link extension, where it is known
+-- The ether type, if known, is none of a link extension.
 abbrev pub BeginsNone : Option EtherType → Type 0
 BeginsNone None = Unit
 BeginsNone (Some type) = ¬ BeginsLinkExtension type
 
--- it begins none where it is not known
+-- An unknown ether type is none of a link extension.
 pub unknown_begins_none : (type : Option EtherType) → type ≡ None → BeginsNone type
 unknown_begins_none type is = subst BeginsNone (sym is) tt
 
--- or where it is known to begin none
+-- A known ether type that is none of a link extension.
 pub known_begins_none : (type : Option EtherType) (known : EtherType) → type ≡ Some known
     → (¬ BeginsLinkExtension known) → BeginsNone type
 known_begins_none type known is none = subst BeginsNone (sym is) none
 
--- at first none was read
+-- At first, no link extension was read.
 pub reads_nothing : (offset room : ℕ) (type : Option EtherType) (bytes : List ℕ) (extensions : List LinkExtSlice)
     → extensions ≡ [] → room ≡ most_link_exts → Reads offset type bytes extensions room offset type bytes
 reads_nothing offset room type bytes extensions none all =
@@ -58,7 +58,7 @@ reads_nothing offset room type bytes extensions none all =
       refused = λ error refused. refused;
     }))
 
--- one more was read
+-- After a link extension, one more was read.
 one_more : (offset : ℕ) (type : Option EtherType) (bytes : List ℕ) (old : List LinkExtSlice) (room at : ℕ)
     (known : EtherType) (here left : List ℕ) (found : LinkExtSlice)
     → Reads offset type bytes old (suc room) at (Some known) here → BeginsWith here (link_ext_slice_bytes found)
@@ -79,7 +79,7 @@ one_more offset type bytes old room at known here left found so_far begins part 
   refused = λ error refused. so_far.refused error (inr (inr (link_extension_of found, left, part, refused)));
 }
 
--- with what the calls say of it
+-- One more was read, from the contracts of the functions.
 pub reads_one : (offset : ℕ) (type : Option EtherType) (bytes : List ℕ) (old new : List LinkExtSlice)
     (room rest at after : ℕ) (here_type next_type : Option EtherType) (known : EtherType) (here left next : List ℕ)
     (found : LinkExtSlice)
@@ -101,7 +101,7 @@ reads_one offset type bytes old new room rest at after here_type next_type known
     (at + link_ext_header_len (extension_header (link_extension_of found)))
     (extension_type (link_extension_of found)) b) (sym payload_is) one)))
 
--- bytes that are no link extension, where one must be, are the refusal
+-- Bytes with the ether type of a link extension, but which are no valid one, are rejected.
 pub reads_refused : (offset : ℕ) (type : Option EtherType) (bytes : List ℕ) (old : List LinkExtSlice)
     (room rest at : ℕ) (here_type : Option EtherType) (known : EtherType) (here : List ℕ) (error : SliceError)
     → Reads offset type bytes old room at here_type here → room ≡ suc rest → here_type ≡ Some known
@@ -111,14 +111,14 @@ reads_refused offset type bytes old room rest at here_type known here error so_f
     (subst (λ (n : ℕ). Reads offset type bytes old n at here_type here) more so_far) in
     first.refused error (inr (inl refused))
 
--- where no more are taken, or the type begins none, bytes hold a net part alone
+-- If no further link extension is read, the layers of the bytes are those of the network layer.
 net_part_inside : (room : ℕ) (type : Option EtherType) (bytes : List ℕ) → ((room ≡ 0) ⊎ BeginsNone type)
     → (net : Option NetLayer) (transport : Option TransportLayer)
     → IsNetPart slices (net_kind_in type) bytes net transport → IsInside slices room type bytes [] net transport
 net_part_inside room None bytes why net transport part = (refl, part.0, part.1)
 net_part_inside room (Some type) bytes why net transport part = ends_at slices room type bytes why net transport part
 
--- and are refused for one alone
+-- If no further link extension is read, the errors of the bytes are those of the network layer.
 net_part_refused : (room offset : ℕ) (type : Option EtherType) (bytes : List ℕ) → ((room ≡ 0) ⊎ BeginsNone type)
     → (error : SliceError) → RefusesNetPart slices offset (net_kind_in type) bytes error
     → RefusesInside slices room offset type bytes error
@@ -127,7 +127,7 @@ net_part_refused zero offset (Some type) bytes why error refused = refused
 net_part_refused (suc room) offset (Some type) bytes (inl full) error refused = absurd (omega (arith, full))
 net_part_refused (suc room) offset (Some type) bytes (inr none) error refused = inl (none, refused)
 
--- there the link extensions end
+-- If no further link extension is read, these are all link extensions of the bytes.
 pub extensions_end : (offset : ℕ) (type : Option EtherType) (bytes : List ℕ) (extensions : List LinkExtSlice)
     (room at : ℕ) (rest_type : Option EtherType) (rest : List ℕ)
     → Reads offset type bytes extensions room at rest_type rest → ((room ≡ 0) ⊎ BeginsNone rest_type)

@@ -1,4 +1,4 @@
--- One step of the walk over a frame, from what the layers' calls ensure.
+-- One step of slicing or decoding a frame, from the contracts of the layers' functions.
 use Rattle.std.proofs.Common.{◌≡◌, ◌⊎◌, ℕ, zero, suc, List, [], ◌++◌, Option, Some, None, ap, subst, ◌∙◌, inl, inr, arith}
 use Rattle.std.specs.Prelude.{IfSome, IfNone}
 use Rattle.ep_base.specs.Readings.{Reading}
@@ -10,18 +10,18 @@ use Rattle.ep_transport.specs.TransportParts.{TransportLayer}
 use Rattle.ep_packet.specs.Layers.{Layers, NetLayer}
 use Rattle.ep_packet.specs.Frame.{net_kind, IsInside, IsNetPart}
 
--- a fact of two values is one of their equals
+-- A relation of two values holds for values equal to them.
 pub along : {A B : Type 0} (P : A → B → Type 0) (a b : A) (x y : B) → a ≡ b → x ≡ y → P a x → P b y
 along P a b x y same others holds = subst (λ z. P b z) others (subst (λ c. P c x) same holds)
 
--- the layers of a packet
+-- The layers of a packet.
 abbrev layers_with : Option LinkLayer → List LinkExtension → Option NetLayer → Option TransportLayer → Layers
 layers_with link extensions net transport =
     record { link = link; link_exts = extensions; net = net; transport = transport }
 
 -- ---- link extensions
 
--- the extensions end where no more are taken, or at a type that begins none
+-- Link extensions end at the greatest number, or at an ether type that is none of a link extension.
 pub ends_at : (reading : Reading) (room : ℕ) (type : EtherType) (bytes : List ℕ)
     → ((room ≡ 0) ⊎ (¬ BeginsLinkExtension type)) → (net : Option NetLayer) (transport : Option TransportLayer)
     → IsNetPart reading (net_kind type) bytes net transport
@@ -30,7 +30,7 @@ ends_at reading zero type bytes why net transport part = part
 ends_at reading (suc room) type bytes (inl full) net transport part = absurd (omega (arith, full))
 ends_at reading (suc room) type bytes (inr none) net transport part = (none, part)
 
--- what a call that looks for an extension has found
+-- A link extension that was returned is at the start of the bytes.
 pub found_there : (type : EtherType) (bytes : List ℕ) (answer : Option LinkExtSlice) (found : LinkExtSlice)
     → answer ≡ Some found
     → IfSome answer (λ shown. (left : List ℕ) × (bytes ≡ link_ext_slice_bytes shown ++ left)
@@ -42,15 +42,15 @@ found_there type bytes answer found same ok =
     (λ shown. (left : List ℕ) × (bytes ≡ link_ext_slice_bytes shown ++ left)
     × IsLinkExtension type bytes (link_extension_of shown, left))) same ok
 
--- and that it has found none
+-- If no link extension was returned, the ether type is none of one.
 pub none_there : (type : EtherType) (answer : Option LinkExtSlice) → answer ≡ None
     → IfNone answer (¬ BeginsLinkExtension type) → ¬ BeginsLinkExtension type
 none_there type answer same none =
     subst (λ (o : Option LinkExtSlice). IfNone o (¬ BeginsLinkExtension type)) same none
 
--- ---- a whole packet
+-- ---- whole packet
 
--- layers are known by their parts
+-- Layers are equal if their parts are.
 pub same_layers : (k l : Layers) → k.link ≡ l.link → k.link_exts ≡ l.link_exts → k.net ≡ l.net
     → k.transport ≡ l.transport → k ≡ l
 same_layers k l link extensions net transport =

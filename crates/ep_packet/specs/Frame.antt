@@ -1,6 +1,6 @@
--- Which bytes are a frame, of which layers. Each layer's bytes are the payload of the layer before it, and what a
--- layer's cut leaves stands behind its payload: so the bytes are the headers from the outside in, the payload of the
--- last layer, and what the cuts left, the innermost first.
+-- The grammar of frames: which bytes are a frame, and its layers. The bytes of each layer are the payload of the layer
+-- before it, and bytes that its length field excludes trail its payload. So a frame is its headers from the outside in,
+-- the payload of the last layer, and the trailing bytes, those of the innermost layer first.
 use Rattle.std.specs.Prelude.{◌≡◌, ◌==◌, if◌then◌else◌, ℕ, zero, suc, List, [], ◌∷◌, Option, Some, None}
 use Rattle.ep_base.specs.EtherTypes.{ipv4_type, ipv6_type, arp_type}
 use Rattle.ep_base.specs.Readings.{Reading, slices}
@@ -23,14 +23,15 @@ use Rattle.ep_packet.specs.declared.entry.Entry.{Entry}
 use Rattle.ep_packet.specs.declared.entry.Entry.TheVariants.{Ethernet as ethernet, LinuxSll as linux_sll, EtherType as ether_type, Ip as ip}
 use Rattle.ep_packet.specs.Layers.{NetLayer, arp, Layers, ipv4_layer, ipv6_layer, ip_layer, net_payload}
 
--- how a net layer is known: by its own ether type, or, as an IP packet, by the version in its first byte
+-- How the protocol of a network layer is known: by its ether type, or, for an IP packet, by the version in its first
+-- byte.
 pub data NetKind : Type 0 where
   only_ipv4 : NetKind
   only_ipv6 : NetKind
   only_arp : NetKind
   any_ip : NetKind
 
--- the net layer that an ether type begins, where its header is read
+-- The network layer protocol of an ether type, if it is supported.
 abbrev pub net_kind : EtherType → Option NetKind
 net_kind type =
     if type.0 == ipv4_type then Some only_ipv4
@@ -38,7 +39,7 @@ net_kind type =
     else if type.0 == arp_type then Some only_arp
     else None
 
--- the bytes are a net layer of this kind, and then what its cut leaves
+-- The bytes are a network layer of this protocol, and the trailing bytes that its length field excludes.
 abbrev pub IsNetLayer : Reading → NetKind → List ℕ → NetLayer → Type 0
 IsNetLayer reading only_ipv4 bytes layer =
     (packet : IpPacket Ipv4Header) × IsIpv4 reading bytes packet × (layer ≡ ipv4_layer packet)
@@ -48,24 +49,26 @@ IsNetLayer reading only_arp bytes layer =
     (part : Arp × List ℕ) × IsArp bytes part × (layer ≡ arp part.0)
 IsNetLayer reading any_ip bytes layer = (part : IpPart) × IsIp reading bytes part × (layer ≡ ip_layer part)
 
--- the transport layer of an IP payload, where it has one
+-- The transport layer of an IP payload, or none if the payload has no supported one.
 abbrev pub IsTransportIn : Reading → IpPayload → Option TransportLayer → Type 0
 IsTransportIn reading payload = IsTransportPart reading payload.number payload.fragmented payload.bytes
 
--- the transport layer in the payload of a net layer, where it has one
-abbrev pub IsTransportBehind : Reading → Option IpPayload → Option TransportLayer → Type 0
-IsTransportBehind reading None transport = transport ≡ None
-IsTransportBehind reading (Some payload) transport = IsTransportIn reading payload transport
+-- The transport layer in the payload of a network layer, or none if it has no supported one.
+abbrev pub IsTransportAfterNet : Reading → Option IpPayload → Option TransportLayer → Type 0
+IsTransportAfterNet reading None transport = transport ≡ None
+IsTransportAfterNet reading (Some payload) transport = IsTransportIn reading payload transport
 
--- the net layer of a kind that bytes are, and the transport layer in it; bytes of no kind have neither
+-- The bytes are a network layer of this protocol, with the transport layer in it. Bytes of no supported protocol have
+-- neither.
 abbrev pub IsNetPart : Reading → Option NetKind → List ℕ → Option NetLayer → Option TransportLayer → Type 0
 IsNetPart reading None bytes net transport = (net ≡ None) × (transport ≡ None)
 IsNetPart reading (Some kind) bytes net transport =
     (layer : NetLayer) × IsNetLayer reading kind bytes layer × (net ≡ Some layer)
-    × IsTransportBehind reading (net_payload layer) transport
+    × IsTransportAfterNet reading (net_payload layer) transport
 
--- What bytes of a type hold: at most so many link extensions, the net layer and the transport layer. The extensions end
--- where no more are taken, or at a type that begins none. Bytes whose type can't be read hold nothing.
+-- The bytes, of an ether type, are link extensions up to the given number, then the network layer and the transport
+-- layer. The extensions end at that number, or at an ether type that is none of an extension. Bytes of unknown type
+-- have no layers.
 abbrev pub IsInside : Reading → ℕ → Option EtherType → List ℕ
     → List LinkExtension → Option NetLayer → Option TransportLayer → Type 0
 IsInside reading room None bytes extensions net transport = (extensions ≡ []) × (net ≡ None) × (transport ≡ None)
@@ -77,11 +80,11 @@ IsInside reading (suc room) (Some type) bytes (extension ∷ others) net transpo
     ((left : List ℕ) × IsLinkExtension type bytes (extension, left))
     × IsInside reading room (extension_type extension) (extension_payload extension) others net transport
 
--- the greatest number of link extensions that are taken
+-- Greatest number of link extensions that are read.
 abbrev pub most_link_exts : ℕ
 most_link_exts = 3
 
--- the bytes are a frame of these layers, in a reading
+-- The bytes are a frame of these layers, in the given reading.
 abbrev pub IsFrameIn : Reading → Entry → List ℕ → Layers → Type 0
 IsFrameIn reading ethernet bytes layers =
     (frame : Parts Ethernet2Header) × IsEthernet2 bytes frame
@@ -99,6 +102,6 @@ IsFrameIn reading (ether_type type) bytes layers =
 IsFrameIn reading ip bytes layers =
     (layers.link ≡ None) × (layers.link_exts ≡ []) × IsNetPart reading (Some any_ip) bytes layers.net layers.transport
 
--- the bytes are a frame of these layers, as slices are read
+-- The bytes are a frame of these layers, in the reading as slices.
 abbrev pub IsFrame : Entry → List ℕ → Layers → Type 0
 IsFrame = IsFrameIn slices

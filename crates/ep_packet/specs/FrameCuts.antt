@@ -1,4 +1,4 @@
--- What set the limit where the cut of a frame is refused.
+-- Source of the limit in the error that rejects a truncated frame.
 use Rattle.std.specs.Prelude.{ℕ, ◌+◌, List, [], ◌∷◌, Option, Some, None}
 use Rattle.ep_base.specs.declared.err.len_error.LenError.{LenError}
 use Rattle.ep_base.specs.declared.len_source.LenSource.{LenSource}
@@ -12,28 +12,28 @@ use Rattle.ep_packet.specs.declared.entry.Entry.{Entry}
 use Rattle.ep_packet.specs.declared.entry.Entry.TheVariants.{Ethernet as ethernet, LinuxSll as linux_sll, EtherType as ether_type, Ip as ip}
 use Rattle.ep_packet.specs.Layers.{Layers, NetLayer, arp, ipv4, ipv6}
 
--- the number of bytes before the link extensions of a frame
+-- Number of bytes before the link extensions of a frame.
 abbrev pub inside_start : Entry → ℕ
 inside_start ethernet = ethernet2_header_len
 inside_start linux_sll = linux_sll_header_len
 inside_start (ether_type type) = 0
 inside_start ip = 0
 
--- where the net layer starts, behind these link extensions, of which the first starts here
+-- Offset of the network layer after a list of link extensions, whose first one is at the given offset.
 abbrev pub net_start : ℕ → List LinkExtension → ℕ
 net_start offset [] = offset
 net_start offset (extension ∷ others) = net_start (offset + link_ext_header_len (extension_header extension)) others
 
--- What set the limit where a cut left too few bytes of a frame whose net layer starts here: the end of the bytes at
--- hand, but the address lengths of ARP, once they are there, and the payload length of IPv6, where it is 0 and the
--- layer behind its header has no byte left. Of a link extension that is refused before the net layer it is the end of
--- the bytes.
+-- Source of the limit in the length error of a truncated frame whose network layer is at the given offset. It is the
+-- end of the slice, with two exceptions: the address lengths of ARP, if these are there, and the payload length of
+-- IPv6, if it is 0 and no byte of the layer after the IPv6 header is there. For a link extension before the network
+-- layer it is the end of the slice.
 abbrev pub net_cut_limit : Option NetLayer → ℕ → LenError → LenSource
 net_cut_limit None start error = source.Slice
 net_cut_limit (Some (ipv4 header extensions payload)) start error = source.Slice
 net_cut_limit (Some (ipv6 header extensions payload)) start error = ipv6_cut_limit start header error
 net_cut_limit (Some (arp packet)) start error = arp_cut_limit start error
 
--- the same of a frame of these layers
+-- Source of the limit in the length error of a truncated frame with these layers.
 abbrev pub frame_cut_limit : Entry → Layers → LenError → LenSource
 frame_cut_limit entry layers = net_cut_limit layers.net (net_start (inside_start entry) layers.link_exts)

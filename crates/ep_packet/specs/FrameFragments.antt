@@ -1,4 +1,4 @@
--- The fragment of a longer IP payload that a frame carries, and what tells which payload (RFC 791, 3.2; RFC 8200, 4.5).
+-- The fragment of a larger IP payload in a frame, and its identification (RFC 791, 3.2; RFC 8200, 4.5).
 use Rattle.std.specs.Prelude.{ℕ, Bool, if◌then◌else◌, List, [], ◌∷◌, Option, Some, None}
 use Rattle.std.specs.Option.{option_and_then}
 use Rattle.ep_base.specs.IpPayload.{IpPayload}
@@ -11,13 +11,14 @@ use Rattle.ep_ip.specs.Ipv4.{is_ipv4_fragment}
 use Rattle.ep_packet.specs.Layers.{Layers, NetLayer, ipv4, ipv6, arp}
 use Rattle.ep_packet.specs.VlanTags.{vlan_ids_in}
 
--- the version, the source, the destination and the identification of a packet that carries a fragment
+-- IP version, source and destination address, and identification of a packet that carries a fragment.
 pub data FragmentId : Type 0 where
   ipv4_id : List ℕ → List ℕ → ℕ → FragmentId
   ipv6_id : List ℕ → List ℕ → ℕ → FragmentId
 
--- A fragment: what tells which payload it is of (the VLAN identifiers from the outside in, the packet's identification
--- and the number of what the payload is), where it lies in it, in units of 8 bytes, whether more follow, and its bytes.
+-- A fragment: the keys of the payload it belongs to (VLAN identifiers from the outside in, identification of the
+-- packet, protocol number of the payload), its offset in units of 8 bytes, whether more fragments follow, and its
+-- bytes.
 pub record FrameFragment : Type 0 where
   pub vlan_ids : List ℕ
   pub id : FragmentId
@@ -26,7 +27,7 @@ pub record FrameFragment : Type 0 where
   pub more : Bool
   pub bytes : List ℕ
 
--- the first fragment header among extension headers
+-- The first fragment header in a list of extension headers.
 abbrev pub first_fragment : List ExtensionPart → Option Ipv6FragmentHeader
 first_fragment [] = None
 first_fragment (hop_by_hop header ∷ parts) = first_fragment parts
@@ -35,7 +36,7 @@ first_fragment (routing header ∷ parts) = first_fragment parts
 first_fragment (fragment header ∷ parts) = Some header
 first_fragment (authentication header ∷ parts) = first_fragment parts
 
--- the fragment that a packet of IPv4 carries, where its header says so
+-- The fragment in an IPv4 packet, if its header states that it is one.
 abbrev pub ipv4_fragment : List ℕ → Ipv4Header → IpPayload → Option FrameFragment
 ipv4_fragment vlan_ids header payload =
     if is_ipv4_fragment header
@@ -49,7 +50,7 @@ ipv4_fragment vlan_ids header payload =
     })
     else None
 
--- the fragment that a packet of IPv6 with this fragment header carries, where it says so
+-- The fragment in an IPv6 packet with this fragment header, if the fragment header states that it is one.
 abbrev pub ipv6_fragment : List ℕ → Ipv6Header → IpPayload → Ipv6FragmentHeader → Option FrameFragment
 ipv6_fragment vlan_ids header payload part =
     if is_ipv6_fragment part
@@ -63,13 +64,13 @@ ipv6_fragment vlan_ids header payload part =
     })
     else None
 
--- The fragment that a net layer carries. A packet of IPv6 goes by its first fragment header.
+-- The fragment in a network layer. In IPv6 the first fragment header counts.
 abbrev pub net_fragment : List ℕ → NetLayer → Option FrameFragment
 net_fragment vlan_ids (ipv4 header extensions payload) = ipv4_fragment vlan_ids header payload
 net_fragment vlan_ids (ipv6 header extensions payload) =
     option_and_then (ipv6_fragment vlan_ids header payload) (first_fragment extensions)
 net_fragment vlan_ids (arp packet) = None
 
--- the fragment that a frame carries
+-- The fragment in a frame.
 abbrev pub fragment_of : Layers → Option FrameFragment
 fragment_of layers = option_and_then (net_fragment (vlan_ids_in layers.link_exts)) layers.net

@@ -1,4 +1,4 @@
--- What the walk over a frame has filled in, as the private calls of it say it.
+-- Results of decoding a frame step by step, for the contracts of private functions.
 use Rattle.std.specs.Prelude.{◌≡◌, ℕ, ◌≤◌, if◌then◌else◌, List, [], ◌++◌, length, map, Option, Some, None}
 use Rattle.std.specs.Option.{option_map}
 use Rattle.ep_base.specs.IpPayload.{IpPayload}
@@ -11,32 +11,32 @@ use Rattle.ep_link.specs.declared.link.link_header.LinkHeader.{LinkHeader}
 use Rattle.ep_ip.specs.IpPackets.{IpPart}
 use Rattle.ep_transport.specs.TransportParts.{TransportLayer}
 use Rattle.ep_packet.specs.Frame.{NetKind, IsInside, IsNetPart, IsTransportIn}
-use Rattle.ep_packet.specs.FrameBytes.{payload_behind}
+use Rattle.ep_packet.specs.FrameBytes.{payload_after_exts}
 use Rattle.ep_packet.specs.IpHeaders.{ip_headers_of, ip_part_payload}
 use Rattle.ep_packet.specs.Layers.{NetLayer, ip_layer}
 use Rattle.ep_packet.specs.NetHeaders.{net_headers_of}
 use Rattle.ep_packet.specs.PacketHeaders.{Headers, net_header_in, transport_header_in}
 use Rattle.ep_packet.specs.PayloadParts.{PayloadPart, ip, innermost_part, open_part}
-use Rattle.ep_packet.specs.Payloads.{ether_payload_behind, have_short_len}
+use Rattle.ep_packet.specs.Payloads.{ether_payload_after, have_short_len}
 use Rattle.ep_packet.specs.declared.net_headers.NetHeaders.{NetHeaders}
-use Rattle.ep_packet.specs.FrameRefusals.{net_header_len}
+use Rattle.ep_packet.specs.FrameRefusals.{net_payload_offset}
 
--- what set the end of what lies behind some extensions, which lie in a payload whose end this set
-abbrev pub source_behind : LenSource → List LinkExtension → LenSource
-source_behind outer extensions = if have_short_len extensions then source.MacsecShortLength else outer
+-- Source of the end of the payload after link extensions, in a payload whose end `outer` set.
+abbrev pub source_after : LenSource → List LinkExtension → LenSource
+source_after outer extensions = if have_short_len extensions then source.MacsecShortLength else outer
 
--- a payload whose end this set
+-- A payload with the given source of its end.
 abbrev pub ending_by : LenSource → EtherPayload → EtherPayload
 ending_by outer payload = record payload { len_source = outer }
 
--- the payload behind some extensions, which lie in a payload
-abbrev pub open_behind : EtherPayload → List LinkExtension → PayloadPart
-open_behind payload extensions = open_part
-    (option_map (ending_by (source_behind payload.len_source extensions))
-    (ether_payload_behind (Some payload) extensions))
-    (payload_behind payload.bytes extensions)
+-- The payload after the link extensions that a payload begins with.
+abbrev pub open_after : EtherPayload → List LinkExtension → PayloadPart
+open_after payload extensions = open_part
+    (option_map (ending_by (source_after payload.len_source extensions))
+    (ether_payload_after (Some payload) extensions))
+    (payload_after_exts payload.bytes extensions)
 
--- these headers, with what was found behind the link extensions
+-- The headers with the network and transport layer found after the link extensions.
 abbrev pub with_net : Headers → PayloadPart → Option NetLayer → Option TransportLayer → Headers
 with_net old unread net transport = record old {
   net = option_map net_header_in net;
@@ -44,19 +44,19 @@ with_net old unread net transport = record old {
   payload = innermost_part unread net transport;
 }
 
--- these headers, of which the link layer is this one and no link extension is filled in yet
+-- The headers with this link header, and no link extension yet.
 abbrev pub begun : Headers → Option LinkHeader → Headers
 begun old link = record old { link = link; link_exts = [] }
 
--- The IP headers of a packet that bytes begin with were filled in. This is its payload, which lies at this offset.
+-- The IP headers at the start of the bytes were decoded into `net`, and the payload is at this offset.
 pub record FillsIp (part : IpPart) (bytes : List ℕ) (net : Option NetHeaders) (payload : IpPayload)
     (offset : ℕ) : Type 0 where
   pub filled : net ≡ Some (net_headers_of (ip_headers_of part))
   pub same_payload : payload ≡ ip_part_payload part
-  pub place : offset ≡ net_header_len (ip_layer part)
+  pub place : offset ≡ net_payload_offset (ip_layer part)
   pub within : offset ≤ length bytes
 
--- the transport layer of an IP payload was filled in, where it has one, and the payload of the last layer
+-- The transport header of an IP payload, if it has a supported one, and the payload of the last layer were decoded.
 pub record FillsTransport (payload : IpPayload) (old new : Headers) : Type 0 where
   pub transport : Option TransportLayer
   pub part : IsTransportIn headers payload transport
@@ -65,15 +65,15 @@ pub record FillsTransport (payload : IpPayload) (old new : Headers) : Type 0 whe
     payload = innermost_part (ip payload) None transport;
   }
 
--- The net layer of a kind that bytes are was filled in, with the transport layer in it and the payload of the last
--- layer, which is this one where no net layer is read.
+-- The network layer of this protocol, the transport layer in it, and the payload of the last layer were decoded.
+-- Without a network layer the payload is `unread`.
 pub record FillsNet (kind : Option NetKind) (bytes : List ℕ) (unread : PayloadPart) (old new : Headers) : Type 0 where
   pub net : Option NetLayer
   pub transport : Option TransportLayer
   pub part : IsNetPart headers kind bytes net transport
   pub filled : new ≡ with_net old unread net transport
 
--- What the bytes of a payload hold was filled in, where at most so many link extensions are taken.
+-- The layers of a payload were decoded, with at most the given number of link extensions.
 pub record FillsInside (room : ℕ) (payload : EtherPayload) (old new : Headers) : Type 0 where
   pub extensions : List LinkExtension
   pub net : Option NetLayer
@@ -81,4 +81,4 @@ pub record FillsInside (room : ℕ) (payload : EtherPayload) (old new : Headers)
   pub inside : IsInside headers room (Some payload.ether_type) payload.bytes extensions net transport
   pub filled : new ≡ with_net
       (record old { link_exts = old.link_exts ++ map extension_header extensions })
-      (open_behind payload extensions) net transport
+      (open_after payload extensions) net transport

@@ -1,4 +1,4 @@
--- The layers of a frame, as plain data, and which of them a sliced packet shows.
+-- The layers of a frame as plain data, and the layers that a sliced packet shows.
 use Rattle.std.specs.Prelude.{List, [], map, Option, Some, None, Bool, false}
 use Rattle.std.specs.Option.{option_map, option_and_then, option_map_or}
 use Rattle.ep_link.specs.Arp.{Arp}
@@ -17,39 +17,39 @@ use Rattle.ep_packet.specs.declared.net_slice.NetSlice.{NetSlice}
 use Rattle.ep_packet.specs.declared.net_slice.NetSlice.TheVariants as slice
 use Rattle.ep_packet.specs.declared.sliced_packet.SlicedPacket.{SlicedPacket}
 
--- a net layer: its header, the extension headers behind it and its payload, or an ARP packet
+-- A network layer: an IP header, its extension headers and its payload, or an ARP packet.
 pub data NetLayer : Type 0 where
   ipv4 : Ipv4Header → List ExtensionPart → IpPayload → NetLayer
   ipv6 : Ipv6Header → List ExtensionPart → IpPayload → NetLayer
   arp : Arp → NetLayer
 
--- an IPv4 packet as a net layer
+-- An IPv4 packet as a network layer.
 abbrev pub ipv4_layer : IpPacket Ipv4Header → NetLayer
 ipv4_layer packet = ipv4 packet.header packet.extensions packet.payload
 
--- an IPv6 packet as a net layer
+-- An IPv6 packet as a network layer.
 abbrev pub ipv6_layer : IpPacket Ipv6Header → NetLayer
 ipv6_layer packet = ipv6 packet.header packet.extensions packet.payload
 
--- an IP packet of either version as a net layer
+-- An IP packet of either version as a network layer.
 abbrev pub ip_layer : IpPart → NetLayer
 ip_layer (ipv4_part packet) = ipv4_layer packet
 ip_layer (ipv6_part packet) = ipv6_layer packet
 
--- the layers of a frame, each where it stands
+-- The layers of a frame, from the outside in.
 pub record Layers : Type 0 where
   pub link : Option LinkLayer
   pub link_exts : List LinkExtension
   pub net : Option NetLayer
   pub transport : Option TransportLayer
 
--- the net layer that a slice shows
+-- The network layer that a slice shows.
 abbrev pub net_layer_of : NetSlice → NetLayer
 net_layer_of (slice.Ipv4 packet) = ipv4_layer (ipv4_slice_packet packet [])
 net_layer_of (slice.Ipv6 packet) = ipv6_layer (ipv6_slice_packet packet [])
 net_layer_of (slice.Arp packet) = arp (arp_slice_packet packet)
 
--- the layers that a sliced packet shows
+-- The layers that a sliced packet shows.
 abbrev pub layers_of : SlicedPacket → Layers
 layers_of packet = record {
   link = option_map link_layer_of packet.link;
@@ -58,20 +58,20 @@ layers_of packet = record {
   transport = option_map transport_layer_of packet.transport;
 }
 
--- the payload of a net layer, where it is IP
+-- The payload of a network layer, if it is IP.
 abbrev pub net_payload : NetLayer → Option IpPayload
 net_payload (ipv4 header extensions payload) = Some payload
 net_payload (ipv6 header extensions payload) = Some payload
 net_payload (arp packet) = None
 
--- the payload of the IP packet, where the net layer is one
+-- The payload of the IP packet, if the network layer is one.
 abbrev pub ip_payload_in : Layers → Option IpPayload
 ip_payload_in layers = option_and_then net_payload layers.net
 
--- whether that payload is a fragment of a longer one
+-- True if the IP payload is a fragment of a larger payload.
 abbrev pub carries_fragment : Layers → Bool
 carries_fragment layers = option_map_or (λ (payload : IpPayload). payload.fragmented) (ip_payload_in layers) false
 
--- no layers
+-- No layers.
 abbrev pub no_layers : Layers
 no_layers = record { link = None; link_exts = []; net = None; transport = None }

@@ -20,7 +20,7 @@ pub mod PacketHeaders
 pub mod HeadersWalk
 pub mod TwoParsers
 pub mod PacketComparisons
--- what the contracts name of the crates below
+-- Definitions of the crates below that contracts use
 pub use Rattle.ep_base.specs.Bytes
 pub use Rattle.ep_base.specs.IpPayload
 pub use Rattle.ep_base.specs.Readings

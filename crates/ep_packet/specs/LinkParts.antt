@@ -1,4 +1,4 @@
--- The link layer with which a packet begins.
+-- The link layer at the start of a packet.
 use Rattle.std.specs.Prelude.{◌≡◌, ℕ, List, Option, Some}
 use Rattle.ep_base.specs.Tables.{Parts}
 use Rattle.ep_base.specs.declared.ether_type.EtherType.{EtherType}
@@ -15,43 +15,43 @@ use Rattle.ep_packet.specs.declared.entry.Entry.TheVariants.{EtherType as ether_
 use Rattle.ep_packet.specs.declared.link_part.LinkPart.{LinkPart}
 use Rattle.ep_packet.specs.ShownBytes.{BeginsWith}
 
--- a layer whose payload, of this type where it is known, lies `offset` bytes behind its front
-pub record LinkFront : Type 0 where
+-- A link layer, and its payload: the offset from the start of the packet, the ether type, if known, and the bytes.
+pub record LinkStart : Type 0 where
   pub link : LinkLayer
   pub offset : ℕ
   pub type : Option EtherType
   pub payload : List ℕ
 
--- what a part shows
-abbrev pub front_of : LinkPart → LinkFront
-front_of part = record {
+-- The link layer and payload that a `LinkPart` shows.
+abbrev pub link_start_of : LinkPart → LinkStart
+link_start_of part = record {
   link = link_layer_of part.link;
   offset = part.offset;
   type = part.ether_type;
   payload = part.slice.now;
 }
 
--- the bytes begin with this link layer, as an entry says; a packet of bare IP has none
-abbrev pub IsLinkFront : Entry → List ℕ → LinkFront → Type 0
-IsLinkFront ethernet bytes front =
+-- The bytes begin with this link layer, for the given entry. Bare IP has none.
+abbrev pub IsLinkStart : Entry → List ℕ → LinkStart → Type 0
+IsLinkStart ethernet bytes front =
     (frame : Parts Ethernet2Header) × IsEthernet2 bytes frame × (front ≡ record {
       link = ethernet2 frame.header frame.payload;
       offset = ethernet2_header_len;
       type = Some frame.header.ether_type;
       payload = frame.payload;
     })
-IsLinkFront linux_sll bytes front =
+IsLinkStart linux_sll bytes front =
     (frame : Parts LinuxSllHeader) × IsLinuxSll bytes frame × (front ≡ record {
       link = sll frame.header frame.payload;
       offset = linux_sll_header_len;
       type = protocol_ether_type frame.header.protocol_type;
       payload = frame.payload;
     })
-IsLinkFront (ether_type type) bytes front =
+IsLinkStart (ether_type type) bytes front =
     front ≡ record { link = ether_payload type source.Slice bytes; offset = 0; type = Some type; payload = bytes }
-IsLinkFront ip bytes front = ⊥
+IsLinkStart ip bytes front = ⊥
 
--- the bytes begin with the link layer of a part, which shows them
+-- The bytes begin with the link layer of `part`, whose slice shows them.
 pub record BeginsPacket (entry : Entry) (bytes : List ℕ) (part : LinkPart) : Type 0 where
   pub shows : BeginsWith bytes (link_slice_bytes part.link)
-  pub is : IsLinkFront entry bytes (front_of part)
+  pub is : IsLinkStart entry bytes (link_start_of part)

@@ -1,4 +1,4 @@
--- Which net headers a value is.
+-- Kinds of network layer headers.
 use Rattle.std.specs.Prelude.{ℕ, Bool, true, false, ◌||◌, Option, Some, None}
 use Rattle.ep_ext.specs.declared.ipv4_exts.Ipv4Extensions.{Ipv4Extensions}
 use Rattle.ep_ext.specs.declared.ipv6_exts.Ipv6Extensions.{Ipv6Extensions}
@@ -13,58 +13,58 @@ use Rattle.ep_packet.specs.declared.ip_headers.IpHeaders.TheVariants as ip
 use Rattle.ep_packet.specs.declared.net_headers.NetHeaders.{NetHeaders}
 use Rattle.ep_packet.specs.declared.net_headers.NetHeaders.TheVariants as net
 
--- IP headers as net headers
+-- IP headers as network layer headers.
 abbrev pub net_headers_of : IpHeaders → NetHeaders
 net_headers_of (ip.Ipv4 header extensions) = net.Ipv4 header extensions
 net_headers_of (ip.Ipv6 header extensions) = net.Ipv6 header extensions
 
--- whether they are of IPv4
+-- True if the headers are IPv4.
 abbrev pub are_ipv4 : NetHeaders → Bool
 are_ipv4 (net.Ipv4 header extensions) = true
 are_ipv4 (net.Ipv6 header extensions) = false
 are_ipv4 (net.Arp packet) = false
 
--- whether they are of IPv6
+-- True if the headers are IPv6.
 abbrev pub are_ipv6 : NetHeaders → Bool
 are_ipv6 (net.Ipv4 header extensions) = false
 are_ipv6 (net.Ipv6 header extensions) = true
 are_ipv6 (net.Arp packet) = false
 
--- whether they are of IP, of either version
+-- True if the headers are IPv4 or IPv6.
 abbrev pub are_ip : NetHeaders → Bool
 are_ip headers = are_ipv4 headers || are_ipv6 headers
 
--- whether they are an ARP packet
+-- True if the headers are an ARP packet.
 abbrev pub are_arp : NetHeaders → Bool
 are_arp (net.Ipv4 header extensions) = false
 are_arp (net.Ipv6 header extensions) = false
 are_arp (net.Arp packet) = true
 
--- the IP headers, where they are of IP
+-- The IP headers, if the headers are IP.
 abbrev pub ip_in : NetHeaders → Option IpHeaders
 ip_in (net.Ipv4 header extensions) = Some (ip.Ipv4 header extensions)
 ip_in (net.Ipv6 header extensions) = Some (ip.Ipv6 header extensions)
 ip_in (net.Arp packet) = None
 
--- the header and the extension headers, where they are of IPv4
+-- The header and the extension headers, if they are IPv4.
 abbrev pub ipv4_in_net : NetHeaders → Option (Ipv4Header × Ipv4Extensions)
 ipv4_in_net (net.Ipv4 header extensions) = Some (header, extensions)
 ipv4_in_net (net.Ipv6 header extensions) = None
 ipv4_in_net (net.Arp packet) = None
 
--- the same of IPv6
+-- The header and the extension headers, if they are IPv6.
 abbrev pub ipv6_in_net : NetHeaders → Option (Ipv6Header × Ipv6Extensions)
 ipv6_in_net (net.Ipv4 header extensions) = None
 ipv6_in_net (net.Ipv6 header extensions) = Some (header, extensions)
 ipv6_in_net (net.Arp packet) = None
 
--- the ARP packet, where they are one
+-- The ARP packet, if the headers are one.
 abbrev pub arp_in_net : NetHeaders → Option ArpPacket
 arp_in_net (net.Ipv4 header extensions) = None
 arp_in_net (net.Ipv6 header extensions) = None
 arp_in_net (net.Arp packet) = Some packet
 
--- the number of bytes of the headers
+-- Length of the headers in bytes.
 abbrev pub net_headers_len : NetHeaders → ℕ
 net_headers_len (net.Ipv4 header extensions) = ip_headers_len (ip.Ipv4 header extensions)
 net_headers_len (net.Ipv6 header extensions) = ip_headers_len (ip.Ipv6 header extensions)

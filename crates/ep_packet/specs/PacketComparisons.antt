@@ -1,4 +1,4 @@
--- How the public types are compared: by their parts, as declared.
+-- Comparison of the public types: part by part, as declared.
 use Rattle.std.specs.Prelude.{ℕ, Bool, false, ◌&&◌}
 use Rattle.std.specs.Option.{option_eq}
 use Rattle.std.specs.declared.cmp.Ordering.{Ordering}
@@ -30,13 +30,13 @@ use Rattle.ep_packet.specs.declared.payload_slice.PayloadSlice.{PayloadSlice}
 use Rattle.ep_packet.specs.declared.payload_slice.PayloadSlice.TheVariants as slice
 use Rattle.ep_packet.specs.declared.sliced_packet.SlicedPacket.{SlicedPacket}
 
--- an equality of values
+-- An equality of values.
 abbrev pub Equality : Type 0 → Type 0
 Equality A = A → A → Bool
 
--- ---- what is equal where each part is, by the parts' own equalities
+-- ---- values that are equal if each part is, by the equality of the part
 
--- IP headers: of one version
+-- IP headers are equal if they have one version and equal parts.
 abbrev pub same_ip_headers : Equality Ipv4Header → Equality Ipv4Extensions → Equality Ipv6Header
     → Equality Ipv6Extensions → Equality IpHeaders
 same_ip_headers ipv4 ipv4_exts ipv6 ipv6_exts (ip.Ipv4 header extensions) (ip.Ipv4 other others) =
@@ -46,7 +46,7 @@ same_ip_headers ipv4 ipv4_exts ipv6 ipv6_exts (ip.Ipv6 header extensions) (ip.Ip
 same_ip_headers ipv4 ipv4_exts ipv6 ipv6_exts (ip.Ipv6 header extensions) (ip.Ipv6 other others) =
     ipv6 header other && ipv6_exts extensions others
 
--- net headers: those of IP as IP headers are
+-- Network layer headers are equal if both are equal IP headers, or equal ARP packets.
 abbrev pub same_net_headers : Equality IpHeaders → Equality ArpPacket → Equality NetHeaders
 same_net_headers headers arp (net.Ipv4 header extensions) (net.Ipv4 other others) =
     headers (ip.Ipv4 header extensions) (ip.Ipv4 other others)
@@ -55,30 +55,30 @@ same_net_headers headers arp (net.Ipv6 header extensions) (net.Ipv6 other others
 same_net_headers headers arp (net.Arp packet) (net.Arp other) = arp packet other
 same_net_headers headers arp a b = false
 
--- net slices: of one kind
+-- Network layer slices are equal if they have one kind and equal parts.
 abbrev pub same_net_slices : Equality Ipv4Slice → Equality Ipv6Slice → Equality ArpPacketSlice → Equality NetSlice
 same_net_slices ipv4 ipv6 arp (net_slice.Ipv4 packet) (net_slice.Ipv4 other) = ipv4 packet other
 same_net_slices ipv4 ipv6 arp (net_slice.Ipv6 packet) (net_slice.Ipv6 other) = ipv6 packet other
 same_net_slices ipv4 ipv6 arp (net_slice.Arp packet) (net_slice.Arp other) = arp packet other
 same_net_slices ipv4 ipv6 arp a b = false
 
--- sliced packets: each layer, which is there in both or in neither
+-- Sliced packets are equal if each layer is absent in both, or equal.
 abbrev pub same_sliced_packets : Equality LinkSlice → Equality LinkExtSlice → Equality NetSlice
     → Equality TransportSlice → Equality SlicedPacket
 same_sliced_packets link extension net transport a b =
     option_eq link a.link b.link && (pointwise extension a.link_exts.items b.link_exts.items
     && (option_eq net a.net b.net && option_eq transport a.transport b.transport))
 
--- packets by value: each header, which is there in both or in neither, and the payload
+-- Decoded packets are equal if each header is absent in both, or equal, and the payloads are equal.
 abbrev pub same_packet_headers : Equality LinkHeader → Equality LinkExtHeader → Equality NetHeaders
     → Equality TransportHeader → Equality PayloadSlice → Equality PacketHeaders
 same_packet_headers link extension net transport payload a b =
     option_eq link a.link b.link && (pointwise extension a.link_exts.items b.link_exts.items
     && (option_eq net a.net b.net && (option_eq transport a.transport b.transport && payload a.payload b.payload)))
 
--- ---- how payloads are ordered
+-- ---- order of payloads
 
--- a payload's place among the kinds of payloads
+-- Position of a payload's kind in the declaration.
 abbrev pub payload_place : PayloadSlice → ℕ
 payload_place slice.Empty = 0
 payload_place (slice.Ether payload) = 1
@@ -89,7 +89,7 @@ payload_place (slice.Tcp bytes) = 5
 payload_place (slice.Icmpv4 bytes) = 6
 payload_place (slice.Icmpv6 bytes) = 7
 
--- payloads of one kind by what they are made of, and others by their kinds
+-- Payloads of one kind are ordered by their parts, other payloads by kind.
 abbrev pub payload_cmp : PayloadSlice → PayloadSlice → Ordering
 payload_cmp (slice.Ether a) (slice.Ether b) = ether_payload_cmp a b
 payload_cmp (slice.MacsecMod a) (slice.MacsecMod b) = slice_cmp nat_cmp a.now b.now

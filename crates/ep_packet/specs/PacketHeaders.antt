@@ -1,4 +1,4 @@
--- The headers of a frame by value, and the payload behind them.
+-- The owned headers of a frame, and the payload after them.
 use Rattle.std.specs.Prelude.{◌≡◌, ℕ, List, [], ◌∷◌, ◌++◌, map, Option, Some, None}
 use Rattle.std.specs.Option.{option_map, option_and_then}
 use Rattle.ep_link.specs.Arp.{Arp}
@@ -23,28 +23,28 @@ use Rattle.ep_packet.specs.declared.net_headers.NetHeaders.{NetHeaders}
 use Rattle.ep_packet.specs.declared.net_headers.NetHeaders.TheVariants as net
 use Rattle.ep_packet.specs.declared.packet_headers.PacketHeaders.{PacketHeaders}
 
--- net headers as plain data
+-- Network layer headers as plain data.
 pub data NetHeader : Type 0 where
   ip_headers : IpHeaders → NetHeader
   arp_packet : Arp → NetHeader
 
--- those that a value holds
+-- The network layer headers of a `NetHeaders` value.
 abbrev pub net_header_of : NetHeaders → NetHeader
 net_header_of (net.Ipv4 header extensions) = ip_headers (ip.Ipv4 header extensions)
 net_header_of (net.Ipv6 header extensions) = ip_headers (ip.Ipv6 header extensions)
 net_header_of (net.Arp packet) = arp_packet (arp_of packet)
 
--- those of a net layer
+-- The headers of a network layer.
 abbrev pub net_header_in : NetLayer → NetHeader
 net_header_in (ipv4 header extensions payload) = ip_headers (ip.Ipv4 header (ipv4_extensions_of extensions))
 net_header_in (ipv6 header extensions payload) = ip_headers (ip.Ipv6 header (extensions_of extensions))
 net_header_in (arp packet) = arp_packet packet
 
--- the header of a transport layer
+-- The header of a transport layer.
 abbrev pub transport_header_in : TransportLayer → TransportHeader
 transport_header_in layer = layer.header
 
--- the headers of a frame as plain data, each where it stands, and the payload of the last layer
+-- The headers of a frame as plain data, from the outside in, and the payload of the last layer.
 pub record Headers : Type 0 where
   pub link : Option LinkHeader
   pub link_exts : List LinkExtHeader
@@ -52,11 +52,11 @@ pub record Headers : Type 0 where
   pub transport : Option TransportHeader
   pub payload : PayloadPart
 
--- those of a packet without layers
+-- The headers of a packet without layers.
 abbrev pub no_headers : Headers
 no_headers = record { link = None; link_exts = []; net = None; transport = None; payload = empty }
 
--- those that a packet holds
+-- The headers of a `PacketHeaders` value.
 abbrev pub headers_of : PacketHeaders → Headers
 headers_of packet = record {
   link = packet.link;
@@ -66,7 +66,7 @@ headers_of packet = record {
   payload = payload_part_of packet.payload;
 }
 
--- those of the layers of a frame; the payload of a link layer has no header
+-- The headers of the layers of a frame. The payload of a link layer given by its ether type has no link header.
 abbrev pub headers_in : Layers → Headers
 headers_in layers = record {
   link = option_and_then link_header_of layers.link;
@@ -76,25 +76,25 @@ headers_in layers = record {
   payload = payload_part_in layers;
 }
 
--- bytes lie in others: behind a front and before a back
-abbrev pub LieIn : List ℕ → List ℕ → Type 0
-LieIn bytes whole = (front back : List ℕ) × (whole ≡ front ++ (bytes ++ back))
+-- The bytes are a contiguous part of `whole`.
+abbrev pub IsSubsliceOf : List ℕ → List ℕ → Type 0
+IsSubsliceOf bytes whole = (front back : List ℕ) × (whole ≡ front ++ (bytes ++ back))
 
 -- ---- VLAN tags
 
--- the VLAN tags among some tags, from the outside in
+-- The VLAN tags in a list of link extension headers, from the outside in.
 abbrev pub vlan_headers : List LinkExtHeader → List SingleVlanHeader
 vlan_headers [] = []
 vlan_headers (tag.Vlan header ∷ others) = header ∷ vlan_headers others
 vlan_headers (tag.Macsec header ∷ others) = vlan_headers others
 
--- the first of some tags, or the first two
+-- The only tag of a list, or the first two as a double tag.
 abbrev pub outer_headers : List SingleVlanHeader → Option VlanHeader
 outer_headers [] = None
 outer_headers (header ∷ []) = Some (tags.Single header)
 outer_headers (outer ∷ inner ∷ others) = Some (tags.Double (record { outer = outer; inner = inner }))
 
--- the identifiers of the VLAN tags among some tags, from the outside in
+-- The identifiers of the VLAN tags in a list of link extension headers, from the outside in.
 abbrev pub header_vlan_ids : List LinkExtHeader → List ℕ
 header_vlan_ids [] = []
 header_vlan_ids (tag.Vlan header ∷ others) = header.vlan_id ∷ header_vlan_ids others

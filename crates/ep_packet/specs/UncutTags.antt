@@ -1,4 +1,4 @@
--- Frames in which no MACsec tag cuts its payload, as far as their tags stand.
+-- Frames in which no MACsec tag has a short length above 0, as far as their tags are valid.
 use Rattle.std.specs.Prelude.{◌≡◌, ⊤, ℕ, zero, suc, List, Option, Some, None}
 use Rattle.ep_base.specs.Tables.{Parts}
 use Rattle.ep_base.specs.declared.ether_type.EtherType.{EtherType}
@@ -11,13 +11,13 @@ use Rattle.ep_packet.specs.declared.entry.Entry.{Entry}
 use Rattle.ep_packet.specs.declared.entry.Entry.TheVariants.{Ethernet as ethernet, LinuxSll as linux_sll, EtherType as ether_type, Ip as ip}
 use Rattle.ep_packet.specs.Frame.{most_link_exts}
 
--- the extension has no short length above 0
+-- The link extension has no short length above 0.
 abbrev pub CutsNothing : LinkExtension → Type 0
 CutsNothing (vlan tag payload) = ⊤
 CutsNothing (macsec tag payload) = tag.short_len ≡ 0
 
--- Of the extensions that stand one behind the other in bytes of a type, of which at most so many are taken, none has a
--- short length above 0. Where the bytes are refused, these are the extensions before the layer that is refused.
+-- In bytes of an ether type, none of the consecutive link extensions, up to the given number, has a short length above
+-- 0. If the bytes are rejected, these are the extensions before the rejected layer.
 abbrev pub AreUncut : ℕ → Option EtherType → List ℕ → Type 0
 AreUncut room None bytes = ⊤
 AreUncut zero (Some type) bytes = ⊤
@@ -25,7 +25,7 @@ AreUncut (suc room) (Some type) bytes =
     (extension : LinkExtension) (left : List ℕ) → IsLinkExtension type bytes (extension, left)
     → CutsNothing extension × AreUncut room (extension_type extension) (extension_payload extension)
 
--- the same of a frame
+-- No link extension of the frame has a short length above 0.
 abbrev pub HasNoShortLength : Entry → List ℕ → Type 0
 HasNoShortLength ethernet bytes = (frame : Parts Ethernet2Header) → IsEthernet2 bytes frame
     → AreUncut most_link_exts (Some frame.header.ether_type) frame.payload

@@ -7,19 +7,19 @@ use Rattle.ep_link.specs.declared.link_ext.vlan_slice.VlanSlice.{VlanSlice}
 use Rattle.ep_link.specs.declared.link_ext.vlan_slice.VlanSlice.TheVariants as tags
 use Rattle.ep_link.specs.LinkExtensions.{LinkExtension, vlan, macsec}
 
--- the tags among some slices, from the outside in
+-- The VLAN tags in a list of slices, from the outside in.
 abbrev pub vlan_slices : List LinkExtSlice → List SingleVlanSlice
 vlan_slices [] = []
 vlan_slices (slice.Vlan tag ∷ others) = tag ∷ vlan_slices others
 vlan_slices (slice.Macsec packet ∷ others) = vlan_slices others
 
--- the first of some tags, or the first two
+-- The only tag of a list, or the first two as a double tag.
 abbrev pub outer_tags : List SingleVlanSlice → Option VlanSlice
 outer_tags [] = None
 outer_tags (tag ∷ []) = Some (tags.SingleVlan tag)
 outer_tags (outer ∷ inner ∷ others) = Some (tags.DoubleVlan (record { outer = outer; inner = inner }))
 
--- the identifiers of the tags among some extensions, from the outside in
+-- The identifiers of the VLAN tags in a list of link extensions, from the outside in.
 abbrev pub vlan_ids_in : List LinkExtension → List ℕ
 vlan_ids_in [] = []
 vlan_ids_in (vlan tag payload ∷ others) = tag.vlan_id ∷ vlan_ids_in others

@@ -1,4 +1,4 @@
-//! The errors of whole packets.
+//! Errors of slicing or decoding a packet, of writing its IP headers, and of setting their next header.
 
 mod headers_write_error;
 mod layer_errors;

@@ -1,4 +1,4 @@
-//! IP headers by value: a header, and the extension headers behind it.
+//! Owned IP headers: the IPv4 or IPv6 header with its extension headers.
 
 ghost use Rattle.std.specs.Prelude.{◌≡◌, ◌≤◌, length};
 ghost use Rattle.ep_ip.specs.Ipv4.{ipv4_bytes, ipv4_checksum};
@@ -14,13 +14,14 @@ use ep_ext::{Ipv4Extensions, Ipv6Extensions};
 use ep_ip::{Ipv4Header, Ipv6Header};
 use std::alloc::AllocError;
 
-/// The headers of an IP packet of either version: the header, and the extension headers behind it. A value takes the
-/// room of all extension headers that IPv6 has, 9268 bytes and more, whichever of them are there.
+/// Owned headers of an IP packet, version 4 or 6: the IP header and its extension headers. A value takes more than 9268
+/// bytes of memory, since it has space for every kind of IPv6 extension header, even if none is present.
 #[derive(Debug, PartialEq, Eq, Drop)]
 pub enum IpHeaders {
-    /// Those of IPv4 (RFC 791), with the authentication header.
+    /// IPv4 header (RFC 791), and the authentication header after it, if present.
     Ipv4(Ipv4Header, Ipv4Extensions),
-    /// Those of IPv6 (RFC 8200), with at most one extension header of a kind.
+    /// IPv6 header (RFC 8200) and its extension headers, at most one of each kind. Destination options before and after
+    /// a routing header are two kinds.
     Ipv6(Ipv6Header, Ipv6Extensions),
 }
 
@@ -31,11 +32,11 @@ impl Clone for IpHeaders {
 
     ghost is_infallible = { λ _. ⊤ };
 
-    // A derived clone moves each header several times. Here the result is made first, the one large value of this call,
-    // and filled in by a call, so that none is moved but the result.
+    // A derived clone moves each header several times. Here the result is created first and filled in place, so that
+    // only the result is moved.
     #[inline(never)]
     fn clone(&self) -> Result<IpHeaders, AllocError> {
-        let mut result = Ok(IpHeaders::room());
+        let mut result = Ok(IpHeaders::blank());
         if let Ok(room) = &mut result {
             room.copy_from(self);
         }
@@ -52,26 +53,27 @@ impl IpHeaders {
     ghost use Rattle.ep_ext.specs.Chains.{FitParts, parts_bytes};
     ghost use Rattle.ep_ext.specs.ExtensionParts.{ExtensionPart};
     ghost use Rattle.ep_packet.specs.IpHeaders.{ipv4_headers_in, ipv6_headers_in, ip_headers_len, ip_headers_type};
-    ghost use Rattle.ep_packet.specs.IpHeaders.{headers_fragment, headers_room, linked_headers, with_payload_len, payload_len_rows};
-    ghost use Rattle.ep_packet.specs.IpHeaders.{FitsIpHeader, ip_extensions_len, most_behind_header, ip_header_bytes};
+    ghost use Rattle.ep_packet.specs.IpHeaders.{headers_fragment, blank_headers, linked_headers, with_payload_len, payload_len_rows};
+    ghost use Rattle.ep_packet.specs.IpHeaders.{FitsIpHeader, ip_extensions_len, most_after_header, ip_header_bytes};
     ghost use Rattle.ep_packet.specs.IpHeaders.{with_checksum, written_headers, LeadThrough, RefusesLeading};
     ghost use Rattle.ep_packet.specs.declared.err.headers_write_error.HeadersWriteError.TheVariants as write_error;
 
-    /// The number of bytes of the longest headers, which are of IPv6.
+    /// Greatest length in bytes of an IP header with its extension headers: IPv6 with all of them at their maximum.
     pub const MAX_LEN: usize = 9268;
 
-    /// Headers that are to be filled in.
+    /// Returns an empty IPv4 header without extension headers, which the caller overwrites.
     #[inline(always)]
-    fn room() -> IpHeaders
-        ensures { result ≡ headers_room }
+    fn blank() -> IpHeaders
+        ensures { result ≡ blank_headers }
     {
         IpHeaders::Ipv4(Ipv4Header::default(), Ipv4Extensions { auth: None })
     }
 
-    /// Becomes a copy of other headers. Of extension headers only those that are there are copied.
+    /// Copies the IP headers of `source` into `self`, which has to be an empty IPv4 header before. The space of absent
+    /// extension headers is not copied.
     #[inline(never)]
     fn copy_from(&mut self, source: &IpHeaders)
-        requires { self.old ≡ headers_room }
+        requires { self.old ≡ blank_headers }
         ensures { self.new ≡ source.now }
     {
         match source {
@@ -92,7 +94,8 @@ impl IpHeaders {
         }
     }
 
-    /// The header and the extension headers, if they are of IPv4.
+    /// Returns the IPv4 header and its extension headers (the optional authentication header); `None` if the packet is
+    /// IPv6.
     #[inline]
     pub fn ipv4(&self) -> Option<(&Ipv4Header, &Ipv4Extensions)>
         ensures { option_map (λ parts. (parts.0.now, parts.1.now)) result ≡ ipv4_headers_in self.now }
@@ -103,7 +106,7 @@ impl IpHeaders {
         }
     }
 
-    /// The header and the extension headers, if they are of IPv6.
+    /// Returns the IPv6 header and its extension headers; `None` if the packet is IPv4.
     #[inline]
     pub fn ipv6(&self) -> Option<(&Ipv6Header, &Ipv6Extensions)>
         ensures { option_map (λ parts. (parts.0.now, parts.1.now)) result ≡ ipv6_headers_in self.now }
@@ -114,7 +117,7 @@ impl IpHeaders {
         }
     }
 
-    /// The number of bytes of the headers: at most 9268.
+    /// Length of the IP header and its extension headers in bytes, at most 9268.
     #[inline]
     pub fn header_len(&self) -> usize
         ensures value { result ≡ ip_headers_len self.now }
@@ -126,7 +129,8 @@ impl IpHeaders {
         }
     }
 
-    /// The number of what follows the headers, where the numbers lead through all of them.
+    /// Returns the protocol number of the IP payload: the next header of the last extension header, or of the IP header
+    /// without any. It is an error if the next header values do not lead through all extension headers.
     pub fn next_header(&self) -> Result<IpNumber, ExtsWalkError>
         ensures ok { IfOk result (λ last. (parts : List ExtensionPart) × LeadThrough self.now parts last.0) }
         ensures only { (parts : List ExtensionPart) (last : ℕ) → LeadThrough self.now parts last
@@ -147,8 +151,8 @@ impl IpHeaders {
         }
     }
 
-    /// Lets the numbers lead from the header through all extension headers to this number, and gives the ether type
-    /// under which a link layer carries the packet.
+    /// Sets the next header values so that they lead from the IP header through all its extension headers to `last`,
+    /// the protocol number of the payload. Returns the ether type of the IP version.
     pub fn set_next_headers(&mut self, last: IpNumber) -> EtherType
         ensures linked { self.new ≡ linked_headers self.old last }
         ensures ether_type { result.0 ≡ ip_headers_type self.old }
@@ -165,11 +169,11 @@ impl IpHeaders {
         }
     }
 
-    /// Sets the length field for a payload of this length in bytes. It counts the extension headers too, and that of
-    /// IPv4 the header. A refusal changes nothing.
+    /// Sets the IPv4 total length or the IPv6 payload length for a payload of `len` bytes. It also counts the extension
+    /// headers, and in IPv4 the header. A length above the maximum is an error, and changes nothing.
     pub fn set_payload_len(&mut self, len: usize) -> Result<(), ValueTooBigError<usize>>
         ensures { MatchResult result
-            (λ _. (len + ip_extensions_len self.old ≤ most_behind_header self.old)
+            (λ _. (len + ip_extensions_len self.old ≤ most_after_header self.old)
             × (self.new ≡ with_payload_len self.old len))
             (λ error. (self.new ≡ self.old) × Refuses (payload_len_rows self.old len) error) }
     {
@@ -200,8 +204,8 @@ impl IpHeaders {
         }
     }
 
-    /// Whether the packet carries one fragment of a longer payload, as the header of IPv4 or the fragment header of
-    /// IPv6 says: more follow, or it isn't the first.
+    /// Returns true if the packet carries one fragment of a larger payload: the IPv4 header or the IPv6 fragment header
+    /// states that more fragments follow, or that the fragment offset is not 0.
     #[inline]
     pub fn is_fragmenting_payload(&self) -> bool
         ensures { result ≡ headers_fragment self.now }
@@ -212,10 +216,10 @@ impl IpHeaders {
         }
     }
 
-    /// Appends the headers' bytes: the header, with its checksum as it is computed, and the extension headers in the
-    /// order in which the numbers lead to them. That the numbers lead to each is looked at first. A refusal leaves the
-    /// buffer as it was, and want of memory comes only where the buffer would have to grow: it asks for memory at most
-    /// once, for all headers. Each field of what is written fits its place.
+    /// Appends the bytes of the IP header, with its computed checksum, and of the extension headers in the order in
+    /// which the next header values link them. It is an error if these do not lead through all extension headers. On an
+    /// error the buffer is unchanged. It allocates at most once, and only if the buffer has to grow. Each written field
+    /// fits its width on the wire.
     pub fn write(&self, buf: &mut Vec<u8>) -> Result<(), HeadersWriteError>
         ensures ok { OnOk result ((parts : List ExtensionPart) × (last : ℕ) × LeadThrough self.now parts last
             × FitParts parts × (buf.new.items ≡ buf.old.items ++ written_headers self.now parts)) }
@@ -239,7 +243,8 @@ impl IpHeaders {
         Ok(())
     }
 
-    /// The number of bytes that are written, where the numbers lead through all headers.
+    /// Returns the number of bytes that [`IpHeaders::write`] appends for these IP headers, if their next header values
+    /// lead through all extension headers.
     #[inline]
     fn written_len(&self) -> usize
         ensures value { result ≡ length (ip_header_bytes (with_checksum self.now)) + ip_extensions_len self.now }
@@ -251,8 +256,8 @@ impl IpHeaders {
         }
     }
 
-    /// Appends the header's bytes, with its checksum as it is computed. A refusal leaves the buffer as it was, and
-    /// comes only where the buffer would have to grow.
+    /// Appends the bytes of the IP header without extension headers; an IPv4 header gets its computed checksum. The
+    /// only error is a failed allocation, if the buffer has to grow; it leaves the buffer unchanged.
     fn write_header(&self, buf: &mut Vec<u8>) -> Result<(), AllocError>
         ensures ok { OnOk result (buf.new.items ≡ buf.old.items ++ ip_header_bytes (with_checksum self.now)) }
         ensures err { OnErr result (buf.new.items ≡ buf.old.items) }
@@ -267,8 +272,9 @@ impl IpHeaders {
         }
     }
 
-    /// Appends the extension headers' bytes in the order in which the numbers lead to them, where they lead to each. A
-    /// refusal leaves the buffer as it was, and want of memory comes only where the buffer would have to grow.
+    /// Appends the bytes of the extension headers after the IP header, in the order in which the next header values
+    /// link them. It is an error if these don't lead through all of them, or if the buffer cannot grow; the buffer is
+    /// then unchanged.
     fn write_extensions(&self, buf: &mut Vec<u8>) -> Result<(), HeadersWriteError>
         ensures ok { OnOk result ((parts : List ExtensionPart) × (last : ℕ) × LeadThrough self.now parts last
             × FitParts parts × (buf.new.items ≡ buf.old.items ++ parts_bytes parts)) }
@@ -307,7 +313,8 @@ impl IpHeaders {
     }
 }
 
-/// The number of bytes of a header of IPv4, whose addresses are read to see their lengths.
+/// Returns the length of an IPv4 header with options in bytes, at most 60. Its addresses are read so that the prover
+/// learns their lengths.
 #[inline]
 fn ipv4_len(header: &Ipv4Header) -> usize
     ensures value { result ≡ length (ipv4_bytes (record header.now { header_checksum = ipv4_checksum header.now })) }
@@ -318,7 +325,8 @@ fn ipv4_len(header: &Ipv4Header) -> usize
     header.header_len()
 }
 
-/// The same of a header of IPv6.
+/// Returns the length of an IPv6 header without extension headers in bytes: 40. Its addresses are read so that the
+/// prover learns their lengths.
 #[inline]
 fn ipv6_len(header: &Ipv6Header) -> usize
     ensures value { result ≡ length (ipv6_bytes header.now) }
@@ -329,7 +337,8 @@ fn ipv6_len(header: &Ipv6Header) -> usize
     header.header_len()
 }
 
-/// A refusal of the walk along the numbers, as one of headers that were to be written.
+/// Converts the error of next header values that do not lead to all extension headers into an error of writing IP
+/// headers.
 fn of_walk_error(error: ExtsWalkError) -> HeadersWriteError
     ensures { result ≡ of_walk_error error }
 {

@@ -1,4 +1,4 @@
-//! How IP headers are read from a slice.
+//! Decoding IP headers, with their extension headers, from a slice into owned headers.
 
 ghost use Rattle.std.specs.Prelude.{◌≡◌, ◌+◌, ◌≤◌, IfOk, IfErr, List, ℕ, length};
 ghost use Rattle.ep_base.specs.Readings.{headers};
@@ -38,8 +38,10 @@ impl IpHeaders {
     ghost use Rattle.ep_ip.specs.IpPackets.{ipv4_part, ipv6_part};
     ghost use Rattle.ep_packet.specs.IpHeaders.{AreOfPart, HasBytes, of_slice_error};
 
-    /// The headers at the front of the slice, of the version that its first byte says, and the payload behind them,
-    /// which the header's length field cuts. A second extension header of a kind belongs to the payload.
+    /// Decodes the IP header at the start of the slice, of the version in its first byte, and its extension headers.
+    /// Returns them with the payload after them, limited by the header's length field, or by the slice if an IPv6
+    /// payload length is 0. A second IPv6 extension header of one kind is left in the payload; a hop-by-hop options
+    /// header that is not the first is an error.
     #[inline(always)]
     pub fn from_slice(slice: &[u8]) -> Result<(IpHeaders, IpPayloadSlice<'_>), HeadersSliceError>
         ensures ok { IfOk result (λ read. (part : IpPart) × IsIp headers slice.now part × AreOfPart part read) }
@@ -49,7 +51,8 @@ impl IpHeaders {
         read_ip(slice)
     }
 
-    /// What [`IpHeaders::from_slice`] answers, of the payload its number and its bytes.
+    /// Decodes IP headers like [`IpHeaders::from_slice`]. Returns them with the protocol number and the bytes of their
+    /// payload.
     #[inline(always)]
     pub fn read_from_slice(slice: &[u8]) -> Result<(IpHeaders, IpNumber, &[u8]), HeadersSliceError>
         ensures ok { IfOk result (λ read. (part : IpPart) × IsIp headers slice.now part
@@ -64,7 +67,8 @@ impl IpHeaders {
         }
     }
 
-    /// The headers of IPv4 at the front of the slice, and the payload behind them, which the total length cuts.
+    /// Decodes the IPv4 header at the start of the slice, and its authentication header, if any. Returns them with the
+    /// payload after them, limited by the total length.
     #[inline(always)]
     pub fn from_ipv4_slice(
         slice: &[u8],
@@ -78,8 +82,9 @@ impl IpHeaders {
         read_ipv4(slice)
     }
 
-    /// The headers of IPv6 at the front of the slice, and the payload behind them, which the payload length cuts; the
-    /// number 0 takes all bytes. A second extension header of a kind belongs to the payload.
+    /// Decodes the IPv6 header at the start of the slice and its extension headers. Returns them with the payload after
+    /// them, limited by the payload length, or by the slice if that is 0. A second extension header of one kind is left
+    /// in the payload; a hop-by-hop options header that is not the first is an error.
     #[inline(always)]
     pub fn from_ipv6_slice(
         slice: &[u8],
@@ -94,15 +99,15 @@ impl IpHeaders {
     }
 }
 
-/// The headers of either version at the front of the slice, and the payload behind them. Each answer is built where it
-/// is given, since headers are large and a call that is not inlined copies them.
+/// Decodes an IP header, version 4 or 6, and its extension headers, and returns them with their payload. Each result is
+/// built in its return expression: headers are large, and a call that is not inlined copies them.
 #[inline(always)]
 fn read_ip(slice: &[u8]) -> Result<(IpHeaders, IpPayloadSlice<'_>), HeadersSliceError>
     ensures ok { IfOk result (λ read. (part : IpPart) × IsIp headers slice.now part × AreOfPart part read) }
     ensures err { IfErr result (RefusesAs of_slice_error (RefusesIp headers slice.now)) }
 {
     if slice.len() == 0 {
-        return Err(no_version());
+        return Err(empty_slice_error());
     }
     let version_number = slice[0] >> 4;
     if version_number == 4 {
@@ -120,7 +125,8 @@ fn read_ip(slice: &[u8]) -> Result<(IpHeaders, IpPayloadSlice<'_>), HeadersSlice
     Err(unsupported(version_number))
 }
 
-/// The headers of IPv4 at the front of the slice, and the payload behind them.
+/// Decodes the IPv4 header at the start of the slice, with its authentication header, and returns them with their
+/// payload.
 #[inline(always)]
 fn read_ipv4(slice: &[u8]) -> Result<(IpHeaders, IpPayloadSlice<'_>), ipv4::SliceError>
     ensures ok { IfOk result (λ read. (packet : IpPacket Ipv4Header) × IsIpv4 headers slice.now packet
@@ -133,7 +139,7 @@ fn read_ipv4(slice: &[u8]) -> Result<(IpHeaders, IpPayloadSlice<'_>), ipv4::Slic
     }
 }
 
-/// The headers of an IPv4 packet, and its payload.
+/// Copies the headers of a sliced IPv4 packet into owned ones, and returns them with the payload of the packet.
 #[inline(always)]
 fn value_of_ipv4<'a>(packet: &Ipv4Slice<'a>) -> (IpHeaders, IpPayloadSlice<'a>)
     ensures { (left : List ℕ) → AreOfPart (ipv4_part (ipv4_slice_packet packet.now left)) result }
@@ -154,7 +160,7 @@ fn value_of_ipv4<'a>(packet: &Ipv4Slice<'a>) -> (IpHeaders, IpPayloadSlice<'a>)
     }
 }
 
-/// The payload of an IPv4 packet.
+/// Returns the payload of a sliced IPv4 packet.
 #[inline]
 pub(crate) fn payload_of_ipv4<'a>(packet: &Ipv4Slice<'a>) -> IpPayloadSlice<'a>
     ensures { ip_payload_of result ≡ ipv4_slice_payload packet.now }
@@ -168,15 +174,15 @@ pub(crate) fn payload_of_ipv4<'a>(packet: &Ipv4Slice<'a>) -> IpPayloadSlice<'a>
     }
 }
 
-/// The headers of IPv6 at the front of the slice, and the payload behind them. Without extension headers, no room for
-/// them is read.
+/// Decodes the IPv6 header at the start of the slice and its extension headers, and returns them with their payload.
+/// For a packet without extension headers it doesn't touch the space of those.
 #[inline(always)]
 fn read_ipv6(slice: &[u8]) -> Result<(IpHeaders, IpPayloadSlice<'_>), ipv6::SliceError>
     ensures ok { IfOk result (λ read. (packet : IpPacket Ipv6Header) × IsIpv6 headers slice.now packet
         × AreOfPart (ipv6_part packet) read) }
     ensures err { IfErr result (RefusesIpv6 headers slice.now) }
 {
-    let (header, content, len_source) = match cut(slice) {
+    let (header, content, len_source) = match parse_limited(slice) {
         Ok(cut) => cut,
         Err(error) => return Err(error),
     };
@@ -200,13 +206,13 @@ fn read_ipv6(slice: &[u8]) -> Result<(IpHeaders, IpPayloadSlice<'_>), ipv6::Slic
             Ok((IpHeaders::Ipv6(header, extensions), payload))
         }
         Err(ipv6_exts::HeaderSliceError::Len(error)) => {
-            Err(ipv6::SliceError::Len(error.behind_header(Ipv6Header::LEN, len_source)))
+            Err(ipv6::SliceError::Len(error.after_header(Ipv6Header::LEN, len_source)))
         }
         Err(ipv6_exts::HeaderSliceError::Content(error)) => Err(ipv6::SliceError::Exts(error)),
     }
 }
 
-/// No extension headers.
+/// Returns IPv6 extension headers that are all absent.
 #[inline(always)]
 pub(crate) fn no_extensions() -> Ipv6Extensions
     ensures { result ≡ no_ipv6_extensions }
@@ -220,7 +226,8 @@ pub(crate) fn no_extensions() -> Ipv6Extensions
     }
 }
 
-/// Whether the number is that of an extension header of IPv6.
+/// Returns true if the protocol number is that of an IPv6 extension header: 0 (hop-by-hop options), 43 (routing), 44
+/// (fragment), 51 (authentication) or 60 (destination options).
 #[inline]
 pub(crate) fn is_extension(number: IpNumber) -> bool
     ensures { result ≡ is_ipv6_extension number.0 }
@@ -232,9 +239,11 @@ pub(crate) fn is_extension(number: IpNumber) -> bool
         || number == ip_number::IPV6_DESTINATION_OPTIONS
 }
 
-/// The header of IPv6 at the front of the slice, the bytes behind it, which its payload length cuts, and what set their
-/// end.
-pub(crate) fn cut(slice: &[u8]) -> Result<(Ipv6Header, &[u8], LenSource), ipv6::SliceError>
+/// Decodes the IPv6 header at the start of the slice. Returns it with the bytes after it, limited by its payload length
+/// (or by the slice, if that is 0), and the source of that limit.
+pub(crate) fn parse_limited(
+    slice: &[u8],
+) -> Result<(Ipv6Header, &[u8], LenSource), ipv6::SliceError>
     ensures ok { IfOk result (λ read. (left : List ℕ)
         × IsIpv6Packet slice.now (parts_of read.0 read.1.now left)) }
     ensures source { IfOk result (λ read. read.2 ≡ ipv6_payload_source read.0 read.1.now) }
@@ -248,14 +257,14 @@ pub(crate) fn cut(slice: &[u8]) -> Result<(Ipv6Header, &[u8], LenSource), ipv6::
     Ok((header.to_header(), content, len_source))
 }
 
-/// The refusal of no bytes, which have no version.
-pub(crate) fn no_version() -> HeadersSliceError
+/// Returns the error of an empty slice: its first byte is missing, which contains the IP version.
+pub(crate) fn empty_slice_error() -> HeadersSliceError
     ensures { result ≡ headers_slice_error.Len (len_error 1 0 source.Slice layer.IpHeader) }
 {
     HeadersSliceError::Len(LenError::at_start(1, 0, LenSource::Slice, Layer::IpHeader))
 }
 
-/// The refusal of a version.
+/// Returns the error of an IP header whose version is neither 4 nor 6.
 pub(crate) fn unsupported(version_number: u8) -> HeadersSliceError
     ensures { result ≡ headers_slice_error.Content (headers_error.Ip (content.UnsupportedIpVersion version_number)) }
 {
@@ -264,7 +273,7 @@ pub(crate) fn unsupported(version_number: u8) -> HeadersSliceError
     }))
 }
 
-/// A refusal of the headers of IPv4 among those of either version.
+/// Converts an error of slicing IPv4 headers into an error of IP headers of unknown version.
 pub(crate) fn of_ipv4_error(error: ipv4::SliceError) -> HeadersSliceError
     ensures { result ≡ of_slice_error (of_ipv4_error error) }
 {
@@ -282,7 +291,7 @@ pub(crate) fn of_ipv4_error(error: ipv4::SliceError) -> HeadersSliceError
     }
 }
 
-/// A refusal of the headers of IPv6 among those of either version.
+/// Converts an error of slicing IPv6 headers into an error of IP headers of unknown version.
 pub(crate) fn of_ipv6_error(error: ipv6::SliceError) -> HeadersSliceError
     ensures { result ≡ of_slice_error (of_ipv6_error error) }
 {

@@ -1,9 +1,10 @@
-//! What holds of every list of bytes, and how values compare: each law the contract of a function that does nothing.
+//! Laws of whole packets, for every list of bytes, and of comparisons and clones. Each law is the contract of a
+//! function without effect.
 
 ghost use Rattle.std.specs.Prelude.{◌≡◌, ◌↔◌, ◌+◌, ◌≤◌, ◌++◌, ℕ, List, Option, IsTrue, length};
 ghost use Rattle.ep_base.specs.Bytes.{AreBytes};
 ghost use Rattle.ep_base.specs.Readings.{Reading};
-ghost use Rattle.ep_base.specs.Missing.{CountsMissing, HasExactLength, IsOfBytesAtHand, TellsCut, that_row};
+ghost use Rattle.ep_base.specs.Missing.{CountsMissing, HasExactLength, IsOfBytesAtHand, ReportsTruncation, that_row};
 ghost use Rattle.ep_base.specs.Tables.{IsDecided};
 ghost use Rattle.ep_base.specs.declared.err.len_error.LenError.{LenError};
 ghost use Rattle.ep_link.specs.LinkExtensions.{EncodesTag, LinkExtension};
@@ -32,7 +33,8 @@ use crate::{
     TransportSlice,
 };
 
-/// Bytes are a frame, of one list of layers, or are refused with one error, and never both, in each reading.
+/// States, for both parsers (slicing and decoding into owned headers), that bytes either are a frame with exactly one
+/// list of layers, or are rejected with exactly one error.
 pub fn frames()
     ensures slices { (entry : Entry) (bytes : List ℕ) → AreBytes bytes
         → IsDecided (IsFrame entry bytes) (RefusesFrame entry bytes) }
@@ -40,15 +42,15 @@ pub fn frames()
         → IsDecided (IsFrameIn reading entry bytes) (RefusesFrameIn reading entry bytes) }
 {}
 
-/// The bytes of a frame are its headers from the outside in, the payload of its last layer, and what the cuts left.
+/// States that the bytes of a frame are its headers from the outside in, the payload of its last layer, and the
+/// trailing bytes that length fields exclude.
 pub fn frame_bytes()
     ensures { (reading : Reading) (entry : Entry) (bytes : List ℕ) (layers : Layers)
         → IsFrameIn reading entry bytes layers → AreInOrder bytes layers }
 {}
 
-/// Bytes that encode a header are as many as the header says: a link header, a link extension and some of them, the
-/// headers of a net layer, and a transport header. So each part of a frame begins where the summed lengths of those
-/// before it say.
+/// States that a header is encoded in as many bytes as its length function returns: link header, link extensions,
+/// network layer headers and transport header. So each layer of a frame starts at the sum of the lengths before it.
 pub fn header_lens()
     ensures link { (link : Option LinkLayer) (bytes : List ℕ) → EncodesLink link bytes
         → length bytes ≡ link_len link }
@@ -61,11 +63,11 @@ pub fn header_lens()
         → length bytes ≡ transport_len transport }
 {}
 
-/// A cut says how much is missing. Where bytes are refused for a length whose limit is the bytes at hand, of a layer
-/// that is no timestamp of ICMP, in a frame without a MACsec short length above 0 before that layer, the offset plus
-/// `len` is the number of bytes, and `required_len` is more than `len` (`counts`). With any bytes behind them, of which
-/// there are at least `required_len` less `len`, they are not refused by that row again (`not_again`).
-pub fn tell_missing()
+/// States how many bytes a length error reports as missing, if its limit is the end of the slice (`Slice` or
+/// `ArpAddrLengths`), its layer is no ICMP timestamp message, and no MACsec tag has a short length above 0. Then the
+/// offset plus `len` is the number of bytes that there are, and `required_len` is more than `len` (`counts`). Once at
+/// least `required_len` less `len` bytes are appended, this check does not fail again (`not_again`).
+pub fn missing_bytes()
     ensures counts { (reading : Reading) (entry : Entry) (bytes : List ℕ) (error : LenError)
         → RefusesFrameIn reading entry bytes (slice_error.Len error) → HasNoShortLength entry bytes
         → CountsMissing (length bytes) error }
@@ -76,25 +78,26 @@ pub fn tell_missing()
         → ¬ RefusesFrameIn reading entry (bytes ++ more) (slice_error.Len (that_row error len)) }
 {}
 
-/// Where a frame is cut, and the cut is refused, it is for want of the bytes that the cut took, in each reading by each
-/// entry: the error is one by length, the offset plus `len` is the number of bytes up to the cut, `required_len` is
-/// more than `len`, and the offset plus `required_len` is at most the number of the frame's bytes. Its source is
-/// `Slice`, but `ArpAddrLengths` of an ARP packet of which 8 bytes are there, and `Ipv6HeaderPayloadLen` of a layer
-/// behind a header of IPv6 whose payload length is 0, of which the cut, which ends with that header, left no byte.
-pub fn tell_cut()
+/// States that a truncated frame, if it is rejected, is rejected for the missing bytes. The error is a length error,
+/// the offset plus `len` is the number of bytes left, `required_len` is more than `len`, and the offset plus
+/// `required_len` is at most the length of the full frame. The source of the limit is `Slice`, with two exceptions:
+/// `ArpAddrLengths` for an ARP packet with at least 8 bytes left, and `Ipv6HeaderPayloadLen` for the layer after an
+/// IPv6 header with a payload length of 0, if the bytes end with that header.
+pub fn truncation()
     ensures { (reading : Reading) (entry : Entry)
-        → TellsCut (IsFrameIn reading entry) (RefusesFrameIn reading entry) slice_error.Len (frame_cut_limit entry) }
+        → ReportsTruncation (IsFrameIn reading entry) (RefusesFrameIn reading entry) slice_error.Len (frame_cut_limit entry) }
 {}
 
-/// The cap that is told is the number of link extensions that a frame takes at most.
+/// States that `SlicedPacket::LINK_EXTS_CAP` is 3, and equals the greatest number of link extensions in the
+/// specification of frames.
 pub fn constants()
     ensures value { SlicedPacket.LINK_EXTS_CAP ≡ 3 }
     ensures cap { SlicedPacket.LINK_EXTS_CAP ≡ most_link_exts }
 {}
 
-/// Entries and errors are equal where they are the same, and payloads where they are of one kind and show the same.
-/// Headers, slices and packets are equal where each of their parts is, by the equality of the part. The order of
-/// payloads goes by their kinds as declared, and within a kind by what they are made of.
+/// States what `==` compares: values of `Entry` and errors are equal only if identical, payloads if their kind (`Udp`,
+/// `Ip` ..) and content are equal, and headers, slices and packets if each of their parts is. Payloads are ordered by
+/// kind, as `PayloadSlice` declares them, and those of one kind by content.
 pub fn comparisons()
     ensures entries { (a b : Entry) → IsTrue (⟦<Entry as PartialEq>⟧.eq a b) ↔ (a ≡ b) }
     ensures slice_errors { (a b : SliceError) → IsTrue (⟦<SliceError as PartialEq>⟧.eq a b) ↔ (a ≡ b) }
@@ -125,7 +128,7 @@ pub fn comparisons()
     ep_base::laws::equalities();
 }
 
-/// A clone equals its source.
+/// States that a clone of each type of this crate equals its source.
 pub fn clones()
     ensures entries { (a b : Entry) → ⟦<Entry as Clone>⟧.is_clone a b → b ≡ a }
     ensures slice_errors { (a b : SliceError) → ⟦<SliceError as Clone>⟧.is_clone a b → b ≡ a }
@@ -139,7 +142,7 @@ pub fn clones()
     ensures packet_headers { (a b : PacketHeaders) → ⟦<PacketHeaders<'static> as Clone>⟧.is_clone a b → b ≡ a }
 {}
 
-/// A clone takes no memory, and so is there.
+/// States that cloning a value of this crate doesn't allocate, and so always succeeds.
 pub fn clones_succeed()
     ensures entries { (a : Entry) → ⟦<Entry as Clone>⟧.is_infallible a }
     ensures slice_errors { (a : SliceError) → ⟦<SliceError as Clone>⟧.is_infallible a }

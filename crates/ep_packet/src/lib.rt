@@ -1,4 +1,4 @@
-//! Whole packets.
+//! Whole packets: slicing them into layers, and decoding their headers.
 #![tactic(auto)]
 
 mod entry;

@@ -1,4 +1,4 @@
-//! The link layer with which a packet begins, as the walks over a packet find it.
+//! The link layer at the start of a packet, before its tags and the network layer are read.
 
 ghost use Rattle.std.specs.Prelude.{◌+◌, ◌<◌, ◌^◌, length, IfOk, IfErr};
 ghost use Rattle.ep_link.specs.Ethernet2.{RefusesEthernet2};
@@ -10,21 +10,21 @@ use ep_base::err::{LenError, linux_sll};
 use ep_base::{EtherPayloadSlice, EtherType, LenSource};
 use ep_link::{Ethernet2Header, Ethernet2Slice, LinkSlice, LinuxSllHeader, LinuxSllSlice};
 
-/// The link layer with which a packet begins, and the bytes in it.
+/// Link layer at the start of a packet (Ethernet II, Linux cooked capture, or a given ether type), and its payload.
 #[derive(Drop)]
 pub struct LinkPart<'a> {
-    /// The link layer.
+    /// Link layer at the start of the packet: header and payload.
     pub link: LinkSlice<'a>,
-    /// How far behind the packet's start its payload lies.
+    /// Offset of the link layer's payload from the start of the packet, in bytes.
     pub offset: usize,
-    /// The payload's type, where it is known.
+    /// Ether type of the link layer's payload; `None` if the protocol of a Linux cooked capture is no ether type.
     pub ether_type: Option<EtherType>,
-    /// The payload.
+    /// Bytes of the link layer's payload.
     pub slice: &'a [u8],
 }
 
 impl<'a> LinkPart<'a> {
-    /// The Ethernet II header with which a packet begins.
+    /// Slices the Ethernet II header at the start of a packet, and the payload after it.
     #[inline(always)]
     pub fn ethernet(slice: &'a [u8]) -> Result<LinkPart<'a>, LenError>
         ensures ok { IfOk result (BeginsPacket ethernet slice.now) }
@@ -45,7 +45,7 @@ impl<'a> LinkPart<'a> {
         })
     }
 
-    /// The header of a Linux cooked capture with which a packet begins.
+    /// Slices the Linux cooked capture header (SLL v1) at the start of a packet, and the payload after it.
     #[inline(always)]
     pub fn linux_sll(slice: &'a [u8]) -> Result<LinkPart<'a>, linux_sll::HeaderSliceError>
         ensures ok { IfOk result (BeginsPacket linux_sll slice.now) }
@@ -66,7 +66,7 @@ impl<'a> LinkPart<'a> {
         })
     }
 
-    /// The payload of a link layer, of this type, of which the link layer is no part of the packet.
+    /// Returns a link layer without a header: all bytes of `slice` are its payload, of the given ether type.
     #[inline(always)]
     pub fn ether_type(ether_type: EtherType, slice: &'a [u8]) -> LinkPart<'a>
         ensures begins { BeginsPacket (of_type ether_type) slice.now result }

@@ -1,4 +1,4 @@
-//! Net headers by value.
+//! Owned headers of the network layer: IP headers with extension headers, or an ARP packet.
 
 use crate::err::NetSetNextHeaderError;
 use crate::ip_headers::IpHeaders;
@@ -9,18 +9,19 @@ use ep_ip::{Ipv4Header, Ipv6Header};
 use ep_link::ArpPacket;
 use std::alloc::AllocError;
 
-/// The headers of the net layer: those of an IP packet, or an ARP packet.
+/// Owned headers of the network layer: an IP header with its extension headers, or an ARP packet.
 #[derive(Debug, PartialEq, Eq, Drop)]
 pub enum NetHeaders {
-    /// Those of IPv4, with the authentication header.
+    /// IPv4 header (RFC 791), and the authentication header after it, if present.
     Ipv4(Ipv4Header, Ipv4Extensions),
-    /// Those of IPv6, with at most one extension header of a kind.
+    /// IPv6 header (RFC 8200) and its extension headers, at most one of each kind. Destination options before and after
+    /// a routing header are two kinds.
     Ipv6(Ipv6Header, Ipv6Extensions),
-    /// An ARP packet.
+    /// ARP packet (RFC 826), which has no payload.
     Arp(ArpPacket),
 }
 
-/// [`NetHeaders`], under its older name in the Rust crate.
+/// Older name of [`NetHeaders`], which the Rust crate etherparse has.
 pub type IpHeader = NetHeaders;
 
 impl Clone for NetHeaders {
@@ -30,10 +31,10 @@ impl Clone for NetHeaders {
 
     ghost is_infallible = { λ _. ⊤ };
 
-    // As that of [`IpHeaders`].
+    // Created first and filled in place, as in the clone of [`IpHeaders`].
     #[inline(never)]
     fn clone(&self) -> Result<NetHeaders, AllocError> {
-        let mut result = Ok(NetHeaders::room());
+        let mut result = Ok(NetHeaders::blank());
         if let Ok(room) = &mut result {
             room.copy_from(self);
         }
@@ -46,22 +47,23 @@ impl NetHeaders {
     ghost use Rattle.std.specs.Option.{option_copied, option_map};
     ghost use Rattle.ep_packet.specs.declared.ip_headers.IpHeaders.{IpHeaders};
     ghost use Rattle.ep_packet.specs.declared.err.net_set_next_header_error.NetSetNextHeaderError.TheVariants as refusal;
-    ghost use Rattle.ep_packet.specs.IpHeaders.{headers_room, ip_headers_type, linked_headers};
+    ghost use Rattle.ep_packet.specs.IpHeaders.{blank_headers, ip_headers_type, linked_headers};
     ghost use Rattle.ep_packet.specs.NetHeaders.{are_ip, are_ipv4, are_ipv6, are_arp, ip_in, ipv4_in_net, ipv6_in_net};
     ghost use Rattle.ep_packet.specs.NetHeaders.{arp_in_net, net_headers_len, net_headers_of};
 
-    /// Headers that are to be filled in.
+    /// Returns an empty IPv4 header without extension headers, which the caller overwrites.
     #[inline(always)]
-    fn room() -> NetHeaders
-        ensures { result ≡ net_headers_of headers_room }
+    fn blank() -> NetHeaders
+        ensures { result ≡ net_headers_of blank_headers }
     {
         NetHeaders::Ipv4(Ipv4Header::default(), Ipv4Extensions { auth: None })
     }
 
-    /// Becomes a copy of other headers. Of extension headers only those that are there are copied.
+    /// Copies the network layer headers of `source` into `self`, which has to be an empty IPv4 header before. The space
+    /// of absent extension headers is not copied.
     #[inline(never)]
     fn copy_from(&mut self, source: &NetHeaders)
-        requires { self.old ≡ net_headers_of headers_room }
+        requires { self.old ≡ net_headers_of blank_headers }
         ensures { self.new ≡ source.now }
     {
         match source {
@@ -83,7 +85,7 @@ impl NetHeaders {
         }
     }
 
-    /// Whether the headers are of IP, of either version.
+    /// Returns true if the network layer is IPv4 or IPv6, false if it is ARP.
     #[inline]
     pub fn is_ip(&self) -> bool
         ensures { result ≡ are_ip self.now }
@@ -91,7 +93,7 @@ impl NetHeaders {
         self.is_ipv4() || self.is_ipv6()
     }
 
-    /// Whether the headers are of IPv4.
+    /// Returns true if the network layer is IPv4.
     #[inline]
     pub fn is_ipv4(&self) -> bool
         ensures { result ≡ are_ipv4 self.now }
@@ -99,7 +101,7 @@ impl NetHeaders {
         matches!(self, NetHeaders::Ipv4(_, _))
     }
 
-    /// Whether the headers are of IPv6.
+    /// Returns true if the network layer is IPv6.
     #[inline]
     pub fn is_ipv6(&self) -> bool
         ensures { result ≡ are_ipv6 self.now }
@@ -107,7 +109,7 @@ impl NetHeaders {
         matches!(self, NetHeaders::Ipv6(_, _))
     }
 
-    /// Whether the headers are an ARP packet.
+    /// Returns true if the network layer is an ARP packet.
     #[inline]
     pub fn is_arp(&self) -> bool
         ensures { result ≡ are_arp self.now }
@@ -115,7 +117,7 @@ impl NetHeaders {
         matches!(self, NetHeaders::Arp(_))
     }
 
-    /// The header and the extension headers, if they are of IPv4.
+    /// Returns the IPv4 header and its extension headers (the optional authentication header); `None` for IPv6 and ARP.
     #[inline]
     pub fn ipv4_ref(&self) -> Option<(&Ipv4Header, &Ipv4Extensions)>
         ensures { option_map (λ parts. (parts.0.now, parts.1.now)) result ≡ ipv4_in_net self.now }
@@ -126,7 +128,7 @@ impl NetHeaders {
         }
     }
 
-    /// The header and the extension headers, if they are of IPv6.
+    /// Returns the IPv6 header and its extension headers; `None` for IPv4 and ARP.
     #[inline]
     pub fn ipv6_ref(&self) -> Option<(&Ipv6Header, &Ipv6Extensions)>
         ensures { option_map (λ parts. (parts.0.now, parts.1.now)) result ≡ ipv6_in_net self.now }
@@ -137,7 +139,7 @@ impl NetHeaders {
         }
     }
 
-    /// The ARP packet, if the headers are one.
+    /// Returns the ARP packet; `None` if the network layer is IPv4 or IPv6.
     #[inline]
     pub fn arp_ref(&self) -> Option<&ArpPacket>
         ensures { option_copied result ≡ arp_in_net self.now }
@@ -148,7 +150,7 @@ impl NetHeaders {
         }
     }
 
-    /// The number of bytes of the headers: at most 9268.
+    /// Length in bytes of the IP header and its extension headers, or of the ARP packet, at most 9268.
     #[inline]
     pub fn header_len(&self) -> usize
         ensures value { result ≡ net_headers_len self.now }
@@ -161,9 +163,9 @@ impl NetHeaders {
         }
     }
 
-    /// Lets the numbers of IP headers lead from the header through all extension headers to this number, and gives the
-    /// ether type under which a link layer carries the packet. Nothing follows an ARP packet; the refusal changes
-    /// nothing.
+    /// Sets the next header values so that they lead from the IP header through all its extension headers to `last`,
+    /// the protocol number of the payload. Returns the ether type of the IP version. For an ARP packet it is an error,
+    /// and nothing is changed.
     pub fn try_set_next_headers(
         &mut self,
         last: IpNumber,

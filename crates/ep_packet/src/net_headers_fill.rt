@@ -1,5 +1,6 @@
-//! How IP headers are read into the room that a packet has for them. Headers are large: room that held some of the
-//! same version is written only where headers stand or stood. Other room is written as a whole.
+//! Decoding IP headers into the network layer of a `PacketHeaders`. Headers are large: a value that already contains
+//! headers of the same IP version is overwritten only at headers that are or were present. Any other value is replaced
+//! completely.
 
 ghost use Rattle.std.specs.Prelude.{◌≡◌, IfOk, IfErr, List, ℕ, Some, None};
 ghost use Rattle.ep_base.specs.IpPayload.{ip_payload_of};
@@ -20,8 +21,8 @@ ghost use Rattle.ep_packet.specs.IpHeaders.{ip_headers_of, of_slice_error};
 ghost use Rattle.ep_packet.specs.NetHeaders.{net_headers_of};
 
 use crate::ip_headers_read::{
-    cut, is_extension, no_extensions, no_version, of_ipv4_error, of_ipv6_error, payload_of_ipv4,
-    unsupported,
+    empty_slice_error, is_extension, no_extensions, of_ipv4_error, of_ipv6_error, parse_limited,
+    payload_of_ipv4, unsupported,
 };
 use crate::net_headers::NetHeaders;
 use ep_base::err::ip::HeadersSliceError;
@@ -30,7 +31,8 @@ use ep_base::{IpNumber, IpPayloadSlice};
 use ep_ext::{IpAuthHeaderSlice, Ipv4Extensions};
 use ep_ip::{Ipv4Slice, Ipv6Header};
 
-/// Fills in the headers of either version at the front of the slice, and gives the payload behind them and its offset.
+/// Decodes the IP header at the start of the slice, version 4 or 6, and its extension headers into `net`. Returns the
+/// IP payload and its offset from the start of the slice, in bytes.
 pub(crate) fn fill_ip<'a>(
     net: &mut Option<NetHeaders>,
     slice: &'a [u8],
@@ -40,7 +42,7 @@ pub(crate) fn fill_ip<'a>(
     ensures err { IfErr result (RefusesAs of_slice_error (RefusesIp headers slice.now)) }
 {
     if slice.len() == 0 {
-        return Err(no_version());
+        return Err(empty_slice_error());
     }
     let version_number = slice[0] >> 4;
     if version_number == 4 {
@@ -58,7 +60,8 @@ pub(crate) fn fill_ip<'a>(
     Err(unsupported(version_number))
 }
 
-/// Fills in the headers of IPv4 at the front of the slice, and gives the payload behind them and its offset.
+/// Decodes the IPv4 header at the start of the slice, and its authentication header, if any, into `net`. Returns the IP
+/// payload and its offset from the start of the slice, in bytes.
 pub(crate) fn fill_ipv4<'a>(
     net: &mut Option<NetHeaders>,
     slice: &'a [u8],
@@ -69,7 +72,7 @@ pub(crate) fn fill_ipv4<'a>(
 {
     match Ipv4Slice::from_slice(slice) {
         Ok(packet) => {
-            put_ipv4(net, &packet);
+            write_ipv4(net, &packet);
             let payload = payload_of_ipv4(&packet);
             let content_end = packet.header().total_len() as usize;
             let offset = content_end - payload.payload.len();
@@ -79,14 +82,14 @@ pub(crate) fn fill_ipv4<'a>(
     }
 }
 
-/// Puts the headers of a packet into the room. An authentication header is put there by a call of its own: inlined, it
-/// would have room for one zeroed for each packet.
-fn put_ipv4(net: &mut Option<NetHeaders>, packet: &Ipv4Slice<'_>)
+/// Copies the headers of a sliced IPv4 packet into `net`. A packet with an authentication header is left to a function
+/// that is not inlined: otherwise the space of that header would be zeroed for each packet.
+fn write_ipv4(net: &mut Option<NetHeaders>, packet: &Ipv4Slice<'_>)
     ensures { (left : List ℕ)
         → net.new ≡ Some (net_headers_of (ip_headers_of (ipv4_part (ipv4_slice_packet packet.now left)))) }
 {
     if let Some(auth) = packet.extensions().auth {
-        put_authenticated(net, packet, &auth);
+        write_authenticated(net, packet, &auth);
         return;
     }
     if let Some(headers) = net {
@@ -101,9 +104,9 @@ fn put_ipv4(net: &mut Option<NetHeaders>, packet: &Ipv4Slice<'_>)
     replace_by_ipv4(net, packet);
 }
 
-/// Puts the header of a packet of IPv4 into the room, and this authentication header.
+/// Copies the IPv4 header of a sliced packet, and the authentication header after it, into `net`.
 #[inline(never)]
-fn put_authenticated(
+fn write_authenticated(
     net: &mut Option<NetHeaders>,
     packet: &Ipv4Slice<'_>,
     auth: &IpAuthHeaderSlice<'_>,
@@ -123,8 +126,8 @@ fn put_authenticated(
     *net = Some(NetHeaders::Ipv4(packet.header().to_header(), Ipv4Extensions { auth }));
 }
 
-/// Puts the header of a packet of IPv4 without an authentication header in the place of whatever the room held. Apart,
-/// since there it is written once: in line with other writes its parts are zeroed and moved one by one.
+/// Replaces `net` by the IPv4 header of a sliced packet without an authentication header. It is not inlined, so that
+/// the value is written once: inlined, its parts would be zeroed and moved one by one.
 #[inline(never)]
 fn replace_by_ipv4(net: &mut Option<NetHeaders>, packet: &Ipv4Slice<'_>)
     ensures { net.new ≡ Some (variant.Ipv4 (ipv4_slice_header packet.now) (record { auth = None })) }
@@ -133,7 +136,8 @@ fn replace_by_ipv4(net: &mut Option<NetHeaders>, packet: &Ipv4Slice<'_>)
     *net = Some(NetHeaders::Ipv4(header, Ipv4Extensions { auth: None }));
 }
 
-/// Fills in the headers of IPv6 at the front of the slice, and gives the payload behind them and its offset.
+/// Decodes the IPv6 header at the start of the slice and its extension headers into `net`. Returns the IP payload and
+/// its offset from the start of the slice, in bytes.
 pub(crate) fn fill_ipv6<'a>(
     net: &mut Option<NetHeaders>,
     slice: &'a [u8],
@@ -142,7 +146,7 @@ pub(crate) fn fill_ipv6<'a>(
         × FillsIp (ipv6_part packet) slice.now net.new (ip_payload_of read.0) read.1) }
     ensures err { IfErr result (RefusesIpv6 headers slice.now) }
 {
-    let (header, content, len_source) = match cut(slice) {
+    let (header, content, len_source) = match parse_limited(slice) {
         Ok(cut) => cut,
         Err(error) => return Err(error),
     };
@@ -156,12 +160,13 @@ pub(crate) fn fill_ipv6<'a>(
         len_source,
         payload: content,
     };
-    put_ipv6(net, header);
+    write_ipv6(net, header);
     Ok((payload, Ipv6Header::LEN))
 }
 
-/// What [`fill_ipv6`] does of a packet with extension headers. It is a call of its own, which cuts the packet again,
-/// so that packets without them take no time for it.
+/// Decodes an IPv6 header that is followed by extension headers, and these headers, into `net`. Returns the IP payload
+/// and its offset from the start of the slice, in bytes. It is not inlined, so that packets without extension headers
+/// don't pay for it.
 #[inline(never)]
 fn fill_ipv6_extensions<'a>(
     net: &mut Option<NetHeaders>,
@@ -171,11 +176,11 @@ fn fill_ipv6_extensions<'a>(
         × FillsIp (ipv6_part packet) slice.now net.new (ip_payload_of read.0) read.1) }
     ensures err { IfErr result (RefusesIpv6 headers slice.now) }
 {
-    let (header, content, len_source) = match cut(slice) {
+    let (header, content, len_source) = match parse_limited(slice) {
         Ok(cut) => cut,
         Err(error) => return Err(error),
     };
-    match put_ipv6_extensions(net, header, content) {
+    match write_ipv6_extensions(net, header, content) {
         Ok((ip_number, fragmented, payload)) => {
             let offset = Ipv6Header::LEN + (content.len() - payload.len());
             let payload = IpPayloadSlice {
@@ -187,16 +192,16 @@ fn fill_ipv6_extensions<'a>(
             Ok((payload, offset))
         }
         Err(ipv6_exts::HeaderSliceError::Len(error)) => {
-            Err(ipv6::SliceError::Len(error.behind_header(Ipv6Header::LEN, len_source)))
+            Err(ipv6::SliceError::Len(error.after_header(Ipv6Header::LEN, len_source)))
         }
         Err(ipv6_exts::HeaderSliceError::Content(error)) => Err(ipv6::SliceError::Exts(error)),
     }
 }
 
-/// Puts a header of IPv6 into the room, and the extension headers behind it, and gives the number of what follows them,
-/// whether the packet carries one fragment of a longer payload, and the bytes behind them.
+/// Copies an IPv6 header into `net`, and decodes the extension headers at the start of `content` into it. Returns the
+/// protocol number of the payload, whether the packet is a fragment, and the bytes of the payload.
 #[inline]
-fn put_ipv6_extensions<'a>(
+fn write_ipv6_extensions<'a>(
     net: &mut Option<NetHeaders>,
     header: Ipv6Header,
     content: &'a [u8],
@@ -208,7 +213,7 @@ fn put_ipv6_extensions<'a>(
     ensures err { IfErr result (RefusesExtensionChain ipv6 headers header.next_header.0 content.now) }
 {
     let number = header.next_header;
-    put_ipv6(net, header);
+    write_ipv6(net, header);
     if let Some(headers) = net {
         if let NetHeaders::Ipv6(_, extensions) = headers {
             return match extensions.read_into(number, content) {
@@ -220,8 +225,9 @@ fn put_ipv6_extensions<'a>(
     unreachable!()
 }
 
-/// Puts a header of IPv6 without extension headers into the room.
-fn put_ipv6(net: &mut Option<NetHeaders>, header: Ipv6Header)
+/// Sets `net` to an IPv6 header without extension headers. If it already contains IPv6 headers, only the header and the
+/// extension headers that were present are overwritten.
+fn write_ipv6(net: &mut Option<NetHeaders>, header: Ipv6Header)
     ensures { net.new ≡ Some (variant.Ipv6 header no_ipv6_extensions) }
 {
     if let Some(headers) = net {
@@ -234,7 +240,8 @@ fn put_ipv6(net: &mut Option<NetHeaders>, header: Ipv6Header)
     replace_by_ipv6(net, header);
 }
 
-/// Puts a header of IPv6 without extension headers in the place of whatever the room held. Apart, as that of IPv4.
+/// Replaces `net` by an IPv6 header without extension headers. It is not inlined, so that the value is written once:
+/// inlined, its parts would be zeroed and moved one by one.
 #[inline(never)]
 fn replace_by_ipv6(net: &mut Option<NetHeaders>, header: Ipv6Header)
     ensures { net.new ≡ Some (variant.Ipv6 header no_ipv6_extensions) }

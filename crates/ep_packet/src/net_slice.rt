@@ -1,4 +1,4 @@
-//! The net layer of a sliced packet.
+//! The network layer of a sliced packet: IPv4, IPv6 or ARP.
 
 ghost use Rattle.std.specs.Prelude.{◌≡◌, ◌<◌, ◌+◌, ◌^◌, length};
 ghost use Rattle.ep_ext.specs.ExtensionParts.{part_len};
@@ -15,18 +15,18 @@ use ep_ext::{Ipv6ExtensionSlice, Ipv6ExtensionsSlice};
 use ep_ip::{IpSlice, Ipv4Slice, Ipv6Header, Ipv6Slice};
 use ep_link::ArpPacketSlice;
 
-/// The net layer of a sliced packet.
+/// Network layer of a sliced packet: an IP packet with its headers and payload, or an ARP packet.
 #[derive(Clone, Debug, PartialEq, Eq, Drop)]
 pub enum NetSlice<'a> {
-    /// An IPv4 packet.
+    /// IPv4 packet (RFC 791): header, authentication header, if present, and payload.
     Ipv4(Ipv4Slice<'a>),
-    /// An IPv6 packet.
+    /// IPv6 packet (RFC 8200): header, extension headers and payload.
     Ipv6(Ipv6Slice<'a>),
-    /// An ARP packet.
+    /// ARP packet (RFC 826), which has no payload.
     Arp(ArpPacketSlice<'a>),
 }
 
-/// [`NetSlice`], under its older name in the Rust crate.
+/// Older name of [`NetSlice`], which the Rust crate etherparse has.
 pub type InternetSlice<'a> = NetSlice<'a>;
 
 impl<'a> NetSlice<'a> {
@@ -38,7 +38,7 @@ impl<'a> NetSlice<'a> {
     ghost use Rattle.ep_packet.specs.Offsets.{net_layer_len};
     ghost use Rattle.ep_packet.specs.NetSlices.{is_ip_layer, is_ipv4_layer, is_ipv6_layer, is_arp_layer, ipv4_in, ipv6_in, arp_in};
 
-    /// Whether the layer is IP, of either version.
+    /// Returns true if the network layer is IPv4 or IPv6, false if it is ARP.
     #[inline]
     pub fn is_ip(&self) -> bool
         ensures { result ≡ is_ip_layer self.now }
@@ -46,7 +46,7 @@ impl<'a> NetSlice<'a> {
         self.is_ipv4() || self.is_ipv6()
     }
 
-    /// Whether the layer is IPv4.
+    /// Returns true if the network layer is IPv4.
     #[inline]
     pub fn is_ipv4(&self) -> bool
         ensures { result ≡ is_ipv4_layer self.now }
@@ -54,7 +54,7 @@ impl<'a> NetSlice<'a> {
         matches!(self, NetSlice::Ipv4(_))
     }
 
-    /// Whether the layer is IPv6.
+    /// Returns true if the network layer is IPv6.
     #[inline]
     pub fn is_ipv6(&self) -> bool
         ensures { result ≡ is_ipv6_layer self.now }
@@ -62,7 +62,7 @@ impl<'a> NetSlice<'a> {
         matches!(self, NetSlice::Ipv6(_))
     }
 
-    /// Whether the layer is ARP.
+    /// Returns true if the network layer is ARP.
     #[inline]
     pub fn is_arp(&self) -> bool
         ensures { result ≡ is_arp_layer self.now }
@@ -70,7 +70,7 @@ impl<'a> NetSlice<'a> {
         matches!(self, NetSlice::Arp(_))
     }
 
-    /// The IPv4 packet, if the layer is one.
+    /// Returns the IPv4 packet; `None` if the network layer is IPv6 or ARP.
     #[inline]
     pub fn ipv4_ref(&self) -> Option<&Ipv4Slice<'a>>
         ensures { option_copied result ≡ ipv4_in self.now }
@@ -81,7 +81,7 @@ impl<'a> NetSlice<'a> {
         }
     }
 
-    /// The IPv6 packet, if the layer is one.
+    /// Returns the IPv6 packet; `None` if the network layer is IPv4 or ARP.
     #[inline]
     pub fn ipv6_ref(&self) -> Option<&Ipv6Slice<'a>>
         ensures { option_copied result ≡ ipv6_in self.now }
@@ -92,7 +92,7 @@ impl<'a> NetSlice<'a> {
         }
     }
 
-    /// The ARP packet, if the layer is one.
+    /// Returns the ARP packet; `None` if the network layer is IPv4 or IPv6.
     #[inline]
     pub fn arp_ref(&self) -> Option<&ArpPacketSlice<'a>>
         ensures { option_copied result ≡ arp_in self.now }
@@ -103,7 +103,7 @@ impl<'a> NetSlice<'a> {
         }
     }
 
-    /// The payload of the IP packet, if the layer is one.
+    /// Returns the payload of the IPv4 or IPv6 packet; `None` for ARP.
     #[inline]
     pub fn ip_payload_ref(&self) -> Option<&IpPayloadSlice<'a>>
         ensures { option_map ip_payload_of (option_copied result) ≡ net_payload (net_layer_of self.now) }
@@ -115,7 +115,7 @@ impl<'a> NetSlice<'a> {
         }
     }
 
-    /// The number of bytes of the IP header with its extension headers, behind which the payload begins, or of the ARP
+    /// Length in bytes of the IP header and its extension headers, after which the IP payload starts, or of the ARP
     /// packet.
     pub fn header_len(&self) -> usize
         ensures value { result ≡ net_layer_len (net_layer_of self.now) }
@@ -126,7 +126,7 @@ impl<'a> NetSlice<'a> {
     }
 }
 
-/// The number of bytes of the headers of a net layer.
+/// Returns the length in bytes of the IP header and its extension headers, or of the ARP packet.
 fn headers_len(net: &NetSlice<'_>) -> usize
     ensures value { result ≡ net_layer_len (net_layer_of net.now) }
     ensures bound { result < 2 ^ 63 + 64 }
@@ -138,7 +138,7 @@ fn headers_len(net: &NetSlice<'_>) -> usize
     }
 }
 
-/// The number of bytes of an ARP packet.
+/// Returns the length of an ARP packet in bytes.
 fn arp_len(packet: &ArpPacketSlice<'_>) -> usize
     ensures value { result ≡ arp_len (arp_slice_packet packet.now) }
     ensures bound { result < 2 ^ 63 }
@@ -149,7 +149,7 @@ fn arp_len(packet: &ArpPacketSlice<'_>) -> usize
     len
 }
 
-/// The number of bytes of the headers of an IPv4 packet.
+/// Returns the length in bytes of an IPv4 header and the authentication header after it, if present.
 fn ipv4_len(packet: &Ipv4Slice<'_>) -> usize
     ensures value { result
         ≡ ipv4_header_len (ipv4_slice_header packet.now) + parts_len (ipv4_slice_extensions packet.now) }
@@ -162,7 +162,7 @@ fn ipv4_len(packet: &Ipv4Slice<'_>) -> usize
     }
 }
 
-/// The number of bytes of the extension headers of an IPv6 packet.
+/// Returns the summed length in bytes of the extension headers of an IPv6 packet, without the IPv6 header.
 fn extensions_len(extensions: Ipv6ExtensionsSlice<'_>) -> usize
     ensures value { result ≡ parts_len (ipv6_slice_parts extensions.entry) }
     ensures bound { result < 2 ^ 63 }
@@ -176,7 +176,7 @@ fn extensions_len(extensions: Ipv6ExtensionsSlice<'_>) -> usize
     len
 }
 
-/// The number of bytes of an extension header.
+/// Returns the length of one IPv6 extension header in bytes.
 #[inline]
 fn extension_len(extension: &Ipv6ExtensionSlice<'_>) -> usize
     ensures value { result ≡ part_len (extension_slice_part extension.now) }

@@ -1,10 +1,10 @@
-//! A packet, decoded into its headers.
+//! A packet decoded into owned headers, and the payload after them.
 
 ghost use Rattle.std.specs.Prelude.{◌≡◌, ◌+◌, ◌-◌, ◌<◌, ◌^◌, length, IfOk, IfErr, Some};
 ghost use Rattle.ep_base.specs.Readings.{headers};
 ghost use Rattle.ep_base.specs.IpPayload.{ip_payload_of};
 ghost use Rattle.ep_link.specs.EtherPayloads.{ether_payload_of};
-ghost use Rattle.ep_link.specs.LinkSlices.{whole_ether_payload};
+ghost use Rattle.ep_link.specs.LinkSlices.{unlimited_ether_payload};
 ghost use Rattle.ep_packet.specs.Frame.{most_link_exts, only_ipv4, only_ipv6, only_arp, any_ip, net_kind};
 ghost use Rattle.ep_packet.specs.PacketHeaders.{headers_of};
 ghost use Rattle.ep_packet.specs.PayloadParts.{ether, empty};
@@ -27,20 +27,21 @@ use ep_link::{
 };
 use ep_transport::{TcpHeader, TransportHeader};
 
-/// The headers of a packet by value, from the outside in, and the payload of the last layer. A header that is no part
-/// of the packet, or whose protocol is not read, is `None`, and so is each header inside it. A value takes the room of
-/// all extension headers that IPv6 has, whichever of them are there.
+/// Owned headers of a packet, from the outside in, and the payload of the last layer. `net` and `transport` are `None`
+/// if the packet does not have that layer or its protocol is not supported; without `net`, `transport` is `None` too. A
+/// value has space for every kind of IPv6 extension header, even if none is present.
 #[derive(Clone, Debug, PartialEq, Eq, Drop)]
 pub struct PacketHeaders<'a> {
-    /// The header of the link layer.
+    /// Link header (Ethernet II or Linux cooked capture); `None` if the packet was decoded from an ether type or from
+    /// IP.
     pub link: Option<LinkHeader>,
-    /// The tags of the link extensions, from the outside in, of which at most three are taken.
+    /// Headers of the link extensions (VLAN and MACsec tags), from the outside in, at most three.
     pub link_exts: ArrayVec<LinkExtHeader, 3>,
-    /// The headers of the net layer.
+    /// Network layer: the IP header and its extension headers, or the ARP packet; `None` if neither is present.
     pub net: Option<NetHeaders>,
-    /// The header of the transport layer.
+    /// Transport header (UDP, TCP, ICMPv4 or ICMPv6); `None` for another protocol, and for a fragment.
     pub transport: Option<TransportHeader>,
-    /// The payload of the last layer.
+    /// Payload after the last header that was decoded.
     pub payload: PayloadSlice<'a>,
 }
 
@@ -50,15 +51,16 @@ impl<'a> PacketHeaders<'a> {
     ghost use Rattle.ep_packet.specs.declared.entry.Entry.TheVariants.{EtherType as of_type, Ip as ip};
     ghost use Rattle.ep_packet.specs.Layers.{Layers};
     ghost use Rattle.ep_packet.specs.Frame.{IsFrameIn};
-    ghost use Rattle.ep_packet.specs.PacketHeaders.{LieIn, headers_in, header_vlan_ids, no_headers, outer_headers};
+    ghost use Rattle.ep_packet.specs.PacketHeaders.{IsSubsliceOf, headers_in, header_vlan_ids, no_headers, outer_headers};
     ghost use Rattle.ep_packet.specs.PacketHeaders.{vlan_headers};
     ghost use Rattle.ep_packet.specs.PayloadParts.{payload_part_bytes, payload_part_of};
     ghost use Rattle.ep_packet.specs.FrameRefusals.{RefusesFrameIn};
 
-    /// The greatest number of link extensions that are taken. A further one is left as payload.
+    /// Greatest number of link extensions (VLAN and MACsec tags) that are decoded: 3. A fourth one is left in the
+    /// payload.
     pub const LINK_EXTS_CAP: usize = 3;
 
-    /// A packet without layers, whose payload is `Empty`.
+    /// Returns a packet without any header, whose payload is `Empty`.
     pub fn new() -> PacketHeaders<'a>
         ensures { headers_of result ≡ no_headers }
     {
@@ -71,47 +73,47 @@ impl<'a> PacketHeaders<'a> {
         }
     }
 
-    /// Reads the packet that begins with what `entry` says into the value, for a caller in a loop that keeps one
-    /// packet: where the packet before was of the same version of IP, room for headers that are not there is not
-    /// touched. A refusal leaves a packet without layers. The payload of a
-    /// cooked packet whose protocol is no ether type is `MacsecMod`, as other bytes are whose type is not known.
+    /// Decodes the packet whose first protocol is `entry` into `self`, replacing what it contained. Made for repeated
+    /// calls: if the previous packet had the same IP version, the space of absent headers is not touched. After an
+    /// error no header is left. The payload of a Linux cooked capture whose protocol is no ether type is `MacsecMod`,
+    /// as for other payloads of unknown type.
     pub fn read_into(&mut self, entry: Entry, bytes: &'a [u8]) -> Result<(), SliceError>
         ensures ok { OnOk result ((layers : Layers) × IsFrameIn headers entry bytes.now layers
             × (headers_of self.new ≡ headers_in layers)) }
         ensures only { (layers : Layers) → IsFrameIn headers entry bytes.now layers
             → IsOkAnd result (λ _. headers_of self.new ≡ headers_in layers) }
-        ensures bytes { OnOk result (LieIn (payload_part_bytes (payload_part_of self.new.payload)) bytes.now) }
+        ensures bytes { OnOk result (IsSubsliceOf (payload_part_bytes (payload_part_of self.new.payload)) bytes.now) }
         ensures err { IfErr result (RefusesFrameIn headers entry bytes.now) }
         ensures none { OnErr result (headers_of self.new ≡ no_headers) }
     {
         match self.fill(entry, bytes) {
             Ok(()) => Ok(()),
             Err(error) => {
-                self.begin(None);
-                self.end(PayloadSlice::Empty);
+                self.set_link(None);
+                self.set_payload(PayloadSlice::Empty);
                 Err(error)
             }
         }
     }
 
-    /// The headers of the packet that begins with an Ethernet II header.
+    /// Decodes the headers of a packet that begins with an Ethernet II header.
     #[inline(always)]
     pub fn from_ethernet_slice(slice: &'a [u8]) -> Result<PacketHeaders<'a>, SliceError>
         ensures ok { IfOk result (λ packet. (layers : Layers) × IsFrameIn headers ethernet slice.now layers
             × (headers_of packet ≡ headers_in layers)) }
         ensures only { (layers : Layers) → IsFrameIn headers ethernet slice.now layers
             → IsOkAnd result (λ packet. headers_of packet ≡ headers_in layers) }
-        ensures bytes { IfOk result (λ packet. LieIn (payload_part_bytes (payload_part_of packet.payload)) slice.now) }
+        ensures bytes { IfOk result (λ packet. IsSubsliceOf (payload_part_bytes (payload_part_of packet.payload)) slice.now) }
         ensures err { IfErr result (RefusesFrameIn headers ethernet slice.now) }
     {
-        let mut packet = PacketHeaders::room();
+        let mut packet = PacketHeaders::blank();
         match packet.fill_outlined(Entry::Ethernet, slice) {
             Ok(()) => Ok(packet),
             Err(error) => Err(error),
         }
     }
 
-    /// The headers of the packet that is the payload of a link layer, with the type that the link layer gives.
+    /// Decodes the headers of a packet without a link header, which begins with the protocol of the given ether type.
     #[inline(always)]
     pub fn from_ether_type(
         ether_type: EtherType,
@@ -121,34 +123,35 @@ impl<'a> PacketHeaders<'a> {
             × (headers_of packet ≡ headers_in layers)) }
         ensures only { (layers : Layers) → IsFrameIn headers (of_type ether_type) slice.now layers
             → IsOkAnd result (λ packet. headers_of packet ≡ headers_in layers) }
-        ensures bytes { IfOk result (λ packet. LieIn (payload_part_bytes (payload_part_of packet.payload)) slice.now) }
+        ensures bytes { IfOk result (λ packet. IsSubsliceOf (payload_part_bytes (payload_part_of packet.payload)) slice.now) }
         ensures err { IfErr result (RefusesFrameIn headers (of_type ether_type) slice.now) }
     {
-        let mut packet = PacketHeaders::room();
+        let mut packet = PacketHeaders::blank();
         match packet.fill_outlined(Entry::EtherType(ether_type), slice) {
             Ok(()) => Ok(packet),
             Err(error) => Err(error),
         }
     }
 
-    /// The headers of the packet that is an IP packet of either version, which has no link layer.
+    /// Decodes the headers of an IP packet, version 4 or 6, without a link layer.
     #[inline(always)]
     pub fn from_ip_slice(slice: &'a [u8]) -> Result<PacketHeaders<'a>, SliceError>
         ensures ok { IfOk result (λ packet. (layers : Layers) × IsFrameIn headers ip slice.now layers
             × (headers_of packet ≡ headers_in layers)) }
         ensures only { (layers : Layers) → IsFrameIn headers ip slice.now layers
             → IsOkAnd result (λ packet. headers_of packet ≡ headers_in layers) }
-        ensures bytes { IfOk result (λ packet. LieIn (payload_part_bytes (payload_part_of packet.payload)) slice.now) }
+        ensures bytes { IfOk result (λ packet. IsSubsliceOf (payload_part_bytes (payload_part_of packet.payload)) slice.now) }
         ensures err { IfErr result (RefusesFrameIn headers ip slice.now) }
     {
-        let mut packet = PacketHeaders::room();
+        let mut packet = PacketHeaders::blank();
         match packet.fill_outlined(Entry::Ip, slice) {
             Ok(()) => Ok(packet),
             Err(error) => Err(error),
         }
     }
 
-    /// The outermost VLAN tag, or the outermost two.
+    /// Returns the outermost VLAN tag of the packet, or the two outermost as one double tag, if there are at least two;
+    /// `None` without a VLAN tag.
     pub fn vlan(&self) -> Option<VlanHeader>
         ensures { result ≡ outer_headers (vlan_headers self.now.link_exts.items) }
     {
@@ -167,7 +170,7 @@ impl<'a> PacketHeaders<'a> {
         Some(VlanHeader::Single(outer?))
     }
 
-    /// The identifiers of all VLAN tags, from the outside in.
+    /// Returns the VLAN identifiers of all VLAN tags of the packet, from the outside in.
     pub fn vlan_ids(&self) -> ArrayVec<VlanId, 3>
         ensures { result.items ≡ header_vlan_ids self.now.link_exts.items }
     {
@@ -180,10 +183,10 @@ impl<'a> PacketHeaders<'a> {
         ids
     }
 
-    /// A packet that is to be filled in: its headers are of IPv4 and TCP, as those of most packets, so that their room
-    /// is made once.
+    /// Returns a packet of empty headers, which the caller overwrites. They are IPv4 and TCP, as in most packets, so
+    /// that their space is initialized once.
     #[inline(always)]
-    fn room() -> PacketHeaders<'a> {
+    fn blank() -> PacketHeaders<'a> {
         PacketHeaders {
             link: None,
             link_exts: ArrayVec::new(),
@@ -193,34 +196,36 @@ impl<'a> PacketHeaders<'a> {
         }
     }
 
-    /// Fills in the packet that begins with this, whatever the value held. A refusal leaves what was filled in so far.
+    /// Decodes the packet whose first protocol is `entry` into `self`, whatever it contained. After an error the
+    /// content of `self` is unspecified: headers decoded so far, and headers of the previous packet.
     #[inline(always)]
     fn fill(&mut self, entry: Entry, bytes: &'a [u8]) -> Result<(), SliceError>
         ensures ok { OnOk result ((layers : Layers) × IsFrameIn headers entry bytes.now layers
             × (headers_of self.new ≡ headers_in layers)) }
         ensures only { (layers : Layers) → IsFrameIn headers entry bytes.now layers
             → IsOkAnd result (λ _. headers_of self.new ≡ headers_in layers) }
-        ensures bytes { OnOk result (LieIn (payload_part_bytes (payload_part_of self.new.payload)) bytes.now) }
+        ensures bytes { OnOk result (IsSubsliceOf (payload_part_bytes (payload_part_of self.new.payload)) bytes.now) }
         ensures err { IfErr result (RefusesFrameIn headers entry bytes.now) }
     {
         self.fill_frame(entry, bytes)
     }
 
-    /// Fills in the packet as [`PacketHeaders::fill`] does, in a call that is not inlined. The calls that return an owned
-    /// packet are inlined over it: so a loop over them zeroes the packet once a frame, and moves it at most once.
+    /// Decodes a packet like [`PacketHeaders::fill`], but is not inlined. The functions that return an owned packet are
+    /// inlined and call it, so that a hot loop zeroes the packet once per frame, and moves it at most once.
     #[inline(never)]
     fn fill_outlined(&mut self, entry: Entry, bytes: &'a [u8]) -> Result<(), SliceError>
         ensures ok { OnOk result ((layers : Layers) × IsFrameIn headers entry bytes.now layers
             × (headers_of self.new ≡ headers_in layers)) }
         ensures only { (layers : Layers) → IsFrameIn headers entry bytes.now layers
             → IsOkAnd result (λ _. headers_of self.new ≡ headers_in layers) }
-        ensures bytes { OnOk result (LieIn (payload_part_bytes (payload_part_of self.new.payload)) bytes.now) }
+        ensures bytes { OnOk result (IsSubsliceOf (payload_part_bytes (payload_part_of self.new.payload)) bytes.now) }
         ensures err { IfErr result (RefusesFrameIn headers entry bytes.now) }
     {
         self.fill(entry, bytes)
     }
 
-    /// What [`PacketHeaders::fill`] does, without the clauses that follow from these.
+    /// Decodes the packet whose first protocol is `entry` into `self`. [`PacketHeaders::fill`] calls it, and adds the
+    /// contract clauses that follow from those here.
     #[inline(always)]
     fn fill_frame(&mut self, entry: Entry, bytes: &'a [u8]) -> Result<(), SliceError>
         ensures ok { OnOk result ((layers : Layers) × IsFrameIn headers entry bytes.now layers
@@ -231,17 +236,17 @@ impl<'a> PacketHeaders<'a> {
             Entry::Ethernet => self.fill_ethernet(bytes),
             Entry::LinuxSll => self.fill_linux_sll(bytes),
             Entry::EtherType(ether_type) => {
-                self.begin(None);
-                self.fill_inside(0, whole_payload(ether_type, bytes))
+                self.set_link(None);
+                self.fill_inside(0, link_ether_payload(ether_type, bytes))
             }
             Entry::Ip => {
-                self.begin(None);
+                self.set_link(None);
                 self.fill_ip(bytes)
             }
         }
     }
 
-    /// Fills in the packet that begins with an Ethernet II header.
+    /// Decodes a packet that begins with an Ethernet II header into `self`.
     #[inline]
     fn fill_ethernet(&mut self, bytes: &'a [u8]) -> Result<(), SliceError>
         ensures ok { OnOk result ((layers : Layers) × IsFrameIn headers ethernet bytes.now layers
@@ -252,11 +257,11 @@ impl<'a> PacketHeaders<'a> {
             Ok(frame) => frame,
             Err(error) => return Err(SliceError::Len(error)),
         };
-        self.begin(Some(LinkHeader::Ethernet2(frame.to_header())));
+        self.set_link(Some(LinkHeader::Ethernet2(frame.to_header())));
         self.fill_inside(Ethernet2Header::LEN, frame.payload())
     }
 
-    /// Fills in the packet that begins with the header of a Linux cooked capture.
+    /// Decodes a packet that begins with a Linux cooked capture header (SLL v1) into `self`.
     fn fill_linux_sll(&mut self, bytes: &'a [u8]) -> Result<(), SliceError>
         ensures ok { OnOk result ((layers : Layers) × IsFrameIn headers linux_sll bytes.now layers
             × (headers_of self.new ≡ headers_in layers)) }
@@ -269,31 +274,32 @@ impl<'a> PacketHeaders<'a> {
                 return Err(SliceError::LinuxSll(error));
             }
         };
-        self.begin(Some(LinkHeader::LinuxSll(frame.to_header())));
+        self.set_link(Some(LinkHeader::LinuxSll(frame.to_header())));
         let payload = frame.payload_slice();
         match frame.protocol_type().ether_type() {
             Some(ether_type) => {
-                self.fill_inside(LinuxSllHeader::LEN, whole_payload(ether_type, payload))
+                self.fill_inside(LinuxSllHeader::LEN, link_ether_payload(ether_type, payload))
             }
             None => {
-                self.end(PayloadSlice::MacsecMod(payload));
+                self.set_payload(PayloadSlice::MacsecMod(payload));
                 Ok(())
             }
         }
     }
 
-    /// Fills in the link header, where there is one, and no link extension.
+    /// Sets the link header of the packet (`None` for a packet without one), and removes its link extensions.
     #[inline]
-    fn begin(&mut self, link: Option<LinkHeader>)
+    fn set_link(&mut self, link: Option<LinkHeader>)
         ensures { headers_of self.new ≡ begun (headers_of self.old) link }
     {
         self.link = link;
         self.link_exts.clear();
     }
 
-    /// Fills in a payload in which no net layer is read.
+    /// Sets the payload of a packet in which no network layer is decoded, and removes its network and transport
+    /// headers.
     #[inline]
-    fn end(&mut self, payload: PayloadSlice<'a>)
+    fn set_payload(&mut self, payload: PayloadSlice<'a>)
         ensures { headers_of self.new ≡ record (headers_of self.old) {
           net = None;
           transport = None;
@@ -307,8 +313,9 @@ impl<'a> PacketHeaders<'a> {
         self.payload = payload;
     }
 
-    /// Fills in what a payload with a type holds: the tags of the link extensions, as many as there is room for, and
-    /// what lies behind them. The payload lies `offset` bytes behind the packet's start.
+    /// Decodes the payload of a link layer or link extension: further link extensions, up to three in all, and the
+    /// network and transport layer after them. `offset` is the offset of the payload from the start of the packet, in
+    /// bytes.
     fn fill_inside(
         &mut self,
         offset: usize,
@@ -337,19 +344,19 @@ impl<'a> PacketHeaders<'a> {
             Some(inside) => self.fill_inside(
                 offset,
                 EtherPayloadSlice {
-                    len_source: inside.len_source.cut_by(payload.len_source),
+                    len_source: inside.len_source.limited_by(payload.len_source),
                     ..inside
                 },
             ),
             None => {
-                self.end(PayloadSlice::MacsecMod(extension.payload_slice()));
+                self.set_payload(PayloadSlice::MacsecMod(extension.payload_slice()));
                 Ok(())
             }
         }
     }
 
-    /// Fills in the net layer that a payload of a type is, and what lies in it. The payload lies `offset` bytes behind
-    /// the packet's start.
+    /// Decodes the network layer (IPv4, IPv6 or ARP) that the ether type of the payload names, and the transport layer
+    /// in it. `offset` is the offset of the payload from the start of the packet, in bytes.
     fn fill_net(&mut self, offset: usize, payload: EtherPayloadSlice<'a>) -> Result<(), SliceError>
         requires place { offset + length payload.payload.now < 2 ^ 64 }
         ensures ok { IfOk result (λ _. FillsNet (net_kind payload.entry.ether_type) payload.entry.payload.now
@@ -362,13 +369,14 @@ impl<'a> PacketHeaders<'a> {
             ether_type::IPV6 => self.fill_ipv6(offset, payload.payload),
             ether_type::ARP => self.fill_arp(offset, payload.payload),
             _ => {
-                self.end(PayloadSlice::Ether(payload));
+                self.set_payload(PayloadSlice::Ether(payload));
                 Ok(())
             }
         }
     }
 
-    /// Fills in the IPv4 packet that bytes are. They lie `offset` bytes behind the packet's start.
+    /// Decodes an IPv4 packet and the transport layer in it. `offset` is its offset from the start of the whole packet,
+    /// in bytes.
     fn fill_ipv4(&mut self, offset: usize, slice: &'a [u8]) -> Result<(), SliceError>
         requires place { offset + length slice.now < 2 ^ 64 }
         ensures ok { IfOk result (λ _.
@@ -386,7 +394,8 @@ impl<'a> PacketHeaders<'a> {
         self.fill_transport(offset + payload_offset, payload)
     }
 
-    /// Fills in the IPv6 packet that bytes are. They lie `offset` bytes behind the packet's start.
+    /// Decodes an IPv6 packet and the transport layer in it. `offset` is its offset from the start of the whole packet,
+    /// in bytes.
     fn fill_ipv6(&mut self, offset: usize, slice: &'a [u8]) -> Result<(), SliceError>
         requires place { offset + length slice.now < 2 ^ 64 }
         ensures ok { IfOk result (λ _.
@@ -404,7 +413,7 @@ impl<'a> PacketHeaders<'a> {
         self.fill_transport(offset + payload_offset, payload)
     }
 
-    /// Fills in the IP packet of either version that bytes are, with which the packet begins.
+    /// Decodes an IP packet without a link layer, version 4 or 6, and the transport layer in it.
     fn fill_ip(&mut self, slice: &'a [u8]) -> Result<(), SliceError>
         ensures ok { IfOk result (λ _.
             FillsNet (Some any_ip) slice.now empty (headers_of self.old) (headers_of self.new)) }
@@ -422,8 +431,8 @@ impl<'a> PacketHeaders<'a> {
         self.fill_transport(payload_offset, payload)
     }
 
-    /// Fills in the ARP packet that bytes are, behind which nothing is left. They lie `offset` bytes behind the
-    /// packet's start.
+    /// Decodes an ARP packet, which has no payload. `offset` is its offset from the start of the whole packet, in
+    /// bytes.
     fn fill_arp(&mut self, offset: usize, slice: &'a [u8]) -> Result<(), SliceError>
         requires place { offset + length slice.now < 2 ^ 64 }
         ensures ok { IfOk result (λ _.
@@ -441,8 +450,9 @@ impl<'a> PacketHeaders<'a> {
         }
     }
 
-    /// Fills in the transport header at the front of an IP payload, where it has one, and the payload of the last
-    /// layer. The IP payload lies `offset` bytes behind the packet's start.
+    /// Decodes the transport header at the start of an IP payload, if its protocol is supported and it is no fragment,
+    /// and sets the payload of the packet. `offset` is the offset of the IP payload from the start of the packet, in
+    /// bytes.
     fn fill_transport(
         &mut self,
         offset: usize,
@@ -470,17 +480,17 @@ impl<'a> PacketHeaders<'a> {
                 Ok(())
             }
             Err(tcp::HeaderSliceError::Len(error)) => {
-                Err(SliceError::Len(error.behind_header(offset, payload.len_source)))
+                Err(SliceError::Len(error.after_header(offset, payload.len_source)))
             }
             Err(tcp::HeaderSliceError::Content(error)) => Err(SliceError::Tcp(error)),
         }
     }
 }
 
-/// These bytes as the payload of a link layer, with its type.
+/// Returns the bytes as the payload of a link layer with the given ether type, limited by the end of the slice.
 #[inline]
-fn whole_payload<'a>(ether_type: EtherType, payload: &'a [u8]) -> EtherPayloadSlice<'a>
-    ensures { ether_payload_of result ≡ whole_ether_payload payload.now ether_type }
+fn link_ether_payload<'a>(ether_type: EtherType, payload: &'a [u8]) -> EtherPayloadSlice<'a>
+    ensures { ether_payload_of result ≡ unlimited_ether_payload payload.now ether_type }
 {
     EtherPayloadSlice {
         ether_type,

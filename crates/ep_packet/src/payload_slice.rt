@@ -1,26 +1,27 @@
-//! The payload behind the headers of a packet.
+//! The payload after the last decoded header of a packet.
 
 use ep_base::{EtherPayloadSlice, IpPayloadSlice};
 
-/// The payload of the last layer of a packet whose headers were read, by what that layer is.
+/// Payload after the last decoded header of a packet. The variant names the layer that the header belongs to.
 #[derive(Clone, Debug, PartialEq, Eq, PartialOrd, Ord, Hash, Drop)]
 pub enum PayloadSlice<'a> {
-    /// None: an ARP packet has no payload.
+    /// No payload: the last header is an ARP packet, or nothing was decoded.
     Empty,
-    /// The payload of a link layer or of a link extension, with its type.
+    /// Payload of a link layer or link extension (VLAN or MACsec tag), with its ether type: no network layer was
+    /// decoded in it.
     Ether(EtherPayloadSlice<'a>),
-    /// The payload of a MACsec tag that is changed or encrypted, so that nothing is known of its type; or that of a
-    /// cooked capture whose protocol is no ether type.
+    /// Payload of unknown type: after a MACsec tag whose payload is modified or encrypted, or in a Linux cooked capture
+    /// whose protocol is no ether type.
     MacsecMod(&'a [u8]),
-    /// The payload of an IP packet, with its protocol number.
+    /// Payload of an IP packet, with its protocol number: no transport header was decoded in it.
     Ip(IpPayloadSlice<'a>),
-    /// The payload of UDP, which the datagram's length field does not cut.
+    /// Payload of UDP: all bytes after the UDP header, not limited by the UDP length field.
     Udp(&'a [u8]),
-    /// The payload of TCP.
+    /// Payload of TCP: the bytes after the TCP header and its options.
     Tcp(&'a [u8]),
-    /// The payload of an ICMP message.
+    /// Payload of ICMPv4: the bytes after the ICMPv4 header.
     Icmpv4(&'a [u8]),
-    /// The payload of an ICMPv6 message.
+    /// Payload of ICMPv6: the bytes after the ICMPv6 header.
     Icmpv6(&'a [u8]),
 }
 
@@ -28,7 +29,7 @@ impl<'a> PayloadSlice<'a> {
     ghost use Rattle.std.specs.Prelude.{◌≡◌};
     ghost use Rattle.ep_packet.specs.PayloadParts.{payload_part_bytes, payload_part_of};
 
-    /// The payload's bytes; no bytes where there is none.
+    /// Bytes of the packet's payload; an empty slice for `Empty`.
     #[inline]
     pub fn slice(&self) -> &'a [u8]
         ensures { result.now ≡ payload_part_bytes (payload_part_of self.now) }

@@ -1,10 +1,10 @@
-//! A packet, sliced into its layers.
+//! A packet sliced into its layers, without copying.
 
 ghost use Rattle.std.specs.Prelude.{◌≡◌, ◌+◌, ◌<◌, ◌^◌, length, IfOk, IfErr};
 ghost use Rattle.ep_base.specs.Readings.{slices};
 ghost use Rattle.ep_packet.specs.Frame.{most_link_exts};
 ghost use Rattle.ep_packet.specs.FrameRefusals.{RefusesInside};
-ghost use Rattle.ep_packet.specs.Walk.{HoldsBehind};
+ghost use Rattle.ep_packet.specs.Walk.{HoldsAfterLink};
 
 use crate::entry::Entry;
 use crate::err::SliceError;
@@ -16,17 +16,18 @@ use ep_base::{EtherPayloadSlice, EtherType, IpPayloadSlice, LenSource, VlanId};
 use ep_link::{DoubleVlanSlice, LinkExtSlice, LinkSlice, VlanSlice};
 use ep_transport::TransportSlice;
 
-/// A packet, sliced into its layers from the outside in. A layer that is no part of the packet, or whose protocol is
-/// not read, is `None`, and so is each layer inside it.
+/// Packet sliced into its layers, from the outside in. `net` and `transport` are `None` if the packet doesn't have that
+/// layer or its protocol isn't supported; without `net`, `transport` is `None` too.
 #[derive(Clone, Debug, PartialEq, Eq, Drop)]
 pub struct SlicedPacket<'a> {
-    /// The link layer.
+    /// Link layer (Ethernet II, Linux cooked capture, or the payload of a given ether type); `None` if slicing started
+    /// at IP.
     pub link: Option<LinkSlice<'a>>,
-    /// The link extensions, from the outside in, of which at most three are taken.
+    /// Link extensions (VLAN and MACsec tags), from the outside in, at most three.
     pub link_exts: ArrayVec<LinkExtSlice<'a>, 3>,
-    /// The net layer.
+    /// Network layer (IPv4, IPv6 or ARP); `None` if the packet has none that is supported.
     pub net: Option<NetSlice<'a>>,
-    /// The transport layer.
+    /// Transport layer (UDP, TCP, ICMPv4 or ICMPv6); `None` for another protocol, and for a fragment.
     pub transport: Option<TransportSlice<'a>>,
 }
 
@@ -43,12 +44,13 @@ impl<'a> SlicedPacket<'a> {
     ghost use Rattle.ep_packet.specs.VlanTags.{outer_tags, vlan_ids_in, vlan_slices};
     ghost use Rattle.ep_packet.specs.FrameRefusals.{RefusesFrame, RefusesInside};
     ghost use Rattle.ep_packet.specs.ShownBytes.{ShowsBytes};
-    ghost use Rattle.ep_packet.specs.Walk.{HoldsBehind};
+    ghost use Rattle.ep_packet.specs.Walk.{HoldsAfterLink};
 
-    /// The greatest number of link extensions that are taken. A further one is left as payload.
+    /// Greatest number of link extensions (VLAN and MACsec tags) that are sliced: 3. A fourth one is left in the
+    /// payload.
     pub const LINK_EXTS_CAP: usize = 3;
 
-    /// A packet without layers, for [`SlicedPacket::slice_into`] to fill in.
+    /// Returns a packet without any layer, into which [`SlicedPacket::slice_into`] can slice.
     #[inline]
     pub fn new() -> SlicedPacket<'a>
         ensures { layers_of result ≡ no_layers }
@@ -61,7 +63,7 @@ impl<'a> SlicedPacket<'a> {
         }
     }
 
-    /// The packet that begins with an Ethernet II header.
+    /// Slices a packet that begins with an Ethernet II header into its layers.
     #[inline(always)]
     pub fn from_ethernet(slice: &'a [u8]) -> Result<SlicedPacket<'a>, SliceError>
         ensures ok { IfOk result (λ packet. IsFrame ethernet slice.now (layers_of packet)) }
@@ -71,12 +73,12 @@ impl<'a> SlicedPacket<'a> {
         ensures err { IfErr result (RefusesFrame ethernet slice.now) }
     {
         match LinkPart::ethernet(slice) {
-            Ok(part) => slice_behind(part),
+            Ok(part) => slice_from_link(part),
             Err(error) => Err(SliceError::Len(error)),
         }
     }
 
-    /// The packet that begins with the header of a Linux cooked capture (SLL v1).
+    /// Slices a packet that begins with a Linux cooked capture header (SLL v1) into its layers.
     #[inline(always)]
     pub fn from_linux_sll(slice: &'a [u8]) -> Result<SlicedPacket<'a>, SliceError>
         ensures ok { IfOk result (λ packet. IsFrame linux_sll slice.now (layers_of packet)) }
@@ -86,12 +88,12 @@ impl<'a> SlicedPacket<'a> {
         ensures err { IfErr result (RefusesFrame linux_sll slice.now) }
     {
         match LinkPart::linux_sll(slice) {
-            Ok(part) => slice_behind(part),
+            Ok(part) => slice_from_link(part),
             Err(error) => Err(SliceError::from(error)),
         }
     }
 
-    /// The packet that is the payload of a link layer, with the type that the link layer gives.
+    /// Slices a packet without a link header, which begins with the protocol of the given ether type, into its layers.
     #[inline(always)]
     pub fn from_ether_type(
         ether_type: EtherType,
@@ -103,10 +105,10 @@ impl<'a> SlicedPacket<'a> {
         ensures bytes { IfOk result (ShowsBytes slice.now) }
         ensures err { IfErr result (RefusesFrame (of_type ether_type) slice.now) }
     {
-        slice_behind(LinkPart::ether_type(ether_type, slice))
+        slice_from_link(LinkPart::ether_type(ether_type, slice))
     }
 
-    /// The packet that is an IP packet of either version, which has no link layer.
+    /// Slices an IP packet, version 4 or 6, without a link layer, into its layers.
     #[inline(always)]
     pub fn from_ip(slice: &'a [u8]) -> Result<SlicedPacket<'a>, SliceError>
         ensures ok { IfOk result (λ packet. IsFrame ip slice.now (layers_of packet)) }
@@ -128,7 +130,8 @@ impl<'a> SlicedPacket<'a> {
         }
     }
 
-    /// The packet that begins with what `entry` says.
+    /// Slices a packet whose first protocol is `entry` (Ethernet II, Linux cooked capture, an ether type, or IP) into
+    /// its layers.
     #[inline]
     pub fn from_entry(entry: Entry, slice: &'a [u8]) -> Result<SlicedPacket<'a>, SliceError>
         ensures ok { IfOk result (λ packet. IsFrame entry slice.now (layers_of packet)) }
@@ -145,8 +148,8 @@ impl<'a> SlicedPacket<'a> {
         }
     }
 
-    /// Slices the packet that begins with what `entry` says into this one, whatever it held: for a caller in a loop,
-    /// which reuses one packet, and so moves none. At `Err` this one is left without layers.
+    /// Slices a packet whose first protocol is `entry` into `self`, replacing the layers it had. Made for repeated
+    /// calls: one value is reused, and none is moved. After an error `self` has no layers.
     #[inline(always)]
     pub fn slice_into(&mut self, entry: Entry, bytes: &'a [u8]) -> Result<(), SliceError>
         ensures ok { IfOk result (λ _. IsFrame entry bytes.now (layers_of self.new)) }
@@ -168,7 +171,8 @@ impl<'a> SlicedPacket<'a> {
         }
     }
 
-    /// Takes all layers away. Apart, since inlined it would have the room of the new values zeroed for each packet.
+    /// Removes all layers from the packet. It is not inlined: otherwise the space of the new values would be zeroed for
+    /// each packet.
     #[inline(never)]
     fn clear(&mut self)
         ensures { layers_of self.new ≡ no_layers }
@@ -179,9 +183,9 @@ impl<'a> SlicedPacket<'a> {
         self.transport = None;
     }
 
-    /// Fills in the layers of the packet that begins with what `entry` says, whatever net and transport layer there
-    /// were. At `Err` it may hold some of them. Ethernet alone becomes one piece with the caller: with the walks of all
-    /// entries in it, the piece would be too large.
+    /// Slices a packet whose first protocol is `entry` into `self`, replacing the layers it had; it must have no link
+    /// extensions. After an error its layers are unspecified. Only the code for Ethernet is inlined: with that of all
+    /// first protocols the function would be too large.
     #[inline(always)]
     fn fill(&mut self, entry: Entry, slice: &'a [u8]) -> Result<(), SliceError>
         requires { self.old.link_exts.items ≡ [] }
@@ -197,7 +201,7 @@ impl<'a> SlicedPacket<'a> {
         }
     }
 
-    /// Fills in the layers of the packet that begins with an Ethernet II header.
+    /// Slices a packet that begins with an Ethernet II header into `self`, which must have no link extensions.
     #[inline(always)]
     fn fill_ethernet(&mut self, slice: &'a [u8]) -> Result<(), SliceError>
         requires { self.old.link_exts.items ≡ [] }
@@ -206,12 +210,12 @@ impl<'a> SlicedPacket<'a> {
         ensures err { IfErr result (RefusesFrame ethernet slice.now) }
     {
         match LinkPart::ethernet(slice) {
-            Ok(part) => self.fill_behind(part),
+            Ok(part) => self.fill_from_link(part),
             Err(error) => Err(SliceError::Len(error)),
         }
     }
 
-    /// Fills in the layers of the packet that begins with the header of a Linux cooked capture.
+    /// Slices a packet that begins with a Linux cooked capture header into `self`, which must have no link extensions.
     fn fill_linux_sll(&mut self, slice: &'a [u8]) -> Result<(), SliceError>
         requires { self.old.link_exts.items ≡ [] }
         ensures ok { IfOk result (λ _. IsFrame linux_sll slice.now (layers_of self.new)) }
@@ -219,22 +223,23 @@ impl<'a> SlicedPacket<'a> {
         ensures err { IfErr result (RefusesFrame linux_sll slice.now) }
     {
         match LinkPart::linux_sll(slice) {
-            Ok(part) => self.fill_behind(part),
+            Ok(part) => self.fill_from_link(part),
             Err(error) => Err(SliceError::from(error)),
         }
     }
 
-    /// Fills in the layers of the packet that is the payload of a link layer, with its type.
+    /// Slices a packet without a link header, which begins with the protocol of `ether_type`, into `self`, which must
+    /// have no link extensions.
     fn fill_ether_type(&mut self, ether_type: EtherType, slice: &'a [u8]) -> Result<(), SliceError>
         requires { self.old.link_exts.items ≡ [] }
         ensures ok { IfOk result (λ _. IsFrame (of_type ether_type) slice.now (layers_of self.new)) }
         ensures bytes { IfOk result (λ _. ShowsBytes slice.now self.new) }
         ensures err { IfErr result (RefusesFrame (of_type ether_type) slice.now) }
     {
-        self.fill_behind(LinkPart::ether_type(ether_type, slice))
+        self.fill_from_link(LinkPart::ether_type(ether_type, slice))
     }
 
-    /// Fills in the layers of the packet that is an IP packet of either version.
+    /// Slices an IP packet, version 4 or 6, without a link layer, into `self`, which must have no link extensions.
     fn fill_ip(&mut self, slice: &'a [u8]) -> Result<(), SliceError>
         requires { self.old.link_exts.items ≡ [] }
         ensures ok { IfOk result (λ _. IsFrame ip slice.now (layers_of self.new)) }
@@ -245,13 +250,14 @@ impl<'a> SlicedPacket<'a> {
         fill_ip(&mut self.net, &mut self.transport, slice)
     }
 
-    /// Fills in a link layer and the layers in its payload.
+    /// Sets the link layer of the packet, and slices the payload of that layer into link extensions, network and
+    /// transport layer.
     #[inline(always)]
-    fn fill_behind(&mut self, part: LinkPart<'a>) -> Result<(), SliceError>
+    fn fill_from_link(&mut self, part: LinkPart<'a>) -> Result<(), SliceError>
         requires place { part.offset + length part.slice.now < 2 ^ 64 }
         requires empty { self.old.link_exts.items ≡ [] }
         ensures ok { IfOk result (λ _.
-            HoldsBehind part.entry.link part.entry.ether_type part.entry.slice.now self.new) }
+            HoldsAfterLink part.entry.link part.entry.ether_type part.entry.slice.now self.new) }
         ensures err { IfErr result
             (RefusesInside slices most_link_exts part.entry.offset part.entry.ether_type part.entry.slice.now) }
     {
@@ -267,8 +273,9 @@ impl<'a> SlicedPacket<'a> {
         )
     }
 
-    /// The type of the bytes behind the link layer and its extensions, if no layer in them is read. It is not known
-    /// behind a MACsec tag with a modified payload, nor in a Linux cooked capture whose protocol is no ether type.
+    /// Returns the ether type of the payload after the link layer and link extensions, if no network layer was sliced
+    /// in it, and `None` otherwise. It is also `None` if the type is unknown: after a MACsec tag with a modified
+    /// payload, and in a Linux cooked capture whose protocol is no ether type.
     pub fn payload_ether_type(&self) -> Option<EtherType>
         ensures { result ≡ payload_ether_type_in (layers_of self.now) }
     {
@@ -278,8 +285,9 @@ impl<'a> SlicedPacket<'a> {
         Some(self.ether_payload()?.ether_type)
     }
 
-    /// The bytes behind the link layer and its extensions, if their type is known, whether or not a layer in them is
-    /// read. Behind extensions, the short length of a MACsec tag among them set the end, or else the slice's end did.
+    /// Returns the payload after the link layer and link extensions, with its ether type, whether or not a network
+    /// layer was sliced in it; `None` if the type is unknown, or without a link layer. The payload ends with the short
+    /// length of a MACsec tag before it, or else with the slice.
     pub fn ether_payload(&self) -> Option<EtherPayloadSlice<'a>>
         ensures { option_map ether_payload_of result ≡ ether_payload_in (layers_of self.now) }
     {
@@ -293,8 +301,8 @@ impl<'a> SlicedPacket<'a> {
         })
     }
 
-    /// What set the end of the bytes behind the link extensions: the short length of a MACsec tag among them, or else the
-    /// slice.
+    /// Returns which field limits the payload after the link extensions: `MacsecShortLength` if a MACsec tag has a
+    /// short length above 0, or else `Slice`.
     #[inline]
     pub fn extensions_len_source(&self) -> LenSource
         ensures { result ≡ extensions_len_source (layers_of self.now).link_exts }
@@ -309,7 +317,8 @@ impl<'a> SlicedPacket<'a> {
         LenSource::Slice
     }
 
-    /// The outermost VLAN tag, or the outermost two.
+    /// Returns the outermost VLAN tag of the packet, or the two outermost as one double tag, if there are at least two;
+    /// `None` without a VLAN tag.
     pub fn vlan(&self) -> Option<VlanSlice<'a>>
         ensures { result ≡ outer_tags (vlan_slices self.now.link_exts.items) }
     {
@@ -328,7 +337,7 @@ impl<'a> SlicedPacket<'a> {
         Some(VlanSlice::SingleVlan(outer?))
     }
 
-    /// The identifiers of all VLAN tags, from the outside in.
+    /// Returns the VLAN identifiers of all VLAN tags of the packet, from the outside in.
     pub fn vlan_ids(&self) -> ArrayVec<VlanId, 3>
         ensures { result.items ≡ vlan_ids_in (layers_of self.now).link_exts }
     {
@@ -341,7 +350,7 @@ impl<'a> SlicedPacket<'a> {
         ids
     }
 
-    /// The payload of the IP packet, if the net layer is one.
+    /// Returns the payload of the IPv4 or IPv6 packet; `None` if the network layer is ARP or absent.
     #[inline]
     pub fn ip_payload(&self) -> Option<&IpPayloadSlice<'a>>
         ensures { option_map ip_payload_of (option_copied result) ≡ ip_payload_in (layers_of self.now) }
@@ -352,7 +361,8 @@ impl<'a> SlicedPacket<'a> {
         }
     }
 
-    /// Whether the payload of the IP packet is one fragment of a longer one; false where there is none.
+    /// Returns true if the IP payload is one fragment of a larger payload; false if it is not fragmented, or if the
+    /// packet has no IP layer.
     #[inline]
     pub fn is_ip_payload_fragmented(&self) -> bool
         ensures { result ≡ carries_fragment (layers_of self.now) }
@@ -364,12 +374,12 @@ impl<'a> SlicedPacket<'a> {
     }
 }
 
-/// The packet of a link layer and what lies in it. It has variables of its own for each part, since one packet that is
-/// filled in place is moved out whole.
+/// Slices the payload of a link layer, and returns the packet of all layers. Each layer has a local variable of its
+/// own: a packet that is filled in place would be moved as a whole when it is returned.
 #[inline(always)]
-fn slice_behind(part: LinkPart<'_>) -> Result<SlicedPacket<'_>, SliceError>
+fn slice_from_link(part: LinkPart<'_>) -> Result<SlicedPacket<'_>, SliceError>
     requires { part.offset + length part.slice.now < 2 ^ 64 }
-    ensures ok { IfOk result (HoldsBehind part.entry.link part.entry.ether_type part.entry.slice.now) }
+    ensures ok { IfOk result (HoldsAfterLink part.entry.link part.entry.ether_type part.entry.slice.now) }
     ensures err { IfErr result
         (RefusesInside slices most_link_exts part.entry.offset part.entry.ether_type part.entry.slice.now) }
 {

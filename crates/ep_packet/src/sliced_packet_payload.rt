@@ -1,11 +1,11 @@
-//! The payload of a sliced packet's last layer.
+//! The payload of the last layer of a sliced packet, and its offset.
 
 ghost use Rattle.std.specs.Prelude.{◌≡◌, ◌≤◌, ◌<◌, ◌+◌, ◌^◌, ℕ, List, length, map, drop};
 ghost use Rattle.std.specs.Option.{option_map};
 ghost use Rattle.ep_link.specs.LinkExtensions.{link_extension_of};
 ghost use Rattle.ep_link.specs.LinkSlices.{link_layer_of};
 ghost use Rattle.ep_transport.specs.TransportParts.{transport_layer_of};
-ghost use Rattle.ep_packet.specs.FrameBytes.{AreInOrder, last_payload, link_payload, payload_behind};
+ghost use Rattle.ep_packet.specs.FrameBytes.{AreInOrder, last_payload, link_payload, payload_after_exts};
 ghost use Rattle.ep_packet.specs.Offsets.{link_len, net_len, payload_offset, tag_len, tags_len, transport_len};
 ghost use Rattle.ep_packet.specs.ShownBytes.{BeginsWith};
 ghost use Rattle.ep_packet.specs.Layers.{layers_of, net_layer_of};
@@ -16,7 +16,7 @@ use ep_link::{LinkExtSlice, LinkSlice};
 use ep_transport::TransportSlice;
 
 impl<'a> SlicedPacket<'a> {
-    /// The bytes of the payload of the last layer; none behind an ARP packet.
+    /// Bytes of the payload of the packet's last (innermost) layer; empty if that is ARP.
     #[inline]
     pub fn payload(&self) -> &'a [u8]
         ensures { result.now ≡ last_payload (layers_of self.now) }
@@ -28,11 +28,11 @@ impl<'a> SlicedPacket<'a> {
             Some(NetSlice::Ipv4(packet)) => packet.payload().payload,
             Some(NetSlice::Ipv6(packet)) => packet.payload().payload,
             Some(NetSlice::Arp(_)) => &[],
-            None => self.open_payload(),
+            None => self.payload_after_link_exts(),
         }
     }
 
-    /// How many bytes of the packet lie before its payload: those of its headers.
+    /// Offset of the last layer's payload from the start of the packet, in bytes: the summed length of all headers.
     pub fn payload_offset(&self) -> usize
         ensures value { result ≡ payload_offset (layers_of self.now) }
         ensures place { let layers = layers_of self.now in
@@ -44,10 +44,11 @@ impl<'a> SlicedPacket<'a> {
             + transport_len(&self.transport)
     }
 
-    /// The bytes behind the last link extension, or else behind the link header.
-    fn open_payload(&self) -> &'a [u8]
+    /// Returns the bytes after the last link extension (VLAN or MACsec tag), or after the link header, if there is
+    /// none.
+    fn payload_after_link_exts(&self) -> &'a [u8]
         ensures { let layers = layers_of self.now in
-            result.now ≡ payload_behind (link_payload layers.link) layers.link_exts }
+            result.now ≡ payload_after_exts (link_payload layers.link) layers.link_exts }
     {
         if let Some(extension) = self.link_exts.last() {
             return extension.payload_slice();
@@ -59,7 +60,7 @@ impl<'a> SlicedPacket<'a> {
     }
 }
 
-/// The number of bytes of the tags of link extensions.
+/// Returns the summed length of link extensions in bytes, each without its payload (VLAN: 4, MACsec: 6 to 16).
 fn tags_len(extensions: &[LinkExtSlice<'_>]) -> usize
     requires { length extensions.now ≤ 3 }
     ensures value { result ≡ tags_len (map link_extension_of extensions.now) }
@@ -72,7 +73,7 @@ fn tags_len(extensions: &[LinkExtSlice<'_>]) -> usize
     len
 }
 
-/// The number of bytes of the tag of a link extension.
+/// Returns the length of a link extension in bytes, without its payload (VLAN: 4, MACsec: 6 to 16).
 fn tag_len(extension: &LinkExtSlice<'_>) -> usize
     ensures value { result ≡ tag_len (link_extension_of extension.now) }
     ensures bound { result ≤ 16 }
@@ -80,7 +81,7 @@ fn tag_len(extension: &LinkExtSlice<'_>) -> usize
     extension.header_len()
 }
 
-/// The number of bytes of the link header.
+/// Returns the length of the link header in bytes, or 0 without one (Ethernet II: 14, Linux cooked capture: 16).
 fn link_len(link: &Option<LinkSlice<'_>>) -> usize
     ensures value { result ≡ link_len (option_map link_layer_of link.now) }
     ensures bound { result ≤ 16 }
@@ -91,7 +92,8 @@ fn link_len(link: &Option<LinkSlice<'_>>) -> usize
     }
 }
 
-/// The number of bytes of the headers of the net layer.
+/// Returns the length in bytes of the IP header and its extension headers, or of the ARP packet; 0 without a network
+/// layer.
 fn net_len(net: &Option<NetSlice<'_>>) -> usize
     ensures value { result ≡ net_len (option_map net_layer_of net.now) }
     ensures bound { result < 2 ^ 63 + 64 }
@@ -102,7 +104,7 @@ fn net_len(net: &Option<NetSlice<'_>>) -> usize
     }
 }
 
-/// The number of bytes of the transport header.
+/// Returns the length of the transport header in bytes; 0 without a transport layer.
 fn transport_len(transport: &Option<TransportSlice<'_>>) -> usize
     ensures value { result ≡ transport_len (option_map transport_layer_of transport.now) }
     ensures bound { result ≤ 60 }

@@ -1,7 +1,8 @@
-//! The walk over a packet from the outside in, which fills in its layers.
+//! Slicing of a packet from the outside in, layer by layer.
 //!
-//! Each call that says `Ok` has written what it is named for, whatever was there; at `Err` what it leaves is not said.
-//! All of them become one piece of code with the caller, so that no layer is moved on its way out.
+//! On `Ok` a function has written each layer that it has a mutable reference to: `net` and `transport` whatever they
+//! were before, `link_exts` only if it was empty. On `Err` their content is unspecified. All functions but
+//! `clear_layers` are inlined into the caller, so that no layer is moved when it is returned.
 
 ghost use Rattle.std.specs.Prelude.{◌≡◌, ◌+◌, ◌<◌, ◌^◌, [], length, IfOk, IfErr, None, Some};
 ghost use Rattle.std.specs.Option.{option_map};
@@ -9,11 +10,11 @@ ghost use Rattle.ep_base.specs.Readings.{slices};
 ghost use Rattle.ep_base.specs.IpPayload.{ip_payload_of};
 ghost use Rattle.ep_ext.specs.Ipv4Chains.{ipv4_slice_bytes};
 ghost use Rattle.ep_transport.specs.TransportParts.{transport_layer_of};
-ghost use Rattle.ep_packet.specs.Frame.{IsTransportBehind, IsTransportIn, most_link_exts};
+ghost use Rattle.ep_packet.specs.Frame.{IsTransportAfterNet, IsTransportIn, most_link_exts};
 ghost use Rattle.ep_packet.specs.Frame.{only_ipv4, only_ipv6, only_arp, any_ip};
 ghost use Rattle.ep_packet.specs.Layers.{net_layer_of, net_payload};
-ghost use Rattle.ep_packet.specs.FrameRefusals.{RefusesInside, RefusesNetPart, RefusesTransportBehind, RefusesTransportIn};
-ghost use Rattle.ep_packet.specs.FrameRefusals.{net_header_len};
+ghost use Rattle.ep_packet.specs.FrameRefusals.{RefusesInside, RefusesNetPart, RefusesTransportAfterNet, RefusesTransportIn};
+ghost use Rattle.ep_packet.specs.FrameRefusals.{net_payload_offset};
 ghost use Rattle.ep_packet.specs.ShownBytes.{ShowsTransport, net_slice_bytes, net_slice_payload};
 ghost use Rattle.ep_packet.specs.Walk.{HasExtensions, HasHeaders, HoldsInside, HoldsNet, net_kind_in};
 
@@ -27,20 +28,21 @@ use ep_ip::{IpSlice, Ipv4Slice, Ipv6Header, Ipv6Slice};
 use ep_link::{ArpPacketSlice, LinkExtSlice};
 use ep_transport::TransportSlice;
 
-/// The bytes behind link extensions.
+/// Payload after the link extensions (VLAN and MACsec tags) of a packet.
 #[derive(Drop)]
 struct Inside<'a> {
-    /// How far behind the packet's start they lie.
+    /// Offset of the payload after the link extensions from the start of the packet, in bytes.
     offset: usize,
-    /// Their type, where it is known.
+    /// Ether type of the payload after the link extensions; `None` if it is unknown, as that of an encrypted MACsec
+    /// payload.
     ether_type: Option<EtherType>,
-    /// The bytes.
+    /// Bytes of the payload after the link extensions.
     slice: &'a [u8],
 }
 
-/// Fills in what bytes of a type hold, where it is known: the link extensions, as many as are taken, the net layer and
-/// the transport layer. The bytes lie `offset` bytes behind the packet's start. `in_place` says that the layers are
-/// those of a packet in memory, and no variables, which are to stay in registers.
+/// Slices the payload of a link layer, if its ether type is known: up to three link extensions, the network layer and
+/// the transport layer. `offset` is the offset of the payload from the start of the packet. `in_place` is true if the
+/// layers belong to a packet in memory, and false if they are local variables that should stay in registers.
 #[inline(always)]
 pub(crate) fn fill_inside<'a>(
     link_exts: &mut ArrayVec<LinkExtSlice<'a>, 3>,
@@ -70,8 +72,8 @@ pub(crate) fn fill_inside<'a>(
     )
 }
 
-/// Fills in the link extensions that bytes of a type begin with, as many as are taken. The bytes lie `offset` bytes
-/// behind the packet's start.
+/// Slices the link extensions (VLAN and MACsec tags) at the start of a link layer's payload, up to three, and returns
+/// the payload after them. `offset` is the offset of the payload from the start of the packet, in bytes.
 #[inline(always)]
 fn fill_extensions<'a>(
     link_exts: &mut ArrayVec<LinkExtSlice<'a>, 3>,
@@ -112,8 +114,9 @@ fn fill_extensions<'a>(
     Ok(inside)
 }
 
-/// Fills in the net layer that bytes of a type are, where it is known, and the transport layer in it. The bytes lie
-/// `offset` bytes behind the packet's start. `in_place` as for `fill_inside`.
+/// Slices the network layer (IPv4, IPv6 or ARP) that the ether type names, and the transport layer in it. Both are set
+/// to `None` for other ether types. `offset` is the offset of the slice from the start of the packet; `in_place` is
+/// false if the layers are local variables that should stay in registers.
 #[inline(always)]
 fn fill_net<'a>(
     net: &mut Option<NetSlice<'a>>,
@@ -133,7 +136,7 @@ fn fill_net<'a>(
         Some(ether_type::ARP) => fill_arp(net, transport, offset, slice),
         _ => {
             if in_place {
-                fill_nothing(net, transport);
+                clear_layers(net, transport);
             } else {
                 *net = None;
                 *transport = None;
@@ -143,10 +146,10 @@ fn fill_net<'a>(
     }
 }
 
-/// Takes both layers away. Apart, since inlined it would have the room of the new values zeroed for each packet; a
-/// caller that lends its variables to it keeps them in memory.
+/// Sets the network and the transport layer to `None`. It is not inlined: otherwise the space of the new values would
+/// be zeroed for each packet. Local variables that a caller passes to it are kept in memory.
 #[inline(never)]
-fn fill_nothing(net: &mut Option<NetSlice<'_>>, transport: &mut Option<TransportSlice<'_>>)
+fn clear_layers(net: &mut Option<NetSlice<'_>>, transport: &mut Option<TransportSlice<'_>>)
     ensures net { net.new ≡ None }
     ensures transport { transport.new ≡ None }
 {
@@ -154,8 +157,8 @@ fn fill_nothing(net: &mut Option<NetSlice<'_>>, transport: &mut Option<Transport
     *transport = None;
 }
 
-/// Fills in the IPv4 packet that bytes are, and the transport layer in it. The bytes lie `offset` bytes behind the
-/// packet's start.
+/// Slices an IPv4 packet and the transport layer in it. `offset` is its offset from the start of the whole packet, in
+/// bytes.
 #[inline(always)]
 fn fill_ipv4<'a>(
     net: &mut Option<NetSlice<'a>>,
@@ -179,8 +182,8 @@ fn fill_ipv4<'a>(
     Ok(())
 }
 
-/// Fills in the IPv6 packet that bytes are, and the transport layer in it. The bytes lie `offset` bytes behind the
-/// packet's start.
+/// Slices an IPv6 packet and the transport layer in it. `offset` is its offset from the start of the whole packet, in
+/// bytes.
 #[inline(always)]
 fn fill_ipv6<'a>(
     net: &mut Option<NetSlice<'a>>,
@@ -204,8 +207,7 @@ fn fill_ipv6<'a>(
     Ok(())
 }
 
-/// Fills in the IP packet of either version that bytes are, with which the packet begins, and the transport layer in
-/// it.
+/// Slices an IP packet without a link layer, version 4 or 6, and the transport layer in it.
 #[inline(always)]
 pub(crate) fn fill_ip<'a>(
     net: &mut Option<NetSlice<'a>>,
@@ -230,8 +232,8 @@ pub(crate) fn fill_ip<'a>(
     Ok(())
 }
 
-/// Fills in the ARP packet that bytes are, in which no transport layer lies. The bytes lie `offset` bytes behind the
-/// packet's start.
+/// Slices an ARP packet, which has no transport layer. `offset` is its offset from the start of the whole packet, in
+/// bytes.
 #[inline(always)]
 fn fill_arp<'a>(
     net: &mut Option<NetSlice<'a>>,
@@ -253,8 +255,8 @@ fn fill_arp<'a>(
     }
 }
 
-/// Fills in the transport layer in the payload of a net layer, where it has one. The net layer begins `offset` bytes
-/// behind the packet's start.
+/// Slices the transport layer in the payload of an IP packet; sets it to `None` if its protocol is not supported, or
+/// for a fragment or ARP. `offset` is the offset of the network layer from the start of the packet, in bytes.
 #[inline(always)]
 fn fill_transport<'a>(
     transport: &mut Option<TransportSlice<'a>>,
@@ -263,10 +265,10 @@ fn fill_transport<'a>(
 ) -> Result<(), SliceError>
     requires place { offset + length (net_slice_bytes net.now) < 2 ^ 64 }
     requires headers { HasHeaders net.now }
-    ensures ok { IfOk result (λ _. IsTransportBehind slices (net_payload (net_layer_of net.now))
+    ensures ok { IfOk result (λ _. IsTransportAfterNet slices (net_payload (net_layer_of net.now))
         (option_map transport_layer_of transport.new)) }
     ensures bytes { IfOk result (λ _. ShowsTransport (net_slice_payload net.now) transport.new) }
-    ensures err { IfErr result (RefusesTransportBehind slices (offset + net_header_len (net_layer_of net.now))
+    ensures err { IfErr result (RefusesTransportAfterNet slices (offset + net_payload_offset (net_layer_of net.now))
         (net_payload (net_layer_of net.now))) }
 {
     match net {
@@ -286,7 +288,7 @@ fn fill_transport<'a>(
     }
 }
 
-/// The number of bytes of the extension headers of an IPv4 packet.
+/// Returns the length in bytes of the authentication header of an IPv4 packet; 0 without one.
 #[inline(always)]
 fn ipv4_extensions_len(extensions: &Ipv4ExtensionsSlice<'_>) -> usize
     ensures { result ≡ length (ipv4_slice_bytes extensions.now) }
@@ -297,8 +299,8 @@ fn ipv4_extensions_len(extensions: &Ipv4ExtensionsSlice<'_>) -> usize
     }
 }
 
-/// Fills in the transport layer of an IP payload, where it has one. The payload lies `offset` bytes behind the packet's
-/// start.
+/// Slices the transport layer of an IP payload; sets it to `None` if its protocol is not supported, or for a fragment.
+/// `offset` is the offset of the IP payload from the start of the packet, in bytes.
 #[inline(always)]
 fn fill_transport_in<'a>(
     transport: &mut Option<TransportSlice<'a>>,
@@ -317,7 +319,7 @@ fn fill_transport_in<'a>(
             Ok(())
         }
         Err(tcp::HeaderSliceError::Len(error)) => {
-            Err(SliceError::Len(error.behind_header(offset, payload.len_source)))
+            Err(SliceError::Len(error.after_header(offset, payload.len_source)))
         }
         Err(tcp::HeaderSliceError::Content(error)) => Err(SliceError::Tcp(error)),
     }

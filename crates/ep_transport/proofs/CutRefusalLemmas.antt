@@ -1,11 +1,11 @@
--- That the front of a transport layer is refused for want of what the cut took.
+-- A truncated transport layer is rejected for the missing bytes.
 use Rattle.std.proofs.Common.{◌≡◌, ℕ, ◌*◌, ◌/◌, ◌<◌, ◌==◌, Bool, true, false, not, List, [], ◌++◌, length, Option, Some, None, refl, ap, subst, arith, length-append}
 use Rattle.std.specs.Prelude.{◌&&◌, nat_lt}
 use Rattle.std.proofs.lemmas.Grind.{common_steps}
 use Rattle.ep_base.specs.Bytes.{word_at}
 use Rattle.ep_base.specs.IpNumbers.{icmpv4_number, icmpv6_number, tcp_number, udp_number}
 use Rattle.ep_base.specs.Readings.{Reading, headers, len_error, slices}
-use Rattle.ep_base.specs.Missing.{IsCutRefusal, TellsCut, slice_end}
+use Rattle.ep_base.specs.Missing.{IsTruncationError, ReportsTruncation, slice_end}
 use Rattle.ep_base.specs.Tables.{rows_as}
 use Rattle.ep_base.proofs.CutRefusalLemmas.{BesideRows, byte_beside, cut_first, cut_then, either_beside, named_beside, refused_beside, same_then, word_beside}
 use Rattle.ep_base.specs.declared.err.len_error.LenError.{LenError}
@@ -27,13 +27,13 @@ use Rattle.ep_transport.proofs.TcpLemmas.{tcp_is_read}
 use Rattle.ep_transport.proofs.TransportLemmas.{transport_is_read}
 use Rattle.ep_transport.proofs.UdpLemmas.{udp_header_is_read, udp_is_read}
 
--- a refusal for want of what the cut took
+-- The error is one for the bytes missing from `front`.
 abbrev Beside : List ℕ → List ℕ → HeaderSliceError → Type 0
-Beside front back = IsCutRefusal Len slice_end (length front) (length (front ++ back))
+Beside front back = IsTruncationError Len slice_end (length front) (length (front ++ back))
 
--- the same of an error that has this name
+-- The error, converted by `named`, is one for the bytes missing from `front`.
 abbrev BesideAs : {E : Type 0} → (LenError → E) → List ℕ → List ℕ → LenError → Type 0
-BesideAs named front back error = IsCutRefusal named slice_end (length front) (length (front ++ back)) (named error)
+BesideAs named front back error = IsTruncationError named slice_end (length front) (length (front ++ back)) (named error)
 
 -- ---- the tables
 
@@ -62,7 +62,7 @@ tcp_beside front back =
     (cut_then Len slice_end front back (4 * data_offset_of front) (4 * data_offset_of (front ++ back)) layer.TcpHeader
     refl (ap (λ (b : ℕ). 4 * (b / 16)) field) tt))
 
--- a message that must have exactly 20 bytes
+-- The error for a message that must have exactly 20 bytes and is truncated is one for the missing bytes.
 exact_row : {E : Type 0} (named : LenError → E) (front back : List ℕ) (place : Layer)
     → not (length (front ++ back) == 20) ≡ false
     → not (length front == 20) ≡ true → BesideAs named front back (len_error 20 (length front) source.Slice place)
@@ -123,38 +123,38 @@ part_beside : (reading : Reading) (number : ℕ) (fragmented : Bool) (front back
 part_beside reading number true front back = tt
 part_beside reading number false front back = transport_beside reading number front back
 
-pub transport_cut : (reading : Reading) (number : ℕ) (fragmented : Bool)
-    → TellsCut (IsTransportPart reading number fragmented) (RefusesTransportPart reading number fragmented) Len
+pub transport_with_trailing_bytes : (reading : Reading) (number : ℕ) (fragmented : Bool)
+    → ReportsTruncation (IsTransportPart reading number fragmented) (RefusesTransportPart reading number fragmented) Len
     (λ part. slice_end)
-transport_cut reading number fragmented front back fits part is error refused =
+transport_with_trailing_bytes reading number fragmented front back fits part is error refused =
     refused_beside (Beside front back) (transport_part_rows reading number fragmented front)
     (transport_part_rows reading number fragmented (front ++ back)) (part_beside reading number fragmented front back)
     ((transport_is_read reading number fragmented).is_read (front ++ back) part is).0 error refused
 
--- ---- each layer alone
+-- ---- each layer
 
-pub udp_header_cut : TellsCut IsUdpHeader RefusesUdpHeader (λ (error : LenError). error) (λ read. slice_end)
+pub udp_header_cut : ReportsTruncation IsUdpHeader RefusesUdpHeader (λ (error : LenError). error) (λ read. slice_end)
 udp_header_cut front back fits read is error refused =
     refused_beside (BesideAs (λ (e : LenError). e) front back) (udp_header_rows front) (udp_header_rows (front ++ back))
     (udp_header_beside (λ (e : LenError). e) front back) (udp_header_is_read.is_read (front ++ back) read is).0 error
     refused
 
-pub udp_cut : TellsCut IsUdp RefusesUdp (λ (error : LenError). error) (λ datagram. slice_end)
+pub udp_cut : ReportsTruncation IsUdp RefusesUdp (λ (error : LenError). error) (λ datagram. slice_end)
 udp_cut front back fits datagram is error refused =
     refused_beside (BesideAs (λ (e : LenError). e) front back) (udp_rows front) (udp_rows (front ++ back))
     (udp_beside (λ (e : LenError). e) front back) (udp_is_read.is_read (front ++ back) datagram is).0 error refused
 
-pub tcp_cut : TellsCut IsTcp RefusesTcp Len (λ segment. slice_end)
+pub tcp_cut : ReportsTruncation IsTcp RefusesTcp Len (λ segment. slice_end)
 tcp_cut front back fits segment is error refused =
     refused_beside (Beside front back) (tcp_rows front) (tcp_rows (front ++ back)) (tcp_beside front back)
     (tcp_is_read.is_read (front ++ back) segment is).0 error refused
 
-pub icmpv4_cut : TellsCut IsIcmpv4 RefusesIcmpv4 (λ (error : LenError). error) (λ message. slice_end)
+pub icmpv4_cut : ReportsTruncation IsIcmpv4 RefusesIcmpv4 (λ (error : LenError). error) (λ message. slice_end)
 icmpv4_cut front back fits message is error refused =
     refused_beside (BesideAs (λ (e : LenError). e) front back) (icmpv4_rows front) (icmpv4_rows (front ++ back))
     (icmpv4_beside (λ (e : LenError). e) front back) (icmpv4_is_read.is_read (front ++ back) message is).0 error refused
 
-pub icmpv6_cut : TellsCut IsIcmpv6 RefusesIcmpv6 (λ (error : LenError). error) (λ message. slice_end)
+pub icmpv6_cut : ReportsTruncation IsIcmpv6 RefusesIcmpv6 (λ (error : LenError). error) (λ message. slice_end)
 icmpv6_cut front back fits message is error refused =
     refused_beside (BesideAs (λ (e : LenError). e) front back) (icmpv6_rows front) (icmpv6_rows (front ++ back))
     (icmpv6_beside (λ (e : LenError). e) front back) (icmpv6_is_read.is_read (front ++ back) message is).0 error refused

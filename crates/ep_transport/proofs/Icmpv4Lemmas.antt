@@ -1,4 +1,4 @@
--- The bytes of an ICMP message, and what is read from them.
+-- The bytes of an ICMP message, and the header read from them.
 use Rattle.std.proofs.Common.{◌≡◌, ◌⊎◌, ◌==◌, ℕ, ◌+◌, ◌%◌, ◌<◌, ◌≤◌, ◌^◌, Bool, true, false, if◌then◌else◌, List, [], ◌∷◌, ◌++◌, Option, Some, None, length, take, drop, slice_index, refl, sym, ap, ap₂, subst, ◌∙◌, inl, inr, arith}
 use Rattle.std.specs.Prelude.{nat_lt}
 use Rattle.std.specs.Int.{w16, to_be_bytes}
@@ -25,7 +25,7 @@ use Rattle.ep_transport.proofs.IcmpLemmas.{IsInRow, kind_in-row, four_at, four_t
 
 -- ---- lengths
 
--- what no row refuses has the bytes of its header, and a timestamp message no more
+-- `n` bytes hold a complete header of this kind; a timestamp message has exactly 20.
 record Stands (found : Option Icmpv4Kind) (n : ℕ) : Type 0 where
   long : 8 ≤ n
   whole : icmpv4_len found ≤ n
@@ -68,14 +68,14 @@ none_refuses bytes long exact =
     kind_refuses_none bytes (icmpv4_kind_at bytes) refl long
     (timestamp_none (icmpv4_kind_at bytes) (length bytes) exact)
 
--- a header has whole words of 16 bits
+-- The length of a header is even.
 pub len_even : (found : Option Icmpv4Kind) → icmpv4_len found % 2 ≡ 0
 len_even None = refl
 len_even (Some kind.TimestampRequest) = refl
 len_even (Some kind.TimestampReply) = refl
 len_even (Some _) = refl
 
--- ---- bytes are those of the header that is read from them
+-- ---- bytes are those of the header read from them
 
 exceeded_same : (code : ℕ) → code ≤ 1 → code ≡ icmpv4_exceeded_u8 (icmpv4_exceeded_of code)
 exceeded_same code low = grind (arith, nat_tests)
@@ -102,7 +102,7 @@ kind_same None bytes = refl
 kind_same (Some kind.EchoReply) bytes = refl
 kind_same (Some _) bytes = refl
 
--- the bytes 4 to 7, of which the last two are an mtu where there is one, or the first a pointer
+-- Bytes 4 to 7 are those written for the fields read from them: the MTU in the last two, or the pointer in the first.
 mtu_same : (used : Bool) (bytes : List ℕ) → AreBytes bytes
     → four_at bytes ≡ (if used then take 2 (four_at bytes) ++ to_be_bytes w16 (if used then word_at bytes 6 else 0)
     else four_at bytes)
@@ -123,7 +123,7 @@ timestamp_same bytes fits long =
     ∙ (λ i. word_cells bytes fits 4 refl i ++ word_cells bytes fits 6 refl i ++ long_cells bytes fits 8 refl i
     ++ long_cells bytes fits 12 refl i ++ long_cells bytes fits 16 refl i ++ drop 20 bytes)
 
--- what stands behind the checksum, in front of what follows 8 bytes
+-- The bytes from 4 on are bytes 4 to 7 followed by the bytes from 8 on.
 four_same : (bytes back : List ℕ) → 8 ≤ length bytes → four_at bytes ≡ back → drop 4 bytes ≡ back ++ drop 8 bytes
 four_same bytes back long same = four_there bytes long ∙ ap (λ (s : List ℕ). s ++ drop 8 bytes) same
 
@@ -141,7 +141,7 @@ rest_same (Some kind.ParameterProblem) bytes fits a =
 rest_same (Some kind.TimestampRequest) bytes fits a = timestamp_same bytes fits a.whole
 rest_same (Some kind.TimestampReply) bytes fits a = timestamp_same bytes fits a.whole
 
--- a number that is read where it is used, and else is 0
+-- A number that is read for one code and is 0 for all others fits its width, and is 0 unless the code is that one.
 used_or_zero : (code wanted n m : ℕ) → n < m → 0 < m
     → ((if code == wanted then n else 0) < m) × ((code ≡ wanted) ⊎ ((if code == wanted then n else 0) ≡ 0))
 used_or_zero code wanted n m below some =
@@ -221,13 +221,13 @@ exceeded_read : (code : TimeExceededCode) → code ≡ icmpv4_exceeded_of (icmpv
 exceeded_read exceeded.TtlExceededInTransit = refl
 exceeded_read exceeded.FragmentReassemblyTimeExceeded = refl
 
--- the bytes are a header of this value and the payload
+-- The bytes are a header with this message, followed by the payload.
 record Holds (value : Icmpv4Type) (bytes payload : List ℕ) : Type 0 where
   read : value ≡ icmpv4_value_of (icmpv4_kind value) bytes
   behind : payload ≡ drop (icmpv4_len (icmpv4_kind value)) bytes
   len : length bytes ≡ icmpv4_len (icmpv4_kind value) + length payload
 
--- an mtu that is used is read, and one that is not is 0
+-- A destination unreachable message is read back if its MTU is used or 0.
 mtu_holds : (used : Bool) (code a b c d checksum mtu : ℕ) (payload : List ℕ) → (code == 4) ≡ used → mtu < 2 ^ 16
     → (used ≡ true) ⊎ (mtu ≡ 0)
     → Holds (message.DestinationUnreachable code mtu)
@@ -268,7 +268,7 @@ pointer_holds false code a b c d checksum pointer payload same (inr zero) =
       len = omega arith;
     }
 
--- a number that is used by this code, or is 0
+-- A number that is used by this code or is 0, with the test of the code as a boolean.
 used_by : (code wanted n : ℕ) → (code ≡ wanted) ⊎ (n ≡ 0) → ((code == wanted) ≡ true) ⊎ (n ≡ 0)
 used_by code wanted n (inl same) = inl (eq-eqb code wanted same)
 used_by code wanted n (inr zero) = inr zero
@@ -320,7 +320,7 @@ value_read a b c d (message.TimestampReply times) checksum payload fits = record
   len = omega arith;
 }
 
--- what holds of bytes that are a header and its payload
+-- The bytes are read as this header and payload.
 record IsRead (bytes : List ℕ) (header : Icmpv4Header) (payload : List ℕ) : Type 0 where
   same : header ≡ icmpv4_header_of bytes
   behind : payload ≡ drop (icmpv4_len (icmpv4_kind_at bytes)) bytes

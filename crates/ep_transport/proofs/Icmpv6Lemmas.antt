@@ -1,4 +1,4 @@
--- The bytes of an ICMPv6 message, and what is read from them.
+-- The bytes of an ICMPv6 message, and the header read from them.
 use Rattle.std.proofs.Common.{◌≡◌, ℕ, ◌≤◌, List, [], ◌∷◌, ◌++◌, Option, Some, None, length, drop, slice_index, refl, sym, ap, ap₂, subst, ◌∙◌, arith}
 use Rattle.std.proofs.lemmas.Grind.{common_steps}
 use Rattle.std.proofs.lemmas.Bool.Decides.{nat_tests}
@@ -18,7 +18,7 @@ use Rattle.ep_transport.specs.Icmpv6.{icmpv6_row, icmpv6_kinds, icmpv6_kind_of, 
 use Rattle.ep_transport.specs.Icmpv6.{FitsIcmpv6, FitsIcmpv6Fields, IsIcmpv6, icmpv6_bytes_with, icmpv6_header_of, icmpv6_parts, icmpv6_rest_with, icmpv6_rows, icmpv6_value_of}
 use Rattle.ep_transport.proofs.IcmpLemmas.{IsInRow, kind_in-row, four_at, four_there, four_range, message_front, echo_same, echo_fits, echo_read}
 
--- ---- bytes are those of the header that is read from them
+-- ---- bytes are those of the header read from them
 
 exceeded_same : (code : ℕ) → code ≤ 1 → code ≡ icmpv6_exceeded_u8 (icmpv6_exceeded_of code)
 exceeded_same code low = grind (arith, nat_tests)
@@ -104,7 +104,7 @@ exceeded_read : (code : TimeExceededCode) → code ≡ icmpv6_exceeded_of (icmpv
 exceeded_read exceeded.HopLimitExceeded = refl
 exceeded_read exceeded.FragmentReassemblyTimeExceeded = refl
 
--- what stands behind the checksum is four bytes, which hold the value
+-- The bytes are a header of 8 bytes with this message, followed by the payload.
 record Holds (value : Icmpv6Type) (bytes payload : List ℕ) : Type 0 where
   read : value ≡ icmpv6_value_of (icmpv6_kind value) bytes
   behind : payload ≡ drop 8 bytes
@@ -142,7 +142,7 @@ value_read a b c d (message.EchoReply echo) checksum payload fits = record {
   long = omega arith;
 }
 
--- what holds of bytes that are a header and its payload
+-- The bytes are read as this header and payload.
 record IsRead (bytes : List ℕ) (header : Icmpv6Header) (payload : List ℕ) : Type 0 where
   long : 8 ≤ length bytes
   same : header ≡ icmpv6_header_of bytes

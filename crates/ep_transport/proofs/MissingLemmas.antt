@@ -1,10 +1,10 @@
--- What refusals of transport layers say of the bytes that are missing.
+-- Errors of transport layers count the missing bytes.
 use Rattle.std.proofs.Common.{◌≡◌, ◌⊎◌, ℕ, ◌*◌, ◌==◌, Bool, true, false, List, [], ◌∷◌, length, Option, Some, None, refl, inl, inr}
 use Rattle.std.specs.Prelude.{⊤, nat_lt}
 use Rattle.ep_base.specs.Bytes.{word_at}
 use Rattle.ep_base.specs.IpNumbers.{icmpv4_number, icmpv6_number, tcp_number, udp_number}
 use Rattle.ep_base.specs.Readings.{Reading, slices, headers, len_error}
-use Rattle.ep_base.specs.Missing.{CountsMissing, TellsMissing}
+use Rattle.ep_base.specs.Missing.{CountsMissing, ReportsMissing}
 use Rattle.ep_base.specs.Tables.{rows_as}
 use Rattle.ep_base.proofs.MissingLemmas.{AllWhere, counted, either_where, not_counted, not_udp, refusal_where, tells_missing}
 use Rattle.ep_base.specs.declared.err.len_error.LenError.{LenError}
@@ -21,7 +21,8 @@ use Rattle.ep_transport.specs.Tcp.{RefusesTcp, data_offset_of, tcp_rows}
 use Rattle.ep_transport.specs.Udp.{RefusesUdp, RefusesUdpHeader, udp_header_rows, udp_rows}
 use Rattle.ep_transport.specs.TransportParts.{RefusesTransportPart, transport_rows, udp_part_rows}
 
--- a refusal by a length counts the bytes at hand, and its limit is theirs or the length field of UDP
+-- A length error counts the bytes up to the end of the slice if that is its limit; the only other limit is the length
+-- field of UDP.
 abbrev Counts : ℕ → LenError → Type 0
 Counts limit error =
     CountsMissing limit error × ((error.len_source ≡ source.Slice) ⊎ (error.len_source ≡ source.UdpHeaderLen))
@@ -30,17 +31,17 @@ abbrev TransportCounts : ℕ → HeaderSliceError → Type 0
 TransportCounts limit (Len error) = Counts limit error
 TransportCounts limit (Content error) = ⊤
 
--- a row whose condition is that there are too few bytes
+-- The error for too few bytes counts them.
 row : (bytes : List ℕ) (required : ℕ) (place : Layer) → nat_lt (length bytes) required ≡ true
     → Counts (length bytes) (len_error required (length bytes) source.Slice place)
 row bytes required place below = (counted bytes required source.Slice place below, inl refl)
 
--- a length field that is too small
+-- The error for a length field of UDP that is too small has that field as its limit.
 field_row : (bytes : List ℕ)
     → Counts (length bytes) (len_error 8 (word_at bytes 4) source.UdpHeaderLen layer.UdpHeader)
 field_row bytes = (not_counted (length bytes) 8 (word_at bytes 4) source.UdpHeaderLen layer.UdpHeader not_udp, inr refl)
 
--- a message that must have exactly 20 bytes
+-- The error for a message that must have exactly 20 bytes is exempt from counting.
 request_row : (bound n : ℕ) → Counts bound (len_error 20 n source.Slice layer.Icmpv4Timestamp)
 request_row bound n = (λ at_hand inexact. absurd (inexact (inl refl)), inl refl)
 
@@ -53,7 +54,7 @@ timestamp_rows (Some kind.TimestampRequest) bound n = (λ holds. request_row bou
 timestamp_rows (Some kind.TimestampReply) bound n = (λ holds. reply_row bound n, tt)
 timestamp_rows (Some _) bound n = tt
 
--- rows under another name count alike
+-- If all errors of a table count, they do so after conversion by `Len`.
 named : (limit : ℕ) (rows : List (Bool × LenError)) → AllWhere (Counts limit) rows
     → AllWhere (TransportCounts limit) (rows_as Len rows)
 named limit [] all = tt
@@ -94,7 +95,7 @@ transport_all reading number bytes =
     (either_where Such (number == icmpv6_number) (rows_as Len (icmpv6_rows bytes)) []
     (named (length bytes) (icmpv6_rows bytes) (icmpv6_all bytes)) tt)))
 
--- the transport layer of an IP payload
+-- The length errors of the transport layer of an IP payload count the missing bytes.
 pub transport_counts : (reading : Reading) (number : ℕ) (fragmented : Bool) (bytes : List ℕ) (error : HeaderSliceError)
     → RefusesTransportPart reading number fragmented bytes error → TransportCounts (length bytes) error
 transport_counts reading number true bytes error refused =
@@ -103,34 +104,34 @@ transport_counts reading number false bytes error refused =
     refusal_where (TransportCounts (length bytes)) (transport_rows reading number bytes)
     (transport_all reading number bytes) error refused
 
--- ---- what refusals tell
+-- ---- missing bytes
 
-pub udp_header_tells : TellsMissing RefusesUdpHeader
+pub udp_header_tells : ReportsMissing RefusesUdpHeader
 udp_header_tells = tells_missing RefusesUdpHeader
     (λ bytes error refused.
     (refusal_where (Counts (length bytes)) (udp_header_rows bytes) (udp_header_all bytes) error refused).0)
 
-pub udp_tells : TellsMissing RefusesUdp
+pub udp_tells : ReportsMissing RefusesUdp
 udp_tells = tells_missing RefusesUdp
     (λ bytes error refused. (refusal_where (Counts (length bytes)) (udp_rows bytes) (udp_all bytes) error refused).0)
 
-pub tcp_tells : TellsMissing (λ bytes error. RefusesTcp bytes (Len error))
+pub tcp_tells : ReportsMissing (λ bytes error. RefusesTcp bytes (Len error))
 tcp_tells = tells_missing (λ bytes error. RefusesTcp bytes (Len error))
     (λ bytes error refused.
     (refusal_where (TransportCounts (length bytes)) (tcp_rows bytes) (tcp_all bytes) (Len error) refused).0)
 
-pub icmpv4_tells : TellsMissing RefusesIcmpv4
+pub icmpv4_tells : ReportsMissing RefusesIcmpv4
 icmpv4_tells = tells_missing RefusesIcmpv4
     (λ bytes error refused.
     (refusal_where (Counts (length bytes)) (icmpv4_rows bytes) (icmpv4_all bytes) error refused).0)
 
-pub icmpv6_tells : TellsMissing RefusesIcmpv6
+pub icmpv6_tells : ReportsMissing RefusesIcmpv6
 icmpv6_tells = tells_missing RefusesIcmpv6
     (λ bytes error refused.
     (refusal_where (Counts (length bytes)) (icmpv6_rows bytes) (icmpv6_all bytes) error refused).0)
 
 pub transport_tells : (reading : Reading) (number : ℕ) (fragmented : Bool)
-    → TellsMissing (λ bytes error. RefusesTransportPart reading number fragmented bytes (Len error))
+    → ReportsMissing (λ bytes error. RefusesTransportPart reading number fragmented bytes (Len error))
 transport_tells reading number fragmented =
     tells_missing (λ bytes error. RefusesTransportPart reading number fragmented bytes (Len error))
     (λ bytes error refused. (transport_counts reading number fragmented bytes (Len error) refused).0)

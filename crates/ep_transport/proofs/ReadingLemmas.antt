@@ -1,4 +1,4 @@
--- What the transport layer in the reading of headers has to do with the one in that of slices, and what its cut leaves.
+-- The transport layer in the readings `headers` and `slices`, and its trailing bytes.
 use Rattle.std.proofs.Common.{◌≡◌, ◌⊎◌, ℕ, ◌==◌, Bool, true, false, if◌then◌else◌, List, [], ◌∷◌, ◌++◌, Option, Some, None, refl, sym, ap, ◌∙◌, inl, inr}
 use Rattle.std.proofs.lemmas.Option.{none-some}
 use Rattle.std.specs.Prelude.{◌&&◌, nat_lt, length}
@@ -20,13 +20,13 @@ use Rattle.ep_transport.specs.Icmpv4.{icmpv4_rows}
 use Rattle.ep_transport.specs.Icmpv6.{icmpv6_rows}
 use Rattle.ep_transport.specs.Tcp.{tcp_rows}
 use Rattle.ep_transport.specs.Udp.{IsUdp, udp_header_rows}
-use Rattle.ep_transport.specs.TransportParts.{TransportLayer, HasNoHeader, IsLeftBehind, IsLeftBy, IsTransportCut, IsTransportLayer, IsTransportPart, IsUdpLengthError, RefusesTransportPart}
+use Rattle.ep_transport.specs.TransportParts.{TransportLayer, HasNoHeader, AreTrailingBytesAfter, IsLeftBy, IsTransportWithTrailingBytes, IsTransportLayer, IsTransportPart, IsUdpLengthError, RefusesTransportPart}
 use Rattle.ep_transport.proofs.TransportLemmas.{no_rows, transport_is_read}
 use Rattle.ep_transport.proofs.UdpLemmas.{udp_is_read}
 
--- ---- refusals
+-- ---- errors
 
--- a table of other numbers is the same in both readings
+-- the errors for IP numbers other than UDP, equal in both readings
 abbrev other_rows : ℕ → List ℕ → List (Bool × HeaderSliceError)
 other_rows number bytes =
     if number == tcp_number then tcp_rows bytes
@@ -34,7 +34,7 @@ other_rows number bytes =
     else if number == icmpv6_number then rows_as Len (icmpv6_rows bytes)
     else []
 
--- the rows of UDP's length field
+-- the errors of the length field of UDP
 abbrev udp_length_rows : List ℕ → List (Bool × HeaderSliceError)
 udp_length_rows bytes =
     let field = word_at bytes 4 in
@@ -45,21 +45,21 @@ udp_length_rows bytes =
 all_of_udp_length : (bytes : List ℕ) → AllErrors IsUdpLengthError (udp_length_rows bytes)
 all_of_udp_length bytes = (inl refl, (inr refl, tt))
 
--- of two tables, of which a condition takes one, what refuses by the first refuses by a longer one
+-- If the first of two tables is extended by more rows, it still rejects with the same error.
 longer : (condition : Bool) (front back others : List (Bool × HeaderSliceError)) (error : HeaderSliceError)
     → first_row (if condition then front else others) ≡ Some error
     → first_row (if condition then front ++ back else others) ≡ Some error
 longer true front back others error refused = first_row-append_some front back error refused
 longer false front back others error refused = refused
 
--- and what refuses by the longer one alone refuses by its back
+-- If only the extended table rejects, one of the added rows does.
 shorter : (condition : Bool) (front back others : List (Bool × HeaderSliceError)) (error : HeaderSliceError)
     → first_row (if condition then front ++ back else others) ≡ Some error
     → (first_row (if condition then front else others) ≡ Some error) ⊎ (first_row back ≡ Some error)
 shorter true front back others error refused = first_row-either front back error refused
 shorter false front back others error refused = inl refused
 
--- what is refused is refused in slices
+-- Bytes rejected in the reading `headers` are rejected in `slices`.
 pub refused_in_slices : (number : ℕ) (fragmented : Bool) (bytes : List ℕ) (error : HeaderSliceError)
     → RefusesTransportPart headers number fragmented bytes error
     → RefusesTransportPart slices number fragmented bytes error
@@ -68,7 +68,7 @@ refused_in_slices number false bytes error refused =
     longer (number == udp_number) (rows_as Len (udp_header_rows bytes)) (udp_length_rows bytes)
     (other_rows number bytes) error refused
 
--- and by the length field of UDP alone what is not refused in headers
+-- Bytes rejected only in the reading `slices` are rejected for the length field of UDP.
 pub refused_in_slices_alone : (number : ℕ) (fragmented : Bool) (bytes : List ℕ) (error : HeaderSliceError)
     → RefusesTransportPart slices number fragmented bytes error
     → RefusesTransportPart headers number fragmented bytes error ⊎ IsUdpLengthError error
@@ -80,14 +80,14 @@ refused_in_slices_alone number false bytes error refused =
       | inr alone ↦ inr (refusal_is IsUdpLengthError (udp_length_rows bytes) (all_of_udp_length bytes) error alone)
     ]
 
--- bytes of a number that no header is read of are not refused
+-- Bytes of an IP number without a transport header are not rejected.
 pub no_header_not_refused : (reading : Reading) (number : ℕ) (fragmented : Bool) (bytes : List ℕ)
     (error : HeaderSliceError) → HasNoHeader number → RefusesTransportPart reading number fragmented bytes error → ⊥
 no_header_not_refused reading number true bytes error other refused = none-some error refused
 no_header_not_refused reading number false bytes error other refused =
     none-some error (sym (ap first_row (no_rows reading number bytes other)) ∙ refused)
 
--- ---- what is left
+-- ---- trailing bytes
 
 nothing_left : IsDecided (λ (left : List ℕ). left ≡ []) (λ (error : HeaderSliceError). ⊥)
 nothing_left = decided_by [] refl (λ other none. none) (λ error never. never)
@@ -104,7 +104,7 @@ udp_left bytes fits header payload left is =
 
 left_behind : (reading : Reading) (number : ℕ) (bytes : List ℕ) → AreBytes bytes → (header : TransportHeader)
     (payload : List ℕ) → IsTransportLayer reading number bytes header payload
-    → IsDecided (IsLeftBehind reading bytes header payload) (λ (error : HeaderSliceError). ⊥)
+    → IsDecided (AreTrailingBytesAfter reading bytes header payload) (λ (error : HeaderSliceError). ⊥)
 left_behind slices number bytes fits (Udp header) payload is = udp_left bytes fits header payload is.1.0 is.1.1
 left_behind headers number bytes fits (Udp header) payload is = nothing_left
 left_behind reading number bytes fits (Tcp header) payload is = nothing_left
@@ -118,9 +118,9 @@ left_by reading number fragmented bytes fits None is = nothing_left
 left_by reading number fragmented bytes fits (Some layer) is =
     left_behind reading number bytes fits layer.header layer.payload is.1
 
--- bytes have one transport layer with one part left, or are refused
+-- Bytes either have exactly one transport layer, or none, with exactly one list of trailing bytes, or are rejected.
 pub cut_decided : (reading : Reading) (number : ℕ) (fragmented : Bool) (bytes : List ℕ) → AreBytes bytes
-    → IsDecided (IsTransportCut reading number fragmented bytes)
+    → IsDecided (IsTransportWithTrailingBytes reading number fragmented bytes)
     (RefusesTransportPart reading number fragmented bytes)
 cut_decided reading number fragmented bytes fits =
     decided_as (λ (read : Option TransportLayer × List ℕ). read) (λ (error : HeaderSliceError). error)

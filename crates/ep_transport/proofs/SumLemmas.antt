@@ -1,30 +1,30 @@
--- One's complement sums of bytes, piece by piece.
+-- One's complement sums of concatenated bytes.
 use Rattle.std.proofs.Common.{◌≡◌, ℕ, zero, suc, ◌%◌, List, [], ◌∷◌, ◌++◌, length, refl, sym, ap, ◌∙◌, append_assoc, arith}
 use Rattle.std.specs.Int.{w16, to_be_bytes}
 use Rattle.std.proofs.lemmas.List.{length-append}
 use Rattle.ep_base.specs.Checksum.{ones_sum, ones_add, checksum_of, no_zero}
 use Rattle.ep_base.proofs.SumLemmas.{ones_sum-append, ones_sum-checksum, ones_sum-word, ones_sum_le}
 
--- the sum of some bytes and of more behind them, of which the first end with a whole word
+-- The sum of an even number of bytes, plus the sum of more bytes, is the sum of all of them.
 pub sum_more : (front back : List ℕ) (n m : ℕ) → n ≡ ones_sum front → length front % 2 ≡ 0
     → m ≡ ones_add n (ones_sum back) → m ≡ ones_sum (front ++ back)
 sum_more front back n m sum even more =
     more ∙ ap (λ (k : ℕ). ones_add k (ones_sum back)) sum ∙ sym (ones_sum-append front back even)
 
--- the same, where the piece that is added is known by an equation
+-- The sum of an even number of bytes, plus the sum of bytes equal to `back`, is the sum of the concatenation.
 pub sum_piece : (front back : List ℕ) (n m : ℕ) (piece : List ℕ) → n ≡ ones_sum front → length front % 2 ≡ 0
     → piece ≡ back → m ≡ ones_add n (ones_sum piece)
     → m ≡ ones_sum (front ++ back)
 sum_piece front back n m piece sum even same more =
     sum_more front back n m sum even (more ∙ ap (λ (s : List ℕ). ones_add n (ones_sum s)) same)
 
--- ---- bytes with their checksum filled in
+-- ---- bytes with a computed checksum
 
--- some bytes in three parts, the first two together or the last two
+-- Regroups the concatenation of four lists.
 three_parts : (front head word back : List ℕ) → ((front ++ head) ++ word) ++ back ≡ front ++ (head ++ (word ++ back))
 three_parts front head word back = append_assoc (front ++ head) word back ∙ append_assoc front head (word ++ back)
 
--- the checksum in the place that was 0 makes the sum 65535
+-- Bytes whose checksum field, computed as 0, is replaced by their checksum sum to 65535.
 pub filled : (front head back : List ℕ) → length front % 2 ≡ 0 → length head % 2 ≡ 0
     → ones_sum (front ++ (head ++ (to_be_bytes w16 (checksum_of (front ++ (head ++ (0 ∷ 0 ∷ back)))) ++ back))) ≡ 65535
 filled front head back even even_head =
@@ -37,7 +37,7 @@ filled front head back even even_head =
     ∙ ap ones_sum (sym (three_parts front head (to_be_bytes w16 sum) back))
     ∙ ones_sum-checksum (front ++ head) back even_both
 
--- and so does 65535 in place of a checksum that is 0
+-- If the checksum is 0, the bytes sum to 65535 with 65535 in its place.
 filled_zero : (front head back : List ℕ) → length front % 2 ≡ 0 → length head % 2 ≡ 0
     → checksum_of (front ++ (head ++ (0 ∷ 0 ∷ back))) ≡ 0
     → ones_sum (front ++ (head ++ (255 ∷ 255 ∷ back))) ≡ 65535

@@ -1,4 +1,4 @@
--- The bytes of a TCP segment, and what is read from them.
+-- The bytes of a TCP segment, and the header read from them.
 use Rattle.std.proofs.Common.{◌≡◌, ℕ, ◌+◌, ◌-◌, ◌*◌, ◌/◌, ◌%◌, ◌^◌, ◌<◌, ◌≤◌, ◌==◌, None, slice_index}
 use Rattle.std.proofs.Common.{List, ◌∷◌, ◌++◌, length, take, drop, get_or, refl, sym, ap, subst, ◌∙◌, arith}
 use Rattle.std.proofs.lemmas.Grind.{common_steps}
@@ -13,12 +13,12 @@ use Rattle.ep_transport.specs.Tcp.{FitsTcp, EncodesTcp, IsTcp, tcp_bytes_with, t
 
 -- ---- the bytes of a header are read as this header
 
--- the bytes are a whole header: as long as their data offset says, and at least 20
+-- The bytes are a complete header: as long as their data offset states, and at least 20.
 pub record IsWhole (bytes : List ℕ) : Type 0 where
   pub words : 5 ≤ data_offset_of bytes
   pub whole : length bytes ≡ 4 * data_offset_of bytes
 
--- bits put together are those bits again
+-- Bits combined to a byte are read back from it.
 bits_apart : (a b c d e f g h : ℕ) → a ≤ 1 → b ≤ 1 → c ≤ 1 → d ≤ 1 → e ≤ 1 → f ≤ 1 → g ≤ 1 → h ≤ 1
     → (n : ℕ) → n ≡ 2 ^ 7 * h + 2 ^ 6 * g + 2 ^ 5 * f + 2 ^ 4 * e + 2 ^ 3 * d + 2 ^ 2 * c + 2 ^ 1 * b + a
     → (n / 2 ^ 0 % 2 ≡ a) × (n / 2 ^ 1 % 2 ≡ b) × (n / 2 ^ 2 % 2 ≡ c) × (n / 2 ^ 3 % 2 ≡ d)
@@ -79,7 +79,7 @@ encoded_read e h a = encoded_is_read a.reserved h a.three_bits a.fits ∙ ap tcp
 encoded_whole : (e : List ℕ) (h : TcpHeader) → EncodesTcp e h → IsWhole e
 encoded_whole e h a = subst IsWhole (sym a.same) (encoded_is_whole a.reserved h a.three_bits a.fits)
 
--- ---- whole bytes are those of the header that is read from them
+-- ---- bytes of a complete header are those of the header read from them
 
 whole_fits : (e : List ℕ) → AreBytes e → IsWhole e → FitsTcp (tcp_header_of e)
 whole_fits e fits a =
@@ -98,7 +98,7 @@ whole_fits e fits a =
       options = AreBytes-take n (drop 20 e) (AreBytes-drop 20 e fits);
     }
 
--- the bits of a byte put together are the byte
+-- The bits of a byte combined give the byte.
 bits_together : (n : ℕ) → n < 256
     → n ≡ 2 ^ 7 * bit (n / 2 ^ 7 % 2 == 1) + 2 ^ 6 * bit (n / 2 ^ 6 % 2 == 1) + 2 ^ 5 * bit (n / 2 ^ 5 % 2 == 1)
     + 2 ^ 4 * bit (n / 2 ^ 4 % 2 == 1)
@@ -128,9 +128,9 @@ whole_encodes e fits a =
     ++ sym all i) in
     record { fits = whole_fits e fits a; reserved = reserved; three_bits = omega arith; same = front ∙ joined }
 
--- ---- a whole header at the front of bytes
+-- ---- a complete header at the start of bytes
 
--- the bytes begin with a whole header
+-- The bytes begin with a complete header.
 record Begins (bytes : List ℕ) : Type 0 where
   fixed : 20 ≤ length bytes
   words : 5 ≤ data_offset_of bytes
@@ -146,7 +146,7 @@ none_begins bytes none = record {
 begins_none : (bytes : List ℕ) → Begins bytes → first_row (tcp_rows bytes) ≡ None
 begins_none bytes a = grind (arith, common_steps)
 
--- the data offset of a whole header is that of all bytes
+-- The data offset of a complete header is that of all bytes.
 front_offset : (e rest : List ℕ) → IsWhole e → slice_index (e ++ rest) 12 ≡ slice_index e 12
 front_offset e rest a = get_or_append_left e rest 0 12 (omega (arith, a.words, a.whole))
 
@@ -165,7 +165,7 @@ begins_whole bytes a =
     let same : get_or (take n bytes) 12 0 ≡ get_or bytes 12 0 = get_or-take n bytes 12 0 (omega (arith, a.words)) in
     record { words = omega (arith, a.words, same); whole = omega (arith, a.whole, same, length-take n bytes) }
 
--- ---- the header in front of a segment is that of its bytes
+-- ---- the header at the start of a segment is that of its bytes
 
 front_options : (e rest : List ℕ) → IsWhole e → (tcp_header_of (e ++ rest)).options ≡ (tcp_header_of e).options
 front_options e rest a =
@@ -241,7 +241,7 @@ is_read bytes segment is =
 pub tcp_is_read : IsReadBy IsTcp tcp_rows tcp_parts
 tcp_is_read = record { reads = reads; is_read = is_read }
 
--- bytes that hold a whole header are a segment, and no other
+-- Bytes that begin with a complete header are exactly one segment.
 pub segment_there : (bytes : List ℕ) → AreBytes bytes → 20 ≤ length bytes → 5 ≤ data_offset_of bytes
     → 4 * data_offset_of bytes ≤ length bytes
     → IsTcp bytes (tcp_parts bytes) × ((segment : Parts TcpHeader) → IsTcp bytes segment → tcp_parts bytes ≡ segment)

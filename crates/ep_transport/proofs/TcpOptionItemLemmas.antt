@@ -1,4 +1,4 @@
--- An iteration over the bytes of TCP options, and that written options are read back.
+-- The iterator over the bytes of TCP options, and written options read back.
 use Rattle.std.proofs.Common.{◌≡◌, ℕ, zero, suc, ◌+◌, ◌-◌, ◌*◌, ◌≤◌, List, [], ◌∷◌, ◌++◌, length, map, replicate, Option, Some, None, Result, Ok, Err}
 use Rattle.std.proofs.Common.{◌<◌, take, get_or, refl, sym, ap, subst, ◌∙◌, inl, inr, append_assoc, arith}
 use Rattle.std.specs.List.{All}
@@ -18,7 +18,7 @@ Item = Result TcpOptionElement TcpOptionReadError
 
 -- ---- one list of items
 
--- no option is without bytes
+-- Each option has at least one byte.
 option_len : (option : TcpOptionElement) → 1 ≤ length (option_bytes option)
 option_len Noop = omega arith
 option_len (MaximumSegmentSize size) = omega arith
@@ -89,7 +89,7 @@ one_list bytes (Err error ∷ items) (Err other ∷ others) a b =
 
 -- ---- reading back
 
--- places with a block each, and then places without
+-- The blocks present in a list of present and then absent blocks are the present ones.
 present_front : (blocks : List Block) (n : ℕ) → present (map Some blocks ++ replicate n None) ≡ blocks
 present_front [] zero = refl
 present_front [] (suc n) = present_front [] n
@@ -129,7 +129,7 @@ fits_in_front [] (suc n) fits = fits_in_front [] n fits
 fits_in_front (None ∷ others) n fits = fits_in_front others n fits
 fits_in_front (Some block ∷ others) n fits = (fits.0, fits_in_front others n fits.1)
 
--- an option that was written is read as `as_read` says
+-- A written option is read back as `as_read` states.
 written_is : (option : TcpOptionElement) (bytes rest : List ℕ) → FitsOption option → bytes ≡ option_bytes option ++ rest
     → IsOption bytes (as_read option, rest)
 written_is Noop bytes rest fits parts = record { fits = tt; blocks = refl; parts = parts }
@@ -167,7 +167,7 @@ pub read_back : (options : List TcpOptionElement) → All FitsOption options
     → AreItems (in_words (options_bytes options)) (map (λ option. Ok (as_read option)) options)
 read_back options fits = written_items options _ fits
 
--- ---- writing one option after the other
+-- ---- writing options one after another
 
 options_bytes-append : (options others : List TcpOptionElement)
     → options_bytes (options ++ others) ≡ options_bytes options ++ options_bytes others

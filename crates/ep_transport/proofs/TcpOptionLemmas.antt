@@ -1,9 +1,9 @@
--- Bytes of TCP options, filled up to words.
+-- Bytes of TCP options padded to a multiple of 4.
 use Rattle.std.proofs.Common.{◌≡◌, ℕ, ◌+◌, ◌-◌, ◌*◌, ◌/◌, ◌%◌, ◌≤◌, List, ◌++◌, length, take, drop, replicate, sym, ap, ◌∙◌, append_assoc, arith}
 use Rattle.std.proofs.lemmas.List.{append-nil, take_at, drop_at, length-append, length-replicate, replicate-append-replicate}
 use Rattle.ep_transport.specs.TcpOptionBytes.{in_words}
 
--- bytes and then zeros, cut behind some of these
+-- Splits bytes followed by zero bytes at an index within the zero bytes.
 pub cut_in_zeros : (bytes zeros : List ℕ) (n m width : ℕ) → length bytes ≡ n → n ≤ m → m ≤ width
     → zeros ≡ replicate (width - n) 0
     → (take m (bytes ++ zeros) ≡ bytes ++ replicate (m - n) 0) × (drop m (bytes ++ zeros) ≡ replicate (width - m) 0)
@@ -21,7 +21,7 @@ cut_in_zeros bytes zeros n m width len above within all =
           ∙ drop_at front (replicate (width - m) 0) m size,
     )
 
--- whole words are not filled up
+-- Bytes whose number is a multiple of 4 are not padded.
 pub whole_words : (bytes : List ℕ) → length bytes % 4 ≡ 0 → in_words bytes ≡ bytes
 whole_words bytes words =
     let none : (length bytes + 3) / 4 * 4 - length bytes ≡ 0 = omega (arith, words) in

@@ -1,4 +1,4 @@
--- The options that bytes begin with, and what is read from them.
+-- The option at the start of bytes, and the option read from them.
 use Rattle.std.proofs.Common.{◌≡◌, ◌⊎◌, ℕ, ◌+◌, ◌*◌, ◌/◌, ◌%◌, ◌^◌, ◌<◌, ◌≤◌, ◌==◌, Bool, true, false, if◌then◌else◌, nat_lt, slice_index, get_or}
 use Rattle.std.proofs.Common.{List, [], ◌∷◌, ◌++◌, length, drop, Option, Some, None, refl, sym, ap, ap₂, subst, ◌∙◌, inl, inr, arith}
 use Rattle.std.proofs.lemmas.Grind.{common_steps}
@@ -24,7 +24,7 @@ block_fits bytes i fits = (
   omega (arith, fits (i + 4), fits (i + 4 + 1), fits (i + 4 + 2), fits (i + 4 + 2 + 1)),
 )
 
--- 8 bytes and more begin with the block that stands there
+-- At least 8 bytes begin with the bytes of the block read from them.
 block_front : (s : List ℕ) → AreBytes s → 8 ≤ length s → s ≡ block_bytes (block_at s 0) ++ drop 8 s
 unfolding elements
 block_front s fits long =
@@ -52,7 +52,7 @@ block_drop bytes i =
     ) in
     λ j. (a j, b j)
 
--- what stands from a place on is the block there, and what stands behind it
+-- The bytes from an index on are those of the block there, followed by the rest.
 block_there : (bytes : List ℕ) (i j : ℕ) → i + 8 ≡ j → AreBytes bytes → j ≤ length bytes
     → drop i bytes ≡ block_bytes (block_at bytes i) ++ drop j bytes
 block_there bytes i j next fits within =
@@ -60,9 +60,9 @@ block_there bytes i j next fits within =
     block_front (drop i bytes) (AreBytes-drop i bytes fits) (omega (arith, length-drop i bytes, next, within))
     ∙ ap₂ (λ (b : Block) (s : List ℕ). block_bytes b ++ s) (block_drop bytes i) behind
 
--- ---- options at the front of bytes
+-- ---- options at the start of bytes
 
--- the first two bytes
+-- At least 2 bytes begin with their first two.
 two_front : (bytes : List ℕ) (kind size : ℕ) → 2 ≤ length bytes → slice_index bytes 0 ≡ kind
     → slice_index bytes 1 ≡ size → bytes ≡ kind ∷ size ∷ drop 2 bytes
 unfolding elements
@@ -79,11 +79,11 @@ timestamp_there bytes fits long kind size =
       parts = two_front bytes 8 10 (omega arith) kind size ∙ ap (λ (s : List ℕ). 8 ∷ 10 ∷ s) block;
     }
 
--- the block from a place on, where an option of this many bytes goes on there
+-- the block at index `at`, or `None` if an option of `size` bytes ends there
 abbrev pub block_within : List ℕ → ℕ → ℕ → Option Block
 block_within bytes size at = if nat_lt at size then Some (block_at bytes at) else None
 
--- the blocks behind the first one
+-- the blocks after the first one
 abbrev pub others_at : List ℕ → ℕ → List (Option Block)
 others_at bytes size = block_within bytes size 10 ∷ block_within bytes size 18 ∷ block_within bytes size 26 ∷ []
 
@@ -148,7 +148,7 @@ blocks_there bytes size fits kind second is within =
 
 -- ---- kinds
 
--- the kind is none that is known
+-- The kind is unknown.
 record IsUnknown (kind : ℕ) : Type 0 where
   k0 : (kind == 0) ≡ false
   k1 : (kind == 1) ≡ false
@@ -158,7 +158,7 @@ record IsUnknown (kind : ℕ) : Type 0 where
   k5 : (kind == 5) ≡ false
   k8 : (kind == 8) ≡ false
 
--- what holds of each known kind and of all others holds of every kind
+-- A property of each known kind and of all unknown kinds holds of every kind.
 kind_cases : (P : ℕ → Type 0) → P 0 → P 1 → P 2 → P 3 → P 4 → P 5 → P 8 → ((kind : ℕ) → IsUnknown kind → P kind)
     → (kind : ℕ) → P kind
 kind_cases P p0 p1 p2 p3 p4 p5 p8 unknown kind =
@@ -199,9 +199,9 @@ unknown_rows kind bytes u =
     ∙ cond-false (kind == 3) _ _ u.k3
     ∙ cond-false (kind == 4) _ _ u.k4 ∙ cond-false (kind == 5) _ _ u.k5 ∙ cond-false (kind == 8) _ _ u.k8
 
--- ---- the reading
+-- ---- reading
 
--- the option of this kind that is read, and the rest
+-- the option of this kind read from the bytes, and the rest
 abbrev pub kind_read : ℕ → List ℕ → Option (TcpOptionElement × List ℕ)
 kind_read kind bytes =
     if kind == 0 then None
@@ -220,7 +220,7 @@ abbrev pub option_read : List ℕ → Option (TcpOptionElement × List ℕ)
 option_read [] = None
 option_read (kind ∷ rest) = kind_read kind (kind ∷ rest)
 
--- what the rows of one length say
+-- Bytes that no row for a fixed length rejects have this length.
 sized_there : (kind size : ℕ) (bytes : List ℕ) → first_row (sized_rows kind size bytes) ≡ None → (size ≤ length bytes)
     × (slice_index bytes 1 ≡ size)
 sized_there kind size bytes none = grind (arith, common_steps)
@@ -237,7 +237,7 @@ blocks_rows_none : (bytes : List ℕ) (size : ℕ) → slice_index bytes 1 ≡ s
     → is_blocks_size size ≡ true → size ≤ length bytes → first_row (blocks_rows bytes) ≡ None
 blocks_rows_none bytes size same two is within = grind (arith, common_steps)
 
--- options of one length with what they hold
+-- Bytes with the kind and length of an option of fixed length are that option with the data read from them.
 size_there : (bytes : List ℕ) → AreBytes bytes → 4 ≤ length bytes → slice_index bytes 0 ≡ 2 → slice_index bytes 1 ≡ 4
     → IsOption bytes (MaximumSegmentSize (word_at bytes 2), drop 4 bytes)
 unfolding elements
@@ -286,13 +286,13 @@ reads (kind ∷ rest) fits none =
     (none-some (UnknownId k) (sym passed ∙ ap first_row (unknown_rows k (k ∷ rest) u))) in
     kind_cases P at_0 at_1 at_2 at_3 at_4 at_5 at_8 others kind fits none
 
--- ---- what is an option is read as it
+-- ---- the bytes of an option are read as that option
 
--- an option's bytes are refused by no row, and are read as the option and the rest
+-- No row rejects the bytes, and they are read as this option and rest.
 IsReadAs : List ℕ → TcpOptionElement → List ℕ → Type 0
 IsReadAs bytes option rest = (first_row (option_rows bytes) ≡ None) × (Some (option, rest) ≡ option_read bytes)
 
--- the four bytes of a number of 32 bits are read as it
+-- The four bytes of a 32-bit number are read back as that number.
 long_read : (n : ℕ) → n < 2 ^ 32
     → n ≡ 2 ^ 16 * (256 * (n / 256 ^ 3 % 256) + n / 256 ^ 2 % 256) + (256 * (n / 256 ^ 1 % 256) + n % 256)
 long_read n fits = omega (arith, fits)
@@ -300,7 +300,7 @@ long_read n fits = omega (arith, fits)
 block_read : (b : Block) (s : List ℕ) → FitsBlock b → b ≡ block_at (block_bytes b ++ s) 0
 block_read b s fits = λ i. (long_read b.0 fits.0 i, long_read b.1 fits.1 i)
 
--- whether the first and the second place behind the first block hold one
+-- whether the second block of a selective acknowledgment is present
 abbrev first_there : TcpOptionElement → Bool
 first_there (SelectiveAcknowledgement first (Some block ∷ others)) = true
 first_there _ = false

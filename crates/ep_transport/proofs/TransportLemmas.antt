@@ -1,4 +1,4 @@
--- The transport layer of an IP payload, and that its table decides it.
+-- An IP payload either has exactly one transport layer, or none, or is rejected with exactly one error.
 use Rattle.std.proofs.Common.{◌≡◌, ◌==◌, ℕ, Bool, true, false, if◌then◌else◌, List, [], ◌++◌, Option, Some, None, refl, sym, ap, subst, ◌∙◌, inl, inr, append_assoc}
 use Rattle.std.proofs.lemmas.Bool.{cases_eq, cond-false, ne_eqb}
 use Rattle.std.proofs.lemmas.List.{append-nil}
@@ -26,25 +26,25 @@ use Rattle.ep_transport.proofs.TcpLemmas.{tcp_is_read}
 use Rattle.ep_transport.proofs.Icmpv4Lemmas.{icmpv4_is_read}
 use Rattle.ep_transport.proofs.Icmpv6Lemmas.{icmpv6_is_read}
 
--- ---- what is read
+-- ---- reading
 
--- the datagram that is read
+-- the UDP datagram read from the bytes
 abbrev pub udp_part_read : Reading → List ℕ → TransportLayer
 udp_part_read slices bytes = let read = udp_read bytes in transport_layer (Udp read.header) read.payload
 udp_part_read headers bytes = let read = udp_header_read bytes in transport_layer (Udp read.0) read.1
 
--- the segment that is read
+-- the TCP segment read from the bytes
 abbrev pub tcp_part_read : List ℕ → TransportLayer
 tcp_part_read bytes = let read = tcp_parts bytes in transport_layer (Tcp read.header) read.payload
 
--- the messages that are read
+-- the ICMP message read from the bytes
 abbrev pub icmpv4_part_read : List ℕ → TransportLayer
 icmpv4_part_read bytes = let read = icmpv4_parts bytes in transport_layer (Icmpv4 read.header) read.payload
 
 abbrev pub icmpv6_part_read : List ℕ → TransportLayer
 icmpv6_part_read bytes = let read = icmpv6_parts bytes in transport_layer (Icmpv6 read.header) read.payload
 
--- the layer that is read in a whole payload
+-- the transport layer read from an IP payload that is no fragment
 abbrev pub transport_read : Reading → ℕ → List ℕ → Option TransportLayer
 transport_read reading number bytes =
     if number == udp_number then Some (udp_part_read reading bytes)
@@ -53,13 +53,13 @@ transport_read reading number bytes =
     else if number == icmpv6_number then Some (icmpv6_part_read bytes)
     else None
 
--- the layer that is read
+-- the transport layer read from an IP payload
 abbrev pub transport_part_read : Reading → ℕ → Bool → List ℕ → Option TransportLayer
 transport_part_read reading number fragmented bytes = if fragmented then None else transport_read reading number bytes
 
--- ---- which number it is
+-- ---- IP numbers
 
--- one with a header, or none
+-- the cases of an IP number: one with a transport header, or another
 data Numbered (n : ℕ) : Type 0 where
   is_udp : n ≡ udp_number → Numbered n
   is_tcp : n ≡ tcp_number → Numbered n
@@ -82,7 +82,7 @@ numbered n = elim (cases_eq n udp_number) [
   ]
 ]
 
--- a number without a header has no table, and nothing is read
+-- An IP number without a transport header has no errors, and nothing is read.
 pub no_rows : (reading : Reading) (number : ℕ) (bytes : List ℕ) → HasNoHeader number
     → transport_rows reading number bytes ≡ []
 no_rows reading number bytes other =
@@ -99,9 +99,9 @@ no_read reading number bytes other =
     ∙ cond-false (number == icmpv4_number) _ _ (ne_eqb number icmpv4_number other.2)
     ∙ cond-false (number == icmpv6_number) _ _ (ne_eqb number icmpv6_number other.3)
 
--- ---- what no row refuses is the layer with what is read
+-- ---- bytes that no row rejects are the layer read from them
 
--- of the bytes of a number
+-- Bytes of this IP number that no row rejects are the layer read from them.
 abbrev Reads : Reading → List ℕ → ℕ → Type 0
 Reads reading bytes number =
     first_row (transport_rows reading number bytes) ≡ None
@@ -147,9 +147,9 @@ reads reading number false bytes fits none =
           subst P (sym (no_read reading number bytes other)) (inr other)
     ]
 
--- ---- what is the layer is refused by no row and is what is read
+-- ---- the bytes of a layer are rejected by no row, and are read as that layer
 
--- of the bytes of a number
+-- The bytes of a layer with this IP number are rejected by no row, and are read as that layer.
 abbrev IsReadAt : Reading → List ℕ → TransportLayer → ℕ → Type 0
 IsReadAt reading bytes layer number =
     (first_row (transport_rows reading number bytes) ≡ None) × (Some layer ≡ transport_read reading number bytes)
@@ -220,9 +220,9 @@ pub transport_is_read : (reading : Reading) (number : ℕ) (fragmented : Bool)
 transport_is_read reading number fragmented =
     record { reads = reads reading number fragmented; is_read = is_read reading number fragmented }
 
--- ---- refusals
+-- ---- errors
 
--- what refuses a message refuses the payload of its number
+-- If the bytes are rejected as an ICMP message, an IP payload with that IP number is rejected too.
 pub icmpv4_refused : (reading : Reading) (number : ℕ) (fragmented : Bool) (bytes : List ℕ) (error : LenError)
     → fragmented ≡ false → number ≡ icmpv4_number → first_row (icmpv4_rows bytes) ≡ Some error
     → RefusesTransportPart reading number fragmented bytes (Len error)
@@ -231,16 +231,16 @@ icmpv4_refused reading number fragmented bytes error whole same refused =
     let at_icmpv4 : P false icmpv4_number = first_row-as_some Len (icmpv4_rows bytes) error refused in
     subst (λ f. P f number) (sym whole) (subst (P false) (sym same) at_icmpv4)
 
--- ---- the bytes
+-- ---- bytes
 
--- a header, its payload, and what a cut leaves, as bytes
+-- The bytes are this header, its payload, and trailing bytes.
 record AreLayer (bytes : List ℕ) (header : TransportHeader) (payload : List ℕ) : Type 0 where
   encoded : List ℕ
   left : List ℕ
   encodes : EncodesTransportHeader header encoded
   parts : bytes ≡ encoded ++ (payload ++ left)
 
--- where nothing is left
+-- A header and payload without trailing bytes are such bytes.
 whole_layer : (bytes encoded payload : List ℕ) (header : TransportHeader) → EncodesTransportHeader header encoded
     → bytes ≡ encoded ++ payload → AreLayer bytes header payload
 whole_layer bytes encoded payload header encodes parts = record {

@@ -1,4 +1,4 @@
--- That a refusal of the transport layer names the place where its payload starts.
+-- An error of the transport layer names a layer that starts with the IP payload.
 use Rattle.std.proofs.Common.{◌≡◌, ℕ, ◌==◌, Bool, true, false, if◌then◌else◌, List, [], length, Option, Some, None, refl}
 use Rattle.ep_base.specs.Readings.{Reading, slices, headers}
 use Rattle.ep_base.specs.IpNumbers.{icmpv4_number, icmpv6_number, tcp_number, udp_number}
@@ -13,12 +13,12 @@ use Rattle.ep_transport.specs.Icmpv6.{icmpv6_rows}
 use Rattle.ep_transport.specs.Tcp.{tcp_rows}
 use Rattle.ep_transport.specs.TransportParts.{RefusesTransportPart, transport_rows, udp_part_rows}
 
--- where the layer starts that a refusal names
+-- the start of the layer that an error names
 abbrev pub transport_start : HeaderSliceError → ℕ
 transport_start (error.Len refusal) = refusal.layer_start_offset
 transport_start (error.Content refusal) = 0
 
--- all refusals of some rows name the start
+-- All errors of these rows name a layer that starts at 0.
 abbrev AllAtStart : List (Bool × HeaderSliceError) → Type 0
 AllAtStart rows = AllErrors (λ (refusal : HeaderSliceError). transport_start refusal ≡ 0) rows
 
@@ -28,7 +28,7 @@ timestamps_at_start (Some kind.TimestampRequest) n = (refl, tt)
 timestamps_at_start (Some kind.TimestampReply) n = (refl, tt)
 timestamps_at_start (Some _) n = tt
 
--- of two tables, of which a condition takes one
+-- If the errors of two tables are at the start, so are those of the table that a condition selects.
 either_at_start : (condition : Bool) (rows others : List (Bool × HeaderSliceError)) → AllAtStart rows
     → AllAtStart others → AllAtStart (if condition then rows else others)
 either_at_start true rows others all also = all

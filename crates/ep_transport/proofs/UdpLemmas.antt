@@ -1,4 +1,4 @@
--- The bytes of a datagram, and what is read from them.
+-- The bytes of a UDP datagram, and the header read from them.
 use Rattle.std.proofs.Common.{◌≡◌, ◌⊎◌, ℕ, ◌+◌, ◌-◌, ◌≤◌, ◌<◌, ◌==◌, ◌||◌, nat_lt, if◌then◌else◌, Bool, false, List, [], None, ◌++◌, length, take, drop, refl, sym, ap, subst, ◌∙◌, inl, inr, arith, append_assoc, length-append, length-drop}
 use Rattle.std.proofs.lemmas.Grind.{common_steps}
 use Rattle.std.proofs.lemmas.List.{append-nil, get_or-take, length-take, take-append-drop}
@@ -12,7 +12,7 @@ use Rattle.ep_base.proofs.TableLemmas.{IsReadBy, cut_at, cut_same, one_value}
 use Rattle.ep_transport.specs.declared.udp_header.UdpHeader.{UdpHeader}
 use Rattle.ep_transport.specs.Udp.{FitsUdp, IsLaxUdp, IsUdp, IsUdpHeader, udp_bytes, udp_header_of, udp_parts, udp_header_rows, udp_rows}
 
--- the header that is read fits, and its bytes are those at the front
+-- The fields of the header read fit their widths, and its wire bytes are the first 8 bytes.
 udp_fits : (bytes : List ℕ) → AreBytes bytes → FitsUdp (udp_header_of bytes)
 udp_fits bytes fits =
     record {
@@ -26,7 +26,7 @@ udp_front : (bytes : List ℕ) → AreBytes bytes → 8 ≤ length bytes
     → bytes ≡ udp_bytes (udp_header_of bytes) ++ drop 8 bytes
 udp_front bytes fits long = grind (arith, common_steps)
 
--- ---- the header alone
+-- ---- header
 
 abbrev pub udp_header_read : List ℕ → UdpHeader × List ℕ
 udp_header_read bytes = (udp_header_of bytes, drop 8 bytes)
@@ -44,14 +44,14 @@ udp_header_is_read = record { reads = header_reads; is_read = header_is_read }
 
 -- ---- datagrams
 
--- the number of bytes of the datagram, which is that of all bytes where the length field is 0
+-- the length of the datagram in bytes; that of all bytes if the length field is 0
 abbrev pub udp_len_of : List ℕ → ℕ
 udp_len_of bytes = if word_at bytes 4 == 0 then length bytes else word_at bytes 4
 
 abbrev pub udp_read : List ℕ → Parts UdpHeader
 udp_read bytes = cut_at udp_len_of udp_parts bytes
 
--- what no row of the table refuses has these numbers of bytes
+-- Bytes that no row rejects have a valid length field.
 stands : (bytes : List ℕ) → first_row (udp_rows bytes) ≡ None → (8 ≤ udp_len_of bytes)
     × (udp_len_of bytes ≤ length bytes)
 stands bytes none = grind (arith, common_steps)
@@ -93,9 +93,9 @@ is_read bytes datagram is =
 pub udp_is_read : IsReadBy IsUdp udp_rows udp_read
 udp_is_read = record { reads = reads; is_read = is_read }
 
--- ---- datagrams of which bytes may be missing
+-- ---- datagrams that may be truncated
 
--- a front of the bytes that has the header, and what is left, are the header and what is behind it
+-- The header read from the first `end` bytes, at least 8, is the header of all bytes.
 front_stands : (bytes : List ℕ) (end : ℕ) → AreBytes bytes → 8 ≤ end → end ≤ length bytes
     → IsUdpHeader bytes (udp_header_of (take end bytes), drop 8 (take end bytes) ++ drop end bytes)
 front_stands bytes end fits enough within =
@@ -108,24 +108,24 @@ front_stands bytes end fits enough within =
           ∙ append_assoc (udp_bytes (udp_header_of seen)) (drop 8 seen) (drop end bytes);
     }
 
--- what is known of such a front
+-- The bytes `seen` are the datagram at the start of `bytes`, read laxly.
 pub record ShowsLaxUdp (outer : Bool) (bytes seen : List ℕ) : Type 0 where
   pub cut : LaxCut
   pub parts : bytes ≡ seen ++ cut.left
   pub is : IsLaxUdp outer bytes (udp_header_of seen, cut)
   pub payload : drop 8 seen ≡ cut.payload
 
--- the length field of a front is that of all bytes
+-- The length field of the first `end` bytes, at least 8, is that of all bytes.
 length_there : (bytes : List ℕ) (end : ℕ) → 8 ≤ end → word_at (take end bytes) 4 ≡ word_at bytes 4
 length_there bytes end enough =
     let high = get_or-take end bytes 4 0 (omega arith) in
     let low = get_or-take end bytes 5 0 (omega arith) in
     omega (arith, high, low)
 
--- the length field cuts
+-- If the length field applies, the datagram ends there.
 pub lax_udp_cut : (outer : Bool) (bytes : List ℕ) (end : ℕ) → AreBytes bytes → end ≡ word_at bytes 4 → 8 ≤ end
     → end ≤ length bytes → ShowsLaxUdp outer bytes (take end bytes)
-lax_udp_cut outer bytes end fits says enough within =
+lax_udp_cut outer bytes end fits stated enough within =
     let seen = take end bytes in
     let field = length_there bytes end enough in
     let len = length-take end bytes in
@@ -144,7 +144,7 @@ lax_udp_cut outer bytes end fits says enough within =
       payload = refl;
     }
 
--- or does not
+-- If the length field does not apply, the datagram has all bytes.
 pub lax_udp_whole : (outer : Bool) (bytes : List ℕ) → AreBytes bytes → 8 ≤ length bytes
     → (word_at bytes 4 < 8) ⊎ (length bytes < word_at bytes 4) → ShowsLaxUdp outer bytes bytes
 lax_udp_whole outer bytes fits enough why =
@@ -171,7 +171,7 @@ lax_udp_whole outer bytes fits enough why =
       payload = refl;
     }
 
--- there is one header and one cut
+-- Bytes have exactly one header and one split when read laxly.
 pub one_lax_udp : (outer : Bool) (bytes : List ℕ) (read other : UdpHeader × LaxCut) → IsLaxUdp outer bytes read
     → IsLaxUdp outer bytes other → read ≡ other
 one_lax_udp outer bytes read other a b =

@@ -13,7 +13,7 @@ pub mod TransportNumbers
 pub mod TransportParts
 pub mod Udp
 pub mod UdpSlices
--- what the contracts name of the crates below
+-- Definitions of lower crates that the contracts use.
 pub use Rattle.ep_base.specs.Bytes
 pub use Rattle.ep_base.specs.Checksum
 pub use Rattle.ep_base.specs.Readings

@@ -1,4 +1,4 @@
--- TCP (RFC 9293, section 3.1; the flag ns: RFC 3540).
+-- TCP (RFC 9293, section 3.1; the flag NS: RFC 3540).
 use Rattle.std.specs.Prelude.{◌≡◌, ℕ, ◌+◌, ◌-◌, ◌*◌, ◌/◌, ◌%◌, ◌^◌, ◌<◌, ◌≤◌, ◌==◌, Bool, false, nat_lt, List, [], ◌∷◌, ◌++◌, length, take, drop, slice_index}
 use Rattle.std.specs.Int.{w16, w32, to_be_bytes}
 use Rattle.ep_base.specs.Bytes.{AreBytes, word_at, bit}
@@ -11,7 +11,7 @@ use Rattle.ep_base.specs.declared.err.tcp.HeaderSliceError.{HeaderSliceError}
 use Rattle.ep_base.specs.declared.err.tcp.HeaderSliceError.TheVariants.{Len, Content}
 use Rattle.ep_transport.specs.declared.tcp_header.TcpHeader.{TcpHeader}
 
--- each field fits its place
+-- Each field fits its width on the wire.
 pub record FitsTcp (header : TcpHeader) : Type 0 where
   pub source_port : header.source_port < 2 ^ 16
   pub destination_port : header.destination_port < 2 ^ 16
@@ -24,11 +24,11 @@ pub record FitsTcp (header : TcpHeader) : Type 0 where
   pub options_words : length header.options % 4 ≡ 0
   pub options : AreBytes header.options
 
--- the number of bytes of a header
+-- the length of a header in bytes
 abbrev pub tcp_header_len : TcpHeader → ℕ
 tcp_header_len header = 20 + length header.options
 
--- its number of words of 4 bytes
+-- the data offset: the length of a header in words of 4 bytes
 abbrev pub tcp_data_offset : TcpHeader → ℕ
 tcp_data_offset header = tcp_header_len header / 4
 
@@ -38,7 +38,7 @@ tcp_flags header =
     2 ^ 7 * bit header.cwr + 2 ^ 6 * bit header.ece + 2 ^ 5 * bit header.urg + 2 ^ 4 * bit header.ack
     + 2 ^ 3 * bit header.psh + 2 ^ 2 * bit header.rst + 2 ^ 1 * bit header.syn + bit header.fin
 
--- The bytes of a header, with the three reserved bits. Byte 12 is the data offset, these bits and the flag ns.
+-- the wire bytes of a header with these three reserved bits; byte 12 is the data offset, these bits and the flag NS
 abbrev pub tcp_bytes_with : ℕ → TcpHeader → List ℕ
 tcp_bytes_with reserved header =
     to_be_bytes w16 header.source_port ++ to_be_bytes w16 header.destination_port
@@ -47,20 +47,20 @@ tcp_bytes_with reserved header =
     ++ to_be_bytes w16 header.window_size ++ to_be_bytes w16 header.checksum ++ to_be_bytes w16 header.urgent_pointer
     ++ header.options
 
--- the bytes of a header as it is written: the reserved bits are 0
+-- the wire bytes of a header as written, with the reserved bits 0
 abbrev pub tcp_bytes : TcpHeader → List ℕ
 tcp_bytes header = tcp_bytes_with 0 header
 
--- ---- which bytes are TCP
+-- ---- segments
 
--- the bytes are the header's, whatever the reserved bits
+-- The bytes are the header, with any value of the reserved bits.
 pub record EncodesTcp (bytes : List ℕ) (header : TcpHeader) : Type 0 where
   pub fits : FitsTcp header
   pub reserved : ℕ
   pub three_bits : reserved < 2 ^ 3
   pub same : bytes ≡ tcp_bytes_with reserved header
 
--- The bytes are a segment: a header, and all behind it is payload.
+-- The bytes are a segment: a header, and its payload up to the end.
 pub record IsTcp (bytes : List ℕ) (segment : Parts TcpHeader) : Type 0 where
   pub encoded : List ℕ
   pub encodes : EncodesTcp encoded segment.header
@@ -71,7 +71,7 @@ pub record IsTcp (bytes : List ℕ) (segment : Parts TcpHeader) : Type 0 where
 abbrev pub data_offset_of : List ℕ → ℕ
 data_offset_of bytes = slice_index bytes 12 / 16
 
--- why bytes are no segment
+-- the errors for bytes that are no segment, in the order of the checks
 abbrev pub tcp_rows : List ℕ → List (Bool × HeaderSliceError)
 tcp_rows bytes =
     let offset = data_offset_of bytes in
@@ -80,21 +80,21 @@ tcp_rows bytes =
     ∷ (nat_lt (length bytes) (4 * offset), Len (len_error (4 * offset) (length bytes) source.Slice layer.TcpHeader))
     ∷ []
 
--- the error of the first row that holds
+-- The bytes are rejected as a segment with this error: that of the first row that holds.
 abbrev pub RefusesTcp : List ℕ → HeaderSliceError → Type 0
 RefusesTcp bytes = Refuses (tcp_rows bytes)
 
--- ---- what is read
+-- ---- reading
 
--- the 32 bit number whose first byte stands at i
+-- the big-endian 32-bit number at index `i`
 abbrev pub long_at : List ℕ → ℕ → ℕ
 long_at bytes i = 2 ^ 16 * word_at bytes i + word_at bytes (i + 2)
 
--- the flag that is bit i of byte 13
+-- the flag in bit `i` of byte 13
 abbrev pub flag_at : List ℕ → ℕ → Bool
 flag_at bytes i = slice_index bytes 13 / 2 ^ i % 2 == 1
 
--- the header that stands at the front of bytes
+-- the header read from the start of the bytes
 abbrev pub tcp_header_of : List ℕ → TcpHeader
 tcp_header_of bytes = record {
   source_port = word_at bytes 0;
@@ -116,13 +116,13 @@ tcp_header_of bytes = record {
   options = take (4 * data_offset_of bytes - 20) (drop 20 bytes);
 }
 
--- the segment that bytes are
+-- the header and payload read from the bytes of a segment
 abbrev pub tcp_parts : List ℕ → Parts TcpHeader
 tcp_parts bytes = parts_of (tcp_header_of bytes) (drop (4 * data_offset_of bytes) bytes) []
 
 -- ---- values
 
--- the header whose fields are all 0, false or empty
+-- the default header: all fields are 0, false or empty
 abbrev pub default_tcp_header : TcpHeader
 default_tcp_header = record {
   source_port = 0;

@@ -1,5 +1,4 @@
--- The bytes of TCP options (RFC 9293, 3.2; selective acknowledgements: RFC 2018; window scale and timestamps: RFC
--- 7323).
+-- The bytes of TCP options (RFC 9293, 3.2; selective acknowledgment: RFC 2018; window scale and timestamps: RFC 7323).
 use Rattle.std.specs.Prelude.{◌≡◌, ℕ, ◌+◌, ◌-◌, ◌*◌, ◌/◌, ◌^◌, ◌<◌, ◌==◌, ◌||◌, not, nat_lt, if◌then◌else◌, Bool, true, ⊤, List, [], ◌∷◌, ◌++◌, length, map, replicate, slice_index, Option, Some, None, Result, Ok, Err}
 use Rattle.std.specs.Int.{w16, w32, to_be_bytes}
 use Rattle.ep_base.specs.Padding.{padded}
@@ -9,29 +8,29 @@ use Rattle.ep_transport.specs.declared.tcp_option_element.TcpOptionElement.TheVa
 use Rattle.ep_transport.specs.declared.tcp_option_element.TcpOptionReadError.{TcpOptionReadError}
 use Rattle.ep_transport.specs.declared.tcp_option_element.TcpOptionReadError.TheVariants.{UnexpectedEndOfSlice, UnexpectedSize, UnknownId}
 
--- ---- the kinds of options, their first byte
+-- ---- kinds of options (the first byte)
 
--- the end of the list of options, behind which no other follows (RFC 9293, 3.2)
+-- end of option list; no option follows it (RFC 9293, 3.2)
 abbrev pub end_of_list_kind : ℕ
 end_of_list_kind = 0
 
--- no operation, a byte between options (RFC 9293, 3.2)
+-- no-operation, a padding byte between options (RFC 9293, 3.2)
 abbrev pub no_operation_kind : ℕ
 no_operation_kind = 1
 
--- the maximum segment size (RFC 9293, 3.2 and 3.7.1)
+-- maximum segment size (RFC 9293, 3.2 and 3.7.1)
 abbrev pub maximum_segment_size_kind : ℕ
 maximum_segment_size_kind = 2
 
--- the window scale (RFC 7323, 2.2)
+-- window scale (RFC 7323, 2.2)
 abbrev pub window_scale_kind : ℕ
 window_scale_kind = 3
 
--- selective acknowledgements are permitted (RFC 2018, 2)
+-- SACK-permitted (RFC 2018, 2)
 abbrev pub selective_acknowledgement_permitted_kind : ℕ
 selective_acknowledgement_permitted_kind = 4
 
--- a selective acknowledgement (RFC 2018, 3)
+-- selective acknowledgment, SACK (RFC 2018, 3)
 abbrev pub selective_acknowledgement_kind : ℕ
 selective_acknowledgement_kind = 5
 
@@ -39,32 +38,32 @@ selective_acknowledgement_kind = 5
 abbrev pub timestamps_kind : ℕ
 timestamps_kind = 8
 
--- bytes, filled up with zero bytes to whole words of 4
+-- bytes padded with zero bytes to a multiple of 4
 abbrev pub in_words : List ℕ → List ℕ
 in_words bytes = padded ((length bytes + 3) / 4 * 4) bytes
 
 -- ---- writing
 
--- a block of a selective acknowledgement: its first byte, and the one behind its last
+-- a block of a selective acknowledgment: the sequence number of its first byte, and of the byte after its last
 abbrev pub Block : Type 0
 Block = ℕ × ℕ
 
--- the blocks that are there
+-- the blocks that are present
 abbrev pub present : List (Option Block) → List Block
 present [] = []
 present (None ∷ others) = present others
 present (Some block ∷ others) = block ∷ present others
 
--- the bytes of a block, 4 for each number
+-- the bytes of a block, 4 for each sequence number
 abbrev pub block_bytes : Block → List ℕ
 block_bytes block = to_be_bytes w32 block.0 ++ to_be_bytes w32 block.1
 
--- the bytes of blocks, one behind the other
+-- the bytes of consecutive blocks
 abbrev pub blocks_bytes : List Block → List ℕ
 blocks_bytes [] = []
 blocks_bytes (block ∷ others) = block_bytes block ++ blocks_bytes others
 
--- The bytes of an option: its kind, its length, and what it holds. A block that is not there is passed over.
+-- the bytes of an option: kind, length and data; absent blocks are skipped
 abbrev pub option_bytes : TcpOptionElement → List ℕ
 option_bytes Noop = no_operation_kind ∷ []
 option_bytes (MaximumSegmentSize size) = maximum_segment_size_kind ∷ 4 ∷ to_be_bytes w16 size
@@ -75,24 +74,24 @@ option_bytes (SelectiveAcknowledgement first others) =
     ∷ (block_bytes first ++ blocks_bytes (present others))
 option_bytes (Timestamp time echo) = timestamps_kind ∷ 10 ∷ (to_be_bytes w32 time ++ to_be_bytes w32 echo)
 
--- the bytes of some options
+-- the bytes of consecutive options
 abbrev pub options_bytes : List TcpOptionElement → List ℕ
 options_bytes [] = []
 options_bytes (option ∷ others) = option_bytes option ++ options_bytes others
 
 -- ---- reading
 
--- both numbers fit
+-- Both sequence numbers fit 32 bits.
 abbrev pub FitsBlock : Block → Type 0
 FitsBlock block = (block.0 < 2 ^ 32) × (block.1 < 2 ^ 32)
 
--- each block that is there fits
+-- Each block that is present fits its width.
 abbrev pub FitsBlocks : List (Option Block) → Type 0
 FitsBlocks [] = ⊤
 FitsBlocks (None ∷ others) = FitsBlocks others
 FitsBlocks (Some block ∷ others) = FitsBlock block × FitsBlocks others
 
--- what the option holds fits
+-- The data of the option fits its width.
 abbrev pub FitsOption : TcpOptionElement → Type 0
 FitsOption Noop = ⊤
 FitsOption (MaximumSegmentSize size) = size < 2 ^ 16
@@ -101,11 +100,11 @@ FitsOption SelectiveAcknowledgementPermitted = ⊤
 FitsOption (SelectiveAcknowledgement first others) = FitsBlock first × (length others ≡ 3) × FitsBlocks others
 FitsOption (Timestamp time echo) = (time < 2 ^ 32) × (echo < 2 ^ 32)
 
--- the blocks that are there in front of the places without one
+-- the blocks with present ones moved before absent ones
 abbrev pub in_front : List (Option Block) → List (Option Block)
 in_front blocks = map Some (present blocks) ++ replicate (length blocks - length (present blocks)) None
 
--- an option as it is read from its bytes
+-- the option read back from its bytes
 abbrev pub as_read : TcpOptionElement → TcpOptionElement
 as_read Noop = Noop
 as_read (MaximumSegmentSize size) = MaximumSegmentSize size
@@ -114,34 +113,34 @@ as_read SelectiveAcknowledgementPermitted = SelectiveAcknowledgementPermitted
 as_read (SelectiveAcknowledgement first others) = SelectiveAcknowledgement first (in_front others)
 as_read (Timestamp time echo) = Timestamp time echo
 
--- the bytes begin with an option, and then the rest
+-- The bytes begin with this option, followed by the rest.
 pub record IsOption (bytes : List ℕ) (read : TcpOptionElement × List ℕ) : Type 0 where
   pub fits : FitsOption read.0
   pub blocks : as_read read.0 ≡ read.0
   pub parts : bytes ≡ option_bytes read.0 ++ read.1
 
--- no option follows: there are no bytes, or the first one is the kind of the end of the list
+-- No option follows: there are no bytes left, or the first byte is the end of option list.
 abbrev pub EndsOptions : List ℕ → Type 0
 EndsOptions [] = ⊤
 EndsOptions (kind ∷ rest) = kind ≡ end_of_list_kind
 
--- what the bytes begin with: an option and the rest, or the end
+-- The bytes begin with this option and the rest, or (`None`) no option follows.
 abbrev pub IsNextOption : List ℕ → Option (TcpOptionElement × List ℕ) → Type 0
 IsNextOption bytes None = EndsOptions bytes
 IsNextOption bytes (Some read) = IsOption bytes read
 
--- the rows of a kind whose options have one length
+-- the errors for an option of a kind with a fixed length, in the order of the checks
 abbrev pub sized_rows : ℕ → ℕ → List ℕ → List (Bool × TcpOptionReadError)
 sized_rows kind size bytes =
     (nat_lt (length bytes) size, UnexpectedEndOfSlice kind size (length bytes))
     ∷ (not (slice_index bytes 1 == size), UnexpectedSize kind (slice_index bytes 1))
     ∷ []
 
--- the lengths of 1 to 4 blocks
+-- whether this is the length of a selective acknowledgment with 1 to 4 blocks
 abbrev pub is_blocks_size : ℕ → Bool
 is_blocks_size size = size == 10 || size == 18 || size == 26 || size == 34
 
--- the rows of a selective acknowledgement
+-- the errors for a selective acknowledgment, in the order of the checks
 abbrev pub blocks_rows : List ℕ → List (Bool × TcpOptionReadError)
 blocks_rows bytes =
     let size = slice_index bytes 1 in
@@ -150,7 +149,7 @@ blocks_rows bytes =
     ∷ (nat_lt (length bytes) size, UnexpectedEndOfSlice selective_acknowledgement_kind size (length bytes))
     ∷ []
 
--- the rows of a kind
+-- the errors for an option of this kind, in the order of the checks
 abbrev pub kind_rows : ℕ → List ℕ → List (Bool × TcpOptionReadError)
 kind_rows kind bytes =
     if kind == end_of_list_kind then []
@@ -163,24 +162,24 @@ kind_rows kind bytes =
     else if kind == timestamps_kind then sized_rows timestamps_kind 10 bytes
     else (true, UnknownId kind) ∷ []
 
--- why bytes begin with no option where no end stands
+-- the errors for bytes that do not begin with an option and are not at the end of the list, in the order of the checks
 abbrev pub option_rows : List ℕ → List (Bool × TcpOptionReadError)
 option_rows [] = []
 option_rows (kind ∷ rest) = kind_rows kind (kind ∷ rest)
 
--- the error of the first row that holds
+-- The bytes are rejected as an option with this error: that of the first row that holds.
 abbrev pub RefusesOption : List ℕ → TcpOptionReadError → Type 0
 RefusesOption bytes = Refuses (option_rows bytes)
 
--- ---- the iteration
+-- ---- iteration
 
--- what one step over bytes gives, and the bytes that are left: none behind an error
+-- A step of the iterator over these bytes returns this item, and keeps the bytes `left`, none after an error.
 abbrev pub GivesItem : List ℕ → Option (Result TcpOptionElement TcpOptionReadError) → List ℕ → Type 0
 GivesItem bytes None left = EndsOptions bytes × (left ≡ bytes)
 GivesItem bytes (Some (Ok option)) left = IsOption bytes (option, left)
 GivesItem bytes (Some (Err error)) left = RefusesOption bytes error × (left ≡ [])
 
--- all that the steps over bytes give: options up to the end, or to an error
+-- The iterator over these bytes returns these items: options up to the end, or up to and including an error.
 abbrev pub AreItems : List ℕ → List (Result TcpOptionElement TcpOptionReadError) → Type 0
 AreItems bytes [] = EndsOptions bytes
 AreItems bytes (Ok option ∷ others) = (rest : List ℕ) × IsOption bytes (option, rest) × AreItems rest others

@@ -1,4 +1,4 @@
--- What an iteration over TCP options has before it.
+-- The state of an iterator over TCP options.
 use Rattle.std.specs.Prelude.{ℕ, ◌+◌, List}
 use Rattle.ep_transport.specs.declared.tcp_options_iterator.TcpOptionsIterator.{TcpOptionsIterator}
 use Rattle.ep_transport.specs.Tcp.{long_at}
@@ -8,6 +8,6 @@ use Rattle.ep_transport.specs.TcpOptionBytes.{Block}
 abbrev pub options_left : TcpOptionsIterator → List ℕ
 options_left steps = steps.options.now
 
--- the block that stands at a place
+-- the block at this index
 abbrev pub block_at : List ℕ → ℕ → Block
 block_at bytes at = (long_at bytes at, long_at bytes (at + 4))

@@ -1,4 +1,4 @@
--- The transport layer of an IP payload, by its protocol number.
+-- The transport layer of an IP payload, by its IP number.
 use Rattle.std.specs.Prelude.{◌≡◌, ◌≢◌, ◌==◌, ℕ, ◌⊎◌, if◌then◌else◌, Bool, true, false, List, [], ◌++◌, Option, Some, None}
 use Rattle.ep_base.specs.IpNumbers.{icmpv4_number, tcp_number, udp_number, icmpv6_number}
 use Rattle.ep_base.specs.Readings.{Reading, slices, headers}
@@ -26,7 +26,7 @@ pub record TransportLayer : Type 0 where
   pub header : TransportHeader
   pub payload : List ℕ
 
--- the layer of these
+-- the transport layer with this header and payload
 abbrev pub transport_layer : TransportHeader → List ℕ → TransportLayer
 transport_layer header payload = record { header = header; payload = payload }
 
@@ -34,14 +34,15 @@ transport_layer header payload = record { header = header; payload = payload }
 abbrev pub transport_payload : TransportLayer → List ℕ
 transport_payload layer = layer.payload
 
--- ---- which bytes are a transport layer
+-- ---- transport layers
 
--- the bytes are a datagram; in the reading of headers its length field does not cut
+-- The bytes are a UDP datagram. In the reading `headers` its length field does not limit the payload.
 abbrev pub IsUdpPart : Reading → List ℕ → UdpHeader → List ℕ → Type 0
 IsUdpPart slices bytes header payload = (left : List ℕ) × IsUdp bytes (parts_of header payload left)
 IsUdpPart headers bytes header payload = IsUdpHeader bytes (header, payload)
 
--- the bytes of this protocol number are the header and then the payload
+-- The bytes of an IP payload with this IP number are this header and payload. In the reading `slices`, trailing bytes
+-- may follow a UDP datagram.
 abbrev pub IsTransportLayer : Reading → ℕ → List ℕ → TransportHeader → List ℕ → Type 0
 IsTransportLayer reading number bytes (header.Udp header) payload =
     (number ≡ udp_number) × IsUdpPart reading bytes header payload
@@ -52,44 +53,44 @@ IsTransportLayer reading number bytes (header.Icmpv4 header) payload =
 IsTransportLayer reading number bytes (header.Icmpv6 header) payload =
     (number ≡ icmpv6_number) × IsIcmpv6 bytes (parts_of header payload [])
 
--- the number is none whose header is read
+-- The IP number is none of UDP, TCP, ICMP and ICMPv6.
 abbrev pub HasNoHeader : ℕ → Type 0
 HasNoHeader number =
     (number ≢ udp_number) × (number ≢ tcp_number) × (number ≢ icmpv4_number) × (number ≢ icmpv6_number)
 
--- The transport layer that the bytes of an IP payload of this protocol number are, where they are one. A fragment has
--- no transport layer of its own.
+-- The bytes of an IP payload with this IP number have this transport layer, or none. A fragment has no transport layer.
 abbrev pub IsTransportPart : Reading → ℕ → Bool → List ℕ → Option TransportLayer → Type 0
 IsTransportPart reading number fragmented bytes None = (fragmented ≡ true) ⊎ HasNoHeader number
 IsTransportPart reading number fragmented bytes (Some layer) =
     (fragmented ≡ false) × IsTransportLayer reading number bytes layer.header layer.payload
 
--- what the cut of a layer with this header and this payload leaves: the length field of UDP cuts, as slices are read
-abbrev pub IsLeftBehind : Reading → List ℕ → TransportHeader → List ℕ → List ℕ → Type 0
-IsLeftBehind slices bytes (header.Udp header) payload left = IsUdp bytes (parts_of header payload left)
-IsLeftBehind headers bytes (header.Udp header) payload left = left ≡ []
-IsLeftBehind reading bytes (header.Tcp header) payload left = left ≡ []
-IsLeftBehind reading bytes (header.Icmpv4 header) payload left = left ≡ []
-IsLeftBehind reading bytes (header.Icmpv6 header) payload left = left ≡ []
+-- The trailing bytes after a layer with this header and payload are `left`. Only the length field of UDP leaves any, in
+-- the reading `slices`.
+abbrev pub AreTrailingBytesAfter : Reading → List ℕ → TransportHeader → List ℕ → List ℕ → Type 0
+AreTrailingBytesAfter slices bytes (header.Udp header) payload left = IsUdp bytes (parts_of header payload left)
+AreTrailingBytesAfter headers bytes (header.Udp header) payload left = left ≡ []
+AreTrailingBytesAfter reading bytes (header.Tcp header) payload left = left ≡ []
+AreTrailingBytesAfter reading bytes (header.Icmpv4 header) payload left = left ≡ []
+AreTrailingBytesAfter reading bytes (header.Icmpv6 header) payload left = left ≡ []
 
--- what a layer's cut leaves of the bytes; where they have no layer, all of them are the payload
+-- The trailing bytes after the transport layer are `left`. Without a layer, all bytes are payload.
 abbrev pub IsLeftBy : Reading → List ℕ → Option TransportLayer → List ℕ → Type 0
 IsLeftBy reading bytes None left = left ≡ []
-IsLeftBy reading bytes (Some layer) left = IsLeftBehind reading bytes layer.header layer.payload left
+IsLeftBy reading bytes (Some layer) left = AreTrailingBytesAfter reading bytes layer.header layer.payload left
 
--- the transport layer that bytes are, where they are one, and what its cut leaves
-abbrev pub IsTransportCut : Reading → ℕ → Bool → List ℕ → Option TransportLayer × List ℕ → Type 0
-IsTransportCut reading number fragmented bytes read =
+-- The bytes of an IP payload have this transport layer, or none, and these trailing bytes.
+abbrev pub IsTransportWithTrailingBytes : Reading → ℕ → Bool → List ℕ → Option TransportLayer × List ℕ → Type 0
+IsTransportWithTrailingBytes reading number fragmented bytes read =
     IsTransportPart reading number fragmented bytes read.0 × IsLeftBy reading bytes read.0 read.1
 
--- ---- why bytes are none where they must
+-- ---- errors
 
--- the table of UDP
+-- the errors of UDP, in the order of the checks
 abbrev pub udp_part_rows : Reading → List ℕ → List (Bool × LenError)
 udp_part_rows slices bytes = udp_rows bytes
 udp_part_rows headers bytes = udp_header_rows bytes
 
--- the table of a protocol number
+-- the errors for this IP number, in the order of the checks
 abbrev pub transport_rows : Reading → ℕ → List ℕ → List (Bool × HeaderSliceError)
 transport_rows reading number bytes =
     if number == udp_number then rows_as Len (udp_part_rows reading bytes)
@@ -98,42 +99,42 @@ transport_rows reading number bytes =
     else if number == icmpv6_number then rows_as Len (icmpv6_rows bytes)
     else []
 
--- the table of the bytes of an IP payload: that of its protocol number, and none for a fragment
+-- the errors for an IP payload with this IP number, in the order of the checks; none for a fragment
 abbrev pub transport_part_rows : Reading → ℕ → Bool → List ℕ → List (Bool × HeaderSliceError)
 transport_part_rows reading number fragmented bytes = if fragmented then [] else transport_rows reading number bytes
 
--- why the bytes of an IP payload have no transport layer where they must have one
+-- The transport layer of an IP payload is rejected with this error.
 abbrev pub RefusesTransportPart : Reading → ℕ → Bool → List ℕ → HeaderSliceError → Type 0
 RefusesTransportPart reading number fragmented bytes = Refuses (transport_part_rows reading number fragmented bytes)
 
--- a refusal by the length field of UDP
+-- The error is one of the length field of UDP.
 abbrev pub IsUdpLengthError : HeaderSliceError → Type 0
 IsUdpLengthError (Len error) = IsOfUdpLength error
 IsUdpLengthError (Content error) = ⊥
 
--- ---- the bytes of a transport layer
+-- ---- bytes of a transport layer
 
--- the bytes are the transport header's, up to its reserved bits and to bytes that it does not use, where there is one
+-- The bytes are the transport header, with any value of reserved bits and unused bytes; they are empty without a layer.
 abbrev pub EncodesTransport : Option TransportLayer → List ℕ → Type 0
 EncodesTransport None bytes = bytes ≡ []
 EncodesTransport (Some layer) bytes = EncodesTransportHeader layer.header bytes
 
--- the payload of the transport layer that some bytes are, or else these bytes
+-- the payload of the transport layer, or all bytes if there is none
 abbrev pub payload_in : List ℕ → Option TransportLayer → List ℕ
 payload_in bytes None = bytes
 payload_in bytes (Some layer) = layer.payload
 
--- The bytes are the header of the transport layer, its payload, and what its cut leaves behind it. Where there is no
--- such layer, they are the payload alone.
+-- The bytes are the transport header, its payload, and any trailing bytes (only the length field of UDP leaves some).
+-- Without a layer, they are the payload alone.
 pub record AreTransport (bytes : List ℕ) (part : Option TransportLayer) : Type 0 where
   pub header : List ℕ
   pub left : List ℕ
   pub encodes : EncodesTransport part header
   pub parts : bytes ≡ header ++ (payload_in bytes part ++ left)
 
--- ---- what a slice shows
+-- ---- contents of a slice
 
--- the transport layer that a slice shows
+-- the header and payload of the layer in a slice
 abbrev pub transport_layer_of : TransportSlice → TransportLayer
 transport_layer_of (slice.Udp datagram) =
     transport_layer (header.Udp (udp_slice_header datagram)) (udp_slice_payload datagram)
@@ -144,7 +145,7 @@ transport_layer_of (slice.Icmpv4 message) =
 transport_layer_of (slice.Icmpv6 message) =
     transport_layer (header.Icmpv6 (icmpv6_slice_header message)) (icmpv6_slice_payload message)
 
--- the bytes of header and payload that it shows
+-- the bytes of the layer in a slice, header and payload
 abbrev pub transport_slice_bytes : TransportSlice → List ℕ
 transport_slice_bytes (slice.Udp datagram) = udp_slice_bytes datagram
 transport_slice_bytes (slice.Tcp segment) = tcp_slice_bytes segment

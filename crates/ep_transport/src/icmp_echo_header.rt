@@ -1,13 +1,14 @@
-//! What echo messages hold (RFC 792; RFC 4443, 4.1).
+//! Identifier and sequence number of ICMPv4 and ICMPv6 echo messages (RFC 792; RFC 4443, 4.1 and 4.2).
 
 use std::alloc::AllocError;
 
-/// What an echo request or reply holds (RFC 792; RFC 4443, 4.1), by which a reply is told from others.
+/// Identifier and sequence number of an ICMPv4 or ICMPv6 echo request or reply (RFC 792; RFC 4443, 4.1 and 4.2). They
+/// match a reply to its request.
 #[derive(Clone, Debug, PartialEq, Eq, Drop)]
 pub struct IcmpEchoHeader {
-    /// Which echoes belong together, bytes 4 and 5.
+    /// Identifier of an ICMP echo message, bytes 4 and 5 of the message.
     pub id: u16,
-    /// Which of them this is, bytes 6 and 7.
+    /// Sequence number of an ICMP echo message, bytes 6 and 7 of the message.
     pub seq: u16,
 }
 
@@ -15,10 +16,10 @@ impl IcmpEchoHeader {
     ghost use Rattle.std.specs.Prelude.{◌≡◌, ◌+◌, ◌<◌, ◌≤◌, ◌++◌, length, OnOk, OnErr, vec_len, vec_capacity};
     ghost use Rattle.ep_transport.specs.Icmp.{echo_bytes};
 
-    /// The number of bytes.
+    /// Length of identifier and sequence number of an ICMP echo message in bytes: 4.
     pub const LEN: usize = 4;
 
-    /// What the bytes 4 to 7 of a message say.
+    /// Decodes identifier and sequence number of an ICMP echo message from bytes 4 to 7 of the message.
     #[inline]
     pub fn from_bytes(bytes: [u8; 4]) -> IcmpEchoHeader
         ensures { echo_bytes result ≡ bytes }
@@ -30,7 +31,7 @@ impl IcmpEchoHeader {
         }
     }
 
-    /// The number of bytes: 4.
+    /// Length of identifier and sequence number of an ICMP echo message in bytes; always 4.
     #[inline]
     pub fn header_len(&self) -> usize
         ensures { result ≡ 4 }
@@ -38,7 +39,8 @@ impl IcmpEchoHeader {
         IcmpEchoHeader::LEN
     }
 
-    /// The bytes 4 to 7 of the message.
+    /// Returns identifier and sequence number of an ICMP echo message as wire bytes, which are bytes 4 to 7 of the
+    /// message.
     #[inline]
     pub fn to_bytes(&self) -> [u8; 4]
         ensures { result ≡ echo_bytes self.now }
@@ -48,8 +50,8 @@ impl IcmpEchoHeader {
         [i0, i1, s0, s1]
     }
 
-    /// Appends the bytes 4 to 7 of the message. A refusal leaves the buffer as it was, and comes only where the buffer
-    /// would have to grow.
+    /// Appends identifier and sequence number of an ICMP echo message (bytes 4 to 7 of the message) to the buffer.
+    /// Fails only if the buffer has to grow and the allocation fails; the buffer's content is then unchanged.
     pub fn write(&self, buf: &mut Vec<u8>) -> Result<(), AllocError>
         ensures ok { OnOk result (buf.new.items ≡ buf.old.items ++ echo_bytes self.now) }
         ensures err { OnErr result (buf.new.items ≡ buf.old.items) }

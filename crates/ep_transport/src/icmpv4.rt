@@ -1,4 +1,4 @@
-//! Types, codes and messages of ICMP (RFC 792).
+//! Type numbers, codes and message contents of ICMPv4 (RFC 792).
 
 pub(crate) mod kind;
 mod time_exceeded_code;
@@ -7,19 +7,19 @@ mod timestamp_message;
 pub use time_exceeded_code::TimeExceededCode;
 pub use timestamp_message::TimestampMessage;
 
-/// An answer to an echo request.
+/// ICMPv4 type 0: echo reply.
 pub const TYPE_ECHO_REPLY: u8 = 0;
-/// A packet could not be delivered.
+/// ICMPv4 type 3: destination unreachable.
 pub const TYPE_DEST_UNREACH: u8 = 3;
-/// There is a shorter way.
+/// ICMPv4 type 5: redirect.
 pub const TYPE_REDIRECT: u8 = 5;
-/// A request to send back what it holds.
+/// ICMPv4 type 8: echo request.
 pub const TYPE_ECHO_REQUEST: u8 = 8;
-/// A packet was under way for too long.
+/// ICMPv4 type 11: time exceeded.
 pub const TYPE_TIME_EXCEEDED: u8 = 11;
-/// A packet's header could not be understood.
+/// ICMPv4 type 12: parameter problem.
 pub const TYPE_PARAMETER_PROBLEM: u8 = 12;
-/// A request for the receiver's time.
+/// ICMPv4 type 13: timestamp request.
 pub const TYPE_TIMESTAMP_REQUEST: u8 = 13;
-/// An answer to a timestamp request.
+/// ICMPv4 type 14: timestamp reply.
 pub const TYPE_TIMESTAMP_REPLY: u8 = 14;

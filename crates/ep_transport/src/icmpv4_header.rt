@@ -1,4 +1,4 @@
-//! The header of ICMP (RFC 792).
+//! ICMPv4 header (RFC 792) as an owned value.
 
 ghost use Rattle.std.specs.Prelude.{◌≡◌, ◌+◌, ◌≤◌, ◌<◌, ◌++◌, length, IfOk, IfErr, OnOk, OnErr, IsOkAnd, [], vec_len, vec_capacity};
 ghost use Rattle.ep_base.specs.Checksum.{checksum_of};
@@ -12,23 +12,23 @@ use ep_base::checksum::Sum16BitWords;
 use ep_base::err::LenError;
 use std::alloc::AllocError;
 
-/// The header of an ICMP message (RFC 792): 20 bytes of a timestamp message, and else 8.
+/// ICMPv4 header (RFC 792) as an owned value; on the wire 20 bytes for timestamp messages, 8 bytes for all others.
 #[derive(Clone, Debug, PartialEq, Eq, Drop)]
 pub struct Icmpv4Header {
-    /// What the message says, bytes 0, 1, and those from 4 on.
+    /// Type, code and type-specific fields of an ICMPv4 header: byte 0, byte 1, and the header from byte 4 on.
     pub icmp_type: Icmpv4Type,
-    /// The checksum, bytes 2 and 3.
+    /// Checksum of an ICMPv4 message, bytes 2 and 3.
     pub checksum: u16,
 }
 
 impl Icmpv4Header {
-    /// The least number of bytes of a header.
+    /// Minimum length of an ICMPv4 header in bytes: 8.
     pub const MIN_LEN: usize = 8;
 
-    /// The greatest number of bytes of a header, that of a timestamp message.
+    /// Maximum length of an ICMPv4 header in bytes: 20, for timestamp messages.
     pub const MAX_LEN: usize = 20;
 
-    /// A header with the checksum 0.
+    /// Creates an ICMPv4 header with this type and the checksum 0.
     #[inline]
     pub fn new(icmp_type: Icmpv4Type) -> Icmpv4Header
         ensures { result ≡ record { icmp_type = icmp_type; checksum = 0 } }
@@ -39,7 +39,8 @@ impl Icmpv4Header {
         }
     }
 
-    /// The header at the front of the slice, and the bytes behind it. A timestamp message has none behind it.
+    /// Parses the ICMPv4 header at the start of the slice, and returns it with the bytes after it. A timestamp message
+    /// must have exactly 20 bytes, so no bytes follow its header.
     pub fn from_slice(slice: &[u8]) -> Result<(Icmpv4Header, &[u8]), LenError>
         ensures ok { IfOk result (λ read. IsIcmpv4 slice.now (parts_of read.0 read.1.now [])) }
         ensures only { (message : Parts Icmpv4Header) → IsIcmpv4 slice.now message
@@ -50,7 +51,7 @@ impl Icmpv4Header {
         Ok((message.to_header(), message.payload()))
     }
 
-    /// The number of bytes of the header: 20 of a timestamp message, and else 8.
+    /// Length of the ICMPv4 header in bytes: 20 for timestamp messages, 8 for all others.
     #[inline]
     pub fn header_len(&self) -> usize
         ensures { result ≡ icmpv4_len (icmpv4_kind self.now.icmp_type) }
@@ -58,7 +59,8 @@ impl Icmpv4Header {
         self.icmp_type.header_len()
     }
 
-    /// The header as it stands on the wire, with the checksum that it holds. Bytes that the type does not use are 0.
+    /// Returns the wire bytes of the ICMPv4 header. The checksum is written as `checksum` contains it, and bytes that
+    /// the type does not use are 0.
     pub fn to_bytes(&self) -> ArrayVec<u8, 20>
         ensures bytes { result.items ≡ icmpv4_bytes self.now }
         ensures len { length result.items ≡ icmpv4_len (icmpv4_kind self.now.icmp_type) }
@@ -72,8 +74,8 @@ impl Icmpv4Header {
         bytes
     }
 
-    /// Appends the header's bytes with the checksum that it holds. A refusal leaves the buffer as it was, and comes
-    /// only where the buffer would have to grow.
+    /// Appends the wire bytes of the ICMPv4 header to the buffer; the checksum is written as `checksum` contains it.
+    /// Fails only if the buffer has to grow and the allocation fails; the buffer's content is then unchanged.
     pub fn write(&self, buf: &mut Vec<u8>) -> Result<(), AllocError>
         ensures ok { OnOk result (buf.new.items ≡ buf.old.items ++ icmpv4_bytes self.now) }
         ensures err { OnErr result (buf.new.items ≡ buf.old.items) }
@@ -84,7 +86,7 @@ impl Icmpv4Header {
         buf.extend_from_slice(bytes.as_slice())
     }
 
-    /// Sets the checksum to that of the header and this payload, whatever checksum the header holds.
+    /// Computes the checksum of the ICMPv4 message (this header and `payload`), and stores it in `checksum`.
     pub fn update_checksum(&mut self, payload: &[u8])
         ensures { self.new ≡ record self.old { checksum = checksum_of (icmpv4_message self.old payload.now) } }
     {

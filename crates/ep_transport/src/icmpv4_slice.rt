@@ -1,4 +1,4 @@
-//! An ICMP message in a slice (RFC 792).
+//! ICMPv4 messages (RFC 792) as slices of their bytes, parsed without copying.
 
 ghost use Rattle.std.specs.Prelude.{◌≡◌, ◌≤◌, length, None, MatchResult};
 ghost use Rattle.ep_base.specs.Tables.{Refuses, first_row};
@@ -12,7 +12,7 @@ use crate::icmpv4_type::Icmpv4Type;
 use ep_base::LenSource;
 use ep_base::err::{Layer, LenError};
 
-/// The bytes of a message, which are enough for the header of their kind.
+/// Bytes of an ICMPv4 message with a complete header, which has 20 bytes in a timestamp message, else 8.
 #[derive(Clone, Copy, Debug, PartialEq, Eq)]
 struct MessageBytes<'a> {
     slice: &'a [u8],
@@ -20,7 +20,7 @@ struct MessageBytes<'a> {
     ghost whole: { icmpv4_len (icmpv4_kind_at slice.now) ≤ length slice.now },
 }
 
-/// Refuses a timestamp message that has another length than its header.
+/// Returns an error if an ICMPv4 message of `len` bytes is a timestamp request or reply and `len` is not 20.
 fn check_timestamp(kind: Option<Icmpv4Kind>, len: usize) -> Result<(), LenError>
     ensures { MatchResult result (λ _. first_row (icmpv4_timestamp_rows kind len) ≡ None)
         (Refuses (icmpv4_timestamp_rows kind len)) }
@@ -36,7 +36,7 @@ fn check_timestamp(kind: Option<Icmpv4Kind>, len: usize) -> Result<(), LenError>
     Err(LenError::at_start(Icmpv4Header::MAX_LEN, len, LenSource::Slice, layer))
 }
 
-/// An ICMP message (RFC 792) that lies in a slice: header and payload.
+/// ICMPv4 message (RFC 792), header and payload, as a slice of its bytes. Fields are read from the slice on access.
 #[derive(Clone, Debug, PartialEq, Eq, Drop)]
 pub struct Icmpv4Slice<'a> {
     bytes: MessageBytes<'a>,
@@ -50,7 +50,8 @@ impl<'a> Icmpv4Slice<'a> {
     ghost use Rattle.ep_transport.specs.Icmpv4.{IsIcmpv4, RefusesIcmpv4, icmpv4_code_u8, icmpv4_kind_at, icmpv4_type_u8, timestamp_of};
     ghost use Rattle.ep_transport.specs.Icmpv4Slices.{icmpv4_slice_bytes, icmpv4_slice_header, icmpv4_slice_header_len, icmpv4_slice_payload, icmpv4_slice_parts};
 
-    /// The message that the slice is. A timestamp message has exactly 20 bytes.
+    /// Parses the slice as an ICMPv4 message, header and payload. Fails below 8 bytes, and for a timestamp request or
+    /// reply that does not have exactly 20 bytes.
     pub fn from_slice(slice: &'a [u8]) -> Result<Icmpv4Slice<'a>, LenError>
         ensures ok { IfOk result (λ message. (left : List ℕ) × (slice.now ≡ icmpv4_slice_bytes message ++ left)
             × IsIcmpv4 slice.now (icmpv4_slice_parts message)) }
@@ -72,7 +73,7 @@ impl<'a> Icmpv4Slice<'a> {
         })
     }
 
-    /// The bytes of header and payload.
+    /// Bytes of the ICMPv4 message, header and payload.
     #[inline]
     pub fn slice(&self) -> &'a [u8]
         ensures { result.now ≡ icmpv4_slice_bytes self.now }
@@ -80,7 +81,7 @@ impl<'a> Icmpv4Slice<'a> {
         self.bytes.slice
     }
 
-    /// The bytes behind the header, of which a timestamp message has none.
+    /// Bytes after the ICMPv4 header; empty for a timestamp message.
     #[inline]
     pub fn payload(&self) -> &'a [u8]
         ensures { result.now ≡ icmpv4_slice_payload self.now }
@@ -88,7 +89,7 @@ impl<'a> Icmpv4Slice<'a> {
         &self.bytes.slice[self.header_len()..]
     }
 
-    /// The number of bytes of the header: 20 of a timestamp message, and else 8.
+    /// Length of the ICMPv4 header in bytes: 20 for timestamp messages, 8 for all others.
     #[inline]
     pub fn header_len(&self) -> usize
         ensures { result ≡ icmpv4_slice_header_len self.now }
@@ -101,7 +102,7 @@ impl<'a> Icmpv4Slice<'a> {
         }
     }
 
-    /// The type, byte 0.
+    /// Type of the ICMPv4 message as a number, byte 0.
     #[inline]
     pub fn type_u8(&self) -> u8
         ensures byte { result ≡ slice_index (icmpv4_slice_bytes self.now) 0 }
@@ -110,7 +111,7 @@ impl<'a> Icmpv4Slice<'a> {
         self.bytes.slice[0]
     }
 
-    /// The code, byte 1.
+    /// Code of the ICMPv4 message as a number, byte 1.
     #[inline]
     pub fn code_u8(&self) -> u8
         ensures byte { result ≡ slice_index (icmpv4_slice_bytes self.now) 1 }
@@ -119,7 +120,7 @@ impl<'a> Icmpv4Slice<'a> {
         self.bytes.slice[1]
     }
 
-    /// The checksum, bytes 2 and 3.
+    /// Checksum of the ICMPv4 message, bytes 2 and 3. It is not verified.
     #[inline]
     pub fn checksum(&self) -> u16
         ensures { result ≡ (icmpv4_slice_header self.now).checksum }
@@ -127,7 +128,7 @@ impl<'a> Icmpv4Slice<'a> {
         u16::from_be_bytes([self.bytes.slice[2], self.bytes.slice[3]])
     }
 
-    /// The bytes 4 to 7, whatever the type makes of them.
+    /// Bytes 4 to 7 of the ICMPv4 message, counted from 0. They are not interpreted; their meaning depends on the type.
     #[inline]
     pub fn bytes5to8(&self) -> [u8; 4]
         ensures { result ≡ slice_range (icmpv4_slice_bytes self.now) 4 8 }
@@ -136,7 +137,8 @@ impl<'a> Icmpv4Slice<'a> {
         [slice[4], slice[5], slice[6], slice[7]]
     }
 
-    /// What the message says.
+    /// Decodes type, code and type-specific header fields of the ICMPv4 message. A message with an unknown type or code
+    /// is returned as `Unknown`.
     pub fn icmp_type(&self) -> Icmpv4Type
         ensures { result ≡ (icmpv4_slice_header self.now).icmp_type }
     {
@@ -172,7 +174,7 @@ impl<'a> Icmpv4Slice<'a> {
         }
     }
 
-    /// The header as a value.
+    /// Decodes the header of the ICMPv4 message into an owned header.
     #[inline]
     pub fn to_header(&self) -> Icmpv4Header
         ensures { result ≡ icmpv4_slice_header self.now }
@@ -183,7 +185,8 @@ impl<'a> Icmpv4Slice<'a> {
         }
     }
 
-    /// The header as a value, under the name that it has in the Rust crate.
+    /// Decodes the header of the ICMPv4 message into an owned header. Equal to `to_header`; this is its name in the
+    /// Rust crate etherparse.
     #[inline]
     pub fn header(&self) -> Icmpv4Header
         ensures { result ≡ icmpv4_slice_header self.now }
@@ -191,7 +194,7 @@ impl<'a> Icmpv4Slice<'a> {
         self.to_header()
     }
 
-    /// The kind of the message, where it is a known one.
+    /// Known ICMPv4 message with the type and code in the slice, or `None` if the type or code is unknown.
     #[inline]
     fn kind(&self) -> Option<Icmpv4Kind>
         ensures { result ≡ icmpv4_kind_at (icmpv4_slice_bytes self.now) }
@@ -199,7 +202,7 @@ impl<'a> Icmpv4Slice<'a> {
         kind::kind_of(self.bytes.slice[0], self.bytes.slice[1])
     }
 
-    /// The numbers of an echo.
+    /// Identifier and sequence number of an ICMPv4 echo message, bytes 4 to 7.
     #[inline]
     fn echo(&self) -> IcmpEchoHeader
         ensures { result ≡ echo_of (icmpv4_slice_bytes self.now) }
@@ -211,7 +214,7 @@ impl<'a> Icmpv4Slice<'a> {
         }
     }
 
-    /// The numbers and times of a timestamp message.
+    /// Identifier, sequence number and timestamps of an ICMPv4 timestamp message, bytes 4 to 19.
     fn times(&self) -> TimestampMessage
         requires { 20 ≤ length (icmpv4_slice_bytes self.now) }
         ensures { result ≡ timestamp_of (icmpv4_slice_bytes self.now) }

@@ -1,4 +1,4 @@
-//! What an ICMP message says (RFC 792).
+//! ICMPv4 messages by type and code, with their type-specific header fields (RFC 792).
 
 ghost use Rattle.std.specs.Prelude.{◌≡◌, ◌==◌, ◌+◌, ◌≤◌, if◌then◌else◌, [], ◌∷◌, ◌++◌, length};
 ghost use Rattle.std.specs.Int.{w16, to_be_bytes};
@@ -9,54 +9,57 @@ use crate::icmpv4;
 use crate::icmpv4::{TimeExceededCode, TimestampMessage};
 use arrayvec::ArrayVec;
 
-/// What an ICMP message says (RFC 792), by its type and code, with the bytes of the header that are theirs.
+/// Type, code and type-specific header fields of an ICMPv4 message (RFC 792).
 #[derive(Clone, Debug, PartialEq, Eq, Drop)]
 pub enum Icmpv4Type {
-    /// A type and a code that are none of those below.
+    /// ICMPv4 message with an unknown type, or with an unknown code of a known type.
     Unknown {
-        /// The type, byte 0.
+        /// Type of an unknown ICMPv4 message, byte 0.
         type_u8: u8,
-        /// The code, byte 1.
+        /// Code of an unknown ICMPv4 message, byte 1.
         code_u8: u8,
-        /// The bytes 4 to 7.
+        /// Bytes 4 to 7 of an unknown ICMPv4 message, counted from 0 and not interpreted.
         bytes5to8: [u8; 4],
     },
-    /// An answer to an echo request: type 0.
+    /// ICMPv4 echo reply (type 0).
     EchoReply(IcmpEchoHeader),
-    /// A packet could not be delivered: type 3.
+    /// ICMPv4 destination unreachable (type 3).
     DestinationUnreachable {
-        /// Why, a number up to 15.
+        /// Code of an ICMPv4 destination unreachable message, 0 to 15: the reason why the destination is unreachable.
         code: u8,
-        /// With code 4 (fragmentation needed) the size that the next network takes (RFC 1191), bytes 6 and 7. With
-        /// others it is 0 and is not written.
+        /// Next-hop MTU in bytes of an ICMPv4 destination unreachable message with code 4, fragmentation needed (RFC
+        /// 1191), bytes 6 and 7. With other codes it is read as 0 and not written.
         next_hop_mtu: u16,
     },
-    /// There is a shorter way: type 5.
+    /// ICMPv4 redirect (type 5).
     Redirect {
-        /// For which packets, a number up to 3.
+        /// Code of an ICMPv4 redirect, 0 to 3: the datagrams to redirect (0: to the network, 1: to the host, 2 and 3:
+        /// likewise, but only those of a type of service).
         code: u8,
-        /// The address of the gateway, bytes 4 to 7.
+        /// IPv4 address of the gateway in an ICMPv4 redirect, bytes 4 to 7.
         gateway: [u8; 4],
     },
-    /// A request to send back what it holds: type 8.
+    /// ICMPv4 echo request (type 8).
     EchoRequest(IcmpEchoHeader),
-    /// A packet was under way for too long: type 11.
+    /// ICMPv4 time exceeded (type 11), with its code.
     TimeExceeded(TimeExceededCode),
-    /// A packet's header could not be understood: type 12.
+    /// ICMPv4 parameter problem (type 12).
     ParameterProblem {
-        /// Why, a number up to 2.
+        /// Code of an ICMPv4 parameter problem, 0 to 2 (0: the pointer shows the error, 1: a required option is
+        /// missing, 2: bad length).
         code: u8,
-        /// With code 0 the place of the byte that was not understood, byte 4. With others it is 0 and is not written.
+        /// Pointer of an ICMPv4 parameter problem with code 0, byte 4: offset of the erroneous byte in the original
+        /// datagram. With other codes it is read as 0 and not written.
         pointer: u8,
     },
-    /// A request for the receiver's time: type 13.
+    /// ICMPv4 timestamp request (type 13).
     TimestampRequest(TimestampMessage),
-    /// An answer to a timestamp request: type 14.
+    /// ICMPv4 timestamp reply (type 14).
     TimestampReply(TimestampMessage),
 }
 
 impl Icmpv4Type {
-    /// The type, byte 0.
+    /// Type of the ICMPv4 message as a number, byte 0.
     #[inline]
     pub fn type_u8(&self) -> u8
         ensures { result ≡ icmpv4_type_u8 self.now }
@@ -74,7 +77,7 @@ impl Icmpv4Type {
         }
     }
 
-    /// The code, byte 1.
+    /// Code of the ICMPv4 message as a number, byte 1.
     #[inline]
     pub fn code_u8(&self) -> u8
         ensures { result ≡ icmpv4_code_u8 self.now }
@@ -92,7 +95,7 @@ impl Icmpv4Type {
         }
     }
 
-    /// The number of bytes of the header: 20 of a timestamp message, and else 8.
+    /// Length of the ICMPv4 header in bytes: 20 for timestamp messages, 8 for all others.
     #[inline]
     pub fn header_len(&self) -> usize
         ensures { result ≡ icmpv4_len (icmpv4_kind self.now) }
@@ -109,7 +112,8 @@ impl Icmpv4Type {
         }
     }
 
-    /// The bytes of the header from 4 on. Those that the type does not use are 0.
+    /// Returns the bytes of the ICMPv4 header after its checksum, from byte 4 on. Bytes that the type does not use are
+    /// 0.
     pub(crate) fn rest_bytes(&self) -> ArrayVec<u8, 16>
         ensures bytes { result.items ≡ icmpv4_rest_with (0 ∷ 0 ∷ 0 ∷ 0 ∷ []) self.now }
         ensures len { 4 + length result.items ≡ icmpv4_len (icmpv4_kind self.now) }
@@ -134,7 +138,8 @@ impl Icmpv4Type {
     }
 }
 
-/// The bytes 4 to 7 of a destination that can't be reached: the mtu with code 4.
+/// Returns bytes 4 to 7 of an ICMPv4 destination unreachable message: for code 4 two zero bytes and the next-hop MTU,
+/// else 0.
 #[inline]
 fn mtu_bytes(code: u8, next_hop_mtu: u16) -> [u8; 4]
     ensures { result ≡ (if code == 4 then 0 ∷ 0 ∷ to_be_bytes w16 next_hop_mtu else 0 ∷ 0 ∷ 0 ∷ 0 ∷ []) }
@@ -147,7 +152,7 @@ fn mtu_bytes(code: u8, next_hop_mtu: u16) -> [u8; 4]
     }
 }
 
-/// The bytes 4 to 7 of a header that was not understood: the pointer with code 0.
+/// Returns bytes 4 to 7 of an ICMPv4 parameter problem: for code 0 the pointer and three zero bytes, else 0.
 #[inline]
 fn pointer_bytes(code: u8, pointer: u8) -> [u8; 4]
     ensures { result ≡ (if code == 0 then pointer ∷ 0 ∷ 0 ∷ 0 ∷ [] else 0 ∷ 0 ∷ 0 ∷ 0 ∷ []) }
@@ -159,7 +164,7 @@ fn pointer_bytes(code: u8, pointer: u8) -> [u8; 4]
     }
 }
 
-/// These bytes.
+/// Copies at most 16 bytes of an ICMPv4 header into an array vector.
 #[inline]
 fn bytes_of(slice: &[u8]) -> ArrayVec<u8, 16>
     requires { length slice.now ≤ 16 }

@@ -1,4 +1,4 @@
-//! The header of ICMPv6 (RFC 4443).
+//! ICMPv6 header (RFC 4443) as an owned value.
 
 ghost use Rattle.std.specs.Prelude.{◌≡◌, ◌+◌, ◌<◌, ◌≤◌, ◌++◌, length, IfOk, IfErr, OnOk, OnErr, IsOkAnd, MatchResult, None, [], vec_len, vec_capacity};
 ghost use Rattle.ep_base.specs.Tables.{Parts, parts_of, Refuses, first_row};
@@ -12,23 +12,23 @@ use ep_base::IpNumber;
 use ep_base::err::{LenError, ValueTooBigError, ValueType};
 use std::alloc::AllocError;
 
-/// The header of an ICMPv6 message (RFC 4443), 8 bytes.
+/// ICMPv6 header (RFC 4443) as an owned value; 8 bytes on the wire.
 #[derive(Clone, Debug, PartialEq, Eq, Drop)]
 pub struct Icmpv6Header {
-    /// What the message says, bytes 0, 1, and 4 to 7.
+    /// Type, code and type-specific fields of an ICMPv6 header: byte 0, byte 1, and bytes 4 to 7.
     pub icmp_type: Icmpv6Type,
-    /// The checksum, bytes 2 and 3.
+    /// Checksum of an ICMPv6 message, bytes 2 and 3.
     pub checksum: u16,
 }
 
 impl Icmpv6Header {
-    /// The least number of bytes of a header.
+    /// Minimum length of an ICMPv6 header in bytes: 8, for all types.
     pub const MIN_LEN: usize = 8;
 
-    /// The greatest number of bytes of a header.
+    /// Maximum length of an ICMPv6 header in bytes: 8, for all types.
     pub const MAX_LEN: usize = 8;
 
-    /// A header with the checksum 0.
+    /// Creates an ICMPv6 header with this type and the checksum 0.
     #[inline]
     pub fn new(icmp_type: Icmpv6Type) -> Icmpv6Header
         ensures { result ≡ record { icmp_type = icmp_type; checksum = 0 } }
@@ -39,7 +39,7 @@ impl Icmpv6Header {
         }
     }
 
-    /// The header at the front of the slice, and the bytes behind it.
+    /// Parses the 8 byte ICMPv6 header at the start of the slice, and returns it with the bytes after it.
     pub fn from_slice(slice: &[u8]) -> Result<(Icmpv6Header, &[u8]), LenError>
         ensures ok { IfOk result (λ read. IsIcmpv6 slice.now (parts_of read.0 read.1.now [])) }
         ensures only { (message : Parts Icmpv6Header) → IsIcmpv6 slice.now message
@@ -50,7 +50,7 @@ impl Icmpv6Header {
         Ok((message.to_header(), message.payload()))
     }
 
-    /// The number of bytes of the header: 8.
+    /// Length of the ICMPv6 header in bytes; always 8.
     #[inline]
     pub fn header_len(&self) -> usize
         ensures { result ≡ 8 }
@@ -58,7 +58,8 @@ impl Icmpv6Header {
         self.icmp_type.header_len()
     }
 
-    /// The header as it stands on the wire, with the checksum that it holds. Bytes that the type does not use are 0.
+    /// Returns the 8 wire bytes of the ICMPv6 header. The checksum is written as `checksum` contains it, and bytes that
+    /// the type does not use are 0.
     #[inline]
     pub fn to_bytes(&self) -> [u8; 8]
         ensures { result ≡ icmpv6_bytes self.now }
@@ -77,8 +78,8 @@ impl Icmpv6Header {
         ]
     }
 
-    /// Appends the header's bytes with the checksum that it holds. A refusal leaves the buffer as it was, and comes
-    /// only where the buffer would have to grow.
+    /// Appends the 8 wire bytes of the ICMPv6 header to the buffer; the checksum is written as `checksum` contains it.
+    /// Fails only if the buffer has to grow and the allocation fails; the buffer's content is then unchanged.
     pub fn write(&self, buf: &mut Vec<u8>) -> Result<(), AllocError>
         ensures ok { OnOk result (buf.new.items ≡ buf.old.items ++ icmpv6_bytes self.now) }
         ensures err { OnErr result (buf.new.items ≡ buf.old.items) }
@@ -88,8 +89,9 @@ impl Icmpv6Header {
         buf.extend_from_slice(&self.to_bytes())
     }
 
-    /// Sets the checksum to that of the header and this payload between these addresses, whatever checksum the header
-    /// holds. A payload above 4294967287 bytes is refused, and changes nothing.
+    /// Computes the checksum of the ICMPv6 message (this header and `payload`) sent from the IPv6 address `source` to
+    /// `destination`, and stores it in `checksum`. Fails if the payload is above 4294967287 bytes; the header is then
+    /// unchanged.
     pub fn update_checksum(
         &mut self,
         source: [u8; 16],

@@ -1,4 +1,4 @@
-//! An ICMPv6 message in a slice (RFC 4443).
+//! ICMPv6 messages (RFC 4443) as slices of their bytes, parsed without copying.
 
 use crate::icmp_echo_header::IcmpEchoHeader;
 use crate::icmpv6::kind::Icmpv6Kind;
@@ -8,7 +8,7 @@ use crate::icmpv6_type::Icmpv6Type;
 use ep_base::err::{Layer, LenError};
 use ep_base::{AtLeast, LenSource};
 
-/// An ICMPv6 message (RFC 4443) that lies in a slice: header and payload.
+/// ICMPv6 message (RFC 4443), header and payload, as a slice of its bytes. Fields are read from the slice on access.
 #[derive(Clone, Debug, PartialEq, Eq, Drop)]
 pub struct Icmpv6Slice<'a> {
     bytes: AtLeast<'a, 8>,
@@ -23,7 +23,7 @@ impl<'a> Icmpv6Slice<'a> {
     ghost use Rattle.ep_transport.specs.Icmpv6.{IsIcmpv6, RefusesIcmpv6, icmpv6_code_u8, icmpv6_type_u8};
     ghost use Rattle.ep_transport.specs.Icmpv6Slices.{icmpv6_slice_bytes, icmpv6_slice_header, icmpv6_slice_payload, icmpv6_slice_parts};
 
-    /// The message that the slice is.
+    /// Parses the slice as an ICMPv6 message, header and payload. Fails below 8 bytes.
     pub fn from_slice(slice: &'a [u8]) -> Result<Icmpv6Slice<'a>, LenError>
         ensures ok { IfOk result (λ message. (left : List ℕ) × (slice.now ≡ icmpv6_slice_bytes message ++ left)
             × IsIcmpv6 slice.now (icmpv6_slice_parts message)) }
@@ -44,7 +44,7 @@ impl<'a> Icmpv6Slice<'a> {
         })
     }
 
-    /// The bytes of header and payload.
+    /// Bytes of the ICMPv6 message, header and payload.
     #[inline]
     pub fn slice(&self) -> &'a [u8]
         ensures { result.now ≡ icmpv6_slice_bytes self.now }
@@ -52,7 +52,7 @@ impl<'a> Icmpv6Slice<'a> {
         self.bytes.slice
     }
 
-    /// The bytes behind the header.
+    /// Bytes after the 8 byte ICMPv6 header.
     #[inline]
     pub fn payload(&self) -> &'a [u8]
         ensures { result.now ≡ icmpv6_slice_payload self.now }
@@ -60,7 +60,7 @@ impl<'a> Icmpv6Slice<'a> {
         &self.bytes.slice[Icmpv6Header::MIN_LEN..]
     }
 
-    /// The number of bytes of the header: 8.
+    /// Length of the ICMPv6 header in bytes; always 8.
     #[inline]
     pub fn header_len(&self) -> usize
         ensures { result ≡ 8 }
@@ -68,7 +68,7 @@ impl<'a> Icmpv6Slice<'a> {
         Icmpv6Header::MIN_LEN
     }
 
-    /// The type, byte 0.
+    /// Type of the ICMPv6 message as a number, byte 0.
     #[inline]
     pub fn type_u8(&self) -> u8
         ensures byte { result ≡ slice_index (icmpv6_slice_bytes self.now) 0 }
@@ -77,7 +77,7 @@ impl<'a> Icmpv6Slice<'a> {
         self.bytes.slice[0]
     }
 
-    /// The code, byte 1.
+    /// Code of the ICMPv6 message as a number, byte 1.
     #[inline]
     pub fn code_u8(&self) -> u8
         ensures byte { result ≡ slice_index (icmpv6_slice_bytes self.now) 1 }
@@ -86,7 +86,7 @@ impl<'a> Icmpv6Slice<'a> {
         self.bytes.slice[1]
     }
 
-    /// The checksum, bytes 2 and 3.
+    /// Checksum of the ICMPv6 message, bytes 2 and 3. It is not verified.
     #[inline]
     pub fn checksum(&self) -> u16
         ensures { result ≡ (icmpv6_slice_header self.now).checksum }
@@ -94,7 +94,7 @@ impl<'a> Icmpv6Slice<'a> {
         u16::from_be_bytes([self.bytes.slice[2], self.bytes.slice[3]])
     }
 
-    /// The bytes 4 to 7, whatever the type makes of them.
+    /// Bytes 4 to 7 of the ICMPv6 message, counted from 0. They are not interpreted; their meaning depends on the type.
     #[inline]
     pub fn bytes5to8(&self) -> [u8; 4]
         ensures { result ≡ slice_range (icmpv6_slice_bytes self.now) 4 8 }
@@ -103,7 +103,8 @@ impl<'a> Icmpv6Slice<'a> {
         [slice[4], slice[5], slice[6], slice[7]]
     }
 
-    /// What the message says.
+    /// Decodes type, code and type-specific header fields of the ICMPv6 message. A message with an unknown type or code
+    /// is returned as `Unknown`.
     pub fn icmp_type(&self) -> Icmpv6Type
         ensures { result ≡ (icmpv6_slice_header self.now).icmp_type }
     {
@@ -126,7 +127,7 @@ impl<'a> Icmpv6Slice<'a> {
         }
     }
 
-    /// The header as a value.
+    /// Decodes the header of the ICMPv6 message into an owned header.
     #[inline]
     pub fn to_header(&self) -> Icmpv6Header
         ensures { result ≡ icmpv6_slice_header self.now }
@@ -137,7 +138,8 @@ impl<'a> Icmpv6Slice<'a> {
         }
     }
 
-    /// The header as a value, under the name that it has in the Rust crate.
+    /// Decodes the header of the ICMPv6 message into an owned header. Equal to `to_header`; this is its name in the
+    /// Rust crate etherparse.
     #[inline]
     pub fn header(&self) -> Icmpv6Header
         ensures { result ≡ icmpv6_slice_header self.now }
@@ -145,7 +147,7 @@ impl<'a> Icmpv6Slice<'a> {
         self.to_header()
     }
 
-    /// The bytes 4 to 7 as one number.
+    /// Bytes 4 to 7 of the ICMPv6 message as a big-endian number: the MTU or the pointer.
     #[inline]
     fn number(&self) -> u32
         ensures { result ≡ long_at (icmpv6_slice_bytes self.now) 4 }
@@ -153,7 +155,7 @@ impl<'a> Icmpv6Slice<'a> {
         u32::from_be_bytes(self.bytes5to8())
     }
 
-    /// The numbers of an echo.
+    /// Identifier and sequence number of an ICMPv6 echo message, bytes 4 to 7.
     #[inline]
     fn echo(&self) -> IcmpEchoHeader
         ensures { result ≡ echo_of (icmpv6_slice_bytes self.now) }

@@ -1,4 +1,4 @@
-//! What an ICMPv6 message says (RFC 4443).
+//! ICMPv6 messages by type and code, with their type-specific header fields (RFC 4443).
 
 ghost use Rattle.std.specs.Prelude.{◌≡◌, [], ◌∷◌};
 ghost use Rattle.ep_transport.specs.Icmpv6.{icmpv6_type_u8, icmpv6_code_u8, icmpv6_rest_with};
@@ -7,42 +7,44 @@ use crate::icmp_echo_header::IcmpEchoHeader;
 use crate::icmpv6;
 use crate::icmpv6::TimeExceededCode;
 
-/// What an ICMPv6 message says (RFC 4443), by its type and code, with the bytes of the header that are theirs.
+/// Type, code and type-specific header fields of an ICMPv6 message (RFC 4443).
 #[derive(Clone, Debug, PartialEq, Eq, Drop)]
 pub enum Icmpv6Type {
-    /// A type and a code that are none of those below.
+    /// ICMPv6 message with an unknown type, or with an unknown code of a known type.
     Unknown {
-        /// The type, byte 0.
+        /// Type of an unknown ICMPv6 message, byte 0.
         type_u8: u8,
-        /// The code, byte 1.
+        /// Code of an unknown ICMPv6 message, byte 1.
         code_u8: u8,
-        /// The bytes 4 to 7.
+        /// Bytes 4 to 7 of an unknown ICMPv6 message, counted from 0 and not interpreted.
         bytes5to8: [u8; 4],
     },
-    /// A packet could not be delivered: type 1, with why, a code up to 6.
+    /// ICMPv6 destination unreachable (type 1), with its code, 0 to 6: the reason why the destination is unreachable.
     DestinationUnreachable(u8),
-    /// A packet was too long for a network on its way: type 2.
+    /// ICMPv6 packet too big (type 2).
     PacketTooBig {
-        /// The size that the network takes, bytes 4 to 7.
+        /// MTU of the next-hop link in bytes in an ICMPv6 packet too big message, bytes 4 to 7.
         mtu: u32,
     },
-    /// A packet was under way for too long: type 3.
+    /// ICMPv6 time exceeded (type 3), with its code.
     TimeExceeded(TimeExceededCode),
-    /// A packet's header could not be understood: type 4.
+    /// ICMPv6 parameter problem (type 4).
     ParameterProblem {
-        /// Why, a number up to 2.
+        /// Code of an ICMPv6 parameter problem, 0 to 2 (0: erroneous header field, 1: unrecognized next header, 2:
+        /// unrecognized IPv6 option).
         code: u8,
-        /// The place of the byte that was not understood, bytes 4 to 7.
+        /// Pointer of an ICMPv6 parameter problem, bytes 4 to 7: offset of the erroneous byte in the packet that caused
+        /// the message.
         pointer: u32,
     },
-    /// A request to send back what it holds: type 128.
+    /// ICMPv6 echo request (type 128).
     EchoRequest(IcmpEchoHeader),
-    /// An answer to an echo request: type 129.
+    /// ICMPv6 echo reply (type 129).
     EchoReply(IcmpEchoHeader),
 }
 
 impl Icmpv6Type {
-    /// The type, byte 0.
+    /// Type of the ICMPv6 message as a number, byte 0.
     #[inline]
     pub fn type_u8(&self) -> u8
         ensures { result ≡ icmpv6_type_u8 self.now }
@@ -58,7 +60,7 @@ impl Icmpv6Type {
         }
     }
 
-    /// The code, byte 1.
+    /// Code of the ICMPv6 message as a number, byte 1.
     #[inline]
     pub fn code_u8(&self) -> u8
         ensures { result ≡ icmpv6_code_u8 self.now }
@@ -74,7 +76,7 @@ impl Icmpv6Type {
         }
     }
 
-    /// The number of bytes of the header: 8.
+    /// Length of the ICMPv6 header in bytes; always 8.
     #[inline]
     pub fn header_len(&self) -> usize
         ensures { result ≡ 8 }
@@ -82,7 +84,7 @@ impl Icmpv6Type {
         8
     }
 
-    /// The bytes 4 to 7 of the header. They are 0 where the type does not use them.
+    /// Returns bytes 4 to 7 of the ICMPv6 header. Bytes that the type does not use are 0.
     pub(crate) fn rest_bytes(&self) -> [u8; 4]
         ensures { result ≡ icmpv6_rest_with (0 ∷ 0 ∷ 0 ∷ 0 ∷ []) self.now }
     {

@@ -1,4 +1,5 @@
-//! What holds of every list of bytes, each law the contract of a function that does nothing.
+//! Theorems (laws) about UDP, TCP, ICMPv4 and ICMPv6. Each law is the contract of a function without an effect; only
+//! `constants` returns values, the default headers.
 
 ghost use Rattle.std.specs.Prelude.{◌≡◌, ◌%◌, ◌≤◌, ◌⊎◌, ◌++◌, ◌↔◌, ℕ, Bool, IsTrue, List, length, take, drop, map, Option, Result, Ok};
 ghost use Rattle.std.specs.Int.{w16, to_be_bytes};
@@ -8,7 +9,7 @@ ghost use Rattle.ep_transport.specs.declared.tcp_option_element.TcpOptionReadErr
 ghost use Rattle.ep_base.specs.Bytes.{AreBytes};
 ghost use Rattle.ep_base.specs.Checksum.{ones_sum, checksum_of, no_zero};
 ghost use Rattle.ep_base.specs.Readings.{Reading, slices, headers};
-ghost use Rattle.ep_base.specs.Missing.{TellsCut, TellsMissing, slice_end};
+ghost use Rattle.ep_base.specs.Missing.{ReportsTruncation, ReportsMissing, slice_end};
 ghost use Rattle.ep_base.specs.Tables.{IsDecided};
 ghost use Rattle.ep_base.specs.declared.len_source.LenSource.TheVariants as source;
 ghost use Rattle.ep_base.specs.declared.err.len_error.LenError.{LenError};
@@ -29,7 +30,7 @@ ghost use Rattle.ep_transport.specs.declared.tcp_options.TcpOptionWriteError.{Tc
 ghost use Rattle.ep_transport.specs.TcpOptionSteps.{options_left};
 ghost use Rattle.ep_transport.specs.UdpSlices.{udp_slice_bytes};
 ghost use Rattle.ep_transport.specs.TcpSlices.{tcp_slice_bytes};
-ghost use Rattle.ep_transport.specs.TransportParts.{TransportLayer, AreTransport, HasNoHeader, IsTransportCut, IsTransportPart, IsUdpLengthError, RefusesTransportPart};
+ghost use Rattle.ep_transport.specs.TransportParts.{TransportLayer, AreTransport, HasNoHeader, IsTransportWithTrailingBytes, IsTransportPart, IsUdpLengthError, RefusesTransportPart};
 ghost use Rattle.ep_transport.specs.TransportParts.{transport_slice_bytes};
 ghost use Rattle.ep_transport.specs.TransportNumbers.{transport_slice_number};
 
@@ -41,28 +42,31 @@ use crate::{
     UdpHeader, UdpSlice,
 };
 
-/// Bytes are a datagram, of one header, payload and rest, or are refused with one error, and never both.
+/// Law: any bytes either parse as exactly one UDP datagram (header, payload, and trailing bytes after the end that the
+/// length field sets), or are rejected with exactly one error.
 pub fn udp()
     ensures { (bytes : List ℕ) → AreBytes bytes → IsDecided (IsUdp bytes) (RefusesUdp bytes) }
 {}
 
-/// Bytes are a header, of one value and rest, or are refused with one error, and never both.
+/// Law: any bytes either parse as exactly one UDP header and exactly one remainder, or are rejected with exactly one
+/// error. The length field is not checked.
 pub fn udp_header()
     ensures { (bytes : List ℕ) → AreBytes bytes → IsDecided (IsUdpHeader bytes) (RefusesUdpHeader bytes) }
 {}
 
-/// Bytes are a segment, of one header and payload, or are refused with one error, and never both.
+/// Law: any bytes either parse as exactly one TCP segment (header and payload), or are rejected with exactly one error.
 pub fn tcp()
     ensures { (bytes : List ℕ) → AreBytes bytes → IsDecided (IsTcp bytes) (RefusesTcp bytes) }
 {}
 
-/// Bytes begin with one TCP option and one rest behind it, or are at the end of the options, or are refused with one
-/// error, and never two of these.
+/// Law: any bytes of a TCP option list either parse as exactly one option and exactly one remainder, or are at the end
+/// of the list (no bytes left, or kind 0), or are rejected with exactly one error.
 pub fn tcp_option()
     ensures { (bytes : List ℕ) → AreBytes bytes → IsDecided (IsNextOption bytes) (RefusesOption bytes) }
 {}
 
-/// Reading option after option gives one list of items, with at most as many items as there are bytes.
+/// Law: iterating over bytes as TCP options gives exactly one sequence of results (options, and perhaps an error as the
+/// last result), with at most one result per byte.
 pub fn tcp_option_items()
     ensures some { (bytes : List ℕ) → AreBytes bytes → (items : List (Result TcpOptionElement TcpOptionReadError))
         × AreItems bytes items × (length items ≤ length bytes) }
@@ -70,36 +74,41 @@ pub fn tcp_option_items()
         → AreItems bytes items → AreItems bytes others → items ≡ others }
 {}
 
-/// The layer whose bytes are missing, where an IP payload is refused, starts where the payload does.
+/// Law: in a length error for the transport layer of an IP payload, `layer_start_offset` is 0, the start of that
+/// payload.
 pub fn transport_places()
     ensures { (reading : Reading) (number : ℕ) (fragmented : Bool) (bytes : List ℕ) (error : LenError)
         → RefusesTransportPart reading number fragmented bytes (header_error.Len error) → error.layer_start_offset ≡ 0 }
 {}
 
-/// Options that are written, and filled up to words, are read back, the blocks of a selective acknowledgement moved to
-/// the front, and then their end.
+/// Law: TCP options that are encoded and padded to a multiple of 4 bytes are read back unchanged, with one exception:
+/// in a selective acknowledgment, present blocks are moved before absent ones (`None`).
 pub fn tcp_options_read_back()
     ensures { (options : List TcpOptionElement) → All FitsOption options
         → AreItems (in_words (options_bytes options)) (map (λ option. Ok (as_read option)) options) }
 {}
 
-/// The bytes of an IP payload have one transport layer, or none, or are refused with one error, and never both.
+/// Law: any IP payload either has exactly one transport layer, or none (a fragment, or a protocol other than UDP, TCP,
+/// ICMPv4 and ICMPv6), or is rejected with exactly one error. It holds for the slicing parser and for the
+/// header-decoding parser.
 pub fn transport()
     ensures { (reading : Reading) (number : ℕ) (fragmented : Bool) (bytes : List ℕ) → AreBytes bytes
         → IsDecided (IsTransportPart reading number fragmented bytes)
         (RefusesTransportPart reading number fragmented bytes) }
 {}
 
-/// The bytes of an IP payload have one transport layer, or none, and one part that its cut leaves, or are refused with
-/// one error, and never both.
-pub fn transport_cut()
+/// Law: any IP payload either has exactly one transport layer or none, with exactly one sequence of trailing bytes
+/// (after the end that the UDP length field sets), or is rejected with exactly one error. It holds for the slicing
+/// parser and for the header-decoding parser.
+pub fn transport_with_trailing_bytes()
     ensures { (reading : Reading) (number : ℕ) (fragmented : Bool) (bytes : List ℕ) → AreBytes bytes
-        → IsDecided (IsTransportCut reading number fragmented bytes)
+        → IsDecided (IsTransportWithTrailingBytes reading number fragmented bytes)
         (RefusesTransportPart reading number fragmented bytes) }
 {}
 
-/// What is refused in the reading of headers is refused in that of slices, with the same error. Slices alone refuse by
-/// the length field of UDP, and bytes of a number of no header are never refused.
+/// Law: a transport layer that the header-decoding parser rejects is rejected by the slicing parser with the same
+/// error. The slicing parser rejects an invalid UDP length field in addition, and nothing else. An IP protocol other
+/// than UDP, TCP, ICMPv4 and ICMPv6 is never rejected.
 pub fn transport_of_headers()
     ensures refused { (number : ℕ) (fragmented : Bool) (bytes : List ℕ) (error : HeaderSliceError)
         → RefusesTransportPart headers number fragmented bytes error
@@ -111,47 +120,48 @@ pub fn transport_of_headers()
         → HasNoHeader number → ¬ RefusesTransportPart reading number fragmented bytes error }
 {}
 
-/// A refusal for want of bytes at hand counts the bytes that are there, and with as many behind them as are missing,
-/// the bytes are not refused by that row again: for each layer but timestamps of ICMP, which have exactly 20 bytes, and
-/// for the transport layer of any number in each reading. Beside the end of the bytes, the length field of UDP alone is
-/// a limit.
-pub fn tell_missing()
-    ensures udp_header { TellsMissing RefusesUdpHeader }
-    ensures udp { TellsMissing RefusesUdp }
-    ensures tcp { TellsMissing (λ bytes error. RefusesTcp bytes (header_error.Len error)) }
-    ensures icmpv4 { TellsMissing RefusesIcmpv4 }
-    ensures icmpv6 { TellsMissing RefusesIcmpv6 }
-    ensures transport { (reading : Reading) (number : ℕ) (fragmented : Bool) → TellsMissing
+/// Law: in a length error for a transport layer whose `len_source` is the slice, `layer_start_offset + len` is the
+/// number of input bytes, and `required_len` is above `len`. If `required_len - len` or more bytes are appended, the
+/// check that failed passes. ICMPv4 timestamp messages are excepted, because they must have exactly 20 bytes. The only
+/// other `len_source` is the UDP length field.
+pub fn missing_bytes()
+    ensures udp_header { ReportsMissing RefusesUdpHeader }
+    ensures udp { ReportsMissing RefusesUdp }
+    ensures tcp { ReportsMissing (λ bytes error. RefusesTcp bytes (header_error.Len error)) }
+    ensures icmpv4 { ReportsMissing RefusesIcmpv4 }
+    ensures icmpv6 { ReportsMissing RefusesIcmpv6 }
+    ensures transport { (reading : Reading) (number : ℕ) (fragmented : Bool) → ReportsMissing
         (λ bytes error. RefusesTransportPart reading number fragmented bytes (header_error.Len error)) }
     ensures limit { (reading : Reading) (number : ℕ) (fragmented : Bool) (bytes : List ℕ) (error : LenError)
         → RefusesTransportPart reading number fragmented bytes (header_error.Len error)
         → (error.len_source ≡ source.Slice) ⊎ (error.len_source ≡ source.UdpHeaderLen) }
 {}
 
-/// Where the front of the bytes of a transport layer is refused, it is for want of the bytes that the cut took: the
-/// offset plus `len` is the number of bytes up to the cut, `required_len` is more than `len`, and the offset plus
-/// `required_len` at most the number of all bytes. The limit is the end of the bytes at hand. So it is of timestamps of
-/// ICMP too, of which too many bytes are refused otherwise.
-pub fn tell_cut()
-    ensures udp_header { TellsCut IsUdpHeader RefusesUdpHeader (λ (error : LenError). error) (λ read. slice_end) }
-    ensures udp { TellsCut IsUdp RefusesUdp (λ (error : LenError). error) (λ datagram. slice_end) }
-    ensures tcp { TellsCut IsTcp RefusesTcp header_error.Len (λ segment. slice_end) }
-    ensures icmpv4 { TellsCut IsIcmpv4 RefusesIcmpv4 (λ (error : LenError). error) (λ message. slice_end) }
-    ensures icmpv6 { TellsCut IsIcmpv6 RefusesIcmpv6 (λ (error : LenError). error) (λ message. slice_end) }
+/// Law: if a transport layer is truncated and then rejected, the error is a length error for the missing bytes.
+/// `layer_start_offset + len` is the truncated length, `required_len` is above `len`, and `layer_start_offset +
+/// required_len` is at most the original length. Its `len_source` is the slice. ICMPv4 timestamp messages, which must
+/// have exactly 20 bytes, are included.
+pub fn truncation()
+    ensures udp_header { ReportsTruncation IsUdpHeader RefusesUdpHeader (λ (error : LenError). error) (λ read. slice_end) }
+    ensures udp { ReportsTruncation IsUdp RefusesUdp (λ (error : LenError). error) (λ datagram. slice_end) }
+    ensures tcp { ReportsTruncation IsTcp RefusesTcp header_error.Len (λ segment. slice_end) }
+    ensures icmpv4 { ReportsTruncation IsIcmpv4 RefusesIcmpv4 (λ (error : LenError). error) (λ message. slice_end) }
+    ensures icmpv6 { ReportsTruncation IsIcmpv6 RefusesIcmpv6 (λ (error : LenError). error) (λ message. slice_end) }
     ensures transport { (reading : Reading) (number : ℕ) (fragmented : Bool)
-        → TellsCut (IsTransportPart reading number fragmented) (RefusesTransportPart reading number fragmented)
+        → ReportsTruncation (IsTransportPart reading number fragmented) (RefusesTransportPart reading number fragmented)
         header_error.Len (λ part. slice_end) }
 {}
 
-/// The bytes of an IP payload are the transport header, its payload, and what its cut leaves.
+/// Law: the bytes of an IP payload are the transport header, the payload of the transport layer, and the trailing bytes
+/// after the end that the UDP length field sets, in this order. Without a transport layer, they are payload alone.
 pub fn transport_bytes()
     ensures { (reading : Reading) (number : ℕ) (fragmented : Bool) (bytes : List ℕ) (part : Option TransportLayer)
         → IsTransportPart reading number fragmented bytes part → AreTransport bytes part }
 {}
 
-/// A message with its checksum filled in sums to 65535 with its pseudo header, by which a receiver tests it, whatever
-/// bytes stand in front of it as pseudo header; so do the bytes of a segment, reserved bits as they stand, which are
-/// summed as its header and payload are. A pseudo header ends with a whole word.
+/// Law: a UDP datagram or TCP segment with its computed checksum has the one's complement sum 65535 together with its
+/// pseudo header, as a receiver verifies. It holds for any even number of bytes in place of the pseudo header, and for
+/// the bytes of a received TCP segment with its reserved bits. Pseudo headers have an even length.
 pub fn checksums()
     ensures udp { (front : List ℕ) (header : UdpHeader) (payload : List ℕ) → length front % 2 ≡ 0
         → ones_sum (front ++ (udp_bytes
@@ -172,7 +182,8 @@ pub fn checksums()
         → length destination ≡ 16 → length (pseudo_header_ipv6 source destination number len) % 2 ≡ 0 }
 {}
 
-/// The lengths of headers and options (RFC 768; RFC 9293, 3.1), and that the defaults are all 0, false or empty.
+/// Returns the default UDP header and the default TCP header, whose fields are 0, false or empty. Its contract also
+/// states the lengths in bytes: UDP header 8, TCP header 20 to 60, TCP options at most 40 (RFC 768; RFC 9293, 3.1).
 pub fn constants() -> (UdpHeader, TcpHeader)
     ensures udp_len { UdpHeader.LEN ≡ 8 }
     ensures udp_default { result.0 ≡ record { source_port = 0; destination_port = 0; length = 0; checksum = 0 } }
@@ -184,9 +195,9 @@ pub fn constants() -> (UdpHeader, TcpHeader)
     (UdpHeader::default(), TcpHeader::default())
 }
 
-/// Headers are equal where each field is, and options where their bytes are. Slices are equal where they show the same
-/// bytes of the same protocol, an iteration over options where the same bytes are before it, and errors where they are
-/// the same.
+/// Law: transport headers are equal (`==`) if and only if all fields are equal; TCP options are compared by their
+/// bytes. Slices are equal if and only if protocol and bytes are equal, iterators over TCP options if the unread bytes
+/// are equal, and errors if all their fields are equal.
 pub fn comparisons()
     ensures udp { (a b : UdpHeader) → IsTrue (⟦<UdpHeader as PartialEq>⟧.eq a b) ↔ (a ≡ b) }
     ensures udp_slices { (a b : UdpSlice) →
@@ -214,7 +225,7 @@ pub fn comparisons()
     ep_base::laws::equalities();
 }
 
-/// A clone equals its source.
+/// Law: a clone of a transport header, slice, TCP option, iterator or error of this crate equals its source.
 pub fn clones()
     ensures udp { (a b : UdpHeader) → ⟦<UdpHeader as Clone>⟧.is_clone a b → b ≡ a }
     ensures udp_slices { (a b : UdpSlice) → ⟦<UdpSlice<'static> as Clone>⟧.is_clone a b → b ≡ a }
@@ -233,7 +244,8 @@ pub fn clones()
     icmp::clones();
 }
 
-/// A clone takes no memory, and so is there.
+/// Law: cloning a transport header, slice, TCP option, iterator or error of this crate does not allocate, and never
+/// fails.
 pub fn clones_succeed()
     ensures udp { (a : UdpHeader) → ⟦<UdpHeader as Clone>⟧.is_infallible a }
     ensures udp_slices { (a : UdpSlice) → ⟦<UdpSlice<'static> as Clone>⟧.is_infallible a }

@@ -1,4 +1,4 @@
-//! Transport headers.
+//! Transport layers UDP, TCP, ICMPv4 and ICMPv6: headers as owned values, and messages as slices.
 #![tactic(auto)]
 
 mod icmp_echo_header;

@@ -1,4 +1,4 @@
-//! The sums of the pseudo headers that transport checksums are taken over (RFC 768; RFC 9293, 3.1; RFC 8200, 8.1).
+//! Sums of the IPv4 and IPv6 pseudo headers that transport checksums include (RFC 768; RFC 9293, 3.1; RFC 8200, 8.1).
 
 ghost use Rattle.std.specs.Prelude.{◌≡◌, ◌≤◌, ◌%◌, length, None, IfOk, IfErr};
 ghost use Rattle.ep_base.specs.Checksum.{ones_sum};
@@ -9,7 +9,8 @@ use ep_base::IpNumber;
 use ep_base::checksum::Sum16BitWords;
 use ep_base::err::{ValueTooBigError, ValueType};
 
-/// Refuses bytes of which there are more than the pseudo header can count.
+/// Returns an error if `bytes`, the payload or message of a transport checksum, has more than `max_allowed` bytes and
+/// its length thus does not fit the pseudo header.
 #[inline]
 pub(crate) fn check_len(
     bytes: &[u8],
@@ -30,7 +31,8 @@ pub(crate) fn check_len(
     Ok(())
 }
 
-/// The sum of the pseudo header over IPv4, for a message of this number and length.
+/// Returns the one's complement sum of the IPv4 pseudo header: addresses `source` and `destination`, protocol `number`,
+/// and the length `len` of the transport header and its payload in bytes.
 pub(crate) fn sum_ipv4(
     source: [u8; 4],
     destination: [u8; 4],
@@ -47,7 +49,8 @@ pub(crate) fn sum_ipv4(
         .add_2bytes(len.to_be_bytes())
 }
 
-/// The sum of the pseudo header over IPv6, for a message of this number and length.
+/// Returns the one's complement sum of the IPv6 pseudo header: addresses `source` and `destination`, next header
+/// `number`, and the length `len` of the transport header and its payload in bytes.
 pub(crate) fn sum_ipv6(
     source: [u8; 16],
     destination: [u8; 16],

@@ -1,4 +1,4 @@
-//! The header of TCP (RFC 9293, 3.1).
+//! TCP header (RFC 9293, 3.1) as an owned value.
 
 ghost use Rattle.std.specs.Prelude.{◌≡◌, ◌+◌, ◌-◌, ◌^◌, ◌<◌, ◌≤◌, ◌%◌, ◌++◌, length, min, IfOk, IfErr, OnOk, OnErr, IsOkAnd, MatchResult, None, List, ℕ, [], vec_len, vec_capacity};
 ghost use Rattle.ep_base.specs.Checksum.{ones_sum, checksum_of};
@@ -22,53 +22,57 @@ use ep_base::err::{ValueTooBigError, ValueType};
 use ep_ip::{Ipv4Header, Ipv6Header};
 use std::alloc::AllocError;
 
-/// The header of a TCP segment (RFC 9293, 3.1): 20 to 60 bytes.
+/// TCP header with its options (RFC 9293, 3.1) as an owned value; 20 to 60 bytes on the wire.
 #[derive(Clone, Debug, PartialEq, Eq, Default, Drop)]
 pub struct TcpHeader {
-    /// The sender's port, bytes 0 and 1.
+    /// TCP source port, bytes 0 and 1 of the header.
     pub source_port: u16,
-    /// The receiver's port, bytes 2 and 3.
+    /// TCP destination port, bytes 2 and 3 of the header.
     pub destination_port: u16,
-    /// The place of the first payload byte in the sender's stream, bytes 4 to 7; with `syn` the place before it.
+    /// Sequence number of a TCP segment, bytes 4 to 7 of the header: that of the first payload byte, or the initial
+    /// sequence number if SYN is set.
     pub sequence_number: u32,
-    /// With `ack` the next place that is waited for, bytes 8 to 11.
+    /// Acknowledgment number of a TCP header, bytes 8 to 11: next sequence number that the sender expects. It is valid
+    /// if ACK is set.
     pub acknowledgment_number: u32,
-    /// The nonce sum of congestion notification (RFC 3540), the lowest bit of byte 12.
+    /// TCP flag NS: nonce sum of explicit congestion notification (RFC 3540), byte 12, bit 0 (0x01).
     pub ns: bool,
-    /// The sender has no more data, bit 0 of byte 13.
+    /// TCP flag FIN: no more data from the sender, byte 13, bit 0 (0x01).
     pub fin: bool,
-    /// The sequence numbers are to be agreed on, bit 1 of byte 13.
+    /// TCP flag SYN: synchronize sequence numbers, byte 13, bit 1 (0x02).
     pub syn: bool,
-    /// The connection is reset, bit 2 of byte 13.
+    /// TCP flag RST: reset the connection, byte 13, bit 2 (0x04).
     pub rst: bool,
-    /// What was received is to be handed on, bit 3 of byte 13.
+    /// TCP flag PSH: push buffered data to the application, byte 13, bit 3 (0x08).
     pub psh: bool,
-    /// The acknowledgment number counts, bit 4 of byte 13.
+    /// TCP flag ACK: the acknowledgment number is valid, byte 13, bit 4 (0x10).
     pub ack: bool,
-    /// The urgent pointer counts, bit 5 of byte 13.
+    /// TCP flag URG: the urgent pointer is valid, byte 13, bit 5 (0x20).
     pub urg: bool,
-    /// Congestion was seen (RFC 3168), bit 6 of byte 13.
+    /// TCP flag ECE: ECN-Echo, congestion was reported (RFC 3168), byte 13, bit 6 (0x40).
     pub ece: bool,
-    /// The sender has reduced its window (RFC 3168), bit 7 of byte 13.
+    /// TCP flag CWR: congestion window reduced (RFC 3168), byte 13, bit 7 (0x80).
     pub cwr: bool,
-    /// How many bytes may be sent, bytes 14 and 15.
+    /// Window of a TCP header, bytes 14 and 15: number of bytes that the sender is willing to accept, before window
+    /// scaling.
     pub window_size: u16,
-    /// The checksum, bytes 16 and 17.
+    /// Checksum of a TCP segment, bytes 16 and 17 of the header.
     pub checksum: u16,
-    /// With `urg` where the urgent data end, counted from the sequence number, bytes 18 and 19.
+    /// Urgent pointer of a TCP header, bytes 18 and 19: end of the urgent data relative to the sequence number. It is
+    /// valid if URG is set.
     pub urgent_pointer: u16,
-    /// The options, from byte 20 on.
+    /// Options of a TCP header, from byte 20 to the end of the header.
     pub options: TcpOptions,
 }
 
 impl TcpHeader {
-    /// The number of bytes of a header without options.
+    /// Length of a TCP header without options in bytes: 20.
     pub const MIN_LEN: usize = 20;
 
-    /// The number of bytes of a header with the most options.
+    /// Maximum length of a TCP header with options in bytes: 60.
     pub const MAX_LEN: usize = 60;
 
-    /// A header with these fields, in which all others are 0, false or empty.
+    /// Creates a TCP header with the given ports, sequence number and window. All other fields are 0, false or empty.
     pub fn new(
         source_port: u16,
         destination_port: u16,
@@ -91,7 +95,8 @@ impl TcpHeader {
         }
     }
 
-    /// The header at the front of the slice, and the bytes behind it.
+    /// Parses the TCP header with its options at the start of the slice, and returns it with the bytes after it, the
+    /// payload.
     pub fn from_slice(slice: &[u8]) -> Result<(TcpHeader, &[u8]), HeaderSliceError>
         ensures ok { IfOk result (λ read. IsTcp slice.now (parts_of read.0 read.1.now [])) }
         ensures only { (segment : Parts TcpHeader) → IsTcp slice.now segment
@@ -102,7 +107,7 @@ impl TcpHeader {
         Ok((segment.to_header(), segment.payload()))
     }
 
-    /// The number of bytes of the header, with its options.
+    /// Length of the TCP header with its options in bytes, 20 to 60.
     #[inline]
     pub fn header_len(&self) -> usize
         ensures value { result ≡ tcp_header_len self.now }
@@ -112,7 +117,7 @@ impl TcpHeader {
         TcpHeader::MIN_LEN + self.options.len()
     }
 
-    /// The number of 4 byte words of the header, with its options.
+    /// Data offset of the TCP header: length of the header with its options in units of 4 bytes, 5 to 15.
     #[inline]
     pub fn data_offset(&self) -> u8
         ensures value { result ≡ tcp_data_offset self.now }
@@ -121,8 +126,9 @@ impl TcpHeader {
         (self.header_len() / 4) as u8
     }
 
-    /// Sets the options, whose bytes are at most 40, filled up by zero bytes to words of 4. A refusal changes nothing.
-    /// Each option fits its bytes, so what is set is read back (`laws::tcp_options_read_back`).
+    /// Encodes `options`, pads them with zero bytes to a multiple of 4, and sets them as the options of the TCP header.
+    /// Fails if they exceed 40 bytes; the header is then unchanged. Parsing reads the options back, except that in a
+    /// selective acknowledgment, present blocks are moved before absent ones (`laws::tcp_options_read_back`).
     pub fn set_options(&mut self, options: &[TcpOptionElement]) -> Result<(), TcpOptionWriteError>
         ensures value { MatchResult result
             (λ _. (length (options_bytes options.now) ≤ 40)
@@ -134,7 +140,8 @@ impl TcpHeader {
         self.options.set_elements(options)
     }
 
-    /// Sets the options to these bytes, at most 40, filled up by zero bytes to words of 4. A refusal changes nothing.
+    /// Sets the options of the TCP header to these encoded bytes, padded with zero bytes to a multiple of 4. They are
+    /// not parsed. Fails if there are more than 40; the header is then unchanged.
     pub fn set_options_raw(&mut self, options: &[u8]) -> Result<(), TcpOptionWriteError>
         ensures { MatchResult result
             (λ _. (length options.now ≤ 40) × (self.new ≡ record self.old { options = in_words options.now }))
@@ -145,7 +152,8 @@ impl TcpHeader {
         Ok(())
     }
 
-    /// The header as it stands on the wire, with the checksum that it holds.
+    /// Returns the wire bytes of the TCP header with its options. The checksum is written as `checksum` contains it; it
+    /// is not computed.
     #[inline]
     pub fn to_bytes(&self) -> ArrayVec<u8, 60>
         ensures { result.items ≡ tcp_bytes self.now }
@@ -160,8 +168,9 @@ impl TcpHeader {
         bytes
     }
 
-    /// Appends the header's bytes with the checksum that it holds. A refusal leaves the buffer as it was, and comes
-    /// only where the buffer would have to grow.
+    /// Appends the wire bytes of the TCP header with its options to the buffer; the checksum is written as `checksum`
+    /// contains it. Fails only if the buffer has to grow and the allocation fails; the buffer's content is then
+    /// unchanged.
     pub fn write(&self, buf: &mut Vec<u8>) -> Result<(), AllocError>
         ensures ok { OnOk result (buf.new.items ≡ buf.old.items ++ tcp_bytes self.now) }
         ensures err { OnErr result (buf.new.items ≡ buf.old.items) }
@@ -172,15 +181,15 @@ impl TcpHeader {
         let options = self.options.as_slice();
         buf.reserve(fixed.len() + options.len())?;
         buf.extend_from_slice(&fixed).unwrap();
-        // Many headers have none, for which the copy would cost a call.
+        // Many headers have no options; skipping the copy saves a call.
         if !options.is_empty() {
             buf.extend_from_slice(options).unwrap();
         }
         Ok(())
     }
 
-    /// The checksum behind this IPv4 header, whatever checksum the header holds. Header and payload above 65535 bytes
-    /// are refused.
+    /// Computes the checksum of the TCP segment (this header and `payload`) in a packet with the IPv4 header
+    /// `ip_header`; the content of `checksum` is ignored. Fails if header and payload together exceed 65535 bytes.
     pub fn calc_checksum_ipv4(
         &self,
         ip_header: &Ipv4Header,
@@ -194,8 +203,8 @@ impl TcpHeader {
         self.calc_checksum_ipv4_raw(ip_header.source, ip_header.destination, payload)
     }
 
-    /// The checksum over IPv4, with these addresses, whatever checksum the header holds. Header and payload above 65535
-    /// bytes are refused.
+    /// Computes the checksum of the TCP segment (this header and `payload`) sent from the IPv4 address `source` to
+    /// `destination`; the content of `checksum` is ignored. Fails if header and payload together exceed 65535 bytes.
     pub fn calc_checksum_ipv4_raw(
         &self,
         source: [u8; 4],
@@ -211,11 +220,11 @@ impl TcpHeader {
         pseudo_header::check_len(payload, max_allowed, ValueType::TcpPayloadLengthIpv4)?;
         let len = (self.header_len() + payload.len()) as u16;
         let sum = pseudo_header::sum_ipv4(source, destination, IpNumber::TCP, len);
-        Ok(self.checksum_behind(&sum, payload))
+        Ok(self.checksum_with_pseudo_header(&sum, payload))
     }
 
-    /// The checksum behind this IPv6 header, whatever checksum the header holds. Header and payload above 4294967295
-    /// bytes are refused.
+    /// Computes the checksum of the TCP segment (this header and `payload`) in a packet with the IPv6 header
+    /// `ip_header`; the content of `checksum` is ignored. Fails if header and payload together exceed 4294967295 bytes.
     pub fn calc_checksum_ipv6(
         &self,
         ip_header: &Ipv6Header,
@@ -229,8 +238,9 @@ impl TcpHeader {
         self.calc_checksum_ipv6_raw(ip_header.source, ip_header.destination, payload)
     }
 
-    /// The checksum over IPv6, with these addresses, whatever checksum the header holds. Header and payload above
-    /// 4294967295 bytes are refused.
+    /// Computes the checksum of the TCP segment (this header and `payload`) sent from the IPv6 address `source` to
+    /// `destination`; the content of `checksum` is ignored. Fails if header and payload together exceed 4294967295
+    /// bytes.
     pub fn calc_checksum_ipv6_raw(
         &self,
         source: [u8; 16],
@@ -246,11 +256,11 @@ impl TcpHeader {
         pseudo_header::check_len(payload, max_allowed, ValueType::TcpPayloadLengthIpv6)?;
         let len = (self.header_len() + payload.len()) as u32;
         let sum = pseudo_header::sum_ipv6(source, destination, IpNumber::TCP, len);
-        Ok(self.checksum_behind(&sum, payload))
+        Ok(self.checksum_with_pseudo_header(&sum, payload))
     }
 
-    /// The checksum of header and payload behind a pseudo header of this sum.
-    fn checksum_behind(&self, pseudo_header: &Sum16BitWords, payload: &[u8]) -> u16
+    /// Computes the checksum of the TCP segment (this header and `payload`), given the sum of its pseudo header.
+    fn checksum_with_pseudo_header(&self, pseudo_header: &Sum16BitWords, payload: &[u8]) -> u16
         ensures { (front : List ℕ) → length front % 2 ≡ 0 → pseudo_header.now ≡ ones_sum front
             → result ≡ checksum_of (front ++ tcp_message self.now payload.now) }
     {
@@ -261,7 +271,7 @@ impl TcpHeader {
             .ones_complement()
     }
 
-    /// The first 20 bytes of the header on the wire, with this checksum.
+    /// Returns the first 20 wire bytes of the TCP header (all but the options), with the argument as the checksum.
     fn fixed_bytes(&self, checksum: u16) -> [u8; 20]
         ensures bytes { result ++ self.now.options ≡ tcp_bytes (record self.now { checksum = checksum }) }
         ensures len { length result ≡ 20 }
@@ -297,7 +307,8 @@ impl TcpHeader {
         ]
     }
 
-    /// The flags of byte 13.
+    /// Byte 13 of the TCP header: the flags CWR, ECE, URG, ACK, PSH, RST, SYN and FIN, from the highest bit to the
+    /// lowest.
     #[inline]
     fn flags(&self) -> u8
         ensures { result ≡ tcp_flags self.now }
@@ -308,7 +319,7 @@ impl TcpHeader {
     }
 }
 
-/// A flag as a bit.
+/// Converts a TCP flag to a bit: 1 if it is set, else 0.
 #[inline]
 fn flag(value: bool) -> u8
     ensures value { result ≡ bit value }

@@ -1,4 +1,4 @@
-//! One option of a TCP header (RFC 9293, 3.2; RFC 2018; RFC 7323).
+//! Single options of a TCP header (RFC 9293, 3.2; RFC 2018; RFC 7323), and errors of parsing them.
 
 ghost use Rattle.std.specs.Prelude.{◌≡◌, ◌+◌, ◌*◌, ◌<◌, ◌≤◌, ◌++◌, [], ◌∷◌, length};
 ghost use Rattle.ep_transport.specs.TcpOptionBytes.{FitsOption, present, block_bytes, blocks_bytes, option_bytes};
@@ -7,54 +7,58 @@ ghost use Rattle.ep_transport.specs.declared.tcp_option_element.TcpOptionElement
 use arrayvec::ArrayVec;
 use thiserror::Error;
 
-/// One option of a TCP header.
+/// Decoded option of a TCP header (RFC 9293, 3.2; RFC 2018; RFC 7323).
 #[derive(Clone, Debug, PartialEq, Eq, Drop)]
 pub enum TcpOptionElement {
-    /// Nothing, a byte between options: kind 1.
+    /// TCP option no-operation: a padding byte between options (kind 1).
     Noop,
-    /// The greatest segment that the sender accepts: kind 2, 4 bytes.
+    /// TCP option maximum segment size (MSS) that the sender accepts, in bytes (kind 2; the option has 4 bytes).
     MaximumSegmentSize(u16),
-    /// By how many bits the window is shifted: kind 3, 3 bytes.
+    /// TCP option window scale: shift count, in bits, of the windows that the sender announces (kind 3; the option has
+    /// 3 bytes).
     WindowScale(u8),
-    /// Selective acknowledgements may be sent: kind 4, 2 bytes.
+    /// TCP option SACK-permitted: selective acknowledgments may be sent (kind 4; the option has 2 bytes).
     SelectiveAcknowledgementPermitted,
-    /// The blocks that were received behind the acknowledgment number, each from its first byte to the one behind its
-    /// last: kind 5; 10, 18, 26 or 34 bytes. A `None` stands for no block.
+    /// TCP option selective acknowledgment (SACK): 1 to 4 blocks received after the acknowledgment number, each with
+    /// the sequence number of its first byte and of the byte after its last (kind 5; the option has 10, 18, 26 or 34
+    /// bytes). `None` is an absent block.
     SelectiveAcknowledgement((u32, u32), [Option<(u32, u32)>; 3]),
-    /// The sender's time, and the time that it echoes: kind 8, 10 bytes.
+    /// TCP option timestamps: timestamp value of the sender, and timestamp echo reply (kind 8; the option has 10
+    /// bytes).
     Timestamp(u32, u32),
 }
 
-/// Why no option could be read. Reading ends there.
+/// Error of parsing a TCP option. The iterator over the options ends with it.
 #[derive(Clone, Debug, PartialEq, Eq, Hash, Drop, Error)]
 pub enum TcpOptionReadError {
-    /// The option has more bytes than are left.
+    /// A TCP option is longer than the remaining bytes of the option list.
     #[error("UnexpectedEndOfSlice {option_id} {expected_len} {actual_len}")]
     UnexpectedEndOfSlice {
-        /// The option's kind.
+        /// Kind of the truncated TCP option, its first byte.
         option_id: u8,
-        /// The number of bytes that it needs.
+        /// Number of bytes that the truncated TCP option needs from its first byte on: its length, or 2 if the length
+        /// byte of a selective acknowledgment is missing.
         expected_len: u8,
-        /// The number of bytes that are left.
+        /// Number of bytes from the start of the truncated TCP option to the end of the option list.
         actual_len: usize,
     },
-    /// The option's length is none that its kind has.
+    /// The length byte of a TCP option is invalid for the option's kind.
     #[error("UnexpectedSize {option_id} {size}")]
     UnexpectedSize {
-        /// The option's kind.
+        /// Kind of the TCP option with the invalid length, its first byte.
         option_id: u8,
-        /// Its length.
+        /// Invalid length of the TCP option in bytes, its second byte.
         size: u8,
     },
-    /// The option's kind is none that is known.
+    /// A TCP option has a kind that is not known; the kind is contained.
     #[error("UnknownId {0}")]
     UnknownId(u8),
 }
 
 impl TcpOptionElement {
-    /// Appends the bytes of the option, its kind, its length, and what it holds, if there is room for all of them, and
-    /// answers how many they are.
-    pub(crate) fn push_if_room(&self, bytes: &mut ArrayVec<u8, 40>) -> usize
+    /// Appends the wire bytes of the TCP option (kind, length and data) if all of them fit into 40 bytes. Returns the
+    /// number of these bytes, whether they fit or not.
+    pub(crate) fn append_if_fits(&self, bytes: &mut ArrayVec<u8, 40>) -> usize
         ensures len { result ≡ length (option_bytes self.now) }
         ensures fits { FitsOption self.now }
         ensures room { length bytes.old.items + length (option_bytes self.now) ≤ 40
@@ -62,23 +66,23 @@ impl TcpOptionElement {
         ensures no_room { 40 < length bytes.old.items + length (option_bytes self.now) → bytes.new ≡ bytes.old }
     {
         match self {
-            TcpOptionElement::Noop => push_bytes_if_room(bytes, &[1]),
+            TcpOptionElement::Noop => append_bytes_if_fit(bytes, &[1]),
             TcpOptionElement::MaximumSegmentSize(size) => {
                 let size = size.to_be_bytes();
-                push_bytes_if_room(bytes, &[2, 4, size[0], size[1]])
+                append_bytes_if_fit(bytes, &[2, 4, size[0], size[1]])
             }
-            TcpOptionElement::WindowScale(shift) => push_bytes_if_room(bytes, &[3, 3, *shift]),
-            TcpOptionElement::SelectiveAcknowledgementPermitted => push_bytes_if_room(
+            TcpOptionElement::WindowScale(shift) => append_bytes_if_fit(bytes, &[3, 3, *shift]),
+            TcpOptionElement::SelectiveAcknowledgementPermitted => append_bytes_if_fit(
                 bytes,
                 &[4, 2],
             ),
             TcpOptionElement::SelectiveAcknowledgement(first, others) => {
-                push_bytes_if_room(bytes, acknowledgement(*first, *others).as_slice())
+                append_bytes_if_fit(bytes, acknowledgement(*first, *others).as_slice())
             }
             TcpOptionElement::Timestamp(time, echo) => {
                 let time = time.to_be_bytes();
                 let echo = echo.to_be_bytes();
-                push_bytes_if_room(
+                append_bytes_if_fit(
                     bytes,
                     &[
                         8, 10, time[0], time[1], time[2], time[3], echo[0], echo[1], echo[2],
@@ -90,9 +94,10 @@ impl TcpOptionElement {
     }
 }
 
-/// Appends these bytes, if there is room for all of them, and answers how many they are.
+/// Appends the wire bytes `option` of a TCP option to the option list `bytes` if all of them fit into 40 bytes. Returns
+/// the length of `option`, whether it fits or not.
 #[inline(always)]
-fn push_bytes_if_room(bytes: &mut ArrayVec<u8, 40>, option: &[u8]) -> usize
+fn append_bytes_if_fit(bytes: &mut ArrayVec<u8, 40>, option: &[u8]) -> usize
     ensures len { result ≡ length option.now }
     ensures room { length bytes.old.items + length option.now ≤ 40
         → bytes.new.items ≡ bytes.old.items ++ option.now }
@@ -104,24 +109,25 @@ fn push_bytes_if_room(bytes: &mut ArrayVec<u8, 40>, option: &[u8]) -> usize
     option.len()
 }
 
-/// The bytes of a selective acknowledgement.
+/// Returns the wire bytes of a TCP selective acknowledgment (SACK): kind, length, the block `first`, and those of
+/// `others` that are present.
 fn acknowledgement(first: (u32, u32), others: [Option<(u32, u32)>; 3]) -> ArrayVec<u8, 34>
     ensures bytes { result.items ≡ option_bytes (SelectiveAcknowledgement first others) }
     ensures fits { FitsOption (SelectiveAcknowledgement first others) }
 {
-    let len = 10 + place_len(others[0]) + place_len(others[1]) + place_len(others[2]);
+    let len = 10 + block_len(others[0]) + block_len(others[1]) + block_len(others[2]);
     let mut bytes = ArrayVec::new();
     bytes.try_extend_from_slice(&[5, len]).unwrap();
-    push_block(&mut bytes, first);
-    push_place(&mut bytes, others[0]);
-    push_place(&mut bytes, others[1]);
-    push_place(&mut bytes, others[2]);
+    append_block(&mut bytes, first);
+    append_block_if_present(&mut bytes, others[0]);
+    append_block_if_present(&mut bytes, others[1]);
+    append_block_if_present(&mut bytes, others[2]);
     bytes
 }
 
-/// The number of bytes of a block, where there is one.
+/// Returns the length in bytes of a block of a TCP selective acknowledgment (SACK): 8 if it is present, else 0.
 #[inline]
-fn place_len(place: Option<(u32, u32)>) -> u8
+fn block_len(place: Option<(u32, u32)>) -> u8
     ensures value { result ≡ 8 * length (present (place ∷ [])) }
     ensures bound { result ≤ 8 }
 {
@@ -131,21 +137,21 @@ fn place_len(place: Option<(u32, u32)>) -> u8
     }
 }
 
-/// Appends a block, where there is one.
+/// Appends a block of a TCP selective acknowledgment (SACK), its two sequence numbers, if it is present.
 #[inline]
-fn push_place(bytes: &mut ArrayVec<u8, 34>, place: Option<(u32, u32)>)
+fn append_block_if_present(bytes: &mut ArrayVec<u8, 34>, place: Option<(u32, u32)>)
     requires { length bytes.now.items + 8 ≤ 34 }
     ensures value { bytes.new.items ≡ bytes.old.items ++ blocks_bytes (present (place ∷ [])) }
     ensures bound { length bytes.new.items ≤ length bytes.old.items + 8 }
 {
     if let Some(block) = place {
-        push_block(bytes, block);
+        append_block(bytes, block);
     }
 }
 
-/// Appends a block.
+/// Appends the 8 bytes of a block of a TCP selective acknowledgment (SACK), its two sequence numbers.
 #[inline]
-fn push_block(bytes: &mut ArrayVec<u8, 34>, block: (u32, u32))
+fn append_block(bytes: &mut ArrayVec<u8, 34>, block: (u32, u32))
     requires { length bytes.now.items + 8 ≤ 34 }
     ensures value { bytes.new.items ≡ bytes.old.items ++ block_bytes block }
     ensures len { length bytes.new.items ≡ length bytes.old.items + 8 }

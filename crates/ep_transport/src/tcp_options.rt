@@ -1,4 +1,4 @@
-//! The options of a TCP header (RFC 9293, 3.1).
+//! List of the options of a TCP header as bytes (RFC 9293, 3.1).
 
 ghost use Rattle.std.specs.Prelude.{◌≡◌, ◌-◌, ◌^◌, ◌<◌, ◌≤◌, ◌%◌, [], length, min, MatchResult};
 ghost use Rattle.std.specs.List.{All};
@@ -11,18 +11,18 @@ use arrayvec::ArrayVec;
 use std::marker::Model;
 use thiserror::Error;
 
-/// The options of a TCP header: at most 40 bytes, in words of 4.
+/// All options of a TCP header as wire bytes: at most 40 bytes, a multiple of 4.
 #[derive(Clone, Debug, PartialEq, Eq, Drop)]
 pub struct TcpOptions {
-    /// The options, and then zero bytes.
+    /// Bytes of the TCP options, followed by zero bytes up to 40.
     bytes: [u8; 40],
-    /// The number of bytes of the options.
+    /// Length of the TCP options in bytes: 0 to 40, a multiple of 4.
     len: u8,
 }
 
 impl Model for TcpOptions {
     ghost use Rattle.std.specs.Prelude.{◌≡◌, ℕ, ◌-◌, ◌≤◌, ◌%◌, List, ◌++◌, length, take, drop, replicate};
-    ghost use Rattle.ep_base.specs.Padding.{padded, padded_front};
+    ghost use Rattle.ep_base.specs.Padding.{padded, padded_prefix};
     ghost use Rattle.std.proofs.Common.{arith, length-take-le};
 
     ghost Value = { List ℕ };
@@ -35,15 +35,15 @@ impl Model for TcpOptions {
     ghost inverse = { λ options. record { bytes = padded 40 options; len = length options } };
 
     ghost inverse_ok = { λ o h i. record {
-      bytes = padded_front 40 o.len o.bytes h.0 h.1 h.3 i;
+      bytes = padded_prefix 40 o.len o.bytes h.0 h.1 h.3 i;
       len = length-take-le o.len o.bytes (Prim.omega (arith, h.0, h.1)) i;
     } };
 }
 
-/// Why options could not be written.
+/// Error of setting or encoding the options of a TCP header.
 #[derive(Clone, Debug, PartialEq, Eq, Hash, Drop, Error)]
 pub enum TcpOptionWriteError {
-    /// The options have this number of bytes, which is above 40.
+    /// The TCP options are longer than 40 bytes; their length in bytes is contained.
     #[error("NotEnoughSpace {0}")]
     NotEnoughSpace(usize),
 }
@@ -59,10 +59,10 @@ impl Default for TcpOptions {
 impl TcpOptions {
     ghost use Rattle.ep_transport.specs.declared.tcp_options.TcpOptionWriteError.TheVariants.{NotEnoughSpace};
 
-    /// The greatest number of bytes.
+    /// Maximum length of the options of a TCP header in bytes: 40.
     pub const MAX_LEN: usize = 40;
 
-    /// No options.
+    /// Creates TCP options of length 0.
     #[inline]
     pub fn new() -> TcpOptions
         ensures { result ≡ [] }
@@ -73,7 +73,8 @@ impl TcpOptions {
         }
     }
 
-    /// A copy of the bytes, which are at most 40, filled up by zero bytes to words of 4.
+    /// Creates TCP options with a copy of the bytes of `slice`, padded with zero bytes to a multiple of 4. They are not
+    /// parsed. Fails if there are more than 40.
     pub fn try_from_slice(slice: &[u8]) -> Result<TcpOptions, TcpOptionWriteError>
         ensures { MatchResult result
             (λ options. (length slice.now ≤ 40) × (options ≡ in_words slice.now))
@@ -85,9 +86,9 @@ impl TcpOptions {
         Ok(TcpOptions::copy_of(slice))
     }
 
-    /// The bytes of the options, which are at most 40, filled up by zero bytes to words of 4. Their number is told up
-    /// to the greatest `usize`; no slice that lies in memory has more. Each option fits its bytes, so what is written
-    /// is read back (`laws::tcp_options_read_back`).
+    /// Encodes the TCP options `elements`, and pads them with zero bytes to a multiple of 4. Fails above 40 bytes; the
+    /// length in the error is at most `usize::MAX`. Parsing reads the options back, except that in a selective
+    /// acknowledgment, present blocks are moved before absent ones (`laws::tcp_options_read_back`).
     pub fn try_from_elements(
         elements: &[TcpOptionElement],
     ) -> Result<TcpOptions, TcpOptionWriteError>
@@ -102,7 +103,8 @@ impl TcpOptions {
         Ok(options)
     }
 
-    /// Becomes what [`TcpOptions::try_from_elements`] answers, which is written in place. A refusal changes nothing.
+    /// Encodes the TCP options `elements`, pads them with zero bytes to a multiple of 4, and replaces the stored
+    /// options by them. Fails above 40 bytes; the stored options are then unchanged.
     pub(crate) fn set_elements(
         &mut self,
         elements: &[TcpOptionElement],
@@ -117,7 +119,7 @@ impl TcpOptions {
         let mut bytes: ArrayVec<u8, 40> = ArrayVec::new();
         let mut len: usize = 0;
         for element in elements {
-            len = len.saturating_add(element.push_if_room(&mut bytes));
+            len = len.saturating_add(element.append_if_fits(&mut bytes));
         }
         if len > TcpOptions::MAX_LEN {
             return Err(TcpOptionWriteError::NotEnoughSpace(len));
@@ -126,7 +128,7 @@ impl TcpOptions {
         Ok(())
     }
 
-    /// A copy of the bytes, filled up by zero bytes to words of 4.
+    /// Creates TCP options with a copy of the bytes of `slice` (at most 40), padded with zero bytes to a multiple of 4.
     #[inline]
     pub(crate) fn copy_of(slice: &[u8]) -> TcpOptions
         requires { length slice.now ≤ 40 }
@@ -137,7 +139,8 @@ impl TcpOptions {
         options
     }
 
-    /// Becomes a copy of the bytes, filled up by zero bytes to words of 4, which is written in place.
+    /// Replaces the TCP options by a copy of the bytes of `slice` (at most 40), padded with zero bytes to a multiple of
+    /// 4.
     #[inline]
     pub(crate) fn fill(&mut self, slice: &[u8])
         requires { length slice.now ≤ 40 }
@@ -148,7 +151,7 @@ impl TcpOptions {
         self.len = ((slice.len() + 3) / 4 * 4) as u8;
     }
 
-    /// The bytes of the options.
+    /// Wire bytes of the TCP options, padded with zero bytes to a multiple of 4.
     #[inline]
     pub fn as_slice(&self) -> &[u8]
         ensures value { result.now ≡ self.now }
@@ -158,7 +161,7 @@ impl TcpOptions {
         &self.bytes[..self.len()]
     }
 
-    /// The options, one after the other.
+    /// Returns an iterator that parses the TCP options one by one.
     #[inline]
     pub fn elements_iter(&self) -> TcpOptionsIterator<'_>
         ensures { options_left result ≡ self.now }
@@ -166,7 +169,7 @@ impl TcpOptions {
         TcpOptionsIterator::from_slice(self.as_slice())
     }
 
-    /// The number of bytes of the options: at most 40, and a multiple of 4.
+    /// Length of the TCP options in bytes: 0 to 40, a multiple of 4.
     #[inline]
     pub fn len(&self) -> usize
         ensures value { result ≡ length self.now }

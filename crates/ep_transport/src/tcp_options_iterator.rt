@@ -1,8 +1,9 @@
-//! The options that bytes of a TCP header hold (RFC 9293, 3.2).
+//! Iterator over the options of a TCP header (RFC 9293, 3.2).
 
 use crate::tcp_option_element::{TcpOptionElement, TcpOptionReadError};
 
-/// Reads option after option, up to the end of the list or to an error, behind which nothing follows.
+/// Iterator that parses the options of a TCP header one by one. It ends at the end of the bytes, at kind 0 (end of
+/// option list), or after the first error.
 #[derive(Clone, Debug, PartialEq, Eq, Drop)]
 pub struct TcpOptionsIterator<'a> {
     options: &'a [u8],
@@ -12,7 +13,7 @@ impl<'a> TcpOptionsIterator<'a> {
     ghost use Rattle.std.specs.Prelude.{◌≡◌};
     ghost use Rattle.ep_transport.specs.TcpOptionSteps.{options_left};
 
-    /// The options in these bytes.
+    /// Creates an iterator that parses these bytes as the options of a TCP header.
     #[inline]
     pub fn from_slice(options: &'a [u8]) -> TcpOptionsIterator<'a>
         ensures { options_left result ≡ options.now }
@@ -20,7 +21,7 @@ impl<'a> TcpOptionsIterator<'a> {
         TcpOptionsIterator { options }
     }
 
-    /// The bytes that are not read yet.
+    /// Bytes of the TCP options that the iterator has not parsed yet; empty after an error.
     #[inline]
     pub fn rest(&self) -> &'a [u8]
         ensures { result.now ≡ options_left self.now }
@@ -46,7 +47,7 @@ impl<'a> Iterator for TcpOptionsIterator<'a> {
         if kind == 0 {
             return None;
         }
-        // Most options are these bytes between others.
+        // Fast path: most options are no-operations.
         if kind == 1 {
             self.options = &self.options[1..];
             return Some(Ok(TcpOptionElement::Noop));
@@ -69,7 +70,8 @@ ghost use Rattle.ep_base.specs.Tables.{Refuses};
 ghost use Rattle.ep_transport.specs.TcpOptionBytes.{IsOption, RefusesOption, end_of_list_kind, sized_rows, blocks_rows, is_blocks_size};
 ghost use Rattle.ep_transport.specs.TcpOptionSteps.{block_at};
 
-/// The option at the front of bytes whose first one is no end of the list, and the bytes behind it.
+/// Parses the TCP option at the start of the bytes, and returns it with the bytes after it. There must be at least one
+/// byte, and the kind must not be 0 (end of option list).
 fn read_option(options: &[u8]) -> Result<(TcpOptionElement, &[u8]), TcpOptionReadError>
     requires some { 0 < length options.now }
     requires no_end { slice_index options.now 0 ≢ end_of_list_kind }
@@ -115,7 +117,8 @@ fn read_option(options: &[u8]) -> Result<(TcpOptionElement, &[u8]), TcpOptionRea
     }
 }
 
-/// Refuses an option of this kind that has not this number of bytes.
+/// Returns an error if the TCP option at the start of `options` is truncated, or its length byte is not `size`, the
+/// length of its kind.
 #[inline]
 fn check_size(options: &[u8], kind: u8, size: u8) -> Result<(), TcpOptionReadError>
     requires { 1 < size }
@@ -139,7 +142,8 @@ fn check_size(options: &[u8], kind: u8, size: u8) -> Result<(), TcpOptionReadErr
     Ok(())
 }
 
-/// The number of bytes of a selective acknowledgement of 1 to 4 blocks.
+/// Checks the length byte of the TCP selective acknowledgment (SACK) at the start of `options`, and returns it: 10, 18,
+/// 26 or 34 for 1 to 4 blocks. Fails for another length, or if the option is truncated.
 #[inline]
 fn check_blocks_size(options: &[u8]) -> Result<usize, TcpOptionReadError>
     ensures { MatchResult result
@@ -167,7 +171,8 @@ fn check_blocks_size(options: &[u8]) -> Result<usize, TcpOptionReadError>
     Ok(size as usize)
 }
 
-/// The two numbers of 32 bits from a place on.
+/// Reads two big-endian 32-bit numbers of a TCP option from offset `at` on: the sequence numbers of a SACK block, or
+/// two timestamps.
 #[inline]
 fn block(options: &[u8], at: usize) -> (u32, u32)
     requires { at + 8 ≤ length options.now }
@@ -189,7 +194,8 @@ fn block(options: &[u8], at: usize) -> (u32, u32)
     )
 }
 
-/// The block from a place on, where an option of this number of bytes goes on there.
+/// Reads the block at offset `at` of a TCP selective acknowledgment (SACK) of `size` bytes, or returns `None` if the
+/// option ends before it.
 #[inline]
 fn block_within(options: &[u8], at: usize, size: usize) -> Option<(u32, u32)>
     requires within { at < size → at + 8 ≤ length options.now }

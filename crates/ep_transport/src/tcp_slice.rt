@@ -1,4 +1,4 @@
-//! A TCP segment in a slice (RFC 9293, 3.1).
+//! TCP segments (RFC 9293, 3.1) as slices of their bytes, parsed without copying.
 
 ghost use Rattle.std.specs.Prelude.{◌≡◌, ◌*◌, ◌≤◌, length};
 ghost use Rattle.ep_transport.specs.Tcp.{data_offset_of};
@@ -12,7 +12,8 @@ use ep_base::err::tcp::{HeaderError, HeaderSliceError};
 use ep_base::err::{Layer, LenError, ValueTooBigError, ValueType};
 use ep_base::{IpNumber, LenSource};
 
-/// The bytes of a segment, and how many of them its header has, as its data offset says.
+/// Bytes of a TCP segment with a complete header, and the length of that header in bytes, which is 4 times the data
+/// offset.
 #[derive(Clone, Copy, Debug, PartialEq, Eq)]
 struct SegmentBytes<'a> {
     slice: &'a [u8],
@@ -23,7 +24,7 @@ struct SegmentBytes<'a> {
     ghost whole: { 4 * data_offset_of slice.now ≤ length slice.now },
 }
 
-/// A TCP segment (RFC 9293) that lies in a slice: header and payload.
+/// TCP segment (RFC 9293), header and payload, as a slice of its bytes. Fields are read from the slice on access.
 #[derive(Clone, Debug, PartialEq, Eq, Drop)]
 pub struct TcpSlice<'a> {
     bytes: SegmentBytes<'a>,
@@ -39,7 +40,8 @@ impl<'a> TcpSlice<'a> {
     ghost use Rattle.ep_transport.specs.TcpOptionSteps.{options_left};
     ghost use Rattle.ep_transport.specs.TcpSlices.{tcp_slice_bytes, tcp_slice_header, tcp_slice_header_bytes, tcp_slice_header_len, tcp_slice_payload, tcp_slice_parts};
 
-    /// The segment that the slice is.
+    /// Parses the slice as a TCP segment, header and payload. Fails if the header is incomplete, or its data offset is
+    /// below 5.
     pub fn from_slice(slice: &'a [u8]) -> Result<TcpSlice<'a>, HeaderSliceError>
         ensures ok { IfOk result (λ segment. (left : List ℕ) × (slice.now ≡ tcp_slice_bytes segment ++ left)
             × IsTcp slice.now (tcp_slice_parts segment)) }
@@ -73,7 +75,7 @@ impl<'a> TcpSlice<'a> {
         })
     }
 
-    /// The bytes of header and payload.
+    /// Bytes of the TCP segment, header and payload.
     #[inline]
     pub fn slice(&self) -> &'a [u8]
         ensures { result.now ≡ tcp_slice_bytes self.now }
@@ -81,7 +83,7 @@ impl<'a> TcpSlice<'a> {
         self.bytes.slice
     }
 
-    /// The bytes of the header, with its options.
+    /// Bytes of the TCP header with its options.
     #[inline]
     pub fn header_slice(&self) -> &'a [u8]
         ensures { result.now ≡ tcp_slice_header_bytes self.now }
@@ -89,7 +91,7 @@ impl<'a> TcpSlice<'a> {
         &self.bytes.slice[..self.bytes.header_len]
     }
 
-    /// The bytes behind the header.
+    /// Payload of the TCP segment, the bytes after the header with its options.
     #[inline]
     pub fn payload(&self) -> &'a [u8]
         ensures { result.now ≡ tcp_slice_payload self.now }
@@ -97,7 +99,7 @@ impl<'a> TcpSlice<'a> {
         &self.bytes.slice[self.bytes.header_len..]
     }
 
-    /// The number of bytes of the header, with its options.
+    /// Length of the TCP header with its options in bytes, 20 to 60.
     #[inline]
     pub const fn header_len(&self) -> usize
         ensures { result ≡ tcp_slice_header_len self.now }
@@ -105,7 +107,7 @@ impl<'a> TcpSlice<'a> {
         self.bytes.header_len
     }
 
-    /// The sender's port, bytes 0 and 1.
+    /// TCP source port, bytes 0 and 1 of the header.
     #[inline]
     pub fn source_port(&self) -> u16
         ensures { result ≡ (tcp_slice_header self.now).source_port }
@@ -113,7 +115,7 @@ impl<'a> TcpSlice<'a> {
         u16::from_be_bytes([self.bytes.slice[0], self.bytes.slice[1]])
     }
 
-    /// The receiver's port, bytes 2 and 3.
+    /// TCP destination port, bytes 2 and 3 of the header.
     #[inline]
     pub fn destination_port(&self) -> u16
         ensures { result ≡ (tcp_slice_header self.now).destination_port }
@@ -121,7 +123,8 @@ impl<'a> TcpSlice<'a> {
         u16::from_be_bytes([self.bytes.slice[2], self.bytes.slice[3]])
     }
 
-    /// The place of the first payload byte in the sender's stream, bytes 4 to 7; with `syn` the place before it.
+    /// Sequence number of the TCP segment, bytes 4 to 7 of the header: that of the first payload byte, or the initial
+    /// sequence number if SYN is set.
     #[inline]
     pub fn sequence_number(&self) -> u32
         ensures { result ≡ (tcp_slice_header self.now).sequence_number }
@@ -130,7 +133,8 @@ impl<'a> TcpSlice<'a> {
         u32::from_be_bytes([slice[4], slice[5], slice[6], slice[7]])
     }
 
-    /// With `ack` the next place that is waited for, bytes 8 to 11.
+    /// Acknowledgment number of the TCP header, bytes 8 to 11: next sequence number that the sender expects. It is
+    /// valid if ACK is set.
     #[inline]
     pub fn acknowledgment_number(&self) -> u32
         ensures { result ≡ (tcp_slice_header self.now).acknowledgment_number }
@@ -139,7 +143,8 @@ impl<'a> TcpSlice<'a> {
         u32::from_be_bytes([slice[8], slice[9], slice[10], slice[11]])
     }
 
-    /// The number of 4 byte words of the header, with its options: the upper 4 bits of byte 12.
+    /// Data offset of the TCP header: length of the header with its options in units of 4 bytes, upper 4 bits of byte
+    /// 12; 5 to 15.
     #[inline]
     pub fn data_offset(&self) -> u8
         ensures { result ≡ data_offset_of (tcp_slice_bytes self.now) }
@@ -147,7 +152,7 @@ impl<'a> TcpSlice<'a> {
         self.bytes.slice[12] >> 4
     }
 
-    /// The nonce sum of congestion notification (RFC 3540), the lowest bit of byte 12.
+    /// TCP flag NS: nonce sum of explicit congestion notification (RFC 3540), byte 12, bit 0 (0x01).
     #[inline]
     pub fn ns(&self) -> bool
         ensures { result ≡ (tcp_slice_header self.now).ns }
@@ -155,7 +160,7 @@ impl<'a> TcpSlice<'a> {
         self.bytes.slice[12] & 1 == 1
     }
 
-    /// The sender has no more data, bit 0 of byte 13.
+    /// TCP flag FIN: no more data from the sender, byte 13, bit 0 (0x01).
     #[inline]
     pub fn fin(&self) -> bool
         ensures { result ≡ (tcp_slice_header self.now).fin }
@@ -163,7 +168,7 @@ impl<'a> TcpSlice<'a> {
         self.bytes.slice[13] & 1 == 1
     }
 
-    /// The sequence numbers are to be agreed on, bit 1 of byte 13.
+    /// TCP flag SYN: synchronize sequence numbers, byte 13, bit 1 (0x02).
     #[inline]
     pub fn syn(&self) -> bool
         ensures { result ≡ (tcp_slice_header self.now).syn }
@@ -171,7 +176,7 @@ impl<'a> TcpSlice<'a> {
         (self.bytes.slice[13] >> 1) & 1 == 1
     }
 
-    /// The connection is reset, bit 2 of byte 13.
+    /// TCP flag RST: reset the connection, byte 13, bit 2 (0x04).
     #[inline]
     pub fn rst(&self) -> bool
         ensures { result ≡ (tcp_slice_header self.now).rst }
@@ -179,7 +184,7 @@ impl<'a> TcpSlice<'a> {
         (self.bytes.slice[13] >> 2) & 1 == 1
     }
 
-    /// What was received is to be handed on, bit 3 of byte 13.
+    /// TCP flag PSH: push buffered data to the application, byte 13, bit 3 (0x08).
     #[inline]
     pub fn psh(&self) -> bool
         ensures { result ≡ (tcp_slice_header self.now).psh }
@@ -187,7 +192,7 @@ impl<'a> TcpSlice<'a> {
         (self.bytes.slice[13] >> 3) & 1 == 1
     }
 
-    /// The acknowledgment number counts, bit 4 of byte 13.
+    /// TCP flag ACK: the acknowledgment number is valid, byte 13, bit 4 (0x10).
     #[inline]
     pub fn ack(&self) -> bool
         ensures { result ≡ (tcp_slice_header self.now).ack }
@@ -195,7 +200,7 @@ impl<'a> TcpSlice<'a> {
         (self.bytes.slice[13] >> 4) & 1 == 1
     }
 
-    /// The urgent pointer counts, bit 5 of byte 13.
+    /// TCP flag URG: the urgent pointer is valid, byte 13, bit 5 (0x20).
     #[inline]
     pub fn urg(&self) -> bool
         ensures { result ≡ (tcp_slice_header self.now).urg }
@@ -203,7 +208,7 @@ impl<'a> TcpSlice<'a> {
         (self.bytes.slice[13] >> 5) & 1 == 1
     }
 
-    /// Congestion was seen (RFC 3168), bit 6 of byte 13.
+    /// TCP flag ECE: ECN-Echo, congestion was reported (RFC 3168), byte 13, bit 6 (0x40).
     #[inline]
     pub fn ece(&self) -> bool
         ensures { result ≡ (tcp_slice_header self.now).ece }
@@ -211,7 +216,7 @@ impl<'a> TcpSlice<'a> {
         (self.bytes.slice[13] >> 6) & 1 == 1
     }
 
-    /// The sender has reduced its window (RFC 3168), bit 7 of byte 13.
+    /// TCP flag CWR: congestion window reduced (RFC 3168), byte 13, bit 7 (0x80).
     #[inline]
     pub fn cwr(&self) -> bool
         ensures { result ≡ (tcp_slice_header self.now).cwr }
@@ -219,7 +224,8 @@ impl<'a> TcpSlice<'a> {
         (self.bytes.slice[13] >> 7) & 1 == 1
     }
 
-    /// How many bytes may be sent, bytes 14 and 15.
+    /// Window of the TCP header, bytes 14 and 15: number of bytes that the sender is willing to accept, before window
+    /// scaling.
     #[inline]
     pub fn window_size(&self) -> u16
         ensures { result ≡ (tcp_slice_header self.now).window_size }
@@ -227,7 +233,7 @@ impl<'a> TcpSlice<'a> {
         u16::from_be_bytes([self.bytes.slice[14], self.bytes.slice[15]])
     }
 
-    /// The checksum, bytes 16 and 17.
+    /// Checksum of the TCP segment, bytes 16 and 17 of the header. It is not verified.
     #[inline]
     pub fn checksum(&self) -> u16
         ensures { result ≡ (tcp_slice_header self.now).checksum }
@@ -235,7 +241,8 @@ impl<'a> TcpSlice<'a> {
         u16::from_be_bytes([self.bytes.slice[16], self.bytes.slice[17]])
     }
 
-    /// With `urg` where the urgent data end, counted from the sequence number, bytes 18 and 19.
+    /// Urgent pointer of the TCP header, bytes 18 and 19: end of the urgent data relative to the sequence number. It is
+    /// valid if URG is set.
     #[inline]
     pub fn urgent_pointer(&self) -> u16
         ensures { result ≡ (tcp_slice_header self.now).urgent_pointer }
@@ -243,7 +250,7 @@ impl<'a> TcpSlice<'a> {
         u16::from_be_bytes([self.bytes.slice[18], self.bytes.slice[19]])
     }
 
-    /// The bytes of the options, from byte 20 on.
+    /// Options of the TCP header as bytes, from byte 20 to the end of the header; empty if there are none.
     #[inline]
     pub fn options(&self) -> &'a [u8]
         ensures value { result.now ≡ (tcp_slice_header self.now).options }
@@ -253,7 +260,7 @@ impl<'a> TcpSlice<'a> {
         &self.bytes.slice[TcpHeader::MIN_LEN..self.bytes.header_len]
     }
 
-    /// The options, one after the other.
+    /// Returns an iterator that parses the options of the TCP header one by one.
     #[inline]
     pub fn options_iterator(&self) -> TcpOptionsIterator<'a>
         ensures { options_left result ≡ (tcp_slice_header self.now).options }
@@ -261,7 +268,7 @@ impl<'a> TcpSlice<'a> {
         TcpOptionsIterator::from_slice(self.options())
     }
 
-    /// The header as a value.
+    /// Decodes the header of the TCP segment with its options into an owned header.
     pub fn to_header(&self) -> TcpHeader
         ensures { result ≡ tcp_slice_header self.now }
     {
@@ -286,7 +293,8 @@ impl<'a> TcpSlice<'a> {
         }
     }
 
-    /// Puts the header as a value in the place of another one, where it is filled in: no header is moved.
+    /// Decodes the header of the TCP segment with its options, and overwrites `place` with it. The fields are written
+    /// one by one, so no header is moved.
     #[inline]
     pub fn header_into(&self, place: &mut TcpHeader)
         ensures { place.new ≡ tcp_slice_header self.now }
@@ -310,8 +318,8 @@ impl<'a> TcpSlice<'a> {
         place.options.fill(self.options());
     }
 
-    /// The checksum over IPv4, with these addresses, whatever checksum the segment holds. A segment above 65535 bytes
-    /// is refused.
+    /// Computes the checksum of the TCP segment sent from the IPv4 address `source` to `destination`; the checksum in
+    /// the segment is ignored. Fails if the segment is above 65535 bytes.
     pub fn calc_checksum_ipv4(
         &self,
         source: [u8; 4],
@@ -325,11 +333,11 @@ impl<'a> TcpSlice<'a> {
         let bytes = self.bytes.slice;
         pseudo_header::check_len(bytes, u16::MAX as usize, ValueType::TcpPayloadLengthIpv4)?;
         let sum = pseudo_header::sum_ipv4(source, destination, IpNumber::TCP, bytes.len() as u16);
-        Ok(self.checksum_behind(&sum))
+        Ok(self.checksum_with_pseudo_header(&sum))
     }
 
-    /// The checksum over IPv6, with these addresses, whatever checksum the segment holds. A segment above 4294967295
-    /// bytes is refused.
+    /// Computes the checksum of the TCP segment sent from the IPv6 address `source` to `destination`; the checksum in
+    /// the segment is ignored. Fails if the segment is above 4294967295 bytes.
     pub fn calc_checksum_ipv6(
         &self,
         source: [u8; 16],
@@ -343,11 +351,12 @@ impl<'a> TcpSlice<'a> {
         let bytes = self.bytes.slice;
         pseudo_header::check_len(bytes, u32::MAX as usize, ValueType::TcpPayloadLengthIpv6)?;
         let sum = pseudo_header::sum_ipv6(source, destination, IpNumber::TCP, bytes.len() as u32);
-        Ok(self.checksum_behind(&sum))
+        Ok(self.checksum_with_pseudo_header(&sum))
     }
 
-    /// The checksum of the segment behind a pseudo header of this sum.
-    fn checksum_behind(&self, pseudo_header: &Sum16BitWords) -> u16
+    /// Computes the checksum of the TCP segment, given the sum of its pseudo header; the checksum in the segment is
+    /// ignored.
+    fn checksum_with_pseudo_header(&self, pseudo_header: &Sum16BitWords) -> u16
         ensures { (front : List ℕ) → length front % 2 ≡ 0 → pseudo_header.now ≡ ones_sum front
             → result ≡ checksum_of (front ++ tcp_bytes_without_checksum (tcp_slice_bytes self.now)) }
     {

@@ -1,15 +1,16 @@
-//! Why a transport header has no checksum.
+//! Errors of computing the checksum of a transport header.
 
 use ep_base::err::ValueTooBigError;
 use thiserror::Error;
 
-/// Why a transport header has no checksum over IPv4.
+/// Error of computing the checksum of a UDP, TCP, ICMPv4 or ICMPv6 header in an IPv4 packet.
 #[derive(Clone, Debug, PartialEq, Eq, Hash, Drop, Error)]
 pub enum TransportChecksumError {
-    /// The payload is longer than the sum can count.
+    /// The payload of UDP or TCP is too long for the length in the IPv4 pseudo header.
     #[error(transparent)]
     PayloadLen(ValueTooBigError<usize>),
-    /// ICMPv6 is summed with the addresses of an IPv6 header (RFC 4443, 2.3), which IPv4 does not have.
+    /// An ICMPv6 header in an IPv4 packet has no checksum, because the checksum of ICMPv6 includes IPv6 addresses (RFC
+    /// 4443, 2.3).
     #[error("Error: ICMPv6 can not be combined with an IPv4 headers (checksum can not be calculated).")]
     Icmpv6InIpv4,
 }

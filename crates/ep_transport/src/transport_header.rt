@@ -1,4 +1,4 @@
-//! The header of a transport layer.
+//! Header of any supported transport layer (UDP, TCP, ICMPv4 or ICMPv6) as an owned value.
 
 ghost use Rattle.std.specs.Prelude.{◌≡◌, ◌≢◌, ◌+◌, ◌<◌, ◌≤◌, ◌++◌, false, IfOk, IfErr, IsOkAnd, MatchResult, OnOk, OnErr, Option, Some, None, length, vec_len, vec_capacity};
 ghost use Rattle.std.specs.Option.{option_map};
@@ -29,22 +29,23 @@ use ep_base::err::{ValueTooBigError, tcp};
 use ep_ip::{Ipv4Header, Ipv6Header};
 use std::alloc::AllocError;
 
-/// The header of a transport layer.
+/// UDP, TCP, ICMPv4 or ICMPv6 header as an owned value.
 #[derive(Clone, Debug, PartialEq, Eq, Drop)]
 pub enum TransportHeader {
-    /// UDP.
+    /// UDP header (RFC 768).
     Udp(UdpHeader),
-    /// TCP.
+    /// TCP header with its options (RFC 9293).
     Tcp(TcpHeader),
-    /// ICMP.
+    /// ICMPv4 header (RFC 792).
     Icmpv4(Icmpv4Header),
-    /// ICMPv6.
+    /// ICMPv6 header (RFC 4443).
     Icmpv6(Icmpv6Header),
 }
 
 impl TransportHeader {
-    /// The transport header at the front of an IP payload of this protocol number, and the bytes behind it. There is
-    /// none in a fragment, nor where the number is none whose header is read. The length field of UDP does not cut.
+    /// Parses the transport header at the start of `slice`, the payload of an IP packet with the protocol `number`, and
+    /// returns it with the bytes after it; the UDP length field does not limit them. Returns `None` for a fragment, and
+    /// for a protocol other than UDP, TCP, ICMPv4 and ICMPv6.
     pub fn from_ip_number(
         number: IpNumber,
         fragmented: bool,
@@ -56,12 +57,12 @@ impl TransportHeader {
             → IsOkAnd result (λ read. option_map (λ layer. transport_layer layer.0 layer.1.now) read ≡ part) }
         ensures err { IfErr result (RefusesTransportPart headers number.0 fragmented slice.now) }
     {
-        TransportHeader::part_of(number, fragmented, slice)
+        TransportHeader::parse_ip_payload(number, fragmented, slice)
     }
 
-    /// What `from_ip_number` answers.
+    /// Implements `TransportHeader::from_ip_number`, which parses the transport header at the start of an IP payload.
     #[inline]
-    fn part_of(
+    fn parse_ip_payload(
         number: IpNumber,
         fragmented: bool,
         slice: &[u8],
@@ -100,9 +101,10 @@ impl TransportHeader {
         Ok(None)
     }
 
-    /// Reads what [`TransportHeader::from_ip_number`] answers into a place, and gives the bytes behind the header: all
-    /// of them where there is none. For a caller in a loop, which keeps one place: a header of TCP is filled in where
-    /// one stood, so that none is moved, and any other replaces what was there. A refusal leaves the place as it was.
+    /// Parses the transport header at the start of `slice`, the payload of an IP packet with the protocol `number`,
+    /// into `place`, and returns the bytes after it. For a fragment, and for a protocol other than UDP, TCP, ICMPv4 and
+    /// ICMPv6, `place` becomes `None`, and all bytes are returned. A TCP header overwrites the fields of a previous TCP
+    /// header in `place`, so hot loops move no header. On an error `place` is unchanged.
     pub fn read_into<'a>(
         place: &mut Option<TransportHeader>,
         number: IpNumber,
@@ -120,7 +122,8 @@ impl TransportHeader {
         TransportHeader::fill(place, number, fragmented, slice)
     }
 
-    /// What `read_into` does.
+    /// Implements `TransportHeader::read_into`, which parses the transport header of an IP payload into an existing
+    /// value.
     #[inline]
     fn fill<'a>(
         place: &mut Option<TransportHeader>,
@@ -141,19 +144,20 @@ impl TransportHeader {
         if number == IpNumber::TCP {
             return match TcpSlice::from_slice(slice) {
                 Ok(segment) => {
-                    put_tcp(place, &segment);
+                    write_tcp(place, &segment);
                     Ok(segment.payload())
                 }
                 Err(error) => Err(error),
             };
         }
-        TransportHeader::fill_other(place, number, slice)
+        TransportHeader::fill_without_tcp(place, number, slice)
     }
 
-    /// The same of any protocol but TCP. Apart, since inlined it would have room for these headers zeroed for each
-    /// segment.
+    /// Parses the UDP, ICMPv4 or ICMPv6 header at the start of an IP payload into `place`, which becomes `None` for
+    /// another protocol; TCP is not accepted. Not inlined, since the caller would then zero stack space for these
+    /// headers with each TCP segment.
     #[inline(never)]
-    fn fill_other<'a>(
+    fn fill_without_tcp<'a>(
         place: &mut Option<TransportHeader>,
         number: IpNumber,
         slice: &'a [u8],
@@ -196,7 +200,7 @@ impl TransportHeader {
         Ok(slice)
     }
 
-    /// The header, where it is UDP's.
+    /// Returns the UDP header, or `None` if the transport header is of another protocol.
     #[inline]
     pub fn udp(self) -> Option<UdpHeader>
         ensures { result ≡ udp_header_in self }
@@ -207,7 +211,7 @@ impl TransportHeader {
         }
     }
 
-    /// The header, where it is TCP's.
+    /// Returns the TCP header, or `None` if the transport header is of another protocol.
     #[inline]
     pub fn tcp(self) -> Option<TcpHeader>
         ensures { result ≡ tcp_header_in self }
@@ -218,7 +222,7 @@ impl TransportHeader {
         }
     }
 
-    /// The header, where it is ICMP's.
+    /// Returns the ICMPv4 header, or `None` if the transport header is of another protocol.
     #[inline]
     pub fn icmpv4(self) -> Option<Icmpv4Header>
         ensures { result ≡ icmpv4_header_in self }
@@ -229,7 +233,7 @@ impl TransportHeader {
         }
     }
 
-    /// The header, where it is ICMPv6's.
+    /// Returns the ICMPv6 header, or `None` if the transport header is of another protocol.
     #[inline]
     pub fn icmpv6(self) -> Option<Icmpv6Header>
         ensures { result ≡ icmpv6_header_in self }
@@ -240,7 +244,7 @@ impl TransportHeader {
         }
     }
 
-    /// The header for writing, where it is UDP's.
+    /// Returns a mutable reference to the UDP header, or `None` if the transport header is of another protocol.
     #[inline]
     pub fn mut_udp(&mut self) -> Option<&mut UdpHeader>
         ensures* writes_back { sem 𝓛 (LendsIf the_row udp_row self.entry result Udp self.old) }
@@ -252,7 +256,7 @@ impl TransportHeader {
         }
     }
 
-    /// The header for writing, where it is TCP's.
+    /// Returns a mutable reference to the TCP header, or `None` if the transport header is of another protocol.
     #[inline]
     pub fn mut_tcp(&mut self) -> Option<&mut TcpHeader>
         ensures* writes_back { sem 𝓛 (LendsIf the_row tcp_row self.entry result Tcp self.old) }
@@ -264,7 +268,7 @@ impl TransportHeader {
         }
     }
 
-    /// The header for writing, where it is ICMP's.
+    /// Returns a mutable reference to the ICMPv4 header, or `None` if the transport header is of another protocol.
     #[inline]
     pub fn mut_icmpv4(&mut self) -> Option<&mut Icmpv4Header>
         ensures* writes_back { sem 𝓛 (LendsIf the_row icmpv4_row self.entry result Icmpv4 self.old) }
@@ -276,7 +280,7 @@ impl TransportHeader {
         }
     }
 
-    /// The header for writing, where it is ICMPv6's.
+    /// Returns a mutable reference to the ICMPv6 header, or `None` if the transport header is of another protocol.
     #[inline]
     pub fn mut_icmpv6(&mut self) -> Option<&mut Icmpv6Header>
         ensures* writes_back { sem 𝓛 (LendsIf the_row icmpv6_row self.entry result Icmpv6 self.old) }
@@ -288,7 +292,7 @@ impl TransportHeader {
         }
     }
 
-    /// The number of bytes of the header, with its options.
+    /// Length of the UDP, TCP, ICMPv4 or ICMPv6 header in bytes, TCP options included; 8 to 60.
     #[inline]
     pub fn header_len(&self) -> usize
         ensures value { result ≡ transport_header_len self.now }
@@ -302,8 +306,9 @@ impl TransportHeader {
         }
     }
 
-    /// Computes the checksum behind this IPv4 header, for this payload, and sets it. ICMPv6 has none there, and that of
-    /// ICMP does not depend on the header. A refusal changes nothing.
+    /// Computes the checksum of the transport header and `payload` in a packet with the IPv4 header `ip_header`, and
+    /// stores it in the header. Fails for ICMPv6, and for UDP or TCP if the payload is too long; nothing is changed
+    /// then. The checksum of ICMPv4 does not depend on `ip_header`.
     pub fn update_checksum_ipv4(
         &mut self,
         ip_header: &Ipv4Header,
@@ -329,8 +334,9 @@ impl TransportHeader {
         Ok(())
     }
 
-    /// Computes the checksum behind this IPv6 header, for this payload, and sets it. That of ICMP does not depend on
-    /// the header. A refusal changes nothing.
+    /// Computes the checksum of the transport header and `payload` in a packet with the IPv6 header `ip_header`, and
+    /// stores it in the header. Fails if the payload is too long; nothing is changed then. The checksum of ICMPv4 does
+    /// not depend on `ip_header`.
     pub fn update_checksum_ipv6(
         &mut self,
         ip_header: &Ipv6Header,
@@ -356,8 +362,8 @@ impl TransportHeader {
         Ok(())
     }
 
-    /// Appends the header's bytes with the checksum that it holds. A refusal leaves the buffer as it was, and comes
-    /// only where the buffer would have to grow.
+    /// Appends the wire bytes of the transport header to the buffer; the checksum is written as the header contains it.
+    /// Fails only if the buffer has to grow and the allocation fails; the buffer's content is then unchanged.
     pub fn write(&self, buf: &mut Vec<u8>) -> Result<(), AllocError>
         ensures ok { OnOk result (buf.new.items ≡ buf.old.items ++ transport_bytes self.now) }
         ensures err { OnErr result (buf.new.items ≡ buf.old.items) }
@@ -373,8 +379,9 @@ impl TransportHeader {
     }
 }
 
-/// Puts the header of a segment into a place. Where one of TCP was, it is filled in there.
-fn put_tcp(place: &mut Option<TransportHeader>, segment: &TcpSlice<'_>)
+/// Decodes the header of a TCP segment into `place`. If `place` contains a TCP header, its fields are overwritten one
+/// by one, so no header is moved.
+fn write_tcp(place: &mut Option<TransportHeader>, segment: &TcpSlice<'_>)
     ensures { place.new ≡ Some (Tcp (tcp_slice_header segment.now)) }
 {
     if let Some(TransportHeader::Tcp(header)) = place {
@@ -384,8 +391,8 @@ fn put_tcp(place: &mut Option<TransportHeader>, segment: &TcpSlice<'_>)
     replace_by_tcp(place, segment);
 }
 
-/// Puts the header of a segment in the place of whatever there was. Apart, since inlined it would have room for one
-/// more zeroed for each segment.
+/// Replaces the content of `place` by the decoded header of a TCP segment. Not inlined, since the caller would then
+/// zero stack space for a second header with each segment.
 #[inline(never)]
 fn replace_by_tcp(place: &mut Option<TransportHeader>, segment: &TcpSlice<'_>)
     ensures { place.new ≡ Some (Tcp (tcp_slice_header segment.now)) }

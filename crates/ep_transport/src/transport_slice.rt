@@ -1,4 +1,4 @@
-//! The transport layer of an IP payload.
+//! Any supported transport layer (UDP, TCP, ICMPv4 or ICMPv6) as a slice of its bytes.
 
 use crate::icmpv4_slice::Icmpv4Slice;
 use crate::icmpv6_slice::Icmpv6Slice;
@@ -7,16 +7,16 @@ use crate::udp_slice::UdpSlice;
 use ep_base::IpNumber;
 use ep_base::err::tcp;
 
-/// The transport layer of an IP payload, in a slice.
+/// UDP datagram, TCP segment, ICMPv4 or ICMPv6 message as a slice of its bytes.
 #[derive(Clone, Debug, PartialEq, Eq, Drop)]
 pub enum TransportSlice<'a> {
-    /// A UDP datagram.
+    /// UDP datagram (RFC 768).
     Udp(UdpSlice<'a>),
-    /// A TCP segment.
+    /// TCP segment (RFC 9293).
     Tcp(TcpSlice<'a>),
-    /// An ICMP message.
+    /// ICMPv4 message (RFC 792).
     Icmpv4(Icmpv4Slice<'a>),
-    /// An ICMPv6 message.
+    /// ICMPv6 message (RFC 4443).
     Icmpv6(Icmpv6Slice<'a>),
 }
 
@@ -33,8 +33,8 @@ impl<'a> TransportSlice<'a> {
     ghost use Rattle.ep_transport.specs.Icmpv6Slices.{icmpv6_slice_header, icmpv6_slice_payload};
     ghost use Rattle.ep_transport.specs.declared.transport_header.TransportHeader.TheVariants as header;
 
-    /// The transport layer at the front of an IP payload of this protocol number. There is none in a fragment, nor
-    /// where the number is none whose header is read.
+    /// Parses the transport layer at the start of `slice`, the payload of an IP packet with the protocol `number`.
+    /// Returns `None` for a fragment, and for a protocol other than UDP, TCP, ICMPv4 and ICMPv6.
     #[inline(always)]
     pub fn from_ip_number(
         number: IpNumber,
@@ -49,12 +49,12 @@ impl<'a> TransportSlice<'a> {
             (left : List ℕ) × (slice.now ≡ transport_slice_bytes shown ++ left))) }
         ensures err { IfErr result (RefusesTransportPart slices number.0 fragmented slice.now) }
     {
-        TransportSlice::part_of(number, fragmented, slice)
+        TransportSlice::parse_ip_payload(number, fragmented, slice)
     }
 
-    /// What `from_ip_number` answers.
+    /// Implements `TransportSlice::from_ip_number`, which parses the transport layer at the start of an IP payload.
     #[inline(always)]
-    fn part_of(
+    fn parse_ip_payload(
         number: IpNumber,
         fragmented: bool,
         slice: &'a [u8],
@@ -95,7 +95,7 @@ impl<'a> TransportSlice<'a> {
         Ok(None)
     }
 
-    /// The bytes of header and payload.
+    /// Bytes of the UDP datagram, TCP segment, ICMPv4 or ICMPv6 message: header and payload.
     #[inline]
     pub fn slice(&self) -> &'a [u8]
         ensures { result.now ≡ transport_slice_bytes self.now }
@@ -108,7 +108,7 @@ impl<'a> TransportSlice<'a> {
         }
     }
 
-    /// The bytes behind the header.
+    /// Payload of the transport layer, the bytes after its header.
     #[inline]
     pub fn payload(&self) -> &'a [u8]
         ensures { result.now ≡ transport_payload (transport_layer_of self.now) }
@@ -121,7 +121,7 @@ impl<'a> TransportSlice<'a> {
         }
     }
 
-    /// The number of bytes of the header.
+    /// Length of the UDP, TCP, ICMPv4 or ICMPv6 header in bytes, TCP options included; 8 to 60.
     #[inline]
     pub fn header_len(&self) -> usize
         ensures value { result ≡ transport_header_len (transport_layer_of self.now).header }
@@ -135,7 +135,7 @@ impl<'a> TransportSlice<'a> {
         }
     }
 
-    /// The UDP datagram, if the layer is one.
+    /// Returns the UDP datagram, or `None` if the transport layer is of another protocol.
     #[inline]
     pub fn udp(&self) -> Option<&UdpSlice<'a>>
         ensures { let layer = transport_layer_of self.now in MatchOption result (udp_header_in layer.header ≡ None)
@@ -148,7 +148,7 @@ impl<'a> TransportSlice<'a> {
         }
     }
 
-    /// The TCP segment, if the layer is one.
+    /// Returns the TCP segment, or `None` if the transport layer is of another protocol.
     #[inline]
     pub fn tcp(&self) -> Option<&TcpSlice<'a>>
         ensures { let layer = transport_layer_of self.now in MatchOption result (tcp_header_in layer.header ≡ None)
@@ -161,7 +161,7 @@ impl<'a> TransportSlice<'a> {
         }
     }
 
-    /// The ICMP message, if the layer is one.
+    /// Returns the ICMPv4 message, or `None` if the transport layer is of another protocol.
     #[inline]
     pub fn icmpv4(&self) -> Option<&Icmpv4Slice<'a>>
         ensures { let layer = transport_layer_of self.now in MatchOption result (icmpv4_header_in layer.header ≡ None)
@@ -174,7 +174,7 @@ impl<'a> TransportSlice<'a> {
         }
     }
 
-    /// The ICMPv6 message, if the layer is one.
+    /// Returns the ICMPv6 message, or `None` if the transport layer is of another protocol.
     #[inline]
     pub fn icmpv6(&self) -> Option<&Icmpv6Slice<'a>>
         ensures { let layer = transport_layer_of self.now in MatchOption result (icmpv6_header_in layer.header ≡ None)

@@ -1,4 +1,4 @@
-//! The header of UDP (RFC 768).
+//! UDP header (RFC 768) as an owned value.
 
 ghost use Rattle.std.specs.Prelude.{◌≡◌, ◌+◌, ◌%◌, ◌<◌, ◌≤◌, ◌++◌, IfOk, IfErr, OnOk, OnErr, IsOkAnd, MatchResult, None, List, ℕ, length, vec_len, vec_capacity};
 ghost use Rattle.ep_base.specs.Checksum.{ones_sum, checksum_of, no_zero};
@@ -13,24 +13,26 @@ use ep_base::{IpNumber, LenSource};
 use ep_ip::{Ipv4Header, Ipv6Header};
 use std::alloc::AllocError;
 
-/// The header of a UDP datagram (RFC 768): four numbers of 16 bits, 8 bytes.
+/// UDP header (RFC 768) as an owned value; 8 bytes on the wire.
 #[derive(Clone, Debug, PartialEq, Eq, Default, Drop)]
 pub struct UdpHeader {
-    /// The sender's port, bytes 0 and 1.
+    /// UDP source port, bytes 0 and 1 of the header.
     pub source_port: u16,
-    /// The receiver's port, bytes 2 and 3.
+    /// UDP destination port, bytes 2 and 3 of the header.
     pub destination_port: u16,
-    /// The length in bytes of header and payload, bytes 4 and 5. The number 0 stands for all bytes at hand.
+    /// Length of UDP header and payload in bytes, bytes 4 and 5 of the header. If it is 0, slicing extends the datagram
+    /// to the end of the slice.
     pub length: u16,
-    /// The checksum, bytes 6 and 7; 0 where the sender made none.
+    /// Checksum of a UDP datagram, bytes 6 and 7 of the header; 0 if the sender computed none.
     pub checksum: u16,
 }
 
 impl UdpHeader {
-    /// The number of bytes of a header.
+    /// Length of a UDP header in bytes: 8.
     pub const LEN: usize = 8;
 
-    /// The header at the front of the slice, and the bytes behind it, whatever its length field says.
+    /// Parses the 8 byte UDP header at the start of the slice, and returns it with all bytes after it. The UDP length
+    /// field is not checked.
     #[inline]
     pub fn from_slice(slice: &[u8]) -> Result<(UdpHeader, &[u8]), LenError>
         ensures ok { IfOk result (λ read. IsUdpHeader slice.now (read.0, read.1.now)) }
@@ -55,7 +57,7 @@ impl UdpHeader {
         Ok((header, &slice[UdpHeader::LEN..]))
     }
 
-    /// The number of bytes of the header: 8.
+    /// Length of the UDP header in bytes; always 8.
     #[inline]
     pub fn header_len(&self) -> usize
         ensures { result ≡ 8 }
@@ -63,7 +65,7 @@ impl UdpHeader {
         UdpHeader::LEN
     }
 
-    /// The header as it stands on the wire.
+    /// Returns the 8 wire bytes of the UDP header. Length and checksum are written as the fields contain them.
     #[inline]
     pub fn to_bytes(&self) -> [u8; 8]
         ensures { result ≡ udp_bytes self.now }
@@ -84,8 +86,8 @@ impl UdpHeader {
         ]
     }
 
-    /// Appends the header's bytes. A refusal leaves the buffer as it was, and comes only where the buffer would have to
-    /// grow.
+    /// Appends the 8 wire bytes of the UDP header to the buffer. Fails only if the buffer has to grow and the
+    /// allocation fails; the buffer's content is then unchanged.
     pub fn write(&self, buf: &mut Vec<u8>) -> Result<(), AllocError>
         ensures ok { OnOk result (buf.new.items ≡ buf.old.items ++ udp_bytes self.now) }
         ensures err { OnErr result (buf.new.items ≡ buf.old.items) }
@@ -95,8 +97,9 @@ impl UdpHeader {
         buf.extend_from_slice(&self.to_bytes())
     }
 
-    /// The checksum behind this IPv4 header, whatever checksum the header holds. A payload above 65527 bytes is
-    /// refused.
+    /// Computes the checksum of the UDP datagram (this header and `payload`) in a packet with the IPv4 header
+    /// `ip_header`; the content of `checksum` is ignored, and 0 is returned as 65535. Fails if the payload is above
+    /// 65527 bytes.
     pub fn calc_checksum_ipv4(
         &self,
         ip_header: &Ipv4Header,
@@ -110,8 +113,9 @@ impl UdpHeader {
         self.calc_checksum_ipv4_raw(ip_header.source, ip_header.destination, payload)
     }
 
-    /// The checksum over IPv4, with these addresses, whatever checksum the header holds. A payload above 65527 bytes is
-    /// refused.
+    /// Computes the checksum of the UDP datagram (this header and `payload`) sent from the IPv4 address `source` to
+    /// `destination`; the content of `checksum` is ignored, and 0 is returned as 65535. Fails if the payload is above
+    /// 65527 bytes.
     pub fn calc_checksum_ipv4_raw(
         &self,
         source: [u8; 4],
@@ -125,11 +129,12 @@ impl UdpHeader {
     {
         pseudo_header::check_len(payload, 65527, ValueType::UdpPayloadLengthIpv4)?;
         let sum = pseudo_header::sum_ipv4(source, destination, IpNumber::UDP, self.length);
-        Ok(self.checksum_behind(&sum, payload))
+        Ok(self.checksum_with_pseudo_header(&sum, payload))
     }
 
-    /// The checksum behind this IPv6 header, whatever checksum the header holds. A payload above 4294967287 bytes is
-    /// refused.
+    /// Computes the checksum of the UDP datagram (this header and `payload`) in a packet with the IPv6 header
+    /// `ip_header`; the content of `checksum` is ignored, and 0 is returned as 65535. Fails if the payload is above
+    /// 4294967287 bytes.
     pub fn calc_checksum_ipv6(
         &self,
         ip_header: &Ipv6Header,
@@ -143,8 +148,9 @@ impl UdpHeader {
         self.calc_checksum_ipv6_raw(ip_header.source, ip_header.destination, payload)
     }
 
-    /// The checksum over IPv6, with these addresses, whatever checksum the header holds. A payload above 4294967287
-    /// bytes is refused.
+    /// Computes the checksum of the UDP datagram (this header and `payload`) sent from the IPv6 address `source` to
+    /// `destination`; the content of `checksum` is ignored, and 0 is returned as 65535. Fails if the payload is above
+    /// 4294967287 bytes.
     pub fn calc_checksum_ipv6_raw(
         &self,
         source: [u8; 16],
@@ -158,11 +164,12 @@ impl UdpHeader {
     {
         pseudo_header::check_len(payload, 4294967287, ValueType::UdpPayloadLengthIpv6)?;
         let sum = pseudo_header::sum_ipv6(source, destination, IpNumber::UDP, self.length as u32);
-        Ok(self.checksum_behind(&sum, payload))
+        Ok(self.checksum_with_pseudo_header(&sum, payload))
     }
 
-    /// The checksum of header and payload behind a pseudo header of this sum.
-    fn checksum_behind(&self, pseudo_header: &Sum16BitWords, payload: &[u8]) -> u16
+    /// Computes the checksum of the UDP datagram (this header and `payload`), given the sum of its pseudo header. A
+    /// checksum of 0 is returned as 65535.
+    fn checksum_with_pseudo_header(&self, pseudo_header: &Sum16BitWords, payload: &[u8]) -> u16
         ensures { (front : List ℕ) → length front % 2 ≡ 0 → pseudo_header.now ≡ ones_sum front
             → result ≡ no_zero (checksum_of (front ++ udp_message self.now payload.now)) }
     {

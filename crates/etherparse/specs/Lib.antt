@@ -1,7 +1,7 @@
--- The definitions that the library's contracts name, and those that they stand on, from the innermost crate to the
--- outermost. Each file has a name that stands in no other crate of the library.
+-- The definitions that the library's contracts name, and the definitions that these depend on, from the innermost crate
+-- to the outermost. The name of each file is unique in the library.
 pub mod Types
--- numbers, lengths and errors that every layer shares
+-- numbers, lengths and errors that the layers share
 pub use Rattle.ep_base.specs.Bounded
 pub use Rattle.ep_base.specs.Bytes
 pub use Rattle.ep_base.specs.Checksum
@@ -89,7 +89,7 @@ pub use Rattle.ep_packet.specs.TwoParsers
 pub use Rattle.ep_packet.specs.UncutTags
 pub use Rattle.ep_packet.specs.VlanTags
 pub use Rattle.ep_packet.specs.Walk
--- packets of which bytes are missing
+-- lax parsing of truncated packets
 pub use Rattle.ep_base.specs.LaxCut
 pub use Rattle.ep_ext.specs.FrontChains
 pub use Rattle.ep_lax.specs.LaxIp
@@ -114,7 +114,7 @@ pub use Rattle.ep_build.specs.Fits
 pub use Rattle.ep_build.specs.Placing
 pub use Rattle.ep_build.specs.ReadBack
 pub use Rattle.ep_build.specs.Steps
--- putting fragments together
+-- reassembly of fragments
 pub use Rattle.ep_defrag.specs.Buffers
 pub use Rattle.ep_defrag.specs.BuiltCuts
 pub use Rattle.ep_defrag.specs.Calls
@@ -128,11 +128,11 @@ pub use Rattle.ep_defrag.specs.NameHashes
 pub use Rattle.ep_defrag.specs.Pools
 pub use Rattle.ep_defrag.specs.Ranges
 pub use Rattle.ep_defrag.specs.FragmentRefusals
-pub use Rattle.ep_defrag.specs.Rooms
+pub use Rattle.ep_defrag.specs.Capacities
 pub use Rattle.ep_defrag.specs.Runs
 pub use Rattle.ep_defrag.specs.Streams
 pub use Rattle.ep_defrag.specs.IpDefragErrorTexts
--- the constants of modules
+-- constants of modules
 pub use Rattle.ep_base.specs.declared.ether_type.TheConstants as EtherTypeConstants
 pub use Rattle.ep_base.specs.declared.ip_number.TheConstants as IpNumberConstants
 pub use Rattle.ep_transport.specs.declared.icmpv4.TheConstants as Icmpv4Constants

@@ -1,6 +1,6 @@
--- The types of the library, each under its own name, with its variants in TheVariants. Errors that stand in a module of
--- their own in `err` have its name before theirs.
--- numbers, lengths and errors that every layer shares
+-- The types of the library, each under its own name, with its variants in TheVariants. The first group has numbers,
+-- lengths and errors that the layers share; the name of an error of this group that is in a module of `err` starts with
+-- the name of that module.
 pub use Rattle.ep_base.specs.declared.at_least.AtLeast
 pub use Rattle.ep_base.specs.declared.err.ip.HeaderError as IpHeaderError
 pub use Rattle.ep_base.specs.declared.err.ip.HeadersError as IpHeadersError
@@ -125,7 +125,7 @@ pub use Rattle.ep_packet.specs.declared.net_slice.NetSlice
 pub use Rattle.ep_packet.specs.declared.packet_headers.PacketHeaders
 pub use Rattle.ep_packet.specs.declared.payload_slice.PayloadSlice
 pub use Rattle.ep_packet.specs.declared.sliced_packet.SlicedPacket
--- packets of which bytes are missing
+-- lax parsing of truncated packets
 pub use Rattle.ep_lax.specs.declared.lax_ether_payload_slice.LaxEtherPayloadSlice
 pub use Rattle.ep_lax.specs.declared.lax_ip_payload_slice.LaxIpPayloadSlice
 pub use Rattle.ep_lax.specs.declared.lax_ipv4_slice.LaxIpv4Slice
@@ -140,7 +140,7 @@ pub use Rattle.ep_build.specs.declared.err.build_slice_write_error.BuildSliceWri
 pub use Rattle.ep_build.specs.declared.err.build_write_error.BuildWriteError
 pub use Rattle.ep_build.specs.declared.link_part.LinkPart
 pub use Rattle.ep_build.specs.declared.packet_builder.PacketBuilderStep
--- putting fragments together
+-- reassembly of fragments
 pub use Rattle.ep_defrag.specs.declared.frame_run.FrameAnswer
 pub use Rattle.ep_defrag.specs.declared.frame_run.FrameCall
 pub use Rattle.ep_defrag.specs.declared.ip_defrag_buf.IpDefragBuf

@@ -1,11 +1,11 @@
-//! Packets taken apart, built and put together: the whole library under one name.
+//! Parses, builds and reassembles network packets: the whole library in one crate.
 //!
-//! # Taking a packet apart
+//! # Parsing a packet
 //!
-//! [`SlicedPacket`] walks over the bytes of a packet, from its Ethernet II or Linux cooked header, from an ether
-//! type or from the IP header on, and answers a slice for each layer: [`LinkSlice`], up to three [`LinkExtSlice`]
-//! (VLAN tags and MACsec), [`NetSlice`] (IPv4, IPv6 or ARP) and [`TransportSlice`] (UDP, TCP, ICMP). A slice
-//! copies nothing; its methods read single fields, and `to_header` of a header's slice reads them all.
+//! [`SlicedPacket`] parses the bytes of a packet, starting at its Ethernet II or Linux cooked header, after a known
+//! ether type, or at the IP header. It has a slice for each layer: [`LinkSlice`], up to three [`LinkExtSlice`] (VLAN
+//! tags and MACsec), [`NetSlice`] (IPv4, IPv6 or ARP) and [`TransportSlice`] (UDP, TCP, ICMP). A slice copies nothing;
+//! its methods read single fields, and `to_header` of a header's slice reads all of them.
 //!
 //! ```text
 //! let packet = SlicedPacket::from_ethernet(frame)?;
@@ -14,33 +14,34 @@
 //! }
 //! ```
 //!
-//! What a packet says is bounded by its length fields; [`LenSource`] names the field that cut it. A packet that is
-//! none is refused by an [`err::packet::SliceError`], which says what is wrong, and, where bytes are missing, in which
-//! layer, where that begins, and how many bytes it needs and has. No checksum is verified; `calc_checksum_ipv4` and its
-//! like compute what one should be.
+//! The length fields of a packet limit its payloads; [`LenSource`] names the field that set a limit. Bytes that are not
+//! a packet are rejected with an [`err::packet::SliceError`]. It states the reason, and if bytes are missing, the
+//! layer, the offset at which that layer starts, and the number of bytes that it needs and has. No checksum is
+//! verified; the `calc_checksum_*` methods, as `calc_checksum_ipv4`, compute the expected value.
 //!
-//! Where many packets are read, [`SlicedPacket::slice_into`] fills a packet that is there already; [`Entry`] says with
-//! what the bytes begin. [`PacketHeaders`] reads the same packets into headers by value ([`LinkHeader`],
-//! [`LinkExtHeader`], [`NetHeaders`], [`TransportHeader`]) and leaves the rest as a [`PayloadSlice`].
+//! To parse many packets, [`SlicedPacket::slice_into`] reuses an existing packet; [`Entry`] selects the header that the
+//! bytes start with. [`PacketHeaders`] parses the same packets into owned headers ([`LinkHeader`], [`LinkExtHeader`],
+//! [`NetHeaders`], [`TransportHeader`]) and returns the rest as a [`PayloadSlice`].
 //!
-//! # Packets of which bytes are missing
+//! # Truncated packets
 //!
-//! [`LaxSlicedPacket`] reads what is there of a packet that a capture has cut, or whose length fields say less or more
-//! than is there: the layers up to the first that does not stand, why that is refused (`stop_err`), and of each payload
-//! whether bytes of it are missing. What [`SlicedPacket`] accepts is read the same.
+//! [`LaxSlicedPacket`] parses a packet that was truncated by the capture, or whose length fields do not match its
+//! bytes. It has the layers up to the first invalid one, the error of that layer (`stop_err`), and for each payload
+//! whether bytes of it are missing. A packet that [`SlicedPacket`] accepts is parsed into equal layers.
 //!
 //! # Single layers
 //!
-//! Each header has a struct and a slice, as [`UdpHeader`] and [`UdpSlice`], and can be read and written alone:
-//! `from_slice`, `to_bytes`, `write`. [`IpSlice`] and [`IpHeaders`] are IP with its extension headers. Fields that
-//! are no whole number of bytes have types of their own, as [`VlanId`] and [`IpFragOffset`]; the numbers of the
-//! standards stand in [`ether_type`], [`ip_number`], [`icmpv4`] and [`icmpv6`]; [`checksum`] sums the words of
-//! any bytes. The errors of a layer stand in its module of [`err`].
+//! Each header has a struct and a slice, as [`UdpHeader`] and [`UdpSlice`], and can be read and written separately:
+//! `from_slice`, `to_bytes`, `write`. [`IpSlice`] and [`IpHeaders`] are IP with its extension headers. Fields whose
+//! width is not a whole number of bytes have their own types, as [`VlanId`] and [`IpFragOffset`]. The numbers that the
+//! standards assign are in [`ether_type`], [`ip_number`], [`icmpv4`] and [`icmpv6`]. [`checksum`] computes the Internet
+//! checksum of any bytes. The errors of each layer are in its module of [`err`].
 //!
 //! # Building a packet
 //!
-//! [`PacketBuilder`] takes the headers from the outermost on, each step offering what may follow, and `write`
-//! appends the packet with its types, lengths and checksums to a vector. A refusal leaves the vector as it was.
+//! [`PacketBuilder`] takes the headers from the outermost to the innermost; each step offers the headers that may come
+//! next. `write` appends the packet to a vector, with its types, lengths and checksums. On an error the vector is
+//! unchanged.
 //!
 //! ```text
 //! PacketBuilder::ethernet2(source, destination)
@@ -49,23 +50,24 @@
 //!     .write(&mut frame, payload)?;
 //! ```
 //!
-//! # Putting fragments together
+//! # Reassembling fragments
 //!
-//! [`defrag::IpDefragPool`] takes sliced packets and hands out each payload that is complete; its `with_limit` bounds
-//! the bytes of each stream, a payload that is given back lends its memory to the next, and `retain` drops the streams
-//! whose last timestamp fails the caller's test. [`defrag::IpDefragBuf`] is one payload on its way, for callers who
-//! tell the streams apart themselves. [`defrag::run_calls`] makes a list of calls with sliced packets, and
-//! [`defrag::run_frames`] one with frames as bytes.
+//! [`defrag::IpDefragPool`] takes sliced packets and returns each payload when it is complete. A stream is the
+//! fragments of one datagram. `with_limit` limits the bytes of each stream, `return_buf` reuses the memory of a
+//! returned payload for the next one, and `retain` drops the streams whose last timestamp fails the caller's test.
+//! [`defrag::IpDefragBuf`] reassembles a single payload, for callers who separate the streams themselves.
+//! [`defrag::run_calls`] runs a list of calls with sliced packets, and [`defrag::run_frames`] a list of calls with
+//! frames as bytes.
 //!
 //! # Contracts that cite the library
 //!
-//! The definitions that the contracts here name are all under `Rattle.etherparse.specs`: the types in `Types`
-//! (`Types.Entry`, `Types.UdpHeader`), and each other file under its name. `Frame.IsFrame entry bytes layers` says that
-//! bytes are a frame of these layers, and `FrameRefusals.RefusesFrame` why they are none; `Layers.layers_of` is what a
-//! sliced packet shows; `BuiltFrames.built_frame` is what the builder writes, `Pools` and `Calls` what a pool holds and
-//! answers. What holds of the definitions themselves, as that bytes are one frame or are refused with one error, is
-//! said by the functions of [`laws`]. So a crate lists `etherparse` alone. The crates `example_filter`,
-//! `example_flows`, `example_generator`, `example_tcp_options`, `example_ipv6_extensions`, `example_fragments` and
+//! All definitions that the contracts here name are under `Rattle.etherparse.specs`: the types in `Types`
+//! (`Types.Entry`, `Types.UdpHeader`), and every other file under its own name. `Frame.IsFrame entry bytes layers`
+//! holds if the bytes are a frame with these layers, and `FrameRefusals.RefusesFrame` if they are rejected with this
+//! error; `Layers.layers_of` is the layers of a sliced packet; `BuiltFrames.built_frame` is the frame that the builder
+//! writes; `Pools` and `Calls` define the state and the answers of a pool. Facts about the definitions themselves, as
+//! that bytes are either one frame or rejected with one error, are the contracts of the functions in [`laws`]. So a
+//! crate needs to list `etherparse` only. The crates `example_filter`, `example_flows`, `example_generators` and
 //! `example_reader` are small programs with such contracts.
 #![tactic(auto)]
 
@@ -178,7 +180,7 @@ pub use ep_transport::UdpSlice;
 pub use ep_transport::icmpv4;
 pub use ep_transport::icmpv6;
 
-/// Putting fragmented IP payloads together again.
+/// Reassembly of fragmented IP payloads.
 pub mod defrag {
     pub use ep_defrag::{
         Fragment, FrameAnswer, FrameCall, IpDefragBuf, IpDefragError, IpDefragPayloadVec,
@@ -188,7 +190,8 @@ pub mod defrag {
     };
 }
 
-/// The errors, each in the module of its layer; `packet` has those of whole packets.
+/// Error types, each in the module of its layer or header; types that several layers share are here, and the errors of
+/// whole packets are in `packet`.
 pub mod err {
     pub use ep_base::err::{
         Layer, LenError, ValueTooBigError, ValueType, ip_exts, ipv4_exts, ipv6, linux_sll, macsec,
@@ -197,7 +200,7 @@ pub mod err {
     pub use ep_ext::err::{ip_auth, ipv6_exts};
     pub use ep_link::err::arp;
 
-    /// The errors of IP with its extension headers.
+    /// Error types of an IP header with its extension headers.
     pub mod ip {
         pub use ep_base::err::ip::{
             HeaderError, HeadersError, HeadersSliceError, LaxHeaderSliceError, SliceError,
@@ -205,18 +208,18 @@ pub mod err {
         pub use ep_packet::err::HeadersWriteError;
     }
 
-    /// The errors of IPv4 headers.
+    /// Error types of IPv4 headers.
     pub mod ipv4 {
         pub use ep_base::err::ipv4::{HeaderError, HeaderSliceError, SliceError};
         pub use ep_ip::BadOptionsLen;
     }
 
-    /// The errors of the layer that holds IP or ARP.
+    /// Error types of the network layer (IP or ARP).
     pub mod net {
         pub use ep_packet::err::NetSetNextHeaderError;
     }
 
-    /// The errors of whole packets.
+    /// Error types of parsing and building whole packets, and of transport checksums.
     pub mod packet {
         pub use ep_build::err::{BuildSliceWriteError, BuildWriteError};
         pub use ep_packet::err::SliceError;
@@ -224,8 +227,9 @@ pub mod err {
     }
 }
 
-/// Laws: functions that do nothing, each of whose contracts says what holds of all bytes, of any values, or of
-/// comparisons and clones. A proof gets one by a call. Each module has those of one part of the library.
+/// Laws: public functions without effect whose contracts state theorems about this library, for example about the
+/// parsing of any bytes, or about comparisons and clones of its types. A proof obtains a theorem by calling the law.
+/// Each module has the laws of one part of the library.
 pub mod laws {
     pub use ep_base::laws as base;
     pub use ep_build::laws as build;

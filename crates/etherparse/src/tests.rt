@@ -1,4 +1,4 @@
-//! Packets that are read, built and put together, by the names that a user has.
+//! Tests of parsing, building and reassembling packets through the public names of this crate.
 
 mod build;
 mod checks;

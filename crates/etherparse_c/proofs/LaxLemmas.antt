@@ -1,8 +1,8 @@
--- That of a frame that is read laxly the same is told: each length field that counts its payload has cut it.
+-- A frame has the same description when it is parsed laxly: each length field that counts its payload limits it.
 use Rattle.std.proofs.Common.{◌≡◌, ◌==◌, ◌&&◌, ◌||◌, nat_lt, if◌then◌else◌, ℕ, zero, suc, ◌+◌, ◌<◌, Bool, false, List, [], ◌∷◌, length, map, Option, Some, None, refl, sym, ap, subst, ◌∙◌, inl, inr, arith}
 use Rattle.std.proofs.lemmas.Grind.{common_steps}
 use Rattle.etherparse.specs.Bytes.{bit}
-use Rattle.etherparse.specs.Frame.{NetKind, any_ip, IsFrame, IsInside, IsNetPart, IsTransportBehind, most_link_exts, net_kind}
+use Rattle.etherparse.specs.Frame.{NetKind, any_ip, IsFrame, IsInside, IsNetPart, IsTransportAfterNet, most_link_exts, net_kind}
 use Rattle.etherparse.specs.FrameBytes.{last_payload}
 use Rattle.etherparse.specs.IpPayload.{IpPayload}
 use Rattle.etherparse.specs.LaxLayers.{LaxLayers}
@@ -12,7 +12,7 @@ use Rattle.etherparse.specs.LinkExtensions.{LinkExtension, vlan, macsec, extensi
 use Rattle.etherparse.specs.LinuxSll.{protocol_ether_type}
 use Rattle.etherparse.specs.Macsec.{macsec_payload_bytes, ptype_len}
 use Rattle.etherparse.specs.Payloads.{extensions_len_source, have_short_len}
-use Rattle.etherparse.specs.Readings.{cut_by, slices}
+use Rattle.etherparse.specs.Readings.{limited_by, slices}
 use Rattle.etherparse.specs.StrictFrames.{IsWhole, extension_in, layers_in}
 use Rattle.etherparse.specs.TransportParts.{TransportLayer, IsTransportLayer}
 use Rattle.etherparse.specs.Types.Entry.{Entry}
@@ -28,7 +28,7 @@ use Rattle.etherparse_c.specs.LaxAnswers.{cut_end, lax_description, lax_end, sto
 
 -- ---- tags
 
--- the extensions that slices show, whether or not bytes are missing
+-- The extensions of lax slices do not depend on whether bytes are missing.
 pub extensions_shown : (outer : Bool) (slices : List LaxLinkExtSlice)
     → map extension_in (lax_extensions_of outer slices) ≡ map lax_extension_of slices
 extensions_shown outer [] = refl
@@ -36,43 +36,43 @@ extensions_shown outer (slice ∷ others) =
     ap (λ (more : List LinkExtension). lax_extension_of slice ∷ more)
     (extensions_shown (extension_incomplete outer slice) others)
 
--- and how many they are
+-- There are as many extensions as slices.
 pub extensions_count : (outer : Bool) (slices : List LaxLinkExtSlice)
     → length (map extension_in (lax_extensions_of outer slices)) ≡ length slices
 extensions_count outer [] = refl
 extensions_count outer (slice ∷ others) = ap suc (extensions_count (extension_incomplete outer slice) others)
 
--- a short length of some bytes that are there has cut
+-- A short length that is not 0 and counts exactly the bytes that are present limits them.
 cuts_here : (outer : LenSource) (short_len there : ℕ) → 0 < short_len → short_len ≡ there
     → (if nat_lt 0 short_len && short_len == there then source.MacsecShortLength else outer) ≡ source.MacsecShortLength
 cuts_here outer short_len there some same = grind (arith, common_steps)
 
--- the number 0 has not
+-- A short length of 0 limits nothing.
 cuts_none : (outer : LenSource) (short_len there : ℕ) → short_len ≡ 0
     → (if nat_lt 0 short_len && short_len == there then source.MacsecShortLength else outer) ≡ outer
 cuts_none outer short_len there none = grind (arith, common_steps)
 
--- what set the end behind tags of which one may be behind one that cut
-abbrev end_behind : LenSource → List LinkExtension → LenSource
-end_behind outer extensions = if have_short_len extensions then source.MacsecShortLength else outer
+-- Limit of the bytes after some tags: a short length, if any of the tags has one other than 0; otherwise `outer`.
+abbrev lax_exts_len_source : LenSource → List LinkExtension → LenSource
+lax_exts_len_source outer extensions = if have_short_len extensions then source.MacsecShortLength else outer
 
--- a tag that cut, or one that did not, and others behind it
+-- Limit of the bytes after a tag, whose short length is positive or 0, and the tags after it.
 some_short : (outer : LenSource) (short_len : ℕ) (others : List LinkExtension) → 0 < short_len
-    → end_behind source.MacsecShortLength others
+    → lax_exts_len_source source.MacsecShortLength others
     ≡ (if nat_lt 0 short_len || have_short_len others then source.MacsecShortLength else outer)
 some_short outer short_len others some = grind (arith, common_steps)
 
 no_short : (outer : LenSource) (short_len : ℕ) (others : List LinkExtension) → short_len ≡ 0
-    → end_behind outer others
+    → lax_exts_len_source outer others
     ≡ (if nat_lt 0 short_len || have_short_len others then source.MacsecShortLength else outer)
 no_short outer short_len others none = grind (arith, common_steps)
 
--- of the tags of a frame each that has a short length has cut
+-- In a frame each short length that is not 0 limits the payload of its tag.
 tags_told : (room : ℕ) (type : Option EtherType) (bytes : List ℕ) (extensions : List LinkExtension)
     (net : Option NetLayer) (transport : Option TransportLayer) (outer : LenSource)
-    → IsInside slices room type bytes extensions net transport → tags_end outer extensions ≡ end_behind outer extensions
+    → IsInside slices room type bytes extensions net transport → tags_end outer extensions ≡ lax_exts_len_source outer extensions
 tags_told room None bytes extensions net transport outer part =
-    subst (λ (x : List LinkExtension). tags_end outer x ≡ end_behind outer x) (sym part.0) refl
+    subst (λ (x : List LinkExtension). tags_end outer x ≡ lax_exts_len_source outer x) (sym part.0) refl
 tags_told zero (Some type) bytes [] net transport outer part = refl
 tags_told zero (Some type) bytes (extension ∷ others) net transport outer part = absurd part
 tags_told (suc room) (Some type) bytes [] net transport outer part = refl
@@ -80,7 +80,7 @@ tags_told (suc room) (Some type) bytes (vlan tag payload ∷ others) net transpo
     tags_told room (extension_type (vlan tag payload)) payload others net transport outer part.1
 tags_told (suc room) (Some type) bytes (macsec tag payload ∷ others) net transport outer part =
     let there = ptype_len tag.ptype + length (macsec_payload_bytes payload) in
-    let behind : (end : LenSource) → tags_end end others ≡ end_behind end others =
+    let behind : (end : LenSource) → tags_end end others ≡ lax_exts_len_source end others =
     λ end. tags_told room (extension_type (macsec tag payload)) (macsec_payload_bytes payload) others net transport end
     part.1 in
     elim part.0.1.1.cut [
@@ -94,57 +94,57 @@ tags_told (suc room) (Some type) bytes (macsec tag payload ∷ others) net trans
 
 -- ---- the transport layer
 
--- a length of UDP that counts header and payload has cut
+-- A length of UDP that counts exactly the header and the payload limits the payload.
 udp_cut : (len n : ℕ) → len ≡ 8 + n
     → (if len == 8 + n then source.UdpHeaderLen else source.Slice)
     ≡ (if len == 0 then source.Slice else source.UdpHeaderLen)
 udp_cut len n same = grind (arith, common_steps)
 
--- the number 0 has not
+-- A length of 0 limits nothing.
 udp_uncut : (len n : ℕ) → len ≡ 0
     → (if len == 8 + n then source.UdpHeaderLen else source.Slice)
     ≡ (if len == 0 then source.Slice else source.UdpHeaderLen)
 udp_uncut len n none = grind (arith, common_steps)
 
-layer_told : (number : ℕ) (bytes : List ℕ) (header : TransportHeader) (payload : List ℕ)
+layer_of_number : (number : ℕ) (bytes : List ℕ) (header : TransportHeader) (payload : List ℕ)
     → IsTransportLayer slices number bytes header payload → cut_end header payload ≡ header_end header
-layer_told number bytes (transport.Udp header) payload is = elim is.1.1.cut [
+layer_of_number number bytes (transport.Udp header) payload is = elim is.1.1.cut [
   | inl counts ↦ udp_cut header.length (length payload) counts
   | inr none ↦ udp_uncut header.length (length payload) none.0
 ]
-layer_told number bytes (transport.Tcp header) payload is = refl
-layer_told number bytes (transport.Icmpv4 header) payload is = refl
-layer_told number bytes (transport.Icmpv6 header) payload is = refl
+layer_of_number number bytes (transport.Tcp header) payload is = refl
+layer_of_number number bytes (transport.Icmpv4 header) payload is = refl
+layer_of_number number bytes (transport.Icmpv6 header) payload is = refl
 
-behind_told : (payload : Option IpPayload) (layer : Option TransportLayer) → IsTransportBehind slices payload layer
+behind_told : (payload : Option IpPayload) (layer : Option TransportLayer) → IsTransportAfterNet slices payload layer
     → transport_cut_end layer ≡ transport_end layer
 behind_told None layer none =
     subst (λ (l : Option TransportLayer). transport_cut_end l ≡ transport_end l) (sym none) refl
 behind_told (Some payload) None is = refl
-behind_told (Some payload) (Some layer) is = layer_told payload.number payload.bytes layer.header layer.payload is.1
+behind_told (Some payload) (Some layer) is = layer_of_number payload.number payload.bytes layer.header layer.payload is.1
 
-net_told : (kind : Option NetKind) (bytes : List ℕ) (net : Option NetLayer) (layer : Option TransportLayer)
+net_description : (kind : Option NetKind) (bytes : List ℕ) (net : Option NetLayer) (layer : Option TransportLayer)
     → IsNetPart slices kind bytes net layer → transport_cut_end layer ≡ transport_end layer
-net_told None bytes net layer part =
+net_description None bytes net layer part =
     subst (λ (l : Option TransportLayer). transport_cut_end l ≡ transport_end l) (sym part.1) refl
-net_told (Some kind) bytes net layer part = behind_told (net_payload part.0) layer part.3
+net_description (Some kind) bytes net layer part = behind_told (net_payload part.0) layer part.3
 
 inside_told : (room : ℕ) (type : Option EtherType) (bytes : List ℕ) (extensions : List LinkExtension)
     (net : Option NetLayer) (layer : Option TransportLayer) → IsInside slices room type bytes extensions net layer
     → transport_cut_end layer ≡ transport_end layer
 inside_told room None bytes extensions net layer part =
     subst (λ (l : Option TransportLayer). transport_cut_end l ≡ transport_end l) (sym part.2) refl
-inside_told zero (Some type) bytes [] net layer part = net_told (net_kind type) bytes net layer part
+inside_told zero (Some type) bytes [] net layer part = net_description (net_kind type) bytes net layer part
 inside_told zero (Some type) bytes (extension ∷ others) net layer part = absurd part
-inside_told (suc room) (Some type) bytes [] net layer part = net_told (net_kind type) bytes net layer part.1
+inside_told (suc room) (Some type) bytes [] net layer part = net_description (net_kind type) bytes net layer part.1
 inside_told (suc room) (Some type) bytes (extension ∷ others) net layer part =
     inside_told room (extension_type extension) (extension_payload extension) others net layer part.1
 
--- ---- the whole
+-- ---- the whole packet
 
 ends_told : (layers : Layers) → tags_end source.Slice layers.link_exts ≡ extensions_len_source layers.link_exts
     → transport_cut_end layers.transport ≡ transport_end layers.transport → lax_end layers ≡ payload_end layers
-ends_told layers tags inside = λ i. cut_by (cut_by (tags i) (net_end layers.net)) (inside i)
+ends_told layers tags inside = λ i. limited_by (limited_by (tags i) (net_end layers.net)) (inside i)
 
 end_told : (entry : Entry) (bytes : List ℕ) (layers : Layers) → IsFrame entry bytes layers
     → lax_end layers ≡ payload_end layers
@@ -165,9 +165,9 @@ end_told (ether_type type) bytes layers (link, inside) =
 end_told ip bytes layers (no_link, no_tags, part) =
     ends_told layers
     (subst (λ (x : List LinkExtension). tags_end source.Slice x ≡ extensions_len_source x) (sym no_tags) refl)
-    (net_told (Some any_ip) bytes layers.net layers.transport part)
+    (net_description (Some any_ip) bytes layers.net layers.transport part)
 
--- what is told of a reading that misses nothing and stops nowhere is what is told of a frame of its layers
+-- A lax packet that is complete and was parsed to its end has the description of a frame with its layers.
 whole_told : (read : LaxLayers) → lax_end (layers_in read) ≡ payload_end (layers_in read)
     → read.net.inside.incomplete ≡ false → read.net.inside.stop ≡ None
     → lax_description read ≡ description (layers_in read)

@@ -5,7 +5,7 @@ pub mod ManyLemmas
 pub mod SentLemmas
 pub mod PlaceLemmas
 pub mod PlainLemmas
-pub mod RoomLemmas
+pub mod LimitLemmas
 pub mod TagLemmas
 pub mod TaggedLemmas
 pub mod TextLemmas

@@ -1,4 +1,4 @@
--- Frames that are sliced one behind the other.
+-- Consecutive frames that are sliced one after the other.
 use Rattle.std.proofs.Common.{◌≡◌, ◌≢◌, ◌<◌, ◌≤◌, ◌+◌, ℕ, List, length, drop, Option, arith, refl, sym, ap, add-one, ◌∙◌}
 use Rattle.std.specs.Prelude.{slice_set}
 use Rattle.std.specs.List.{slice_range}
@@ -11,14 +11,14 @@ use Rattle.etherparse_c.specs.SliceAnswers.{IsSliceAnswer}
 use Rattle.etherparse_c.specs.ManyAnswers.{AreSliced, IsSlicedAt, frame_start, frame_end}
 use Rattle.etherparse_c.specs.declared.packet.Packet.{Packet}
 
--- what the loop keeps: the frames before a place are sliced, and the one at the place begins at this start
+-- Loop invariant: the frames before an index are sliced, and the frame at the index starts at `start`.
 pub record Slicing (entry : Option Entry) (bytes ends : List ℕ) (old new : List Packet) (start place sliced : ℕ)
     : Type 0 where
   pub are : AreSliced entry bytes ends old new place
   pub begun : start ≡ frame_start ends place
-  pub told : sliced ≡ place
+  pub described : sliced ≡ place
 
--- a packet before the place stays when the one at the place is written
+-- Writing the packet at an index does not change a packet before it.
 kept : (entry : Option Entry) (bytes ends : List ℕ) (packets : List Packet) (packet : Packet) (place before : ℕ)
     → before < place → place < length packets → IsSlicedAt entry bytes ends packets before
     → IsSlicedAt entry bytes ends (slice_set packets place packet) before
@@ -37,7 +37,7 @@ kept entry bytes ends packets packet place before above within is =
       answer = is.answer;
     }
 
--- one more frame is sliced
+-- Slicing one more frame preserves the loop invariant.
 pub one_more : (entry : Option Entry) (bytes ends : List ℕ) (old new : List Packet) (packet : Packet)
     (start place sliced status : ℕ) → Slicing entry bytes ends old new start place sliced → place < length ends
     → place < length new → start ≤ frame_end ends place → frame_end ends place ≤ length bytes
@@ -64,5 +64,5 @@ one_more entry bytes ends old new packet start place sliced status before more r
             ∙ sym (drop-drop 1 place new) ∙ ap (drop 1) before.are.others ∙ drop-drop 1 place old;
       };
       begun = rw add-one refl;
-      told = refl;
+      described = refl;
     }

@@ -1,4 +1,4 @@
--- Where in a frame the bytes are that C is told of.
+-- The bytes of a frame at the offsets that C gets.
 use Rattle.std.proofs.Common.{◌≡◌, ℕ, ◌+◌, ◌-◌, ◌≤◌, List, [], ◌∷◌, ◌++◌, length, take, drop, refl, sym, ap, subst}
 use Rattle.std.proofs.Common.{◌∙◌, arith, append_assoc, length-append}
 use Rattle.std.proofs.Math.Seq.{drop-append_seam, take-append_seam}
@@ -17,7 +17,7 @@ use Rattle.etherparse_c.specs.Description.{transport_len, transport_offset}
 use Rattle.etherparse_c.specs.LaxAnswers.{DescribesLax, lax_description}
 use Rattle.etherparse_c.specs.Places.{AreAt, AreTagsAt, Describes, HeaderLens, bytes_at}
 
--- bytes behind so many others
+-- The bytes after `offset` other bytes are the bytes at that offset.
 bytes_behind : (bytes front part behind : List ℕ) (offset len : ℕ) → bytes ≡ front ++ (part ++ behind)
     → length front ≡ offset → length part ≡ len → bytes_at bytes offset len ≡ part
 bytes_behind bytes front part behind offset len same front_len part_len =
@@ -28,7 +28,7 @@ bytes_behind bytes front part behind offset len same front_len part_len =
     ap (λ (n : ℕ). take n (drop offset bytes)) cut ∙ ap (λ (b : List ℕ). take (length part) b) there
     ∙ take-append_seam part behind
 
--- tags that stand one after the other behind other bytes
+-- Encoded tags after other bytes are the tags at that offset.
 tags_behind : HeaderLens → (bytes front tags behind : List ℕ) (offset : ℕ) (extensions : List LinkExtension)
     → bytes ≡ front ++ (tags ++ behind) → length front ≡ offset → EncodesTags extensions tags
     → AreTagsAt bytes offset extensions
@@ -45,7 +45,7 @@ tags_behind laws bytes front tags behind offset (extension ∷ others) same fron
           (length-append front tag ∙ omega (arith, front_len, len)) more,
     )
 
--- the lengths of the headers of a frame whose bytes are in order, and of what lies behind them
+-- The lengths of the headers of a frame, added up from the first header on, are the offsets of its layers.
 record Lens (bytes : List ℕ) (layers : Layers) (order : AreInOrder bytes layers) : Type 0 where
   link : length order.link ≡ link_len layers.link
   tags : length (order.link ++ order.tags) ≡ net_offset layers
@@ -68,7 +68,7 @@ lens laws bytes layers order =
       transport = omega (arith, link, tags, two, net, three, transport, four);
     }
 
--- the bytes, grouped from the front
+-- The bytes of a frame, split before each layer.
 record Grouped (bytes : List ℕ) (layers : Layers) (order : AreInOrder bytes layers) : Type 0 where
   net : bytes ≡ (order.link ++ order.tags) ++ (order.net ++ (order.transport ++ (last_payload layers ++ order.left)))
   transport : bytes
@@ -86,7 +86,7 @@ grouped bytes layers order =
       payload = transport ∙ sym (append_assoc ((order.link ++ order.tags) ++ order.net) order.transport _);
     }
 
--- the payload of the last layer ends within the bytes
+-- The payload of the last layer ends within the bytes.
 pub within : HeaderLens → (bytes : List ℕ) (layers : Layers) → AreInOrder bytes layers
     → payload_offset layers + length (last_payload layers) ≤ length bytes
 within laws bytes layers order = omega (
@@ -97,7 +97,7 @@ within laws bytes layers order = omega (
   length-append (last_payload layers) order.left,
 )
 
--- what is said of layers is where they are
+-- The layers of a frame are at the offsets of its description.
 pub are_at : HeaderLens → (bytes : List ℕ) (layers : Layers) → AreInOrder bytes layers
     → AreAt bytes layers (description layers)
 are_at laws bytes layers order =
@@ -123,7 +123,7 @@ are_at laws bytes layers order =
           refl);
     }
 
--- the same of any packet that says it of a frame
+-- A packet that is equal to the description of a frame describes it.
 pub places : HeaderLens → (entry : Entry) (bytes : List ℕ) (layers : Layers) (packet : Packet)
     → IsFrame entry bytes layers → AreInOrder bytes layers → packet ≡ description layers
     → Describes entry bytes layers packet
@@ -134,7 +134,7 @@ places laws entry bytes layers packet frame order same =
       places = are_at laws bytes layers order;
     })
 
--- and of one that says it of what is read laxly
+-- A packet that is equal to the description of a lax packet describes it.
 pub lax_places : HeaderLens → (entry : Entry) (bytes : List ℕ) (read : LaxLayers) (packet : Packet)
     → IsLax entry bytes read → AreInOrder bytes (layers_in read) → packet ≡ lax_description read
     → DescribesLax entry bytes read packet

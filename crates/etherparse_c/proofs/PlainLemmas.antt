@@ -1,4 +1,4 @@
--- That plain frames are frames, and what is said of them.
+-- Plain frames are frames, and their description is that of the frame.
 use Rattle.std.proofs.Common.{◌≡◌, ℕ, ◌+◌, ◌*◌, ◌-◌, ◌≤◌, false, List, [], ◌∷◌, ◌++◌, length, take, drop, Option, Some, None, refl, sym, ap, subst, ◌∙◌, ◌⊎◌, inl, inr, arith}
 use Rattle.std.specs.Prelude.{suc}
 use Rattle.std.proofs.lemmas.Option.{none-some}
@@ -7,7 +7,7 @@ use Rattle.etherparse.specs.Bytes.{bit}
 use Rattle.etherparse.specs.EtherTypes.{ipv4_type, ipv6_type}
 use Rattle.etherparse.specs.IpNumbers.{authentication_number, icmpv6_number, tcp_number, udp_number}
 use Rattle.etherparse.specs.IpPayload.{IpPayload}
-use Rattle.etherparse.specs.Readings.{cut_by, slices}
+use Rattle.etherparse.specs.Readings.{limited_by, slices}
 use Rattle.etherparse.specs.Tables.{parts_of}
 use Rattle.etherparse.specs.Types.EtherType.{EtherType}
 use Rattle.etherparse.specs.Types.LenSource.{LenSource}
@@ -27,8 +27,8 @@ use Rattle.etherparse.specs.LinkSlices.{LinkLayer, ethernet2}
 use Rattle.etherparse.specs.Vlan.{IsVlan}
 use Rattle.etherparse.specs.VlanSlices.{vlan_slice_header, vlan_slice_parts, vlan_slice_payload}
 use Rattle.etherparse.specs.Types.Entry.TheVariants.{Ethernet as ethernet_entry}
-use Rattle.etherparse.specs.Frame.{NetKind, any_ip, only_ipv4, only_ipv6, net_kind, most_link_exts, IsFrame, IsInside, IsNetPart, IsTransportBehind, IsTransportIn}
-use Rattle.etherparse.specs.FrameBytes.{behind_net, link_payload, payload_behind}
+use Rattle.etherparse.specs.Frame.{NetKind, any_ip, only_ipv4, only_ipv6, net_kind, most_link_exts, IsFrame, IsInside, IsNetPart, IsTransportAfterNet, IsTransportIn}
+use Rattle.etherparse.specs.FrameBytes.{after_net, link_payload, payload_after_exts}
 use Rattle.etherparse.specs.Layers.{Layers, NetLayer, arp, ipv4, ipv6, net_payload}
 use Rattle.etherparse.specs.Payloads.{extensions_len_source}
 use Rattle.etherparse.specs.TransportParts.{TransportLayer}
@@ -38,11 +38,11 @@ use Rattle.etherparse_c.specs.declared.packet.Part.{Part}
 use Rattle.etherparse_c.specs.declared.plain.PlainIp.{PlainIp}
 use Rattle.etherparse_c.specs.declared.vlans.Behind.{Behind}
 use Rattle.etherparse_c.specs.Description.{description, ip_in, link_len, link_part, net_end, net_kind as kind_number, net_len, no_refusal, part, tag_slots, tags_len}
-use Rattle.etherparse_c.specs.Plain.{HasPlainIp, HasVlans, IsPlainIp, IsPlainNet, net_told, plain_ip, plain_payload, plain_told, transport_told}
+use Rattle.etherparse_c.specs.Plain.{HasPlainIp, HasVlans, IsPlainIp, IsPlainNet, net_description, plain_ip, plain_payload, plain_description, transport_description}
 
 -- ---- tags
 
--- a tag before others
+-- A VLAN tag before other layers.
 vlan_before : (type : EtherType) (bytes left : List ℕ) (tag : SingleVlanSlice) (room : ℕ) (others : List LinkExtension)
     (net : Option NetLayer) (transport : Option TransportLayer) → IsVlanType type
     → IsVlan bytes (vlan_slice_parts tag left)
@@ -51,7 +51,7 @@ vlan_before : (type : EtherType) (bytes left : List ℕ) (tag : SingleVlanSlice)
     transport
 vlan_before type bytes left tag room others net transport of_type is inside = ((left, (of_type, is)), inside)
 
--- one tag
+-- One VLAN tag meets `HasVlans`.
 pub one_vlan : (type : EtherType) (bytes left : List ℕ) (tag : SingleVlanSlice) (behind : Behind) → IsVlanType type
     → IsVlan bytes (vlan_slice_parts tag left) → behind.offset ≡ 18
     → behind.ether_type ≡ (vlan_slice_header tag).ether_type → behind.slice.now ≡ vlan_slice_payload tag
@@ -67,7 +67,7 @@ one_vlan type bytes left tag behind of_type is place same_type same = record {
   );
 }
 
--- two tags
+-- Two VLAN tags meet `HasVlans`.
 pub two_vlans : (type : EtherType) (bytes left rest : List ℕ) (outer inner : SingleVlanSlice) (behind : Behind)
     → IsVlanType type → IsVlan bytes (vlan_slice_parts outer left) → IsVlanType (vlan_slice_header outer).ether_type
     → IsVlan (vlan_slice_payload outer) (vlan_slice_parts inner rest) → behind.offset ≡ 22
@@ -90,18 +90,18 @@ two_vlans type bytes left rest outer inner behind of_type is of_inner_type is_in
 
 -- ---- IP
 
--- another number than that of an authentication header ends a chain of IPv4 before it begins
+-- An IPv4 chain of extension headers is empty, unless its first number is that of an authentication header.
 ipv4_chain_ends : (number : ℕ) → (number ≡ authentication_number → ⊥) → demand_of ipv4_chain slices [] number ≡ ends
 ipv4_chain_ends number other = grind (arith, other)
 
--- those of UDP, TCP and ICMPv6 end one of IPv6
+-- An IPv6 chain of extension headers is empty if its first number is UDP, TCP or ICMPv6.
 ipv6_chain_ends : (number : ℕ) → (number ≡ udp_number) ⊎ (number ≡ tcp_number) ⊎ (number ≡ icmpv6_number)
     → demand_of ipv6_chain slices [] number ≡ ends
 ipv6_chain_ends number (inl is) = ap (λ (n : ℕ). demand_of ipv6_chain slices [] n) is
 ipv6_chain_ends number (inr (inl is)) = ap (λ (n : ℕ). demand_of ipv6_chain slices [] n) is
 ipv6_chain_ends number (inr (inr is)) = ap (λ (n : ℕ). demand_of ipv6_chain slices [] n) is
 
--- bytes of which n are a header, and t the header and its payload
+-- Bytes are a header of n bytes, a payload up to byte t, and the bytes after it.
 cut_bytes : (bytes header rest : List ℕ) (n t : ℕ) → bytes ≡ header ++ rest → length header ≡ n → n ≤ t
     → bytes ≡ (header ++ take (t - n) (drop n bytes)) ++ drop t bytes
 cut_bytes bytes header rest n t parts len enough =
@@ -113,7 +113,7 @@ cut_bytes bytes header rest n t parts len enough =
     ∙ ap (λ (s : List ℕ). drop n s) parts ∙ drop_at header rest n len in
     parts ∙ ap (λ (s : List ℕ). header ++ s) (sym behind) ∙ sym (append_assoc header payload (drop t bytes))
 
--- bytes that a header begins, and that its total length cuts, are a packet
+-- Bytes that start with an IPv4 header and reach to its total length are an IPv4 packet.
 pub cut_packet : (bytes rest : List ℕ) (header : Ipv4Header) (n t : ℕ) → IsIpv4Header bytes (header, rest)
     → n ≡ ipv4_header_len header → n + length rest ≡ length bytes → t ≡ header.total_len → n ≤ t → t ≤ length bytes
     → IsIpv4Packet bytes (parts_of header (take (t - n) (drop n bytes)) (drop t bytes))
@@ -127,12 +127,12 @@ cut_packet bytes rest header n t is of_header len same enough most =
       cut = omega (arith, same, there, enough, most, length-take (t - n) (drop n bytes), length-drop n bytes);
     }
 
--- a header of no fragment says so
+-- An IPv4 header that is not of a fragment has offset 0 and no more fragments.
 pub whole_header : (header : Ipv4Header) → is_ipv4_fragment header ≡ false
     → (header.more_fragments ≡ false) × (header.fragment_offset ≡ 0)
 whole_header header whole = grind (arith, whole)
 
--- an IPv4 packet without an authentication header
+-- An unfragmented IPv4 packet without an authentication header is a plain IP packet.
 pub has_ipv4 : (bytes left : List ℕ) (header : Ipv4Header) (ip : PlainIp)
     → IsIpv4Packet bytes (parts_of header ip.payload.now left) → (header.protocol.0 ≡ authentication_number → ⊥)
     → is_ipv4_fragment header ≡ false → ip.version ≡ 4 → ip.len ≡ ipv4_header_len header
@@ -181,7 +181,7 @@ has_ipv4 bytes left header ip cut other whole version len identification number 
       };
     }
 
--- an IPv6 packet with UDP, TCP or ICMPv6 behind its header
+-- An IPv6 packet with UDP, TCP or ICMPv6 directly after its header is a plain IP packet.
 pub has_ipv6 : (bytes left : List ℕ) (header : Ipv6Header) (ip : PlainIp)
     → IsIpv6Packet bytes (parts_of header ip.payload.now left)
     → (header.next_header.0 ≡ udp_number) ⊎ (header.next_header.0 ≡ tcp_number)
@@ -229,7 +229,7 @@ has_ipv6 bytes left header ip cut known version len identification number end =
       };
     }
 
--- a net part that begins with a packet of one version begins with one of any
+-- A packet of IPv4 or IPv6 is an IP packet of any version.
 pub any_version : (type : EtherType) (bytes : List ℕ) (net : NetLayer) (transport : Option TransportLayer)
     → (type.0 ≡ ipv4_type) ⊎ (type.0 ≡ ipv6_type) → IsNetPart slices (net_kind type) bytes (Some net) transport
     → IsNetPart slices (Some any_ip) bytes (Some net) transport
@@ -242,14 +242,14 @@ any_version type bytes net transport (inr is) part =
     subst (λ (n : ℕ). IsNetPart slices (net_kind (record { 0 = n })) bytes (Some net) transport) is part in
     (here.0, (ipv6_part here.1.0, here.1.1, here.1.2), here.2, here.3)
 
--- a type that begins a tag is none of a net layer
+-- The ether type of a tag is not that of a network layer.
 tagged_kind : (type : EtherType) → BeginsLinkExtension type → net_kind type ≡ None
 tagged_kind type (inl (inl is)) = ap (λ (n : ℕ). net_kind (record { 0 = n })) is
 tagged_kind type (inl (inr (inl is))) = ap (λ (n : ℕ). net_kind (record { 0 = n })) is
 tagged_kind type (inl (inr (inr is))) = ap (λ (n : ℕ). net_kind (record { 0 = n })) is
 tagged_kind type (inr is) = ap (λ (n : ℕ). net_kind (record { 0 = n })) is
 
--- so bytes with a net layer are of a type that begins none
+-- Bytes that are a network layer have no ether type of a tag.
 pub begins_none : (type : EtherType) (bytes : List ℕ) (net : NetLayer) (transport : Option TransportLayer)
     → IsNetPart slices (net_kind type) bytes (Some net) transport → ¬ BeginsLinkExtension type
 begins_none type bytes net transport part =
@@ -258,24 +258,24 @@ begins_none type bytes net transport part =
     subst (λ (kind : Option NetKind). IsNetPart slices kind bytes (Some net) transport) (tagged_kind type begins) part in
     none-some net (sym none.0)
 
--- a net layer and what is in its payload are the net part of bytes
+-- A network layer and the transport layer in its payload are the network part of the bytes.
 pub net_part : (kind : Option NetKind) (bytes : List ℕ) (layer : NetLayer) (transport : Option TransportLayer)
-    → IsPlainNet kind bytes layer → IsTransportBehind slices (net_payload layer) transport
+    → IsPlainNet kind bytes layer → IsTransportAfterNet slices (net_payload layer) transport
     → IsNetPart slices kind bytes (Some layer) transport
 net_part None bytes layer transport is inside = absurd is
 net_part (Some kind) bytes layer transport is inside = (layer, is, refl, inside)
 
--- so are the layers of an IP packet and of what is in it
+-- An IP packet and the transport layer in its payload are the network part of the bytes.
 pub plain_part : (kind : Option NetKind) (bytes : List ℕ) (layer : NetLayer) (payload : IpPayload)
     (transport : Option TransportLayer) → IsPlainNet kind bytes layer → net_payload layer ≡ Some payload
     → IsTransportIn slices payload transport → IsNetPart slices kind bytes (Some layer) transport
 plain_part kind bytes layer payload transport is same inside =
     net_part kind bytes layer transport is
-    (subst (λ (p : Option IpPayload). IsTransportBehind slices p transport) (sym same) inside)
+    (subst (λ (p : Option IpPayload). IsTransportAfterNet slices p transport) (sym same) inside)
 
--- ---- what is said of a net layer
+-- ---- the description of a network layer
 
--- what set the end of a payload, and its bytes, where there is one
+-- The limit of a payload, and its bytes, if there is a payload.
 abbrev source_in : Option IpPayload → LenSource
 source_in None = source.Slice
 source_in (Some payload) = payload.source
@@ -284,49 +284,49 @@ abbrev bytes_in : Option IpPayload → List ℕ
 bytes_in None = []
 bytes_in (Some payload) = payload.bytes
 
--- a net layer's payload is what lies behind it, and the layer sets its end
+-- The payload of a network layer is the bytes after it, limited by the layer.
 pub has_payload : (layer : NetLayer) (payload : IpPayload) → net_payload layer ≡ Some payload
-    → (net_end (Some layer) ≡ payload.source) × (behind_net [] (Some layer) ≡ payload.bytes)
+    → (net_end (Some layer) ≡ payload.source) × (after_net [] (Some layer) ≡ payload.bytes)
 has_payload (ipv4 header extensions inside) payload is = (ap source_in is, ap bytes_in is)
 has_payload (ipv6 header extensions inside) payload is = (ap source_in is, ap bytes_in is)
 has_payload (arp packet) payload is = absurd (none-some payload is)
 
--- behind one without a payload lies nothing
+-- There are no bytes after a network layer without a payload, which is ARP.
 pub has_none : (layer : NetLayer) → net_payload layer ≡ None
-    → (net_end (Some layer) ≡ source.ArpAddrLengths) × (behind_net [] (Some layer) ≡ [])
+    → (net_end (Some layer) ≡ source.ArpAddrLengths) × (after_net [] (Some layer) ≡ [])
 has_none (ipv4 header extensions inside) is = absurd (none-some inside (sym is))
 has_none (ipv6 header extensions inside) is = absurd (none-some inside (sym is))
 has_none (arp packet) is = (refl, refl)
 
--- what is said of header and transport layer is said of the net layer
+-- The descriptions of a network header and of the transport layer are the description of the network layer.
 pub net_is_told : (offset : ℕ) (net : NetLayer) (transport : Option TransportLayer) (end : LenSource)
     (bytes : List ℕ) (header : Part) (ip : Ip) (old new : Packet)
-    → (net_end (Some net) ≡ end) × (behind_net [] (Some net) ≡ bytes)
+    → (net_end (Some net) ≡ end) × (after_net [] (Some net) ≡ bytes)
     → header ≡ part (kind_number (Some net)) offset (net_len (Some net)) → ip ≡ ip_in (Some net)
-    → new ≡ transport_told (offset + header.len) end bytes transport (record old { net = header; ip = ip })
-    → new ≡ net_told offset net transport old
+    → new ≡ transport_description (offset + header.len) end bytes transport (record old { net = header; ip = ip })
+    → new ≡ net_description offset net transport old
 net_is_told offset net transport end bytes header ip old new behind header_is ip_is same =
-    same ∙ (λ i. transport_told (offset + (header_is i).len) (sym behind.0 i) (sym behind.1 i) transport
+    same ∙ (λ i. transport_description (offset + (header_is i).len) (sym behind.0 i) (sym behind.1 i) transport
     (record old { net = header_is i; ip = ip_is i }))
 
--- so is what is said of a plain packet
+-- The description of a plain IP packet is the description of its network layer.
 pub plain_is_told : (offset : ℕ) (net : NetLayer) (transport : Option TransportLayer) (ip : PlainIp)
-    (old new : Packet) → IsPlainIp net ip → new ≡ plain_told offset ip transport old
-    → new ≡ net_told offset net transport old
+    (old new : Packet) → IsPlainIp net ip → new ≡ plain_description offset ip transport old
+    → new ≡ net_description offset net transport old
 plain_is_told offset net transport ip old new shown same =
     net_is_told offset net transport ip.end ip.payload.now (part ip.version offset ip.len) (plain_ip ip) old new
     (has_payload net (plain_payload ip) shown.payload)
     (λ i. record { kind = sym shown.kind i; offset = offset; len = sym shown.len i }) (sym shown.says) same
 
--- ---- all of it
+-- ---- the whole frame
 
--- the layers of a plain frame
+-- The layers of a plain frame.
 abbrev pub plain_layers : Option LinkLayer → List LinkExtension → NetLayer → Option TransportLayer → Layers
 plain_layers link tags net transport =
     record { link = link; link_exts = tags; net = Some net; transport = transport }
 
--- what cuts nothing leaves the end to what is in it
-cut_alone : (end : LenSource) → cut_by source.Slice end ≡ end
+-- An outer layer that limits nothing leaves the limit of the inner layer.
+cut_alone : (end : LenSource) → limited_by source.Slice end ≡ end
 cut_alone source.Slice = refl
 cut_alone source.MacsecShortLength = refl
 cut_alone source.Ipv4HeaderTotalLen = refl
@@ -334,24 +334,24 @@ cut_alone source.Ipv6HeaderPayloadLen = refl
 cut_alone source.UdpHeaderLen = refl
 cut_alone source.ArpAddrLengths = refl
 
--- what lies behind a net layer does not depend on the bytes in which it lies
-behind_any : (bytes : List ℕ) (net : NetLayer) → behind_net [] (Some net) ≡ behind_net bytes (Some net)
+-- The bytes after a network layer do not depend on the bytes that contain the layer.
+behind_any : (bytes : List ℕ) (net : NetLayer) → after_net [] (Some net) ≡ after_net bytes (Some net)
 behind_any bytes (ipv4 header extensions payload) = refl
 behind_any bytes (ipv6 header extensions payload) = refl
 behind_any bytes (arp packet) = refl
 
--- what is said of the net layer, beside link header and tags, describes the layers
+-- Link header, tags and the description of the network layer are the description of all layers.
 pub plain_described : (link : Option LinkLayer) (tags : List LinkExtension) (net : NetLayer)
     (transport : Option TransportLayer) (offset : ℕ) (old new : Packet) → extensions_len_source tags ≡ source.Slice
     → offset ≡ link_len link + tags_len tags → old.link ≡ link_part link
     → old.link_exts ≡ tag_slots (link_len link) tags → old.link_ext_count ≡ length tags
-    → old.refusal ≡ no_refusal → new ≡ net_told offset net transport old
+    → old.refusal ≡ no_refusal → new ≡ net_description offset net transport old
     → new ≡ description (plain_layers link tags net transport)
 plain_described link tags net transport offset old new uncut place link_told tags_told count refused same =
-    let end : net_end (Some net) ≡ cut_by (extensions_len_source tags) (net_end (Some net)) =
-    sym (cut_alone (net_end (Some net))) ∙ ap (λ (e : LenSource). cut_by e (net_end (Some net))) (sym uncut) in
-    let behind = behind_any (payload_behind (link_payload link) tags) net in
-    same ∙ (λ i. transport_told (place i + net_len (Some net)) (end i) (behind i) transport (record old {
+    let end : net_end (Some net) ≡ limited_by (extensions_len_source tags) (net_end (Some net)) =
+    sym (cut_alone (net_end (Some net))) ∙ ap (λ (e : LenSource). limited_by e (net_end (Some net))) (sym uncut) in
+    let behind = behind_any (payload_after_exts (link_payload link) tags) net in
+    same ∙ (λ i. transport_description (place i + net_len (Some net)) (end i) (behind i) transport (record old {
       link = link_told i;
       link_exts = tags_told i;
       link_ext_count = count i;
@@ -360,7 +360,7 @@ plain_described link tags net transport offset old new uncut place link_told tag
       refusal = refused i;
     }))
 
--- the bytes are a frame of Ethernet II with these tags and what they hold
+-- An Ethernet II header with these tags and layers in its payload is a frame.
 pub plain_frame : (bytes left : List ℕ) (frame : Ethernet2Slice) (tags : List LinkExtension) (net : NetLayer)
     (transport : Option TransportLayer) → IsEthernet2 bytes (ethernet2_slice_parts frame left)
     → IsInside slices most_link_exts (Some (ethernet2_slice_header frame).ether_type) (ethernet2_slice_payload frame)

@@ -1,4 +1,4 @@
--- A box of the heap says the same to every thread, where what is in it does.
+-- Ownership of a box on the heap does not depend on the thread, if its content can be sent.
 use mir.Raw.{raw}
 use base.Fraction.{full_share}
 use base.Shift.{Keyless}

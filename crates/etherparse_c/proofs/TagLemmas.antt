@@ -1,20 +1,20 @@
--- The tags of at most three link extensions.
+-- Tags of at most three link extensions.
 use Rattle.std.proofs.Common.{◌≡◌, ℕ, ◌+◌, ◌≤◌, List, [], ◌∷◌, length, map, refl, sym, ap, ◌∙◌, arith}
 use Rattle.etherparse.specs.LinkExtensions.{LinkExtension}
 use Rattle.etherparse_c.specs.declared.packet.LinkExt.{LinkExt}
 use Rattle.etherparse_c.specs.Description.{no_tag, tag_len, tag_part, tag_slots, tags_len}
 
--- a list without a length is empty
+-- A list of length 0 is empty.
 no_more : {Slice : Type 0} (others : List Slice) → length others ≡ 0 → others ≡ []
 no_more [] none = refl
 no_more (extension ∷ others) none = absurd (omega (arith, none))
 
--- a list of at most one more than it has is empty behind it
+-- After three of at most three elements the list is empty.
 is_last : {Slice : Type 0} (others : List Slice) → 3 + length others ≤ 3 → others ≡ []
 is_last [] most = refl
 is_last (extension ∷ others) most = absurd (omega (arith, most))
 
--- the second tag begins where the first ends
+-- The second tag starts where the first one ends.
 behind : {Slice : Type 0} (of : Slice → LinkExtension) (offset : ℕ) (a b : Slice) (x y : LinkExt)
     → x ≡ tag_part offset (of a) → y ≡ tag_part (offset + x.len) (of b)
     → y ≡ tag_part (offset + tag_len (of a)) (of b)
@@ -44,20 +44,20 @@ three_slots {Slice = Slice} of offset {a = a} {b = b} {c = c} {x = x} {y = y} {z
     λ i. first i ∷ middle i ∷ inner i ∷ [] in
     here ∙ sym (ap (λ (l : List Slice). tag_slots offset (map of l)) same)
 
--- the slices of two tags, where nothing is behind them
+-- A list with two elements and an empty rest is these two.
 pub two_there : {Slice : Type 0} {all others rest : List Slice} {a b : Slice} → all ≡ a ∷ others → others ≡ b ∷ rest
     → length rest ≡ 0 → all ≡ a ∷ b ∷ []
 two_there {a = a} {b = b} first second none =
     first ∙ ap (λ l. a ∷ l) (second ∙ ap (λ l. b ∷ l) (no_more _ none))
 
--- those of three, where there are at most three
+-- A list of at most three elements that has three is these three.
 pub three_there : {Slice : Type 0} {all others rest last : List Slice} {a b c : Slice} → all ≡ a ∷ others
     → others ≡ b ∷ rest → rest ≡ c ∷ last → length all ≤ 3 → all ≡ a ∷ b ∷ c ∷ []
 three_there {last = last} {a = a} {b = b} {c = c} first second third most =
     let few : 3 + length last ≤ 3 = omega (arith, ap length first, ap length second, ap length third, most) in
     first ∙ ap (λ l. a ∷ l) (second ∙ ap (λ l. b ∷ l) (third ∙ ap (λ l. c ∷ l) (is_last _ few)))
 
--- where two tags end
+-- The end of two tags.
 pub two_end : {Slice : Type 0} (of : Slice → LinkExtension) (offset : ℕ) {all : List Slice} {a b : Slice}
     {x y : LinkExt} → all ≡ a ∷ b ∷ [] → x ≡ tag_part offset (of a) → y ≡ tag_part (offset + x.len) (of b)
     → offset + x.len + y.len ≡ offset + tags_len (map of all)
@@ -68,7 +68,7 @@ two_end {Slice = Slice} of offset same first second = omega (
   ap (λ (t : LinkExt). t.len) second,
 )
 
--- where three tags end
+-- The end of three tags.
 pub three_end : {Slice : Type 0} (of : Slice → LinkExtension) (offset : ℕ) {all : List Slice} {a b c : Slice}
     {x y z : LinkExt} → all ≡ a ∷ b ∷ c ∷ [] → x ≡ tag_part offset (of a) → y ≡ tag_part (offset + x.len) (of b)
     → z ≡ tag_part (offset + x.len + y.len) (of c)

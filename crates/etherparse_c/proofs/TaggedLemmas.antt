@@ -1,4 +1,4 @@
--- What is built for headers that are known is the answer.
+-- A frame that is built from known headers is the answer.
 use Rattle.std.proofs.Common.{◌≡◌, ℕ, List, Option, Some, sym, subst}
 use Rattle.etherparse.specs.BuiltFrames.{Held}
 use Rattle.etherparse.specs.Types.IpHeaders.{IpHeaders}

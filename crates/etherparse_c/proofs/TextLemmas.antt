@@ -1,4 +1,4 @@
--- The texts of refusals.
+-- Texts of errors.
 use Rattle.std.proofs.Common.{◌≡◌, Some, refl}
 use Rattle.std.specs.Option.{option_map}
 use Rattle.refusal_texts.specs.ReasonTexts.{reason_text_with}
@@ -17,10 +17,10 @@ use Rattle.etherparse.specs.Types.LenSource.TheVariants as source
 use Rattle.etherparse.specs.Types.SliceError.TheVariants.{Len, LinuxSll, Macsec, Ip, Ipv4, Ipv6, Ipv4Exts, Ipv6Exts, Tcp}
 use Rattle.etherparse_c.specs.Description.{source_number}
 use Rattle.etherparse_c.specs.RefusalNumbers.{layer_number, refusal_part}
-use Rattle.etherparse_c.specs.RefusalTexts.{AreTextsOfRefusals, layer_told, len_told, source_told}
+use Rattle.etherparse_c.specs.RefusalTexts.{AreTextsOfRefusals, layer_of_number, len_error_of, source_of_number}
 
--- the number of a layer is its own
-layer_back : (it : Layer) → layer_told (layer_number it) ≡ Some it
+-- The number of a layer converts back to the layer.
+layer_back : (it : Layer) → layer_of_number (layer_number it) ≡ Some it
 layer_back layer.Ethernet2Header = refl
 layer_back layer.LinuxSllHeader = refl
 layer_back layer.VlanHeader = refl
@@ -43,8 +43,8 @@ layer_back layer.Icmpv4Timestamp = refl
 layer_back layer.Icmpv4TimestampReply = refl
 layer_back layer.Icmpv6 = refl
 
--- and so is that of what sets an end
-source_back : (it : LenSource) → source_told (source_number it) ≡ Some it
+-- The number of a length source converts back to the length source.
+source_back : (it : LenSource) → source_of_number (source_number it) ≡ Some it
 source_back source.Slice = refl
 source_back source.MacsecShortLength = refl
 source_back source.Ipv4HeaderTotalLen = refl
@@ -55,7 +55,7 @@ source_back source.ArpAddrLengths = refl
 pub texts_of_refusals : AreTextsOfRefusals
 texts_of_refusals (Len error) =
     λ i. option_map (λ it. reason_text_with it 0)
-    (len_told (refusal_part (Len error)) (layer_back error.layer i) (source_back error.len_source i))
+    (len_error_of (refusal_part (Len error)) (layer_back error.layer i) (source_back error.len_source i))
 texts_of_refusals (LinuxSll (linux_sll_error.UnsupportedPacketTypeField number)) = refl
 texts_of_refusals (LinuxSll (linux_sll_error.UnsupportedArpHardwareId number)) = refl
 texts_of_refusals (Macsec macsec_error.UnexpectedVersion) = refl

@@ -1,4 +1,4 @@
--- How long the texts of refusals are.
+-- Lengths of the texts of errors.
 use Rattle.std.proofs.Common.{◌≡◌, ℕ, zero, suc, ◌==◌, ◌<◌, ◌≤◌, ◌^◌, ◌++◌, arith, Bool, true, false, if◌then◌else◌}
 use Rattle.std.proofs.Common.{List, length, length-append, Option, Some, None}
 use Rattle.std.proofs.lemmas.Fmt.{decimal-digits_of, length-decimal-le_succ}
@@ -16,12 +16,12 @@ use Rattle.etherparse.specs.Types.LenSource.{LenSource}
 use Rattle.etherparse.specs.Types.LenSource.TheVariants as source
 use Rattle.etherparse.specs.Types.SliceError.{SliceError}
 use Rattle.refusal_texts.specs.ReasonTexts.{len_error_text, limit_text, needed_text, reason_text_with}
-use Rattle.etherparse_c.specs.RefusalTexts.{content_told, error_told, layer_told, len_told, source_told, text_told}
+use Rattle.etherparse_c.specs.RefusalTexts.{content_error_of, error_of_numbers, layer_of_number, len_error_of, source_of_number, text_of_number}
 use Rattle.etherparse_c.specs.declared.packet.Refusal.{Refusal}
 
 -- ---- the parts of a text
 
--- 20 digits are enough for 64 bits
+-- A number of 64 bits has at most 20 digits.
 decimal_fits : (n : ℕ) → n < 2 ^ 64 → length (decimal n) ≤ 20
 decimal_fits zero small = omega (arith, length-decimal-le_succ 0 small)
 decimal_fits (suc n) small =
@@ -62,7 +62,7 @@ source_name_fits source.ArpAddrLengths = omega arith
 
 -- ---- texts
 
--- the longest text: two names and three numbers of 20 bytes each, and 41 bytes between them
+-- The longest text: two names and three numbers of 20 bytes each, and 41 bytes between them.
 len_error_fits : (error : LenError) → error.required_len < 2 ^ 64 → error.len < 2 ^ 64
     → error.layer_start_offset < 2 ^ 64 → length (len_error_text error) ≤ 141
 unfolding needed_text limit_text
@@ -80,26 +80,26 @@ numbered_fits name number name_fits small =
     let number_fits = decimal_fits number small in
     simp length-append (omega arith)
 
--- ---- what is told
+-- ---- texts of numbers from C
 
--- what holds of the one and of the other, where they are there, holds of what is chosen of them
+-- If a property holds for both branches of a choice, it holds for the result.
 either : {X : Type 0} (Holds : X → Type 0) (first : Bool) (one other : Option X) → IfSome one Holds
     → IfSome other Holds → IfSome (if first then one else other) Holds
 either Holds true one other of_one of_other = of_one
 either Holds false one other of_one of_other = of_other
 
--- the text of the error has room, whatever 64 bits say of the number
+-- The text of an error with this field value has at most 141 bytes.
 abbrev HasRoom : ℕ → SliceError → Type 0
 HasRoom number error = length (reason_text_with error number) ≤ 141
 
 len_told_fits : (refusal : Refusal) (layer : Option Layer) (end : Option LenSource)
     → refusal.required_len < 2 ^ 64 → refusal.len < 2 ^ 64 → refusal.layer_start_offset < 2 ^ 64
-    → IfSome (len_told refusal layer end) (HasRoom refusal.number)
+    → IfSome (len_error_of refusal layer end) (HasRoom refusal.number)
 len_told_fits refusal None end required len offset = tt
 len_told_fits refusal (Some layer) None required len offset = tt
 len_told_fits refusal (Some layer) (Some end) required len offset = len_error_fits _ required len offset
 
-content_told_fits : (kind number : ℕ) → number < 2 ^ 64 → IfSome (content_told kind) (HasRoom number)
+content_told_fits : (kind number : ℕ) → number < 2 ^ 64 → IfSome (content_error_of kind) (HasRoom number)
 content_told_fits kind number small =
     let numbered : (name : List ℕ) → length name ≤ 34 → length (name ++ decimal number) ≤ 141 =
     λ name fits. numbered_fits name number fits small in
@@ -117,17 +117,17 @@ content_told_fits kind number small =
     (at 11 _ _ (omega arith) (at 12 _ _ (omega arith) (at 13 _ _ (omega arith)
     (at 14 _ _ (numbered (codes "DataOffsetTooSmall ") (omega arith)) tt))))))))))))
 
--- what holds of the error holds of its text
-text_fits : (told : Option SliceError) (number : ℕ) → IfSome told (HasRoom number)
-    → IfSome (option_map (λ error. reason_text_with error number) told) (λ text. length text ≤ 141)
+-- If the error's text fits, so does the text of the numbers.
+text_fits : (described : Option SliceError) (number : ℕ) → IfSome described (HasRoom number)
+    → IfSome (option_map (λ error. reason_text_with error number) described) (λ text. length text ≤ 141)
 text_fits None number fits = tt
 text_fits (Some error) number fits = fits
 
 pub text_told_fits : (refusal : Refusal) (text : List ℕ) → refusal.number < 2 ^ 32
     → refusal.required_len < 2 ^ 64 → refusal.len < 2 ^ 64 → refusal.layer_start_offset < 2 ^ 64
-    → text_told refusal ≡ Some text → length text ≤ 141
-text_told_fits refusal text number required len offset told =
-    MatchOption-at_some ⊤ (λ text. length text ≤ 141) text told (text_fits (error_told refusal) refusal.number
+    → text_of_number refusal ≡ Some text → length text ≤ 141
+text_told_fits refusal text number required len offset described =
+    MatchOption-at_some ⊤ (λ text. length text ≤ 141) text described (text_fits (error_of_numbers refusal) refusal.number
     (either (HasRoom refusal.number) (refusal.kind == 1) _ _
-    (len_told_fits refusal (layer_told refusal.layer) (source_told refusal.len_source) required len offset)
+    (len_told_fits refusal (layer_of_number refusal.layer) (source_of_number refusal.len_source) required len offset)
     (content_told_fits refusal.kind refusal.number (omega arith))))

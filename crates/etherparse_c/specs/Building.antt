@@ -1,4 +1,4 @@
--- What the calls that build a frame answer.
+-- Answers of the calls that build a frame.
 use Rattle.std.specs.Prelude.{◌≡◌, ◌==◌, ◌<◌, ◌≤◌, not, Bool, if◌then◌else◌, ℕ, List, ◌++◌, length, drop, bit_and, ◌⊎◌, Option, Some, None}
 use Rattle.etherparse.specs.BuiltFrames.{Held, built_frame, held_transport}
 use Rattle.etherparse.specs.BuildErrors.{IsBuildable, RefusesBuild}
@@ -17,14 +17,14 @@ use Rattle.etherparse.specs.Types.Icmpv6Type.TheVariants as v6
 use Rattle.etherparse_c.specs.declared.route.Route.{Route}
 use Rattle.etherparse_c.specs.declared.route.TcpFields.{TcpFields}
 
--- the link header of a route: none, or an Ethernet II header of its addresses
+-- the link header of a route: none, or an Ethernet II header with its addresses
 abbrev pub route_link : Route → LinkPart
 route_link route =
     if route.with_ethernet == 0 then link.Absent
     else link.Ethernet2
     (record { source = route.ethernet_source; destination = route.ethernet_destination; ether_type = no_type })
 
--- the IP headers of a route, where its version is one
+-- the IP headers of a route, if its version is 4 or 6
 abbrev pub route_headers : Route → Option IpHeaders
 route_headers route =
     if route.version == 4
@@ -33,15 +33,15 @@ route_headers route =
     then Some (ipv6_headers_between route.ipv6_source route.ipv6_destination route.hop_limit)
     else None
 
--- a UDP header of these ports
+-- a UDP header with these ports
 abbrev pub udp_between : ℕ → ℕ → TransportHeader
 udp_between source_port destination_port = transport.Udp
     (record { source_port = source_port; destination_port = destination_port; length = 0; checksum = 0 })
 
--- What a call answers that builds the frame of these headers and a payload. The status is 0, and the frame is written
--- to the front of the buffer; 3, and the buffer has too few bytes for it; 4, and the headers' length fields have no room
--- for the payload; or 5, and there was no memory for a frame that no row refuses. Only at 0 is the buffer changed, and
--- at 0 and 3 the number of the frame's bytes is told.
+-- Answer of a call that builds the frame of these headers and a payload. The status is 0, and the frame is at the start
+-- of the buffer; 3, and the buffer is too small for it; 4, and the payload is too long for the headers' length fields;
+-- or 5, and an allocation failed for a frame that no row rejects. The buffer is changed at 0 only; the length of the
+-- frame is stored at 0 and 3.
 abbrev pub IsBuilt : Held → List ℕ → List ℕ → List ℕ → ℕ → ℕ → Type 0
 IsBuilt held payload old new written status =
     let frame = built_frame held payload in
@@ -53,8 +53,8 @@ IsBuilt held payload old new written status =
     × (new ≡ old) × (written ≡ 0))
     ⊎ ((status ≡ 5) × IsBuildable held (length payload) × (new ≡ old) × (written ≡ 0))
 
--- The same for a route and a transport header. Where the version of the route is none, the status is 2, and nothing is
--- changed.
+-- Answer of a call that builds the frame of a link header, IP headers and a transport header. If the version of the
+-- route is neither 4 nor 6, the status is 2, and the buffer is unchanged.
 abbrev pub IsBuildAnswerBy : LinkPart → TransportHeader → Option IpHeaders → List ℕ → List ℕ → List ℕ → ℕ → ℕ → Type 0
 IsBuildAnswerBy link behind None payload old new written status = (status ≡ 2) × (new ≡ old) × (written ≡ 0)
 IsBuildAnswerBy link behind (Some headers) payload old new written status =
@@ -63,11 +63,11 @@ IsBuildAnswerBy link behind (Some headers) payload old new written status =
 abbrev pub IsBuildAnswer : Route → TransportHeader → List ℕ → List ℕ → List ℕ → ℕ → ℕ → Type 0
 IsBuildAnswer route behind = IsBuildAnswerBy (route_link route) behind (route_headers route)
 
--- a flag among the bits of a number
+-- whether a flag is set in a number
 abbrev pub has_flag : ℕ → ℕ → Bool
 has_flag flags mask = not (bit_and flags mask == 0)
 
--- a TCP header of these fields, without options
+-- a TCP header with these fields, without options
 unfoldable pub tcp_of : TcpFields → TransportHeader
 tcp_of fields = transport.Tcp (record default_tcp_header {
   source_port = fields.source_port;
@@ -86,7 +86,7 @@ tcp_of fields = transport.Tcp (record default_tcp_header {
   urgent_pointer = fields.urgent_pointer;
 })
 
--- an echo message of ICMP: a request or a reply, with this identifier and number
+-- an ICMP echo message: a request or a reply, with this identifier and sequence number (RFC 792)
 abbrev pub icmpv4_echo : ℕ → ℕ → ℕ → Icmpv4Type
 icmpv4_echo is_reply id seq =
     if is_reply == 0 then v4.EchoRequest (record { id = id; seq = seq })
@@ -97,13 +97,13 @@ icmpv6_echo is_reply id seq =
     if is_reply == 0 then v6.EchoRequest (record { id = id; seq = seq })
     else v6.EchoReply (record { id = id; seq = seq })
 
--- an echo message of ICMP, or else of ICMPv6
+-- an echo message of ICMP or ICMPv6
 abbrev pub echo_header : Bool → ℕ → ℕ → ℕ → TransportHeader
 echo_header is_ipv4 is_reply id seq =
     if is_ipv4
     then transport.Icmpv4 (record { icmp_type = icmpv4_echo is_reply id seq; checksum = 0 })
     else transport.Icmpv6 (record { icmp_type = icmpv6_echo is_reply id seq; checksum = 0 })
 
--- the echo message of the route's version of IP
+-- the echo message of the route's IP version
 abbrev pub echo_of : Route → ℕ → ℕ → ℕ → TransportHeader
 echo_of route is_reply id seq = echo_header (route.version == 4) is_reply id seq

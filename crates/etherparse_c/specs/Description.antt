@@ -1,9 +1,9 @@
--- What C is told of the layers of a frame: what each is, where it begins and how long it is. Each begins where the one
--- before it ends.
+-- Description of the layers of a frame for C: kind, offset and length of each. Each layer starts where the one before
+-- it ends.
 use Rattle.std.specs.Prelude.{ℕ, ◌+◌, ◌-◌, ◌*◌, ◌==◌, if◌then◌else◌, List, [], ◌∷◌, ◌++◌, length, replicate, Option, Some, None}
 use Rattle.etherparse.specs.Bytes.{bit}
 use Rattle.etherparse.specs.IpPayload.{IpPayload}
-use Rattle.etherparse.specs.Readings.{cut_by}
+use Rattle.etherparse.specs.Readings.{limited_by}
 use Rattle.etherparse.specs.Types.LenSource.{LenSource}
 use Rattle.etherparse.specs.Types.LenSource.TheVariants as source
 use Rattle.etherparse.specs.Types.Ipv6FragmentHeader.{Ipv6FragmentHeader}
@@ -26,13 +26,13 @@ use Rattle.etherparse_c.specs.declared.packet.Payload.{Payload}
 use Rattle.etherparse_c.specs.declared.packet.Refusal.{Refusal}
 use Rattle.etherparse_c.specs.declared.packet.Packet.{Packet}
 
--- a header of this kind, from this offset on
+-- a header of this kind at this offset
 abbrev pub part : ℕ → ℕ → ℕ → Part
 part kind offset len = record { kind = kind; offset = offset; len = len }
 
 -- ---- the link header
 
--- what a link layer's header is: 1 of Ethernet II, 2 of a Linux cooked capture, 0 where it has none
+-- the kind of a link header: 1 for Ethernet II, 2 for a Linux cooked capture, 0 for none
 abbrev pub link_kind : Option LinkLayer → ℕ
 link_kind None = 0
 link_kind (Some (ethernet2 header payload)) = 1
@@ -40,23 +40,23 @@ link_kind (Some (linux_sll header payload)) = 2
 link_kind (Some (ether_payload type source payload)) = 0
 link_kind (Some (linux_sll_payload protocol payload)) = 0
 
--- the link header, with which a frame begins
+-- the link header, at offset 0
 abbrev pub link_part : Option LinkLayer → Part
 link_part link = part (link_kind link) 0 (link_len link)
 
 -- ---- the tags of link extensions
 
--- what a tag is: 1 of VLAN, 2 of MACsec
+-- the kind of a tag: 1 for VLAN, 2 for MACsec
 abbrev pub tag_kind : LinkExtension → ℕ
 tag_kind (vlan tag payload) = 1
 tag_kind (macsec tag payload) = 2
 
--- the identifier of a VLAN tag
+-- the identifier of a VLAN tag, 0 for MACsec
 abbrev pub tag_vlan_id : LinkExtension → ℕ
 tag_vlan_id (vlan tag payload) = tag.vlan_id
 tag_vlan_id (macsec tag payload) = 0
 
--- a tag from this offset on
+-- a tag at this offset
 abbrev pub tag_part : ℕ → LinkExtension → LinkExt
 tag_part offset extension = record {
   kind = tag_kind extension;
@@ -65,7 +65,7 @@ tag_part offset extension = record {
   len = tag_len extension;
 }
 
--- tags, of which the first begins at this offset
+-- consecutive tags, the first at this offset
 abbrev pub tag_parts : ℕ → List LinkExtension → List LinkExt
 tag_parts offset [] = []
 tag_parts offset (extension ∷ others) = tag_part offset extension ∷ tag_parts (offset + tag_len extension) others
@@ -74,20 +74,20 @@ tag_parts offset (extension ∷ others) = tag_part offset extension ∷ tag_part
 abbrev pub no_tag : LinkExt
 no_tag = record { kind = 0; vlan_id = 0; offset = 0; len = 0 }
 
--- the three places for tags: those that there are, and then none
+-- the three tag slots: the tags, then empty slots
 abbrev pub tag_slots : ℕ → List LinkExtension → List LinkExt
 tag_slots offset extensions = tag_parts offset extensions ++ replicate (3 - length extensions) no_tag
 
--- ---- the net layer
+-- ---- the network layer
 
--- what a net layer is: 4 and 6 of the versions of IP, 1 of ARP, 0 where there is none
+-- the kind of a network layer: 4 and 6 for the versions of IP, 1 for ARP, 0 for none
 abbrev pub net_kind : Option NetLayer → ℕ
 net_kind None = 0
 net_kind (Some (ipv4 header extensions payload)) = 4
 net_kind (Some (ipv6 header extensions payload)) = 6
 net_kind (Some (arp packet)) = 1
 
--- nothing is said of IP
+-- the fields of IP for a packet that is not IP
 abbrev pub no_ip : Ip
 no_ip = record {
   version = 0;
@@ -99,7 +99,7 @@ no_ip = record {
   header_len = 0;
 }
 
--- what a header of IPv4 says
+-- the fields of an IPv4 header and its payload
 abbrev pub ipv4_part : Ipv4Header → IpPayload → Ip
 ipv4_part header payload = record {
   version = 4;
@@ -111,7 +111,7 @@ ipv4_part header payload = record {
   header_len = ipv4_header_len header;
 }
 
--- what IPv6 says, with its first fragment header, where it has one
+-- the fields of IPv6, with those of its first fragment header, if any
 abbrev pub ipv6_part : Option Ipv6FragmentHeader → IpPayload → Ip
 ipv6_part None payload = record {
   version = 6;
@@ -132,7 +132,7 @@ ipv6_part (Some header) payload = record {
   header_len = 40;
 }
 
--- what the net layer says of IP
+-- the fields of IP in a network layer
 abbrev pub ip_in : Option NetLayer → Ip
 ip_in None = no_ip
 ip_in (Some (ipv4 header extensions payload)) = ipv4_part header payload
@@ -141,7 +141,7 @@ ip_in (Some (arp packet)) = no_ip
 
 -- ---- the transport layer
 
--- what a transport header is: its protocol number, and 0 where there is none
+-- the kind of a transport header: its IP number, or 0 for none
 abbrev pub header_kind : TransportHeader → ℕ
 header_kind (transport.Udp header) = 17
 header_kind (transport.Tcp header) = 6
@@ -152,7 +152,7 @@ abbrev pub transport_kind : Option TransportLayer → ℕ
 transport_kind None = 0
 transport_kind (Some layer) = header_kind layer.header
 
--- the sender's port, where the transport header has ports
+-- the source port, or 0 for a transport header without ports
 abbrev pub header_source_port : TransportHeader → ℕ
 header_source_port (transport.Udp header) = header.source_port
 header_source_port (transport.Tcp header) = header.source_port
@@ -163,7 +163,7 @@ abbrev pub source_port_in : Option TransportLayer → ℕ
 source_port_in None = 0
 source_port_in (Some layer) = header_source_port layer.header
 
--- the receiver's port, the same
+-- the destination port, or 0 for a transport header without ports
 abbrev pub header_destination_port : TransportHeader → ℕ
 header_destination_port (transport.Udp header) = header.destination_port
 header_destination_port (transport.Tcp header) = header.destination_port
@@ -176,14 +176,14 @@ destination_port_in (Some layer) = header_destination_port layer.header
 
 -- ---- the payload
 
--- what a net layer's own fields set the end of its payload by
+-- the length field of a network layer that limits its payload
 abbrev pub net_end : Option NetLayer → LenSource
 net_end None = source.Slice
 net_end (Some (ipv4 header extensions payload)) = payload.source
 net_end (Some (ipv6 header extensions payload)) = payload.source
 net_end (Some (arp packet)) = source.ArpAddrLengths
 
--- the same of a transport header: UDP has a length field, which cuts where it is not 0
+-- the length field of a transport header that limits its payload: the length of UDP, unless it is 0
 abbrev pub header_end : TransportHeader → LenSource
 header_end (transport.Udp header) = if header.length == 0 then source.Slice else source.UdpHeaderLen
 header_end (transport.Tcp header) = source.Slice
@@ -194,12 +194,12 @@ abbrev pub transport_end : Option TransportLayer → LenSource
 transport_end None = source.Slice
 transport_end (Some layer) = header_end layer.header
 
--- what set the end of the last layer's payload: the innermost field that did, or else the end of the bytes
+-- the limit of the last layer's payload: the innermost length field in effect, or else the input
 abbrev pub payload_end : Layers → LenSource
 payload_end layers =
-    cut_by (cut_by (extensions_len_source layers.link_exts) (net_end layers.net)) (transport_end layers.transport)
+    limited_by (limited_by (extensions_len_source layers.link_exts) (net_end layers.net)) (transport_end layers.transport)
 
--- the number that says what set an end
+-- the number of a length source
 abbrev pub source_number : LenSource → ℕ
 source_number source.Slice = 0
 source_number source.MacsecShortLength = 1
@@ -208,17 +208,17 @@ source_number source.Ipv6HeaderPayloadLen = 3
 source_number source.UdpHeaderLen = 4
 source_number source.ArpAddrLengths = 5
 
--- ---- all of it
+-- ---- the whole packet
 
--- how far behind the frame's first byte the net layer begins
+-- the offset of the network layer in the frame
 abbrev pub net_offset : Layers → ℕ
 net_offset layers = link_len layers.link + tags_len layers.link_exts
 
--- the transport layer
+-- the offset of the transport layer in the frame
 abbrev pub transport_offset : Layers → ℕ
 transport_offset layers = net_offset layers + net_len layers.net
 
--- nothing is refused
+-- the numbers for no error
 abbrev pub no_refusal : Refusal
 no_refusal = record {
   kind = 0;
@@ -230,7 +230,7 @@ no_refusal = record {
   layer_start_offset = 0;
 }
 
--- the payload of the last layer, of which a frame misses no byte
+-- the payload of the last layer, which is complete in a frame
 abbrev pub payload_part : Layers → Payload
 payload_part layers = record {
   len_source = source_number (payload_end layers);
@@ -239,10 +239,10 @@ payload_part layers = record {
   len = length (last_payload layers);
 }
 
--- what is said of the headers of a packet, of which these are those up to the net layer's, beside what was said of the
--- payload and of a refusal: the transport header begins where the net header ends
+-- the description with these headers, up to the network layer, and a transport header that starts where the network
+-- layer ends; payload and error are unchanged
 abbrev pub with_headers : Part → List LinkExt → ℕ → Part → Ip → Option TransportLayer → Packet → Packet
-with_headers link link_exts count net ip transport told = record told {
+with_headers link link_exts count net ip transport described = record described {
   link = link;
   link_exts = link_exts;
   link_ext_count = count;
@@ -253,7 +253,7 @@ with_headers link link_exts count net ip transport told = record told {
   transport = part (transport_kind transport) (net.offset + net.len) (transport_len transport);
 }
 
--- what is said of a frame of these layers
+-- the description of a frame with these layers
 abbrev pub description : Layers → Packet
 description layers = record {
   link = link_part layers.link;

@@ -1,4 +1,4 @@
--- What C holds behind a pointer.
+-- Ownership of the state that a pool points to.
 use Rattle.std.specs.Prelude.{Option, Some, None}
 use base.Fml.{Fml, ftrue}
 use denote.RawPtr.{Ptr}
@@ -8,7 +8,7 @@ use Rattle.std.specs.declared.alloc.Global.{Global}
 use Rattle.etherparse_c.specs.contracts.state.State.{the_row}
 use Rattle.etherparse_c.specs.declared.state.State.{State}
 
--- the box at the pointer, where there is a state
+-- the box at the pointer, if there is a state
 abbrev pub holds : Option State → Global → Ptr → Fml
 holds None alloc at = ftrue
 holds (Some state) alloc at = box_owns (ghosts.dealloc_token alloc) the_row at state

@@ -1,18 +1,18 @@
--- What a call of `etherparse_1_slice_many` answers.
+-- Answer of `etherparse_1_slice_many`.
 use Rattle.std.specs.Prelude.{◌≡◌, ◌<◌, ◌≤◌, ℕ, List, ◌∷◌, length, drop, ◌⊎◌, Option, Some, None, slice_get, slice_index}
 use Rattle.std.specs.List.{slice_range}
 use Rattle.etherparse.specs.Types.Entry.{Entry}
 use Rattle.etherparse_c.specs.SliceAnswers.{IsSliceAnswer}
 use Rattle.etherparse_c.specs.declared.packet.Packet.{Packet}
 
--- where the frame at a place begins and ends: at the end before it, the first at the front, and at its own
+-- the start of the frame at an index, which is the end of the frame before it, or 0; and its end
 abbrev pub frame_start : List ℕ → ℕ → ℕ
 frame_start ends place = slice_index (0 ∷ ends) place
 
 abbrev pub frame_end : List ℕ → ℕ → ℕ
 frame_end ends place = slice_index ends place
 
--- the packet at a place is one that a call of `etherparse_1_slice` fills in which is given the frame of this place
+-- The packet at an index is filled as `etherparse_1_slice` does for the frame at this index.
 pub record IsSlicedAt (entry : Option Entry) (bytes ends : List ℕ) (packets : List Packet) (place : ℕ) : Type 0 where
   pub packet : Packet
   pub status : ℕ
@@ -21,15 +21,15 @@ pub record IsSlicedAt (entry : Option Entry) (bytes ends : List ℕ) (packets : 
   pub within : frame_end ends place ≤ length bytes
   pub answer : IsSliceAnswer entry (slice_range bytes (frame_start ends place) (frame_end ends place)) status packet
 
--- the first so many frames are sliced; the other packets are as they were
+-- The first `sliced` frames are sliced; the other packets are unchanged.
 pub record AreSliced (entry : Option Entry) (bytes ends : List ℕ) (old new : List Packet) (sliced : ℕ) : Type 0 where
   pub most : sliced ≤ length ends
   pub each : (place : ℕ) → place < sliced → IsSlicedAt entry bytes ends new place
   pub others : drop sliced new ≡ drop sliced old
 
--- The status is 0, and all frames are sliced; or it is 2, and those are that stand before one that ends before it
--- begins, or behind the last byte; or it is 2, the number is none of an entry, and none is; or it is 3, there are fewer
--- packets than ends, and none is.
+-- The status is 0, and all frames are sliced; or it is 2, and only the frames are sliced that come before a frame that
+-- ends before it starts, or after the last byte; or it is 2, the entry is unknown, and no frame is sliced; or it is 3,
+-- there are fewer packets than ends, and no frame is sliced.
 abbrev pub IsManyAnswer : Option Entry → List ℕ → List ℕ → List Packet → List Packet → ℕ → ℕ → Type 0
 IsManyAnswer entry bytes ends old new sliced status =
     ((status ≡ 0) × (sliced ≡ length ends) × AreSliced entry bytes ends old new sliced)

@@ -1,11 +1,11 @@
--- Plain frames, as the private calls on them say.
+-- Plain frames: the contracts of the private calls that describe them.
 use Rattle.std.specs.Prelude.{◌≡◌, ◌≤◌, ℕ, ◌+◌, false, List, [], length, Option, Some, None}
 use Rattle.etherparse.specs.IpPayload.{IpPayload}
-use Rattle.etherparse.specs.Readings.{cut_by, slices}
+use Rattle.etherparse.specs.Readings.{limited_by, slices}
 use Rattle.etherparse.specs.Types.EtherType.{EtherType}
 use Rattle.etherparse.specs.Types.LenSource.{LenSource}
 use Rattle.etherparse.specs.Types.LenSource.TheVariants as source
-use Rattle.etherparse.specs.FrameBytes.{behind_net}
+use Rattle.etherparse.specs.FrameBytes.{after_net}
 use Rattle.etherparse.specs.LinkExtensions.{LinkExtension, BeginsLinkExtension}
 use Rattle.etherparse.specs.Frame.{NetKind, IsInside, IsNetLayer, IsNetPart, most_link_exts, net_kind}
 use Rattle.etherparse.specs.Layers.{NetLayer, net_payload}
@@ -19,8 +19,9 @@ use Rattle.etherparse_c.specs.Description.{destination_port_in, ip_in, net_end, 
 
 -- ---- tags
 
--- Bytes of a type, the payload of an Ethernet II header, begin with these tags, which cut nothing, and behind them is
--- the net part, where its type begins no further one.
+-- An Ethernet II payload of this type starts with these VLAN tags, which do not limit their payload. If the bytes after
+-- them are a network layer with the layers in it, the payload consists of the tags and these layers, unless the type
+-- after the tags starts another tag.
 pub record HasVlans (type : EtherType) (bytes : List ℕ) (tags : List LinkExtension) (behind : Behind) : Type 0 where
   pub place : behind.offset ≡ 14 + tags_len tags
   pub few : behind.offset ≤ 64
@@ -41,7 +42,7 @@ plain_payload ip = record {
   bytes = ip.payload.now;
 }
 
--- what its header says
+-- the fields of its header
 abbrev pub plain_ip : PlainIp → Ip
 plain_ip ip = record {
   version = ip.version;
@@ -53,7 +54,7 @@ plain_ip ip = record {
   header_len = ip.len;
 }
 
--- what is known of the packet is what is said of the layer
+-- The fields of the plain packet are the fields of this network layer.
 pub record IsPlainIp (layer : NetLayer) (ip : PlainIp) : Type 0 where
   pub kind : kind_number (Some layer) ≡ ip.version
   pub len : net_len (Some layer) ≡ ip.len
@@ -62,7 +63,7 @@ pub record IsPlainIp (layer : NetLayer) (ip : PlainIp) : Type 0 where
   pub end : net_end (Some layer) ≡ ip.end
   pub payload : net_payload layer ≡ Some (plain_payload ip)
 
--- the bytes are a net layer of a kind, which this packet is
+-- The bytes are a network layer of this kind.
 abbrev pub IsPlainNet : Option NetKind → List ℕ → NetLayer → Type 0
 IsPlainNet None bytes layer = ⊥
 IsPlainNet (Some kind) bytes layer = IsNetLayer slices kind bytes layer
@@ -72,42 +73,42 @@ pub record HasPlainIp (kind : Option NetKind) (bytes : List ℕ) (ip : PlainIp) 
   pub is : IsPlainNet kind bytes layer
   pub shown : IsPlainIp layer ip
 
--- ---- what is said
+-- ---- descriptions
 
--- What is said of the transport layer that bytes from this offset on are, where they are one, and of the payload of the
--- last layer, beside what was said of the layers before it, of which the last sets the end of these bytes.
-abbrev pub transport_told : ℕ → LenSource → List ℕ → Option TransportLayer → Packet → Packet
-transport_told offset end bytes transport told = record told {
+-- The description `described` with the transport layer, if any, at this offset, and with the payload of the last layer.
+-- `end` is what limits the bytes.
+abbrev pub transport_description : ℕ → LenSource → List ℕ → Option TransportLayer → Packet → Packet
+transport_description offset end bytes transport described = record described {
   source_port = source_port_in transport;
   destination_port = destination_port_in transport;
   transport = part (transport_kind transport) offset (transport_len transport);
   payload = record {
-    len_source = source_number (cut_by end (transport_end transport));
+    len_source = source_number (limited_by end (transport_end transport));
     incomplete = 0;
     offset = offset + transport_len transport;
     len = length (payload_in bytes transport);
   };
 }
 
--- What is said of a packet, from this offset on, and of the transport layer in it, beside what was said of the layers
--- before it, of which none sets an end.
-abbrev pub plain_told : ℕ → PlainIp → Option TransportLayer → Packet → Packet
-plain_told offset ip transport told = transport_told (offset + ip.len) ip.end ip.payload.now transport (record told {
+-- The description `described` with a plain IP packet at this offset and the transport layer in it. No layer before it limits
+-- its payload.
+abbrev pub plain_description : ℕ → PlainIp → Option TransportLayer → Packet → Packet
+plain_description offset ip transport described = transport_description (offset + ip.len) ip.end ip.payload.now transport (record described {
   net = part ip.version offset ip.len;
   ip = plain_ip ip;
 })
 
--- the same of any net layer
-abbrev pub net_told : ℕ → NetLayer → Option TransportLayer → Packet → Packet
-net_told offset net transport told =
-    transport_told (offset + net_len (Some net)) (net_end (Some net)) (behind_net [] (Some net)) transport (record told {
+-- the description `described` with a network layer at this offset and the transport layer in it
+abbrev pub net_description : ℕ → NetLayer → Option TransportLayer → Packet → Packet
+net_description offset net transport described =
+    transport_description (offset + net_len (Some net)) (net_end (Some net)) (after_net [] (Some net)) transport (record described {
       net = part (kind_number (Some net)) offset (net_len (Some net));
       ip = ip_in (Some net);
     })
 
--- The bytes of a kind are a net layer with what is in it, and this is said of them, from this offset on.
-pub record TellsNet (kind : Option NetKind) (bytes : List ℕ) (offset : ℕ) (old new : Packet) : Type 0 where
+-- The bytes are a network layer of this kind, with the layers in it, and `new` describes it at this offset.
+pub record DescribesNet (kind : Option NetKind) (bytes : List ℕ) (offset : ℕ) (old new : Packet) : Type 0 where
   pub net : NetLayer
   pub transport : Option TransportLayer
   pub holds : IsNetPart slices kind bytes (Some net) transport
-  pub told : new ≡ net_told offset net transport old
+  pub described : new ≡ net_description offset net transport old

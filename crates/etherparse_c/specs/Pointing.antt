@@ -1,4 +1,4 @@
--- What C points to.
+-- Ownership of the pool that C points to.
 use Rattle.std.specs.Prelude.{Option, Some, None}
 use base.Fml.{Fml, ftrue}
 use denote.RawPtr.{Ptr}
@@ -8,7 +8,7 @@ use Rattle.std.specs.declared.alloc.Global.{Global}
 use Rattle.etherparse_c.specs.contracts.pool.Pool.{the_row}
 use Rattle.etherparse_c.specs.declared.pool.Pool.{Pool}
 
--- the box at the pointer, where there is a pool
+-- the box at the pointer, if there is a pool
 abbrev pub points_to : Option Pool → Global → Ptr → Fml
 points_to None alloc at = ftrue
 points_to (Some pool) alloc at = box_owns (ghosts.dealloc_token alloc) the_row at pool

@@ -1,4 +1,4 @@
--- What the calls on a pool that C points to answer.
+-- Answers of the calls on a pool that C points to.
 use Rattle.std.specs.Prelude.{◌≡◌, ◌+◌, ◌-◌, ◌^◌, min, ◌<◌, ◌≤◌, ◌⊎◌, ℕ, nat_eq, nat_le, List, [], ◌++◌, drop, length, Option, Some, None, Result, Ok, Err}
 use Rattle.std.specs.Option.{option_map}
 use Rattle.etherparse.specs.Types.IpDefragError.{IpDefragError}
@@ -24,30 +24,30 @@ use Rattle.etherparse_c.specs.RefusalNumbers.{refusal_part}
 
 -- ---- the pool that C points to
 
--- the library's pool behind it
+-- the library's pool in a state
 abbrev pub pool_of : State → IpDefragPool ℕ ℕ
 pool_of state = state.pool
 
--- the payload that waits in it, if one does
+-- the complete payload that waits in a state, if any
 abbrev pub waiting_in : State → Option IpDefragPayloadVec
 waiting_in state = state.waiting
 
--- a pool of this limit without streams, in which no payload waits
+-- An empty pool of this limit, in which no payload waits.
 pub record IsFresh (most : ℕ) (state : State) : Type 0 where
   pub holds : HoldsTable nat_eq state.pool (λ name. None)
   pub streams : streams_of state.pool ≡ []
   pub limit : limit_of state.pool ≡ most
   pub waiting : state.waiting ≡ None
 
--- The status is 0, and C is given the address of a pool of this limit without streams; or it is 5, and what stood in
--- its place is as it was.
+-- The status is 0, and C gets the address of an empty pool of this limit; or it is 5, and the variable for the address
+-- is unchanged.
 abbrev pub IsNewPool : ℕ → Handle → Handle → ℕ → Type 0
 IsNewPool limit old new status =
     ((status ≡ 0) × ((pool : Pool) × (new.pool ≡ Some pool)
     × ((state : State) × (pool.held.state ≡ Some state) × IsFresh limit state)))
     ⊎ ((status ≡ 5) × (new ≡ old))
 
--- a call makes of the one pool the other, by this step
+-- A call changes the state of the pool by this step.
 pub record Changes (old new : Pool) (Step : State → State → Type 0) : Type 0 where
   pub before : State
   pub after : State
@@ -57,32 +57,32 @@ pub record Changes (old new : Pool) (Step : State → State → Type 0) : Type 0
 
 -- ---- drops
 
--- what is kept of each stream
+-- the state of each stream
 abbrev pub Table : Type 0
 Table = IpFragId ℕ → Option (Kept ℕ)
 
--- The streams stay whose timestamp isn't below this one, and so does a payload that waits.
+-- The streams whose timestamp is not below this one are kept, and so is a payload that waits.
 pub record DropsOlder (timestamp : ℕ) (old new : State) : Type 0 where
   pub holds : (table : Table) → HoldsTable nat_eq old.pool table
       → HoldsTable nat_eq new.pool (λ name. kept_by (nat_le timestamp) (table name))
   pub limit : limit_of new.pool ≡ limit_of old.pool
   pub waiting : new.waiting ≡ old.waiting
 
--- ---- what is told
+-- ---- values of an answer
 
--- nothing is told
-abbrev pub nothing_told : PoolAnswer
-nothing_told = record { refusal = no_refusal; fragment_refusal = 0; len_source = 0; ip_number = 0; len = 0 }
+-- the answer with all fields 0
+abbrev pub empty_answer : PoolAnswer
+empty_answer = record { refusal = no_refusal; fragment_refusal = 0; len_source = 0; ip_number = 0; len = 0 }
 
--- what is told of a payload
-abbrev pub payload_told : IpDefragPayloadVec → PoolAnswer
-payload_told payload = record nothing_told {
+-- the answer for a complete payload
+abbrev pub payload_answer : IpDefragPayloadVec → PoolAnswer
+payload_answer payload = record empty_answer {
   len_source = source_number payload.len_source;
   ip_number = payload.ip_number.0;
   len = length payload.payload.items;
 }
 
--- why a fragment is refused; for want of memory it is not
+-- the number of the reason why a fragment is rejected; 0 if an allocation failed
 abbrev pub fragment_refusal_number : IpDefragError → ℕ
 fragment_refusal_number (UnalignedFragmentPayloadLen offset len) = 1
 fragment_refusal_number (SegmentTooBig offset len max) = 2
@@ -95,91 +95,90 @@ refused_status (SegmentTooBig offset len max) = 7
 refused_status (ConflictingEnd previous_end conflicting_end) = 7
 refused_status (AllocationFailure len) = 5
 
--- what is told of a fragment that is refused
-abbrev pub refusal_told : IpDefragError → PoolAnswer
-refusal_told error = record nothing_told { fragment_refusal = fragment_refusal_number error }
+-- the answer for a rejected fragment
+abbrev pub error_description : IpDefragError → PoolAnswer
+error_description error = record empty_answer { fragment_refusal = fragment_refusal_number error }
 
 -- ---- frames
 
--- A payload is handed out. The status is 6, it stands at the front of the buffer, which behind it is as it was, and
--- none waits; or it is 3, the buffer, which has too few bytes for it, is as it was, and it waits.
+-- A complete payload is returned. The status is 6, the payload is at the start of the buffer, whose other bytes are
+-- unchanged, and none waits; or it is 3, the buffer, which is too small, is unchanged, and the payload waits.
 abbrev pub IsHandedOut : IpDefragPayloadVec → Option IpDefragPayloadVec → List ℕ → List ℕ → PoolAnswer → ℕ → Type 0
-IsHandedOut payload waiting old new told status =
+IsHandedOut payload waiting old new answer status =
     let bytes = payload.payload.items in
-    (told ≡ payload_told payload)
+    (answer ≡ payload_answer payload)
     × (((status ≡ 6) × (waiting ≡ None) × (length bytes ≤ length old) × (new ≡ bytes ++ drop (length bytes) old))
     ⊎ ((status ≡ 3) × (waiting ≡ Some payload) × (length old < length bytes) × (new ≡ old)))
 
--- What is told of the answer of a pool, in which no payload waited: the status is 0 where no payload is complete, 7
--- where the fragment is refused, and 5 for want of memory; else the payload is handed out.
+-- Answer for the result of a pool in which no payload waited: the status is 0 if no payload is complete, 7 if the
+-- fragment is rejected, and 5 if an allocation failed; otherwise the payload is returned.
 abbrev pub IsTold : Result (Option IpDefragPayloadVec) IpDefragError → Option IpDefragPayloadVec → List ℕ → List ℕ
     → PoolAnswer → ℕ → Type 0
-IsTold (Ok None) waiting old new told status =
-    (status ≡ 0) × (waiting ≡ None) × (new ≡ old) × (told ≡ nothing_told)
-IsTold (Ok (Some payload)) waiting old new told status = IsHandedOut payload waiting old new told status
-IsTold (Err error) waiting old new told status =
-    (status ≡ refused_status error) × (waiting ≡ None) × (new ≡ old) × (told ≡ refusal_told error)
+IsTold (Ok None) waiting old new answer status =
+    (status ≡ 0) × (waiting ≡ None) × (new ≡ old) × (answer ≡ empty_answer)
+IsTold (Ok (Some payload)) waiting old new answer status = IsHandedOut payload waiting old new answer status
+IsTold (Err error) waiting old new answer status =
+    (status ≡ refused_status error) × (waiting ≡ None) × (new ≡ old) × (answer ≡ error_description error)
 
--- A frame is given to a pool in which no payload waits: the bytes are none, and the status is 1, or the pool takes it,
--- and its answer is told.
+-- A frame is passed to a pool in which no payload waits: either the bytes are not a frame, and the status is 1, or the
+-- pool takes the frame, and its result is the answer.
 abbrev pub IsPushed : Entry → List ℕ → ℕ → ℕ → State → State → List ℕ → List ℕ → PoolAnswer → ℕ → Type 0
-IsPushed entry bytes timestamp channel old new before behind told status =
+IsPushed entry bytes timestamp channel old new before behind answer status =
     ((status ≡ 1) × (new ≡ old) × (behind ≡ before)
     × ((error : SliceError) × RefusesFrame entry bytes error
-    × (told ≡ record nothing_told { refusal = refusal_part error })))
+    × (answer ≡ record empty_answer { refusal = refusal_part error })))
     ⊎ ((layers : Layers) × IsFrame entry bytes layers
     × ((result : Result (Option IpDefragPayloadVec) IpDefragError)
     × TakesFrame nat_eq old.pool new.pool (option_map packet_fragment (fragment_of layers)) timestamp channel result
-    × IsTold result new.waiting before behind told status))
+    × IsTold result new.waiting before behind answer status))
 
--- Where the number is none of an entry, the status is 2, and where a payload waits, it is 8: then nothing is changed.
+-- If the entry is unknown, the status is 2; otherwise, if a payload waits, it is 8. In both cases nothing is changed.
 abbrev pub IsPushAnswerWith : Option Entry → Option IpDefragPayloadVec → List ℕ → ℕ → ℕ → State → State → List ℕ
     → List ℕ → PoolAnswer → ℕ → Type 0
-IsPushAnswerWith None waiting bytes timestamp channel old new before behind told status =
-    (status ≡ 2) × (new ≡ old) × (behind ≡ before) × (told ≡ nothing_told)
-IsPushAnswerWith (Some entry) (Some payload) bytes timestamp channel old new before behind told status =
-    (status ≡ 8) × (new ≡ old) × (behind ≡ before) × (told ≡ payload_told payload)
-IsPushAnswerWith (Some entry) None bytes timestamp channel old new before behind told status =
-    IsPushed entry bytes timestamp channel old new before behind told status
+IsPushAnswerWith None waiting bytes timestamp channel old new before behind answer status =
+    (status ≡ 2) × (new ≡ old) × (behind ≡ before) × (answer ≡ empty_answer)
+IsPushAnswerWith (Some entry) (Some payload) bytes timestamp channel old new before behind answer status =
+    (status ≡ 8) × (new ≡ old) × (behind ≡ before) × (answer ≡ payload_answer payload)
+IsPushAnswerWith (Some entry) None bytes timestamp channel old new before behind answer status =
+    IsPushed entry bytes timestamp channel old new before behind answer status
 
 abbrev pub IsPushAnswer : Option Entry → List ℕ → ℕ → ℕ → State → State → List ℕ → List ℕ → PoolAnswer → ℕ → Type 0
 IsPushAnswer entry bytes timestamp channel old = IsPushAnswerWith entry old.waiting bytes timestamp channel old
 
--- ---- a payload that waits
+-- ---- the waiting payload
 
--- It is handed out; where none waits, the status is 0, and nothing is changed.
+-- The waiting payload is returned; if none waits, the status is 0, and nothing is changed.
 abbrev pub IsTakenWith : Option IpDefragPayloadVec → State → List ℕ → List ℕ → PoolAnswer → ℕ → Type 0
-IsTakenWith None new before behind told status =
-    (status ≡ 0) × (new.waiting ≡ None) × (behind ≡ before) × (told ≡ nothing_told)
-IsTakenWith (Some payload) new before behind told status = IsHandedOut payload new.waiting before behind told status
+IsTakenWith None new before behind answer status =
+    (status ≡ 0) × (new.waiting ≡ None) × (behind ≡ before) × (answer ≡ empty_answer)
+IsTakenWith (Some payload) new before behind answer status = IsHandedOut payload new.waiting before behind answer status
 
--- what takes the payload that waits; the streams are as they were
+-- Answer of a call that takes the waiting payload; the streams are unchanged.
 abbrev pub IsTakeAnswer : State → State → List ℕ → List ℕ → PoolAnswer → ℕ → Type 0
-IsTakeAnswer old new before behind told status =
-    (new.pool ≡ old.pool) × IsTakenWith old.waiting new before behind told status
+IsTakeAnswer old new before behind answer status =
+    (new.pool ≡ old.pool) × IsTakenWith old.waiting new before behind answer status
 
--- what gives up the payload that waits, if one does; the streams are as they were
+-- The waiting payload, if any, is discarded; the streams are unchanged.
 pub record Discards (old new : State) : Type 0 where
   pub pool : new.pool ≡ old.pool
   pub waiting : new.waiting ≡ None
 
--- ---- what a pool holds
+-- ---- sizes of a pool
 
--- what tells a number of a pool, which stays as it was
+-- A call returns a number of a pool, which is unchanged.
 pub record Tells (tell : State → ℕ) (number : ℕ) (old new : State) : Type 0 where
   pub same : new ≡ old
-  pub told : number ≡ tell old
+  pub described : number ≡ tell old
 
--- how many streams it holds
+-- the number of streams
 abbrev pub streams_in : State → ℕ
 streams_in state = length (streams_of state.pool)
 
--- how many bytes the payload that waits has
+-- the length of the waiting payload, 0 if none waits
 abbrev pub waiting_len : Option IpDefragPayloadVec → ℕ
 waiting_len None = 0
 waiting_len (Some payload) = length payload.payload.items
 
--- how many bytes of payloads it holds, as far as 64 bits count: of each stream up to its greatest end, and the payload
--- that waits
+-- the number of payload bytes, at most 2^64 - 1: of each stream up to its greatest end, and of the waiting payload
 abbrev pub bytes_in : State → ℕ
 bytes_in state = min (held_bytes_of state.pool + waiting_len state.waiting) (2 ^ 64 - 1)

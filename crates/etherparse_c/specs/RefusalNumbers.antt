@@ -1,4 +1,4 @@
--- What C is told of a refusal.
+-- Numbers of errors, as C gets them.
 use Rattle.std.specs.Prelude.{ℕ}
 use Rattle.etherparse.specs.Types.IpHeaderError.TheVariants as ip_error
 use Rattle.etherparse.specs.Types.IpAuthHeaderError.TheVariants as auth_error
@@ -40,7 +40,7 @@ layer_number layer.Icmpv4Timestamp = 19
 layer_number layer.Icmpv4TimestampReply = 20
 layer_number layer.Icmpv6 = 21
 
--- a layer needs more bytes than there are
+-- the numbers of a length error
 abbrev pub len_part : LenError → Refusal
 len_part error = record {
   kind = 1;
@@ -52,11 +52,11 @@ len_part error = record {
   layer_start_offset = error.layer_start_offset;
 }
 
--- bytes hold what they must not: this kind, with this number, where it speaks of one
+-- the numbers of an error in a field: its kind, and the field's value for the kinds that have one
 abbrev pub content_part : ℕ → ℕ → Refusal
 content_part kind number = record no_refusal { kind = kind; number = number }
 
--- what is told of a refusal
+-- the numbers of an error
 abbrev pub refusal_part : SliceError → Refusal
 refusal_part (Len error) = len_part error
 refusal_part (LinuxSll (linux_sll_error.UnsupportedPacketTypeField number)) = content_part 2 number

@@ -1,4 +1,4 @@
--- The texts of refusals.
+-- Texts of errors.
 use Rattle.std.specs.Prelude.{◌≡◌, ◌==◌, if◌then◌else◌, ℕ, List, [], ◌∷◌, ◌++◌, ◌⊎◌, Option, Some, None}
 use Rattle.std.specs.Option.{option_map}
 use Rattle.etherparse.specs.Types.Layer.{Layer}
@@ -21,8 +21,8 @@ use Rattle.etherparse_c.specs.Placing.{IsPlaced}
 use Rattle.etherparse_c.specs.RefusalNumbers.{refusal_part}
 
 -- the layer of a number
-abbrev pub layer_told : ℕ → Option Layer
-layer_told number =
+abbrev pub layer_of_number : ℕ → Option Layer
+layer_of_number number =
     if number == 1 then Some layer.Ethernet2Header
     else if number == 2 then Some layer.LinuxSllHeader
     else if number == 3 then Some layer.VlanHeader
@@ -46,9 +46,9 @@ layer_told number =
     else if number == 21 then Some layer.Icmpv6
     else None
 
--- what sets an end, by its number
-abbrev pub source_told : ℕ → Option LenSource
-source_told number =
+-- the length source of a number
+abbrev pub source_of_number : ℕ → Option LenSource
+source_of_number number =
     if number == 0 then Some source.Slice
     else if number == 1 then Some source.MacsecShortLength
     else if number == 2 then Some source.Ipv4HeaderTotalLen
@@ -57,11 +57,11 @@ source_told number =
     else if number == 5 then Some source.ArpAddrLengths
     else None
 
--- the error for want of bytes, where its layer and what set the end are known
-abbrev pub len_told : Refusal → Option Layer → Option LenSource → Option SliceError
-len_told refusal None end = None
-len_told refusal (Some layer) None = None
-len_told refusal (Some layer) (Some end) = Some (Len (record {
+-- the length error of these numbers, if its layer and length source are known
+abbrev pub len_error_of : Refusal → Option Layer → Option LenSource → Option SliceError
+len_error_of refusal None end = None
+len_error_of refusal (Some layer) None = None
+len_error_of refusal (Some layer) (Some end) = Some (Len (record {
   required_len = refusal.required_len;
   len = refusal.len;
   len_source = end;
@@ -69,9 +69,9 @@ len_told refusal (Some layer) (Some end) = Some (Len (record {
   layer_start_offset = refusal.layer_start_offset;
 }))
 
--- the error of another kind, with the number 0
-abbrev pub content_told : ℕ → Option SliceError
-content_told kind =
+-- the error of another kind, with the field value 0
+abbrev pub content_error_of : ℕ → Option SliceError
+content_error_of kind =
     if kind == 2 then Some (LinuxSll (linux_sll_error.UnsupportedPacketTypeField 0))
     else if kind == 3 then Some (LinuxSll (linux_sll_error.UnsupportedArpHardwareId 0))
     else if kind == 4 then Some (Macsec macsec_error.UnexpectedVersion)
@@ -87,25 +87,24 @@ content_told kind =
     else if kind == 14 then Some (Tcp (tcp_error.DataOffsetTooSmall 0))
     else None
 
--- the error of the numbers of a refusal, where they are those of one
-abbrev pub error_told : Refusal → Option SliceError
-error_told refusal =
-    if refusal.kind == 1 then len_told refusal (layer_told refusal.layer) (source_told refusal.len_source)
-    else content_told refusal.kind
+-- the error of these numbers, if they are those of an error
+abbrev pub error_of_numbers : Refusal → Option SliceError
+error_of_numbers refusal =
+    if refusal.kind == 1 then len_error_of refusal (layer_of_number refusal.layer) (source_of_number refusal.len_source)
+    else content_error_of refusal.kind
 
--- The text of what C is told of a refusal, where the numbers are those of one: that of the error, with C's number for
--- the one that the bytes hold.
-abbrev pub text_told : Refusal → Option (List ℕ)
-text_told refusal = option_map (λ error. reason_text_with error refusal.number) (error_told refusal)
+-- The text of an error's numbers, if they are those of an error: the error's text, with C's number as the field value.
+abbrev pub text_of_number : Refusal → Option (List ℕ)
+text_of_number refusal = option_map (λ error. reason_text_with error refusal.number) (error_of_numbers refusal)
 
--- What a call answers that writes a text, if there is one, with a zero byte behind it: the status is 0 or 3, and it is
--- placed or has no room (`IsPlaced`); or it is 5, and there was no memory. Where there is none, the status is 2. At 2
--- and 5 the buffer is as it was.
+-- Answer of a call that writes a text and a zero byte: the status is 0 or 3, as the bytes fit into the buffer or not
+-- (`IsPlaced`), or 5, and an allocation failed. If there is no text, the status is 2. At 2 and 5 the buffer is
+-- unchanged.
 abbrev pub IsTextAnswer : Option (List ℕ) → List ℕ → List ℕ → ℕ → ℕ → Type 0
 IsTextAnswer None old new written status = (status ≡ 2) × (new ≡ old) × (written ≡ 0)
 IsTextAnswer (Some text) old new written status =
     IsPlaced (text ++ 0 ∷ []) old new written status ⊎ ((status ≡ 5) × (new ≡ old) × (written ≡ 0))
 
--- each refusal has its text
+-- The numbers of each error have the text of that error.
 abbrev pub AreTextsOfRefusals : Type 0
-AreTextsOfRefusals = (error : SliceError) → text_told (refusal_part error) ≡ Some (reason_text error)
+AreTextsOfRefusals = (error : SliceError) → text_of_number (refusal_part error) ≡ Some (reason_text error)

@@ -1,4 +1,4 @@
--- What a call of `etherparse_1_slice` answers.
+-- Answer of `etherparse_1_slice`.
 use Rattle.std.specs.Prelude.{◌≡◌, ◌==◌, if◌then◌else◌, ℕ, List, ◌⊎◌, Option, Some, None}
 use Rattle.etherparse.specs.Types.Entry.{Entry}
 use Rattle.etherparse.specs.Types.Entry.TheVariants.{Ethernet as ethernet, LinuxSll as linux_sll, EtherType as ether_type, Ip as ip}
@@ -10,7 +10,7 @@ use Rattle.etherparse_c.specs.Description.{description}
 use Rattle.etherparse_c.specs.Places.{Describes}
 use Rattle.etherparse_c.specs.RefusalNumbers.{refusal_part}
 
--- what a frame begins with, by the number that C says it by
+-- the entry of C's number
 abbrev pub entry_of : ℕ → ℕ → Option Entry
 entry_of number type =
     if number == 0 then Some ethernet
@@ -19,18 +19,18 @@ entry_of number type =
     else if number == 3 then Some ip
     else None
 
--- nothing is said: no layer, and no refusal
-abbrev pub nothing_said : Packet
-nothing_said = description no_layers
+-- the description without layers and without an error
+abbrev pub no_description : Packet
+no_description = description no_layers
 
--- no layer, and this refusal
+-- the description without layers and with this error
 abbrev pub refused_packet : SliceError → Packet
-refused_packet error = record nothing_said { refusal = refusal_part error }
+refused_packet error = record no_description { refusal = refusal_part error }
 
--- The status is 0, and the packet describes the frame that the bytes are; or it is 1, and the packet says why they are
--- none. Where the number is none of an entry, it is 2, and nothing is said.
+-- The status is 0, and the packet describes the frame; or it is 1, and the bytes are rejected with the error in the
+-- packet. If the entry is unknown, the status is 2, and the packet has no layers and no error.
 abbrev pub IsSliceAnswer : Option Entry → List ℕ → ℕ → Packet → Type 0
-IsSliceAnswer None bytes status packet = (status ≡ 2) × (packet ≡ nothing_said)
+IsSliceAnswer None bytes status packet = (status ≡ 2) × (packet ≡ no_description)
 IsSliceAnswer (Some entry) bytes status packet =
     ((status ≡ 0) × ((layers : Layers) × Describes entry bytes layers packet))
     ⊎ ((status ≡ 1) × ((error : SliceError) × RefusesFrame entry bytes error × (packet ≡ refused_packet error)))

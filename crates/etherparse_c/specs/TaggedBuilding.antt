@@ -1,4 +1,4 @@
--- What the calls answer that build frames with VLAN tags, TCP options or a fragment.
+-- Answers of the calls that build frames with VLAN tags, TCP options or a fragment.
 use Rattle.std.specs.Prelude.{◌≡◌, ◌<◌, ◌≤◌, ◌⊎◌, ◌==◌, ◌%◌, ◌/◌, ◌&&◌, not, if◌then◌else◌, nat_le, false, ℕ, List, length, Option, Some, None, slice_index}
 use Rattle.std.specs.Option.{option_map}
 use Rattle.etherparse.specs.BuiltFrames.{Held, held_ip, held_transport}
@@ -23,7 +23,7 @@ use Rattle.etherparse_c.specs.Building.{IsBuilt, route_headers, route_link}
 
 -- ---- the link part
 
--- one tag, and two from the outside in, where each identifier has at most 12 bits
+-- one tag, and two tags (outer, inner), if each identifier is at most 4095
 abbrev pub single_tag : ℕ → Option VlanHeader
 single_tag id = if nat_le id 4095 then Some (tags.Single (tag_of id)) else None
 
@@ -32,7 +32,7 @@ double_tags outer inner =
     if nat_le outer 4095 && nat_le inner 4095
     then Some (tags.Double (record { outer = tag_of outer; inner = tag_of inner })) else None
 
--- the tags of a route, where there are one or two
+-- the VLAN tags of a route, if there are one or two, and their identifiers are at most 4095
 abbrev pub route_tags : TaggedRoute → Option VlanHeader
 route_tags tagged =
     if tagged.tag_count == 1 then single_tag (slice_index tagged.vlan_ids 0)
@@ -44,7 +44,8 @@ abbrev pub route_ethernet : Route → Ethernet2Header
 route_ethernet route =
     record { source = route.ethernet_source; destination = route.ethernet_destination; ether_type = no_type }
 
--- the link part of a route: without tags that of the plain one, else its Ethernet II header, and the tags
+-- the link part of a route: without tags that of the plain route, otherwise its Ethernet II header and the tags, if it
+-- has that header and the tags are valid
 abbrev pub tagged_link : TaggedRoute → Option LinkPart
 tagged_link tagged =
     if tagged.tag_count == 0 then Some (route_link tagged.route)
@@ -53,31 +54,31 @@ tagged_link tagged =
 
 -- ---- frames
 
--- what stands in a frame of this link part and these headers, where they are known
+-- the content of a frame with this link part and these headers, if both are known
 abbrev pub both_held : Option LinkPart → Option IpHeaders → (LinkPart → IpHeaders → Held) → Option Held
 both_held None headers hold = None
 both_held (Some part) None hold = None
 both_held (Some part) (Some headers) hold = Some (hold part headers)
 
--- The frame is built (`IsBuilt`). Where a number is none of those that its field says, the status is 2, and nothing is
--- changed.
+-- The frame is built (`IsBuilt`). If a number is not valid for its field, the status is 2, and the buffer is unchanged.
 abbrev pub IsHeldAnswer : Option Held → List ℕ → List ℕ → List ℕ → ℕ → ℕ → Type 0
 IsHeldAnswer None payload old new written status = (status ≡ 2) × (new ≡ old) × (written ≡ 0)
 IsHeldAnswer (Some held) payload old new written status = IsBuilt held payload old new written status
 
--- the same of a route with tags and a transport header
+-- Answer of a call that builds the frame of a route with tags and a transport header.
 abbrev pub IsTaggedAnswer : TaggedRoute → TransportHeader → List ℕ → List ℕ → List ℕ → ℕ → ℕ → Type 0
 IsTaggedAnswer tagged behind = IsHeldAnswer
     (both_held (tagged_link tagged) (route_headers tagged.route) (λ part headers. held_transport part headers behind))
 
 -- ---- TCP options
 
--- a TCP header with options of these bytes, filled up by zero bytes to words of 4
+-- a TCP header with these options, padded with zero bytes to a multiple of 4
 abbrev pub with_options : List ℕ → TransportHeader → TransportHeader
 with_options options (transport.Tcp header) = transport.Tcp (record header { options = in_words options })
 with_options options behind = behind
 
--- The same of a TCP segment with options. Where they have more than 40 bytes, the status is 4, and nothing is changed.
+-- Answer of a call that builds a TCP segment with options. If they have more than 40 bytes, the status is 4, and the
+-- buffer is unchanged.
 abbrev pub IsOptionsAnswer : TaggedRoute → TransportHeader → List ℕ → List ℕ → List ℕ → List ℕ → ℕ → ℕ → Type 0
 IsOptionsAnswer tagged behind options payload old new written status =
     ((length options ≤ 40) × IsTaggedAnswer tagged (with_options options behind) payload old new written status)
@@ -85,7 +86,7 @@ IsOptionsAnswer tagged behind options payload old new written status =
 
 -- ---- fragments
 
--- the headers of a fragment by IPv4, which do not say not to cut it further
+-- the headers of an IPv4 fragment, with "don't fragment" not set
 abbrev pub fragment_headers_ipv4 : Route → FragmentFields → IpHeaders
 fragment_headers_ipv4 route fields = version.Ipv4 (record default_ipv4_header {
   identification = fields.identification;
@@ -97,7 +98,7 @@ fragment_headers_ipv4 route fields = version.Ipv4 (record default_ipv4_header {
   destination = route.ipv4_destination;
 }) (record { auth = None })
 
--- by IPv6: a fragment header behind the header
+-- the headers of an IPv6 fragment: the IPv6 header and a fragment header
 abbrev pub fragment_headers_ipv6 : Route → FragmentFields → IpHeaders
 fragment_headers_ipv6 route fields = version.Ipv6 (record default_ipv6_header {
   hop_limit = route.hop_limit;
@@ -112,7 +113,8 @@ fragment_headers_ipv6 route fields = version.Ipv6 (record default_ipv6_header {
   });
 })
 
--- the headers, where the offset is a multiple of 8, and of IPv4 the identification has at most 16 bits
+-- the headers of a fragment, if the version is 4 or 6, the offset is a multiple of 8 and, in IPv4, the identification
+-- is at most 65535
 abbrev pub fragment_headers : Route → FragmentFields → Option IpHeaders
 fragment_headers route fields =
     if not (fields.fragment_offset % 8 == 0) then None
@@ -121,7 +123,7 @@ fragment_headers route fields =
     else if route.version == 6 then Some (fragment_headers_ipv6 route fields)
     else None
 
--- what a call answers that builds a fragment
+-- Answer of a call that builds a fragment.
 abbrev pub IsFragmentAnswer : TaggedRoute → FragmentFields → List ℕ → List ℕ → List ℕ → ℕ → ℕ → Type 0
 IsFragmentAnswer tagged fields = IsHeldAnswer
     (both_held (tagged_link tagged) (fragment_headers tagged.route fields)

@@ -1,8 +1,8 @@
-//! Building a frame into the caller's buffer.
+//! Calls for C that build a frame into the caller's buffer: UDP, TCP, or an echo message of ICMP or ICMPv6.
 
 ghost use Rattle.std.specs.Prelude.{◌≡◌, MatchResult};
-ghost use Rattle.etherparse.specs.Placing.{FillsFront};
-ghost use Rattle.etherparse.specs.Steps.{held_behind};
+ghost use Rattle.etherparse.specs.Placing.{FillsStart};
+ghost use Rattle.etherparse.specs.Steps.{held_after};
 ghost use Rattle.etherparse.specs.Types.TransportHeader.{TransportHeader};
 ghost use Rattle.etherparse.specs.Types.TransportHeader.TheVariants as transport;
 ghost use Rattle.etherparse_c.specs.Building.{IsBuildAnswer, IsBuilt, echo_header, echo_of, icmpv4_echo, icmpv6_echo};
@@ -16,10 +16,13 @@ use etherparse::{
     IcmpEchoHeader, Icmpv4Type, Icmpv6Type, IpHeaders, PacketBuilder, PacketBuilderStep, TcpHeader,
 };
 
-/// Writes the frame of a UDP datagram with this payload to the front of `buffer`, with lengths and checksums, and the
-/// number of its bytes to `written`. The status is 0 where it did; 2 where the version of `route` is none, 3 where the
-/// buffer has too few bytes, and `written` says how many are needed, 4 where the payload is too long for the headers'
-/// length fields, 5 where there was no memory: then the buffer is as it was.
+/// Writes the frame of a UDP datagram, including lengths and checksums, to the start of the caller's `buffer`, and its
+/// length to `written`. Does not allocate.
+///
+/// Returns the status: 0 if the frame is written; 2 if the IP version of `route` (the Ethernet II and IP header fields)
+/// is neither 4 nor 6; 3 if the buffer is too small, and `written` is the needed length; 4 if the payload is too long
+/// for the headers' length fields. With any status but 0 the buffer is unchanged. (The contract also allows 5, out of
+/// memory, which is not returned.)
 #[unsafe(no_mangle)]
 pub extern "C" fn etherparse_1_build_udp(
     route: &Route,
@@ -39,7 +42,12 @@ pub extern "C" fn etherparse_1_build_udp(
     build(route, ports, payload, buffer, written)
 }
 
-/// The same of a TCP segment.
+/// Writes the frame of a TCP segment, including lengths and checksums, to the start of the caller's `buffer`, and its
+/// length to `written`.
+///
+/// Returns the status: 0 if the frame is written; 2 if the IP version of `route` (the Ethernet II and IP header fields)
+/// is neither 4 nor 6; 3 if the buffer is too small, and `written` is the needed length; 4 if the payload is too long
+/// for the headers' length fields. With any status but 0 the buffer is unchanged.
 #[unsafe(no_mangle)]
 pub extern "C" fn etherparse_1_build_tcp(
     route: &Route,
@@ -54,7 +62,13 @@ pub extern "C" fn etherparse_1_build_tcp(
     build(route, tcp_header(fields), payload, buffer, written)
 }
 
-/// The same of an echo request (`is_reply` is 0) or an echo reply of the route's version of ICMP.
+/// Writes the frame of an ICMP echo request (`is_reply` is 0) or echo reply to the start of the caller's `buffer`, and
+/// its length to `written`. The message is ICMPv6 if the IP version of `route` (the Ethernet II and IP header fields)
+/// is 6.
+///
+/// Returns the status: 0 if the frame is written; 2 if the IP version is neither 4 nor 6; 3 if the buffer is too small,
+/// and `written` is the needed length; 4 if the payload is too long for the headers' length fields. With any status but
+/// 0 the buffer is unchanged.
 #[unsafe(no_mangle)]
 pub extern "C" fn etherparse_1_build_icmp_echo(
     route: &Route,
@@ -77,30 +91,32 @@ pub extern "C" fn etherparse_1_build_icmp_echo(
     build(route, echo, payload, buffer, written)
 }
 
-/// A step of the builder that holds IP headers.
+/// State of the packet builder to which IP headers were added; a transport header can be added next.
 pub(crate) type IpStep = PacketBuilderStep<IpHeaders>;
 
-/// What a call answers that writes a frame to the front of a slice.
+/// Result of writing a frame to the start of a caller's buffer: the length of the frame, or the error.
 pub(crate) type Filled = Result<usize, BuildSliceWriteError>;
 
-/// What a frame has behind its IP headers, besides the payload.
-pub(crate) trait IsBehind: Drop {
-    /// The transport header that it is.
+/// Transport header that can be added after IP headers and written with them as a frame. Implemented for the ports of a
+/// UDP datagram, a TCP header, and an ICMP echo message.
+pub(crate) trait TransportPart: Drop {
+    /// Transport header of a value of this type, for contracts: UDP, TCP, ICMPv4 or ICMPv6.
     ghost header: { Self → TransportHeader };
 
-    /// Writes the frame of these IP headers, the transport header and the payload to the front of the buffer.
+    /// Writes a frame to the start of the buffer: the link and IP headers of the builder `step`, this transport header,
+    /// and the payload.
     fn fill(self, step: IpStep, payload: &[u8], buffer: &mut [u8]) -> Filled
-        ensures { FillsFront (held_behind step (header self)) payload.now buffer.old buffer.new result };
+        ensures { FillsStart (held_after step (header self)) payload.now buffer.old buffer.new result };
 }
 
-/// The ports of a UDP datagram.
+/// Source and destination port of a UDP datagram to build.
 #[derive(Clone, Copy)]
 pub(crate) struct UdpPorts {
     pub(crate) source_port: u16,
     pub(crate) destination_port: u16,
 }
 
-/// An echo message of ICMP, or else of ICMPv6.
+/// Echo request (`is_reply` is 0) or echo reply, of ICMP for IPv4 or of ICMPv6.
 #[derive(Clone, Copy)]
 pub(crate) struct Echo {
     pub(crate) is_ipv4: bool,
@@ -109,7 +125,7 @@ pub(crate) struct Echo {
     pub(crate) seq: u16,
 }
 
-impl IsBehind for UdpPorts {
+impl TransportPart for UdpPorts {
     ghost header = { λ ports. udp_between ports.source_port ports.destination_port };
 
     #[inline(always)]
@@ -119,7 +135,7 @@ impl IsBehind for UdpPorts {
     }
 }
 
-impl IsBehind for TcpHeader {
+impl TransportPart for TcpHeader {
     ghost header = { transport.Tcp };
 
     #[inline(always)]
@@ -128,7 +144,7 @@ impl IsBehind for TcpHeader {
     }
 }
 
-impl IsBehind for Echo {
+impl TransportPart for Echo {
     ghost header = { λ echo. echo_header echo.is_ipv4 echo.is_reply echo.id echo.seq };
 
     #[inline(always)]
@@ -143,10 +159,11 @@ impl IsBehind for Echo {
     }
 }
 
-/// Builds the frame of a route and what stands behind its IP headers at the front of the buffer. Each arm is one chain
-/// of the builder, which is inlined: so no step is moved.
+/// Writes a frame to the start of the caller's buffer: an Ethernet II header, if wanted, an IP header, a transport
+/// header, and the payload. Returns the status for C (0 if the frame is written). Each branch is one inlined chain of
+/// builder calls, so that no builder state is copied.
 #[inline(always)]
-pub(crate) fn build<Behind: IsBehind>(
+pub(crate) fn build<Behind: TransportPart>(
     route: &Route,
     behind: Behind,
     payload: &[u8],
@@ -162,40 +179,41 @@ pub(crate) fn build<Behind: IsBehind>(
         let (from, to) = (route.ipv4_source, route.ipv4_destination);
         if route.with_ethernet == 0 {
             let step = PacketBuilder::ipv4(from, to, route.hop_limit);
-            return write_behind(step, behind, payload, buffer, written);
+            return write_transport(step, behind, payload, buffer, written);
         }
         let step = PacketBuilder::ethernet2(source, destination).ipv4(from, to, route.hop_limit);
-        return write_behind(step, behind, payload, buffer, written);
+        return write_transport(step, behind, payload, buffer, written);
     }
     if route.version == 6 {
         let (from, to) = (route.ipv6_source, route.ipv6_destination);
         if route.with_ethernet == 0 {
             let step = PacketBuilder::ipv6(from, to, route.hop_limit);
-            return write_behind(step, behind, payload, buffer, written);
+            return write_transport(step, behind, payload, buffer, written);
         }
         let step = PacketBuilder::ethernet2(source, destination).ipv6(from, to, route.hop_limit);
-        return write_behind(step, behind, payload, buffer, written);
+        return write_transport(step, behind, payload, buffer, written);
     }
     *written = 0;
     numbers::UNKNOWN_CHOICE
 }
 
-/// Builds the frame of these IP headers and what stands behind them at the front of the buffer.
+/// Writes a frame to the start of the caller's buffer: the link and IP headers of a packet builder, a transport header,
+/// and the payload. Returns the status for C (0 if the frame is written).
 #[inline(always)]
-pub(crate) fn write_behind<Behind: IsBehind>(
+pub(crate) fn write_transport<Behind: TransportPart>(
     step: IpStep,
     behind: Behind,
     payload: &[u8],
     buffer: &mut [u8],
     written: &mut usize,
 ) -> u32
-    ensures { IsBuilt (held_behind step (Behind.header behind)) payload.now
+    ensures { IsBuilt (held_after step (Behind.header behind)) payload.now
         buffer.old buffer.new written.new result }
 {
-    told(behind.fill(step, payload, buffer), written)
+    store_written(behind.fill(step, payload, buffer), written)
 }
 
-/// The TCP header of these fields.
+/// Converts the TCP fields that C passes to a TCP header without options.
 #[tactic(auto, unfolding(crate::specs::Building::tcp_of))]
 pub(crate) fn tcp_header(fields: &TcpFields) -> TcpHeader
     ensures { transport.Tcp result ≡ tcp_of fields.now }
@@ -221,7 +239,7 @@ pub(crate) fn tcp_header(fields: &TcpFields) -> TcpHeader
     }
 }
 
-/// An echo message of ICMP.
+/// Returns an ICMP (IPv4) echo message: a request if `is_reply` is 0, else a reply.
 fn icmpv4_echo(is_reply: u8, id: u16, seq: u16) -> Icmpv4Type
     ensures { result ≡ icmpv4_echo is_reply id seq }
 {
@@ -233,7 +251,7 @@ fn icmpv4_echo(is_reply: u8, id: u16, seq: u16) -> Icmpv4Type
     }
 }
 
-/// An echo message of ICMPv6.
+/// Returns an ICMPv6 echo message: a request if `is_reply` is 0, else a reply.
 fn icmpv6_echo(is_reply: u8, id: u16, seq: u16) -> Icmpv6Type
     ensures { result ≡ icmpv6_echo is_reply id seq }
 {
@@ -245,9 +263,10 @@ fn icmpv6_echo(is_reply: u8, id: u16, seq: u16) -> Icmpv6Type
     }
 }
 
-/// Tells the number of bytes of the frame that was built, or for which the buffer is too small, and answers the status.
+/// Converts the result of writing a frame to the status for C: 0 if it is written, 3 if the buffer is too small, 4 if
+/// the payload is too long. Stores in `written` the frame's length (with 0 and 3), or 0 (with 4).
 #[inline]
-pub(crate) fn told(filled: Filled, written: &mut usize) -> u32
+pub(crate) fn store_written(filled: Filled, written: &mut usize) -> u32
     ensures { MatchResult filled
         (λ len. (result ≡ 0) × (written.new ≡ len))
         (λ error. IsTold error written.new result) }

@@ -1,4 +1,4 @@
-//! Building a frame with VLAN tags, TCP options or a fragment into the caller's buffer.
+//! Calls for C that build a frame with VLAN tags, TCP options or a fragment into the caller's buffer.
 
 ghost use Rattle.std.specs.Prelude.{◌≡◌};
 ghost use Rattle.etherparse.specs.Steps.{ip_held, tag_of};
@@ -6,7 +6,9 @@ ghost use Rattle.etherparse_c.specs.Building.{IsBuilt, echo_of, tcp_of, udp_betw
 ghost use Rattle.etherparse_c.specs.TaggedBuilding.{IsFragmentAnswer, IsOptionsAnswer, IsTaggedAnswer};
 ghost use Rattle.etherparse_c.specs.TaggedBuilding.{fragment_headers, route_tags};
 
-use crate::building::{Echo, IpStep, IsBehind, UdpPorts, build, tcp_header, told, write_behind};
+use crate::building::{
+    Echo, IpStep, TransportPart, UdpPorts, build, store_written, tcp_header, write_transport,
+};
 use crate::numbers;
 use crate::route::{FragmentFields, Route, TaggedRoute, TcpFields};
 use etherparse::{
@@ -15,8 +17,13 @@ use etherparse::{
     VlanId, VlanPcp,
 };
 
-/// What `etherparse_1_build_udp` does, behind the VLAN tags of the route. The status is 2 too where there are more than
-/// two tags, tags without an Ethernet II header, or an identifier above 4095.
+/// Writes the frame of a UDP datagram with up to two VLAN tags to the start of the caller's `buffer`, and its length to
+/// `written`.
+///
+/// Returns the status: 0 if the frame is written; 2 if `route`, the fields of the headers before UDP, is invalid (IP
+/// version neither 4 nor 6, more than two tags, tags without an Ethernet II header, or a VLAN identifier above 4095); 3
+/// if the buffer is too small, and `written` is the needed length; 4 if the payload is too long for the headers' length
+/// fields. With any status but 0 the buffer is unchanged.
 #[unsafe(no_mangle)]
 pub extern "C" fn etherparse_1_build_tagged_udp(
     route: &TaggedRoute,
@@ -36,8 +43,13 @@ pub extern "C" fn etherparse_1_build_tagged_udp(
     build_tagged(route, ports, payload, buffer, written)
 }
 
-/// The same of a TCP segment, whose header has options of these bytes, filled up by zero bytes to words of 4. The
-/// status is 4 too where they have more than 40.
+/// Writes the frame of a TCP segment with options (padded with zero bytes to a multiple of 4) and up to two VLAN tags
+/// to the start of the caller's `buffer`, and its length to `written`.
+///
+/// Returns the status: 0 if the frame is written; 4 if the options have more than 40 bytes, which is checked first; 2
+/// if `route`, the fields of the headers before TCP, is invalid (IP version, tags or VLAN identifiers); 3 if the buffer
+/// is too small, and `written` is the needed length; 4 if the payload is too long for the headers' length fields. With
+/// any status but 0 the buffer is unchanged.
 #[unsafe(no_mangle)]
 pub extern "C" fn etherparse_1_build_tagged_tcp(
     route: &TaggedRoute,
@@ -60,7 +72,12 @@ pub extern "C" fn etherparse_1_build_tagged_tcp(
     }
 }
 
-/// The same of an echo request (`is_reply` is 0) or an echo reply of the route's version of ICMP.
+/// Writes the frame of an ICMP echo request (`is_reply` is 0) or echo reply with up to two VLAN tags to the start of
+/// the caller's `buffer`, and its length to `written`. The message is ICMPv6 if the IP version is 6.
+///
+/// Returns the status: 0 if the frame is written; 2 if `route`, the fields of the headers before ICMP, is invalid (IP
+/// version, tags or VLAN identifiers); 3 if the buffer is too small, and `written` is the needed length; 4 if the
+/// payload is too long for the headers' length fields. With any status but 0 the buffer is unchanged.
 #[unsafe(no_mangle)]
 pub extern "C" fn etherparse_1_build_tagged_icmp_echo(
     route: &TaggedRoute,
@@ -83,8 +100,13 @@ pub extern "C" fn etherparse_1_build_tagged_icmp_echo(
     build_tagged(route, echo, payload, buffer, written)
 }
 
-/// The same of a fragment of a longer payload, of which `payload` has the bytes from the fragment's offset on. The
-/// status is 2 too where the offset is no multiple of 8, or of IPv4 the identification has more than 16 bits.
+/// Writes the frame of one fragment of an IP datagram to the start of the caller's `buffer`, and its length to
+/// `written`; `payload` has the bytes of this fragment only.
+///
+/// Returns the status: 0 if the frame is written; 2 if `route`, the fields of the headers, is invalid (IP version, tags
+/// or VLAN identifiers), the fragment offset is not a multiple of 8, or an IPv4 identification has more than 16 bits; 3
+/// if the buffer is too small, and `written` is the needed length; 4 if the payload is too long for the headers' length
+/// fields. With any status but 0 the buffer is unchanged.
 #[unsafe(no_mangle)]
 pub extern "C" fn etherparse_1_build_fragment(
     route: &TaggedRoute,
@@ -121,9 +143,10 @@ pub extern "C" fn etherparse_1_build_fragment(
     numbers::UNKNOWN_CHOICE
 }
 
-/// Builds the frame of a route with tags and what stands behind its IP headers, as `build` does of one without.
+/// Writes a frame to the start of the caller's buffer: an Ethernet II header with up to two VLAN tags, if wanted, an IP
+/// header, a transport header, and the payload. Returns the status for C (0 if the frame is written).
 #[inline(always)]
-fn build_tagged<Behind: IsBehind>(
+fn build_tagged<Behind: TransportPart>(
     tagged: &TaggedRoute,
     behind: Behind,
     payload: &[u8],
@@ -143,12 +166,12 @@ fn build_tagged<Behind: IsBehind>(
             if route.version == 4 {
                 let (from, to) = (route.ipv4_source, route.ipv4_destination);
                 let step = start.vlan(tags).ipv4(from, to, route.hop_limit);
-                return write_behind(step, behind, payload, buffer, written);
+                return write_transport(step, behind, payload, buffer, written);
             }
             if route.version == 6 {
                 let (from, to) = (route.ipv6_source, route.ipv6_destination);
                 let step = start.vlan(tags).ipv6(from, to, route.hop_limit);
-                return write_behind(step, behind, payload, buffer, written);
+                return write_transport(step, behind, payload, buffer, written);
             }
         }
     }
@@ -156,17 +179,19 @@ fn build_tagged<Behind: IsBehind>(
     numbers::UNKNOWN_CHOICE
 }
 
-/// Builds the frame of these IP headers and a payload of this protocol number at the front of the buffer.
+/// Writes a frame to the start of the buffer: the link and IP headers of the builder `step`, and a payload whose IP
+/// protocol is `number`. Returns the status for C (0 if the frame is written).
 fn write_ip(step: IpStep, number: u8, payload: &[u8], buffer: &mut [u8], written: &mut usize) -> u32
     ensures { IsBuilt (ip_held step (record { 0 = number })) payload.now buffer.old buffer.new written.new result }
 {
-    told(
+    store_written(
         step.write_to_slice(buffer, IpNumber(number), payload),
         written,
     )
 }
 
-/// The VLAN tags of a route, where there are one or two, and each identifier has its 12 bits.
+/// Returns the VLAN tags to build from C's fields, or `None` if there are not one or two tags, or an identifier is
+/// above 4095.
 fn route_tags(tagged: &TaggedRoute) -> Option<VlanHeader>
     ensures { result ≡ route_tags tagged.now }
 {
@@ -181,7 +206,7 @@ fn route_tags(tagged: &TaggedRoute) -> Option<VlanHeader>
     }
 }
 
-/// A VLAN tag of this identifier, whose other fields are 0.
+/// Returns a VLAN tag with this identifier; its priority, drop eligible indicator and ether type are 0.
 fn tag(vlan_id: VlanId) -> SingleVlanHeader
     ensures { result ≡ tag_of vlan_id }
 {
@@ -193,7 +218,8 @@ fn tag(vlan_id: VlanId) -> SingleVlanHeader
     }
 }
 
-/// The headers of a fragment, where its offset is a multiple of 8, and of IPv4 its identification has 16 bits.
+/// Returns the IP headers of a fragment, or `None` if the IP version is neither 4 nor 6, the fragment offset is not a
+/// multiple of 8, or an IPv4 identification has more than 16 bits.
 fn fragment_headers(route: &Route, fields: &FragmentFields) -> Option<IpHeaders>
     ensures { result ≡ fragment_headers route.now fields.now }
 {

@@ -1,4 +1,5 @@
-//! What C is told of the layers of a frame.
+//! Describes the layers of a strictly sliced frame as numbers (kinds, offsets, lengths) in the struct `Packet` that C
+//! reads.
 
 ghost use Rattle.std.specs.Prelude.{◌≡◌, ◌+◌, ◌<◌, ◌≤◌, ◌^◌};
 ghost use Rattle.std.specs.Option.{option_map};
@@ -15,32 +16,42 @@ use crate::packet::{Ip, LinkExt, Packet, Part, Payload, Refusal};
 use crate::tags::placed_tags;
 use etherparse::{LenSource, LinkSlice, NetSlice, SlicedPacket, TransportSlice};
 
-/// Says what the layers of a packet are, field by field, so that no packet is built beside this one.
+/// Writes the description of a strictly sliced packet (kind, offset and length of each header) to the struct that C
+/// reads. Each field is written in place, so that no second struct is built and copied.
 #[inline(always)]
-pub(crate) fn describe(told: &mut Packet, packet: &SlicedPacket<'_>)
+pub(crate) fn describe(described: &mut Packet, packet: &SlicedPacket<'_>)
     requires { payload_offset (layers_of packet.now) < 2 ^ 64 }
-    ensures { told.new ≡ description (layers_of packet.now) }
+    ensures { described.new ≡ description (layers_of packet.now) }
 {
     let link = link_part(&packet.link);
     let tags = placed_tags(packet.link_exts.as_slice(), link.len);
     let count = packet.link_exts.len() as u32;
     let net = net_part(&packet.net, tags.end);
     let ip = ip_part(&packet.net);
-    let offset = tell_headers(told, link, tags.slots, count, net, ip, &packet.transport);
-    told.payload = Payload {
+    let offset = describe_headers(
+        described,
+        link,
+        tags.slots,
+        count,
+        net,
+        ip,
+        &packet.transport,
+    );
+    described.payload = Payload {
         len_source: source_number(payload_end(packet)),
         incomplete: 0,
         offset,
         len: packet.payload().len(),
     };
-    told.refusal = no_refusal();
+    described.refusal = no_refusal();
 }
 
-/// Says what the headers of a packet are, of which these are those up to the net layer's: field by field. Answers how
-/// far behind the frame's start its payload begins.
+/// Writes the headers of a packet (link header, tags, network and transport header) to the struct that C reads, and
+/// returns the offset of the payload in the frame. Link to network header are passed; the transport header is derived
+/// from its slice.
 #[inline(always)]
-pub(crate) fn tell_headers(
-    told: &mut Packet,
+pub(crate) fn describe_headers(
+    described: &mut Packet,
     link: Part,
     link_exts: [LinkExt; 3],
     link_ext_count: u32,
@@ -49,24 +60,24 @@ pub(crate) fn tell_headers(
     transport: &Option<TransportSlice<'_>>,
 ) -> usize
     requires { net.offset + net.len + transport_len (option_map transport_layer_of transport.now) < 2 ^ 64 }
-    ensures told { told.new ≡ with_headers link link_exts link_ext_count net ip
-        (option_map transport_layer_of transport.now) told.old }
+    ensures described { described.new ≡ with_headers link link_exts link_ext_count net ip
+        (option_map transport_layer_of transport.now) described.old }
     ensures offset { result ≡ net.offset + net.len + transport_len (option_map transport_layer_of transport.now) }
 {
     let transport_offset = net.offset + net.len;
     let part = transport_part(transport, transport_offset);
-    told.link = link;
-    told.link_exts = link_exts;
-    told.link_ext_count = link_ext_count;
-    told.source_port = source_port(transport);
-    told.destination_port = destination_port(transport);
-    told.net = net;
-    told.ip = ip;
-    told.transport = part;
+    described.link = link;
+    described.link_exts = link_exts;
+    described.link_ext_count = link_ext_count;
+    described.source_port = source_port(transport);
+    described.destination_port = destination_port(transport);
+    described.net = net;
+    described.ip = ip;
+    described.transport = part;
     transport_offset + part.len
 }
 
-/// What is said where nothing is refused.
+/// Returns the error struct that C reads for "no error": all fields are 0.
 #[inline(always)]
 pub(crate) fn no_refusal() -> Refusal
     ensures { result ≡ no_refusal }
@@ -82,7 +93,8 @@ pub(crate) fn no_refusal() -> Refusal
     }
 }
 
-/// The link header, with which a frame begins.
+/// Returns kind, offset 0 and length of the link header (Ethernet II or Linux cooked capture); kind and length are 0 if
+/// there is none.
 #[inline(always)]
 pub(crate) fn link_part(link: &Option<LinkSlice<'_>>) -> Part
     ensures { result ≡ link_part (option_map link_layer_of link.now) }
@@ -106,7 +118,7 @@ pub(crate) fn link_part(link: &Option<LinkSlice<'_>>) -> Part
     }
 }
 
-/// The transport header, which begins `offset` bytes behind the frame's start.
+/// Returns kind and length of the transport header at `offset` in the frame; both are 0 if there is none.
 #[inline(always)]
 pub(crate) fn transport_part(transport: &Option<TransportSlice<'_>>, offset: usize) -> Part
     ensures part { let layer = option_map transport_layer_of transport.now in
@@ -132,7 +144,7 @@ pub(crate) fn transport_part(transport: &Option<TransportSlice<'_>>, offset: usi
     }
 }
 
-/// The sender's port.
+/// Returns the source port of UDP or TCP, or 0 if there is no transport header or it is ICMP.
 #[inline(always)]
 pub(crate) fn source_port(transport: &Option<TransportSlice<'_>>) -> u16
     ensures { result ≡ source_port_in (option_map transport_layer_of transport.now) }
@@ -144,7 +156,7 @@ pub(crate) fn source_port(transport: &Option<TransportSlice<'_>>) -> u16
     }
 }
 
-/// The receiver's port.
+/// Returns the destination port of UDP or TCP, or 0 if there is no transport header or it is ICMP.
 #[inline(always)]
 pub(crate) fn destination_port(transport: &Option<TransportSlice<'_>>) -> u16
     ensures { result ≡ destination_port_in (option_map transport_layer_of transport.now) }
@@ -156,16 +168,17 @@ pub(crate) fn destination_port(transport: &Option<TransportSlice<'_>>) -> u16
     }
 }
 
-/// What set the end of the last layer's payload.
+/// Returns the length field (of UDP, IP, ARP or MACsec) that limits the payload of the last layer, or `Slice` if only
+/// the end of the frame does.
 #[inline(always)]
 fn payload_end(packet: &SlicedPacket<'_>) -> LenSource
     ensures { result ≡ payload_end (layers_of packet.now) }
 {
     let outer = packet.extensions_len_source();
-    transport_end(&packet.transport).cut_by(net_end(&packet.net).cut_by(outer))
+    transport_end(&packet.transport).limited_by(net_end(&packet.net).limited_by(outer))
 }
 
-/// What the net layer's own fields set the end of its payload by.
+/// Returns the length field of the IP header or ARP packet that limits its payload, or `Slice` if none does.
 #[inline(always)]
 fn net_end(net: &Option<NetSlice<'_>>) -> LenSource
     ensures { result ≡ net_end (option_map net_layer_of net.now) }
@@ -178,7 +191,8 @@ fn net_end(net: &Option<NetSlice<'_>>) -> LenSource
     }
 }
 
-/// The same of the transport layer.
+/// Returns `UdpHeaderLen` if the transport layer is UDP and its length field limits the payload (it is not 0), or else
+/// `Slice`.
 #[inline(always)]
 pub(crate) fn transport_end(transport: &Option<TransportSlice<'_>>) -> LenSource
     ensures { result ≡ transport_end (option_map transport_layer_of transport.now) }
@@ -196,7 +210,8 @@ pub(crate) fn transport_end(transport: &Option<TransportSlice<'_>>) -> LenSource
     }
 }
 
-/// The number that says what set an end.
+/// Returns C's number of a length source: the length field that limits bytes (`enum etherparse_len_source` in
+/// `etherparse.h`).
 #[inline(always)]
 pub(crate) fn source_number(source: LenSource) -> u32
     ensures { result ≡ source_number source }

@@ -1,15 +1,15 @@
-//! Where C is given the address of a pool.
+//! Variable of C that receives the address of a reassembly pool.
 
 ghost use Rattle.std.specs.Prelude.{◌≡◌, Option, Some, is_some, true};
 ghost use Rattle.etherparse_c.specs.declared.pool.Pool.{Pool};
 ghost use Rattle.etherparse_c.specs.Pointing.{points_to};
 
-use crate::loose::Loose;
 use crate::pool::Pool;
+use crate::raw_box::RawBox;
 use std::alloc::Global;
 use std::marker::Model;
 
-/// The address of a pool, or of none. Dropping it frees nothing.
+/// Variable of C with the address of a reassembly pool, or with none yet. Dropping it does not free the pool.
 #[repr(C)]
 #[derive(Drop)]
 pub struct Handle {
@@ -22,28 +22,28 @@ impl Model for Handle {
     ghost also_owns = { λ it. points_to it.pool it.alloc it.at };
 }
 
-/// It may go to another thread, with all that is behind it, between two calls.
+/// The address of a pool may go to another thread between two calls, together with the pool's memory.
 unsafe impl Send for Handle {}
 
 impl Handle {
-    /// The address of a pool.
-    pub(crate) fn of(pool: Loose<Pool, Global>) -> Handle
+    /// Converts the raw pointer of a boxed pool to the address that C gets.
+    pub(crate) fn of(pool: RawBox<Pool, Global>) -> Handle
         ensures { result.pool ≡ Some pool.value }
     {
-        let Loose { at, alloc } = pool;
+        let RawBox { at, alloc } = pool;
         Handle {
             at: at as *mut u8,
             alloc,
         }
     }
 
-    /// The pool.
-    pub(crate) fn into_loose(self) -> Loose<Pool, Global>
+    /// Converts the address that C holds back to the raw pointer of the boxed pool.
+    pub(crate) fn into_raw_box(self) -> RawBox<Pool, Global>
         requires { is_some self.pool ≡ true }
         ensures { Some result.value ≡ self.pool }
     {
         let Handle { at, alloc } = self;
-        Loose {
+        RawBox {
             at: at as *mut Pool,
             alloc,
         }

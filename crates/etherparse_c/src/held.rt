@@ -1,16 +1,16 @@
-//! What C holds.
+//! Untyped pointer from a pool to its state (streams and waiting payload).
 
 ghost use Rattle.std.specs.Prelude.{◌≡◌, Option, Some, None, is_some, true};
 ghost use Rattle.etherparse_c.specs.declared.state.State.{State};
 ghost use Rattle.etherparse_c.specs.Holding.{holds};
 
-use crate::loose::Loose;
+use crate::raw_box::RawBox;
 use crate::state::State;
 use std::alloc::Global;
 use std::marker::Model;
 use std::ptr::null_mut;
 
-/// A state behind a pointer, or none. Dropping it frees nothing.
+/// Untyped pointer from a reassembly pool to its state, or null. Dropping it frees nothing.
 #[repr(C)]
 #[derive(Drop)]
 pub struct Held {
@@ -23,22 +23,22 @@ impl Model for Held {
     ghost also_owns = { λ it. holds it.state it.alloc it.at };
 }
 
-/// It may go to another thread, with all that is behind it, between two calls.
+/// The pointer to a pool's state may go to another thread between two calls, together with the state's memory.
 unsafe impl Send for Held {}
 
 impl Held {
-    /// A state.
-    pub(crate) fn of(state: Loose<State, Global>) -> Held
+    /// Converts the raw pointer of a pool's boxed state to an untyped pointer.
+    pub(crate) fn of(state: RawBox<State, Global>) -> Held
         ensures { result.state ≡ Some state.value }
     {
-        let Loose { at, alloc } = state;
+        let RawBox { at, alloc } = state;
         Held {
             at: at as *mut u8,
             alloc,
         }
     }
 
-    /// None.
+    /// Returns a null pointer, for a pool whose state is taken out during a call.
     pub(crate) fn none(alloc: Global) -> Held
         ensures { result.state ≡ None }
     {
@@ -48,13 +48,13 @@ impl Held {
         }
     }
 
-    /// The state.
-    pub(crate) fn into_loose(self) -> Loose<State, Global>
+    /// Converts the untyped pointer back to the raw pointer of the pool's boxed state.
+    pub(crate) fn into_raw_box(self) -> RawBox<State, Global>
         requires { is_some self.state ≡ true }
         ensures { Some result.value ≡ self.state }
     {
         let Held { at, alloc } = self;
-        Loose {
+        RawBox {
             at: at as *mut State,
             alloc,
         }

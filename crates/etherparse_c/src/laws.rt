@@ -1,4 +1,4 @@
-//! Facts on what C is told, of which no call speaks by itself.
+//! Laws of the C interface that relate several calls, or a returned description to the frame's bytes.
 
 ghost use Rattle.std.specs.Prelude.{◌≡◌, ◌+◌, ◌<◌, ◌≤◌, ◌^◌, ℕ, nat_eq, List, length, Option, None, Some};
 ghost use Rattle.etherparse.specs.Frame.{IsFrame};
@@ -12,7 +12,7 @@ ghost use Rattle.etherparse_c.specs.Description.{description, payload_offset};
 ghost use Rattle.etherparse_c.specs.LaxAnswers.{DescribesLax, lax_description};
 ghost use Rattle.etherparse_c.specs.Places.{Describes, HeaderLens};
 ghost use Rattle.etherparse_c.specs.PoolAnswers.{IsPushAnswer, Table, pool_of, waiting_in};
-ghost use Rattle.etherparse_c.specs.RefusalTexts.{AreTextsOfRefusals, text_told};
+ghost use Rattle.etherparse_c.specs.RefusalTexts.{AreTextsOfRefusals, text_of_number};
 
 use crate::handle::Handle;
 use crate::owned_pool::OwnedPool;
@@ -21,8 +21,8 @@ use crate::pool_answer::PoolAnswer;
 use crate::state::State;
 use etherparse::Entry;
 
-/// The bytes of a frame's layers stand where the description of these layers says, and the last payload ends within
-/// the frame. It follows from the laws of frames, which the body names.
+/// States that the described offsets of a valid frame are right: at each offset that C gets are the bytes of that
+/// header, and the last payload ends within the frame.
 pub fn frame_places()
     ensures places { (entry : Entry) (bytes : List ℕ) (layers : Layers) (packet : Packet)
         → IsFrame entry bytes layers → packet ≡ description layers → Describes entry bytes layers packet }
@@ -33,8 +33,8 @@ pub fn frame_places()
     header_lens();
 }
 
-/// The bytes of what is read laxly stand where its description says, and the last payload ends within the bytes. It
-/// follows from the laws of the library, which the body names.
+/// States that the described offsets of a laxly sliced packet are right: at each offset that C gets are the bytes of
+/// that header, and the last payload ends within the packet's bytes.
 pub fn lax_places()
     ensures places { (entry : Entry) (bytes : List ℕ) (read : LaxLayers) (packet : Packet)
         → IsLax entry bytes read → packet ≡ lax_description read → DescribesLax entry bytes read packet }
@@ -45,15 +45,14 @@ pub fn lax_places()
     header_lens();
 }
 
-/// The bytes of a header are as many as C is told. It follows from the library's law of headers, which the body names.
+/// States that each header, encoded as bytes, has the length that its description for C states.
 fn header_lens()
     ensures { HeaderLens }
 {
     etherparse::laws::packet::header_lens();
 }
 
-/// Of a frame that is read laxly the same is told. It follows from the library's law of these frames, which the body
-/// names.
+/// States that lax slicing describes a valid frame to C exactly as strict slicing does.
 pub fn frames_read_laxly()
     ensures { (entry : Entry) (bytes : List ℕ) (layers : Layers) → IsFrame entry bytes layers
         → (read : LaxLayers) × IsLax entry bytes read × (lax_description read ≡ description layers) }
@@ -61,34 +60,36 @@ pub fn frames_read_laxly()
     etherparse::laws::lax::strict_frames();
 }
 
-/// What C is told of a refusal has the refusal's text.
+/// States that C gets the right text for the numbers of a slicing error: the text of that error.
 pub fn refusal_texts()
     ensures { AreTextsOfRefusals }
 {}
 
-/// The text of what C is told of a refusal has at most 141 bytes, so that 142 have room for it with its zero byte.
+/// States that the text of every error has at most 141 bytes, so that a buffer of 142 bytes is enough for the text and
+/// a terminating zero byte.
 pub fn text_lengths()
     ensures { (refusal : Refusal) (text : List ℕ) → refusal.number < 2 ^ 32 → refusal.required_len < 2 ^ 64
-        → refusal.len < 2 ^ 64 → refusal.layer_start_offset < 2 ^ 64 → text_told refusal ≡ Some text
+        → refusal.len < 2 ^ 64 → refusal.layer_start_offset < 2 ^ 64 → text_of_number refusal ≡ Some text
         → length text ≤ 141 }
 {}
 
-/// A buffer of as many bytes as a pool's limit has room for every payload: where none waited, a push leaves none
-/// waiting. It follows from the library's law of the limit, which the body names.
-pub fn limit_has_room()
+/// States that a buffer of the pool's maximum payload length is large enough for every reassembled payload. After a
+/// push with such a buffer, no complete payload is left in the pool if none was before.
+pub fn limit_fits_payloads()
     ensures { (entry : Option Entry) (bytes : List ℕ) (timestamp channel : ℕ) (old new : State)
-        (before behind : List ℕ) (told : PoolAnswer) (status : ℕ) (table : Table)
+        (before behind : List ℕ) (answer : PoolAnswer) (status : ℕ) (table : Table)
         → HoldsTable nat_eq (pool_of old) table → waiting_in old ≡ None → limit_of (pool_of old) ≤ length before
-        → IsPushAnswer entry bytes timestamp channel old new before behind told status → waiting_in new ≡ None }
+        → IsPushAnswer entry bytes timestamp channel old new before behind answer status → waiting_in new ≡ None }
 {
     etherparse::laws::defrag::data_within_limit::<u64, u64>();
 }
 
-/// The address of a pool may go to another thread, with all of the pool: `Send` is proved of it.
-pub fn pools_move() {
+/// Proves that the pointers to a reassembly pool that C holds implement `Send`: a pool can go to another thread between
+/// two calls.
+pub fn pools_are_send() {
     moves::<Handle>();
     moves::<OwnedPool>();
 }
 
-/// Is there for each type whose values may go to another thread.
+/// Does nothing; a call compiles only if `T` implements `Send`.
 fn moves<T: Send>() {}

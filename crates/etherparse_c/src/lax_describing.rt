@@ -1,4 +1,5 @@
-//! What C is told of what is read laxly.
+//! Describes the layers of a laxly sliced packet as numbers (kinds, offsets, lengths) in the struct `Packet` that C
+//! reads.
 
 ghost use Rattle.std.specs.Prelude.{◌≡◌, ◌+◌, ◌<◌, ◌^◌, length, map};
 ghost use Rattle.std.specs.Option.{option_map};
@@ -12,7 +13,7 @@ ghost use Rattle.etherparse.specs.Types.LenSource.TheVariants as source;
 ghost use Rattle.etherparse_c.specs.Description.{net_end, payload_offset, tag_slots, tags_len};
 ghost use Rattle.etherparse_c.specs.LaxAnswers.{lax_description, lax_end, stop_part, tag_end, tags_end, transport_cut_end};
 
-use crate::describing::{link_part, no_refusal, source_number, tell_headers};
+use crate::describing::{describe_headers, link_part, no_refusal, source_number};
 use crate::net_part::{flag, lax_ip_part, lax_net_part};
 use crate::packet::{Packet, Payload, Refusal};
 use crate::refusing::refusal_part;
@@ -24,28 +25,38 @@ use etherparse::{
     TransportSlice,
 };
 
-/// Says what the layers are that were read, and where the reading stops.
+/// Writes the description of a laxly sliced packet to the struct that C reads: its valid layers, and the error at which
+/// parsing stopped, if any.
 #[inline(always)]
-pub(crate) fn describe_lax(told: &mut Packet, packet: &LaxSlicedPacket<'_>)
+pub(crate) fn describe_lax(described: &mut Packet, packet: &LaxSlicedPacket<'_>)
     requires { payload_offset (layers_in (lax_layers_of packet.now)) < 2 ^ 64 }
-    ensures { told.new ≡ lax_description (lax_layers_of packet.now) }
+    ensures { described.new ≡ lax_description (lax_layers_of packet.now) }
 {
     let link = link_part(&packet.link);
     let tags = tags(packet, link.len);
     let count = tag_count(packet);
     let net = lax_net_part(&packet.net, tags.end);
     let ip = lax_ip_part(&packet.net);
-    let offset = tell_headers(told, link, tags.slots, count, net, ip, &packet.transport);
-    told.payload = Payload {
+    let offset = describe_headers(
+        described,
+        link,
+        tags.slots,
+        count,
+        net,
+        ip,
+        &packet.transport,
+    );
+    described.payload = Payload {
         len_source: source_number(lax_end(packet)),
         incomplete: u32::from(flag(packet.is_incomplete())),
         offset,
         len: packet.payload().len(),
     };
-    told.refusal = stop_part(&packet.stop_err);
+    described.refusal = stop_part(&packet.stop_err);
 }
 
-/// The tags, of which the first begins `offset` bytes behind the first byte.
+/// Returns the descriptions of the VLAN and MACsec tags of a lax packet for C; the first tag is at `offset` in the
+/// frame.
 #[inline(always)]
 fn tags(packet: &LaxSlicedPacket<'_>, offset: usize) -> Tags
     requires { offset + tags_len (layers_in (lax_layers_of packet.now)).link_exts < 2 ^ 64 }
@@ -55,7 +66,7 @@ fn tags(packet: &LaxSlicedPacket<'_>, offset: usize) -> Tags
     placed_tags(packet.link_exts.as_slice(), offset)
 }
 
-/// How many tags there are.
+/// Returns the number of VLAN and MACsec tags of a lax packet.
 #[inline(always)]
 #[tactic(auto, using(crate::proofs::LaxLemmas::extensions_count))]
 fn tag_count(packet: &LaxSlicedPacket<'_>) -> u32
@@ -64,7 +75,7 @@ fn tag_count(packet: &LaxSlicedPacket<'_>) -> u32
     packet.link_exts.len() as u32
 }
 
-/// Why the layer behind the last one is refused, where one is.
+/// Converts the error at which lax slicing stopped to the numbers for C; all are 0 if there is no error.
 fn stop_part(stop: &Option<(SliceError, Layer)>) -> Refusal
     ensures { result ≡ stop_part stop.now }
 {
@@ -74,23 +85,26 @@ fn stop_part(stop: &Option<(SliceError, Layer)>) -> Refusal
     }
 }
 
-/// What set the end of the last layer's payload.
+/// Returns the length field (of UDP, IP, ARP or MACsec) that limits the payload of a lax packet's last layer, or
+/// `Slice` if only the end of the input does.
 fn lax_end(packet: &LaxSlicedPacket<'_>) -> LenSource
     ensures { result ≡ lax_end (layers_in (lax_layers_of packet.now)) }
 {
     let outer = tags_end(packet);
-    transport_cut_end(&packet.transport).cut_by(net_end(&packet.net).cut_by(outer))
+    transport_cut_end(&packet.transport).limited_by(net_end(&packet.net).limited_by(outer))
 }
 
-/// What set the end of what lies behind link extensions: the innermost short length that cut, or else the end of the bytes.
+/// Returns what limits the bytes after the VLAN and MACsec tags of a lax packet: the short length of the innermost
+/// MACsec tag whose short length matches its bytes, or `Slice`, the end of the input.
 fn tags_end(packet: &LaxSlicedPacket<'_>) -> LenSource
     ensures { result ≡ tags_end source.Slice (layers_in (lax_layers_of packet.now)).link_exts }
 {
-    end_behind(packet.link_exts.as_slice())
+    lax_exts_len_source(packet.link_exts.as_slice())
 }
 
-/// The same of some link extensions.
-fn end_behind(extensions: &[LaxLinkExtSlice<'_>]) -> LenSource
+/// Returns what limits the bytes after these VLAN and MACsec tags: the short length of the innermost MACsec tag whose
+/// short length matches its bytes, or `Slice`, the end of the input.
+fn lax_exts_len_source(extensions: &[LaxLinkExtSlice<'_>]) -> LenSource
     ensures { result ≡ tags_end source.Slice (map lax_extension_of extensions.now) }
 {
     let mut end = LenSource::Slice;
@@ -102,7 +116,9 @@ fn end_behind(extensions: &[LaxLinkExtSlice<'_>]) -> LenSource
     end
 }
 
-/// What set the end of the payload of a MACsec tag, where this set the end of the bytes in which the tag lies.
+/// Returns what limits the payload of a MACsec tag: its short length, if it is not 0 and equals the number of bytes
+/// that are present of the payload (and, if the payload is unmodified, of the ether type before it), or else `outer`,
+/// which limits the bytes that contain the tag.
 fn macsec_end(packet: &LaxMacsecSlice<'_>, outer: LenSource) -> LenSource
     ensures { result ≡ tag_end outer
         (macsec (lax_macsec_slice_header packet.now) (lax_macsec_slice_payload packet.now)) }
@@ -118,7 +134,8 @@ fn macsec_end(packet: &LaxMacsecSlice<'_>, outer: LenSource) -> LenSource
     outer
 }
 
-/// What the net layer's own fields set the end of its payload by.
+/// Returns the length field of the IP header or ARP packet that limits its payload in a lax packet, or `Slice` if none
+/// does.
 fn net_end(net: &Option<LaxNetSlice<'_>>) -> LenSource
     ensures { result ≡ net_end (option_map lax_net_layer_of net.now) }
 {
@@ -130,7 +147,8 @@ fn net_end(net: &Option<LaxNetSlice<'_>>) -> LenSource
     }
 }
 
-/// The same of the transport layer, where its length field cut.
+/// Returns `UdpHeaderLen` if the length field of UDP equals the length of the sliced datagram and so limits its
+/// payload, or else `Slice`.
 fn transport_cut_end(transport: &Option<TransportSlice<'_>>) -> LenSource
     ensures { result ≡ transport_cut_end (option_map transport_layer_of transport.now) }
 {

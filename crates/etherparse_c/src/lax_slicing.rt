@@ -1,4 +1,4 @@
-//! Slicing a packet laxly.
+//! Call for C that slices a packet laxly: truncated packets and wrong length fields are accepted.
 
 ghost use Rattle.etherparse_c.specs.LaxAnswers.{IsLaxAnswer};
 ghost use Rattle.etherparse_c.specs.SliceAnswers.{entry_of};
@@ -6,15 +6,18 @@ ghost use Rattle.etherparse_c.specs.SliceAnswers.{entry_of};
 use crate::lax_describing::describe_lax;
 use crate::packet::Packet;
 use crate::plain::{describe_plain, describe_plain_ip};
-use crate::slicing::{entry_of, say_nothing, say_refused};
+use crate::slicing::{describe_error, describe_no_layers, entry_of};
 use crate::{laws, numbers};
 use etherparse::LaxSlicedPacket;
 
-/// Slices laxly the layers of a packet of which bytes are missing, or whose length fields say less or more than is
-/// there: up to the first that does not stand. `entry` and `ether_type` are those of `etherparse_1_slice`. The status is
-/// 0 where the first header stands: `packet` then describes the layers, and its refusal says why the next one is none,
-/// if it must be one; 1 where the first header is refused, and `packet` says why; and 2 where `entry` is another number.
-/// Whatever `packet` held is overwritten. Of a frame the same is told as by `etherparse_1_slice`.
+/// Slices a packet laxly into its layers up to the first invalid one: it may be truncated, and its length fields may
+/// not match its bytes. `entry` is its first header: 0 Ethernet II, 1 Linux cooked capture, 2 the payload of
+/// `ether_type`, 3 IP of either version; `ether_type` is read for 2 only. Overwrites `packet`. A valid frame is
+/// described as by strict slicing (`etherparse_1_slice`).
+///
+/// Returns the status: 0 if `packet` describes the valid layers (with `entry` 2 possibly none), with the error of the
+/// next layer in `packet.refusal` if that layer is invalid; 1 if `entry` is 0, 1 or 3 and the first header is rejected,
+/// with the error in `packet`; 2 if `entry` is above 3.
 #[unsafe(no_mangle)]
 pub extern "C" fn etherparse_1_slice_lax(
     entry: u32,
@@ -24,7 +27,7 @@ pub extern "C" fn etherparse_1_slice_lax(
 ) -> u32
     ensures { IsLaxAnswer (entry_of entry ether_type) bytes.now result packet.new }
 {
-    // No code: that of a plain frame, which is whole, the same is told, and where its layers stand.
+    // Used by the proof only: a valid frame has the same description, and the layers are at the described offsets.
     laws::frames_read_laxly();
     laws::lax_places();
     if entry == 0 && describe_plain(packet, bytes) {
@@ -36,14 +39,15 @@ pub extern "C" fn etherparse_1_slice_lax(
     slice_any_laxly(entry, ether_type, bytes, packet)
 }
 
-/// The same of any bytes.
+/// Slices any packet laxly and describes it in `packet`. Used for the frames that the faster function for common frames
+/// (Ethernet II or IP, at most two VLAN tags) does not handle.
 #[inline(never)]
 fn slice_any_laxly(entry: u32, ether_type: u16, bytes: &[u8], packet: &mut Packet) -> u32
     ensures { IsLaxAnswer (entry_of entry ether_type) bytes.now result packet.new }
 {
     laws::lax_places();
     let Some(entry) = entry_of(entry, ether_type) else {
-        say_nothing(packet);
+        describe_no_layers(packet);
         return numbers::UNKNOWN_CHOICE;
     };
     let mut sliced = LaxSlicedPacket::new();
@@ -53,7 +57,7 @@ fn slice_any_laxly(entry: u32, ether_type: u16, bytes: &[u8], packet: &mut Packe
             numbers::OK
         }
         Err(error) => {
-            say_refused(packet, &error);
+            describe_error(packet, &error);
             numbers::REFUSED
         }
     }

@@ -1,8 +1,8 @@
-//! The library for C and for languages that call C: each export calls `etherparse` and says in numbers what it answers.
+//! The library for C and for languages that call C: each exported function calls `etherparse` and returns the result as
+//! numbers.
 //!
-//! But for pools no export keeps a pointer or a state, and none can be called wrongly but by a pointer that is not what
-//! its type says.
-//! `bindings/c/etherparse.h` declares all of them, and says what the numbers mean.
+//! Only reassembly pools keep a pointer or state between calls. An exported function can be misused only by passing a
+//! pointer that is not what its type states. `bindings/c/etherparse.h` declares all of them and documents the numbers.
 #![tactic(auto)]
 
 mod building;
@@ -14,7 +14,6 @@ mod held;
 pub mod laws;
 mod lax_describing;
 mod lax_slicing;
-mod loose;
 mod net_part;
 mod numbers;
 mod owned_pool;
@@ -24,6 +23,7 @@ mod plain;
 mod pool;
 mod pool_answer;
 mod pooling;
+mod raw_box;
 mod refusing;
 mod route;
 mod sliced_net;

@@ -1,4 +1,4 @@
-//! What C is told of the net layer.
+//! Describes the network layer (IPv4, IPv6 or ARP) of a sliced packet for C.
 
 ghost use Rattle.std.specs.Prelude.{◌≡◌, ◌+◌, ◌<◌, ◌^◌, Some};
 ghost use Rattle.std.specs.Option.{option_map};
@@ -19,7 +19,8 @@ use etherparse::{
     LaxIpv4Slice, LaxNetSlice, NetSlice,
 };
 
-/// The IP header with its extension headers, or the ARP packet, which begins `offset` bytes behind the frame's start.
+/// Returns kind, offset and length of the network layer for C: the IP header with its extension headers, or the ARP
+/// packet; kind and length are 0 if there is none. It is at `offset` in the frame.
 #[inline(always)]
 pub(crate) fn net_part(net: &Option<NetSlice<'_>>, offset: usize) -> Part
     ensures { let layer = option_map net_layer_of net.now in
@@ -31,7 +32,8 @@ pub(crate) fn net_part(net: &Option<NetSlice<'_>>, offset: usize) -> Part
     }
 }
 
-/// The same of a net layer that is there.
+/// Returns kind, offset and length of a network layer for C: the IP header with its extension headers, or the ARP
+/// packet. It is at `offset` in the frame.
 #[inline(always)]
 pub(crate) fn net_layer_part(net: &NetSlice<'_>, offset: usize) -> Part
     ensures part { let layer = Some (net_layer_of net.now) in
@@ -49,7 +51,8 @@ pub(crate) fn net_layer_part(net: &NetSlice<'_>, offset: usize) -> Part
     }
 }
 
-/// The same of what is read laxly.
+/// Returns kind, offset and length of the network layer of a laxly sliced packet for C; kind and length are 0 if there
+/// is none. It is at `offset` in the frame.
 #[inline(always)]
 pub(crate) fn lax_net_part(net: &Option<LaxNetSlice<'_>>, offset: usize) -> Part
     ensures { let layer = option_map lax_net_layer_of net.now in
@@ -69,7 +72,7 @@ pub(crate) fn lax_net_part(net: &Option<LaxNetSlice<'_>>, offset: usize) -> Part
     }
 }
 
-/// The place of a net layer that is not there.
+/// Returns the description for C of an absent network layer: kind and length 0, at the offset where it would be.
 #[inline(always)]
 fn no_net_part(offset: usize) -> Part
     ensures { result ≡ part 0 offset 0 }
@@ -81,7 +84,8 @@ fn no_net_part(offset: usize) -> Part
     }
 }
 
-/// What the net layer says of IP.
+/// Returns the fields of IPv4 or IPv6 that C gets (version, protocol, fragment fields, header length), all 0 if the
+/// network layer is absent or ARP.
 #[inline(always)]
 pub(crate) fn ip_part(net: &Option<NetSlice<'_>>) -> Ip
     ensures { result ≡ ip_in (option_map net_layer_of net.now) }
@@ -92,7 +96,7 @@ pub(crate) fn ip_part(net: &Option<NetSlice<'_>>) -> Ip
     }
 }
 
-/// The same of a net layer that is there.
+/// Returns the fields of IPv4 or IPv6 that C gets (version, protocol, fragment fields, header length), all 0 for ARP.
 #[inline(always)]
 pub(crate) fn ip_layer_part(net: &NetSlice<'_>) -> Ip
     ensures { result ≡ ip_in (Some (net_layer_of net.now)) }
@@ -107,7 +111,8 @@ pub(crate) fn ip_layer_part(net: &NetSlice<'_>) -> Ip
     }
 }
 
-/// The same of what is read laxly.
+/// Returns the fields of IPv4 or IPv6 that C gets from a laxly sliced packet (version, protocol, fragment fields,
+/// header length), all 0 if its network layer is absent or ARP.
 #[inline(always)]
 pub(crate) fn lax_ip_part(net: &Option<LaxNetSlice<'_>>) -> Ip
     ensures { result ≡ ip_in (option_map lax_net_layer_of net.now) }
@@ -122,7 +127,7 @@ pub(crate) fn lax_ip_part(net: &Option<LaxNetSlice<'_>>) -> Ip
     }
 }
 
-/// What is said where there is no IP packet.
+/// Returns the IP fields that C gets of a packet without an IP header: all 0.
 #[inline(always)]
 fn no_ip() -> Ip
     ensures { result ≡ no_ip }
@@ -138,7 +143,8 @@ fn no_ip() -> Ip
     }
 }
 
-/// What an IPv4 packet says.
+/// Returns the IP fields that C gets of a strictly sliced IPv4 packet (version, protocol, fragment fields, header
+/// length).
 #[inline(always)]
 fn ipv4_part(packet: &Ipv4Slice<'_>) -> Ip
     ensures { result ≡ ipv4_part (ipv4_slice_header packet.now) (ipv4_slice_payload packet.now) }
@@ -147,7 +153,7 @@ fn ipv4_part(packet: &Ipv4Slice<'_>) -> Ip
     ipv4_header_part(&packet.header(), payload.ip_number, payload.fragmented)
 }
 
-/// The same of one that is read laxly.
+/// Returns the IP fields that C gets of a laxly sliced IPv4 packet (version, protocol, fragment fields, header length).
 #[inline(always)]
 fn lax_ipv4_part(packet: &LaxIpv4Slice<'_>) -> Ip
     ensures { result ≡ ipv4_part (lax_ipv4_slice_header packet.now) (lax_ipv4_slice_payload packet.now) }
@@ -156,7 +162,8 @@ fn lax_ipv4_part(packet: &LaxIpv4Slice<'_>) -> Ip
     ipv4_header_part(&packet.header(), payload.ip_number, payload.fragmented)
 }
 
-/// What an IPv4 packet says, by its header, the number of its payload, and whether that is a fragment.
+/// Returns the IP fields that C gets of an IPv4 packet, from its header, the IP protocol number of its payload, and
+/// whether the packet is a fragment.
 #[inline(always)]
 fn ipv4_header_part(header: &Ipv4HeaderSlice<'_>, number: IpNumber, fragmented: bool) -> Ip
     ensures { (payload : IpPayload) → payload.number ≡ number.0 → payload.fragmented ≡ fragmented
@@ -173,7 +180,8 @@ fn ipv4_header_part(header: &Ipv4HeaderSlice<'_>, number: IpNumber, fragmented: 
     }
 }
 
-/// What an IPv6 packet says, by its extension headers: with the first fragment header, where there is one.
+/// Returns the IP fields that C gets of an IPv6 packet. The fragment fields are those of its first fragment header, or
+/// 0 if it has none.
 #[inline(always)]
 fn ipv6_part(extensions: Ipv6ExtensionsSlice<'_>, number: IpNumber, fragmented: bool) -> Ip
     ensures { (payload : IpPayload) → payload.number ≡ number.0 → payload.fragmented ≡ fragmented
@@ -201,7 +209,7 @@ fn ipv6_part(extensions: Ipv6ExtensionsSlice<'_>, number: IpNumber, fragmented: 
     whole
 }
 
-/// A flag as C reads it.
+/// Converts a flag to the number that C gets: 1 for true, 0 for false.
 #[inline(always)]
 pub(crate) fn flag(is_set: bool) -> u8
     ensures { result ≡ bit is_set }

@@ -1,46 +1,49 @@
-//! The numbers that stand for what C cannot be told otherwise.
+//! Numbers of the C interface: statuses of calls and kinds of headers, as `etherparse.h` names them.
 
-/// The call did what it is for.
+/// Status 0 of a C call: success.
 pub const OK: u32 = 0;
-/// The bytes are no frame; the refusal says why.
+/// Status 1 of a C call: the bytes are not a valid frame; the error is in the field `refusal` of the result.
 pub const REFUSED: u32 = 1;
-/// A number in the place of a choice is none of those that are known.
+/// Status 2 of a C call: an argument is invalid, such as an IP version that is neither 4 nor 6.
 pub const UNKNOWN_CHOICE: u32 = 2;
-/// The buffer has too few bytes; how many are needed is told.
+/// Status 3 of a C call: the caller's buffer is too small; the needed length is stored, except by the call that slices
+/// many frames.
 pub const TOO_SMALL: u32 = 3;
-/// The payload is longer than the headers' length fields can count.
+/// Status 4 of a C call that builds a frame: the payload is too long for the length fields of the headers, or the TCP
+/// options have more than 40 bytes.
 pub const TOO_LONG: u32 = 4;
-/// There was no memory.
+/// Status 5 of a C call: out of memory, an allocation failed.
 pub const OUT_OF_MEMORY: u32 = 5;
-/// A payload is complete.
+/// Status 6 of a C call to a reassembly pool: a reassembled payload is complete, and is in the caller's buffer.
 pub const COMPLETE: u32 = 6;
-/// The fragment in a frame is refused.
+/// Status 7 of a C call to a reassembly pool: the frame is valid, but the IP fragment in it is rejected.
 pub const FRAGMENT_REFUSED: u32 = 7;
-/// A payload waits in the pool, for which no buffer had room yet.
+/// Status 8 of a C call to a reassembly pool: the frame is not processed, since the pool still keeps a complete payload
+/// that did not fit into an earlier buffer.
 pub const PAYLOAD_WAITS: u32 = 8;
 
-/// An Ethernet II header.
+/// Kind of a link header in the C interface: Ethernet II.
 pub const LINK_ETHERNET2: u32 = 1;
-/// The header of a Linux cooked capture (SLL v1).
+/// Kind of a link header in the C interface: Linux cooked capture (SLL v1).
 pub const LINK_LINUX_SLL: u32 = 2;
 
-/// A VLAN tag (IEEE 802.1Q).
+/// Kind of a tag after the link header in the C interface: VLAN tag (IEEE 802.1Q).
 pub const EXT_VLAN: u32 = 1;
-/// A MACsec tag (IEEE 802.1AE).
+/// Kind of a tag after the link header in the C interface: MACsec tag (IEEE 802.1AE).
 pub const EXT_MACSEC: u32 = 2;
 
-/// An ARP packet.
+/// Kind of a network layer in the C interface: ARP packet.
 pub const NET_ARP: u32 = 1;
-/// An IPv4 packet.
+/// Kind of a network layer in the C interface: IPv4 header.
 pub const NET_IPV4: u32 = 4;
-/// An IPv6 packet.
+/// Kind of a network layer in the C interface: IPv6 header.
 pub const NET_IPV6: u32 = 6;
 
-/// An ICMP message, by its protocol number, as the others.
+/// Kind of a transport header in the C interface, equal to its IP protocol number: ICMP (IPv4).
 pub const TRANSPORT_ICMPV4: u32 = 1;
-/// A TCP segment.
+/// Kind of a transport header in the C interface, equal to its IP protocol number: TCP.
 pub const TRANSPORT_TCP: u32 = 6;
-/// A UDP datagram.
+/// Kind of a transport header in the C interface, equal to its IP protocol number: UDP.
 pub const TRANSPORT_UDP: u32 = 17;
-/// An ICMPv6 message.
+/// Kind of a transport header in the C interface, equal to its IP protocol number: ICMPv6.
 pub const TRANSPORT_ICMPV6: u32 = 58;

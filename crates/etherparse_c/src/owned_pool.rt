@@ -1,10 +1,10 @@
-//! The address of a pool that C gives up.
+//! Address of a reassembly pool that C passes back so that the pool is freed.
 
 ghost use Rattle.std.specs.Prelude.{◌≡◌, is_some, true};
 
 use crate::handle::Handle;
 
-/// The address of a pool, with all of the pool.
+/// Address of a reassembly pool that C passes to the call that frees the pool; with it goes the ownership of the pool.
 #[repr(C)]
 #[derive(Drop)]
 pub struct OwnedPool {

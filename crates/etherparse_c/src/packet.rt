@@ -1,107 +1,116 @@
-//! What C is told of a frame: numbers alone, whose layout is C's.
+//! Description of a sliced frame for C: kinds, offsets and lengths of its headers as numbers, in C's memory layout.
 
-/// A header: what it is, and which bytes of the frame it is. Where there is none, its kind and its length are 0.
+/// Kind, offset and length of one header in a frame. Kind and length are 0 if the frame does not have this header.
 #[repr(C)]
 #[derive(Clone, Copy)]
 pub struct Part {
-    /// Which header it is: a number of its layer's kinds, and 0 for none.
+    /// Kind of the header, or 0 if the frame has none. Link layer: 1 Ethernet II, 2 Linux cooked capture. Network
+    /// layer: 1 ARP, 4 IPv4, 6 IPv6. Transport layer: its IP protocol number.
     pub kind: u32,
-    /// How far behind the frame's first byte it begins.
+    /// Offset of the described header from the start of the frame, in bytes.
     pub offset: usize,
-    /// The number of its bytes.
+    /// Length of the described header in bytes, with extension headers or options; 0 if the frame has no such header.
     pub len: usize,
 }
 
-/// The tag of a link extension. Where there is none, all of it is 0.
+/// VLAN or MACsec tag between the link header and the network layer of a frame; all fields are 0 if the frame has fewer
+/// tags.
 #[repr(C)]
 #[derive(Clone, Copy)]
 pub struct LinkExt {
-    /// A VLAN tag, a MACsec tag, or 0 for none.
+    /// Kind of the tag: 1 VLAN, 2 MACsec, or 0 if there is no tag.
     pub kind: u32,
-    /// The identifier of a VLAN tag, and 0 of other tags.
+    /// VLAN identifier (VID, 12 bits), or 0 for a MACsec tag.
     pub vlan_id: u16,
-    /// How far behind the frame's first byte the tag begins.
+    /// Offset of the VLAN or MACsec tag from the start of the frame, in bytes.
     pub offset: usize,
-    /// The number of its bytes.
+    /// Length of the VLAN or MACsec tag in bytes.
     pub len: usize,
 }
 
-/// What the header of an IP packet says, and its extension headers. Where there is no IP packet, all of it is 0.
+/// Fields of the IP header and its extension headers, all 0 if the packet is not IP.
 #[repr(C)]
 #[derive(Clone, Copy)]
 pub struct Ip {
-    /// 4 or 6.
+    /// IP version: 4 or 6, or 0 if the packet is not IP.
     pub version: u8,
-    /// The protocol number of the payload, behind the extension headers.
+    /// IP protocol number of the payload after the IP header and its extension headers.
     pub number: u8,
-    /// 1 if the payload is one fragment of a longer one, else 0.
+    /// 1 if the packet is a fragment of a longer IP payload, else 0.
     pub fragmented: u8,
-    /// 1 if the header says that more fragments follow, else 0.
+    /// 1 if the flag "more fragments" of the IPv4 header or IPv6 fragment header is set, else 0.
     pub more_fragments: u8,
-    /// Where the fragment lies in the whole payload, in bytes.
+    /// Offset of this fragment in the reassembled IP payload, in bytes; 0 in an unfragmented packet.
     pub fragment_offset: u16,
-    /// What fragments of one payload have in common; 0 in IPv6 without a fragment header.
+    /// Identification that all fragments of an IP datagram share (16 bits in IPv4, 32 bits in IPv6); 0 in IPv6 without
+    /// a fragment header.
     pub identification: u32,
-    /// The number of bytes of the IP header without extension headers.
+    /// Length of the IPv4 or IPv6 header without extension headers, in bytes.
     pub header_len: usize,
 }
 
-/// The payload of the last layer.
+/// Payload of the innermost parsed layer of a frame, such as of UDP: its offset, its length, and what limits it.
 #[repr(C)]
 #[derive(Clone, Copy)]
 pub struct Payload {
-    /// What set its end.
+    /// Length field that limits the payload of the innermost parsed layer, or 0 if only the end of the frame does
+    /// (`enum etherparse_len_source`).
     pub len_source: u32,
-    /// 1 if bytes of it are missing that a length field says are there, of what is sliced laxly; else 0.
+    /// 1 if the payload is shorter than a length field states (lax slicing only), else 0.
     pub incomplete: u32,
-    /// How far behind the frame's first byte it begins.
+    /// Offset of the innermost parsed layer's payload from the start of the frame, in bytes.
     pub offset: usize,
-    /// The number of its bytes.
+    /// Length of the innermost parsed layer's payload in bytes.
     pub len: usize,
 }
 
-/// Why bytes are no frame, or why lax slicing stops. For a frame, all of it is 0.
+/// Error of slicing, as numbers for C: why the bytes are not a valid frame, or the error at which lax slicing stopped.
+/// All fields are 0 if there is no error.
 #[repr(C)]
 #[derive(Clone, Copy)]
 pub struct Refusal {
-    /// What is wrong, and 0 for nothing.
+    /// Kind of the slicing error, or 0 if there is none (`enum etherparse_refusal_kind`).
     pub kind: u32,
-    /// The layer that needs another number of bytes than there are, and 0 for other kinds.
+    /// Layer whose bytes do not have the needed length (`enum etherparse_layer`), for a length error; 0 for other
+    /// errors.
     pub layer: u32,
-    /// What set the number of bytes at hand.
+    /// Length field that limits the bytes available to the layer of a length error, or 0 if the end of the input or the
+    /// short length of a MACsec tag does (`enum etherparse_len_source`). For ARP, 5 states that the address lengths
+    /// determine `required_len`.
     pub len_source: u32,
-    /// The number that the bytes hold and must not, where the kind speaks of one.
+    /// Value of the invalid header field, for error kinds that have one (such as the IP version); else 0.
     pub number: u32,
-    /// The number of bytes that the layer needs.
+    /// Number of bytes that the layer of a length error needs; 0 for other errors.
     pub required_len: usize,
-    /// The number of bytes at hand.
+    /// Number of bytes available to the layer of a length error; 0 for other errors.
     pub len: usize,
-    /// How far behind the frame's first byte the layer begins.
+    /// Offset of the layer of a length error from the start of the frame, in bytes; 0 for other errors.
     pub layer_start_offset: usize,
 }
 
-/// What the layers of a frame are and where they are, or why bytes are no frame.
+/// Layers of a sliced frame with their offsets for C, or the error if the bytes are not a valid frame.
 #[repr(C)]
 #[derive(Clone, Copy)]
 pub struct Packet {
-    /// The link header.
+    /// Ethernet II or Linux cooked capture header; its kind is 0 if the frame starts with another layer.
     pub link: Part,
-    /// The tags between link header and net layer, from the outside in.
+    /// VLAN and MACsec tags between the link header and the network layer, from the outermost to the innermost.
     pub link_exts: [LinkExt; 3],
-    /// How many tags there are.
+    /// Number of VLAN and MACsec tags, 0 to 3.
     pub link_ext_count: u32,
-    /// The port of the sender of UDP or TCP, else 0.
+    /// Source port of UDP or TCP, or 0 if the packet has another or no transport header.
     pub source_port: u16,
-    /// The port of the receiver of UDP or TCP, else 0.
+    /// Destination port of UDP or TCP, or 0 if the packet has another or no transport header.
     pub destination_port: u16,
-    /// The IP header with its extension headers, or the ARP packet.
+    /// Network layer: the IP header with its extension headers, or the ARP packet.
     pub net: Part,
-    /// What the IP header says.
+    /// Fields of the IP header, with those of its extension headers, all 0 if the packet is not IP.
     pub ip: Ip,
-    /// The transport header.
+    /// Header of UDP, TCP, ICMP or ICMPv6; its kind is 0 if there is none.
     pub transport: Part,
-    /// The payload of the last layer.
+    /// Payload of the innermost parsed layer, such as the payload of UDP.
     pub payload: Payload,
-    /// Why the bytes are no frame.
+    /// Error if the bytes are not a valid frame, or at which lax slicing stopped; all its fields are 0 if there is no
+    /// error.
     pub refusal: Refusal,
 }

@@ -1,11 +1,11 @@
-//! Bytes for the caller's buffer.
+//! Copies bytes (the text of an error, a reassembled payload) to the buffer that C passes.
 
 ghost use Rattle.etherparse_c.specs.Placing.{IsPlaced};
 
 use crate::numbers;
 
-/// Copies bytes to the front of the buffer, where it has room, and answers the status: 0, or 3 where it has too little,
-/// and is as it was. Their number is told in both cases.
+/// Copies bytes to the start of the caller's buffer and stores their number in `written`. Returns status 0, or 3 if the
+/// buffer is too small; then it is unchanged, and `written` is the needed length.
 pub(crate) fn placed(bytes: &[u8], buffer: &mut [u8], written: &mut usize) -> u32
     ensures { IsPlaced bytes.now buffer.old buffer.new written.new result }
 {

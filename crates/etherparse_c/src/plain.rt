@@ -1,9 +1,9 @@
-//! Plain frames, as most are: IP or ARP behind Ethernet II and at most two VLAN tags, or IP alone. They are described
-//! without a packet in between: UDP and TCP in one piece, behind an IP header alone, while they are read, and the others
-//! by slices of net and transport layer (`sliced_net`).
+//! Faster description of plain frames, the common case: IP or ARP after Ethernet II and at most two VLAN tags, or IP
+//! without a link header. UDP and TCP after an IP header without extension headers are described while they are parsed,
+//! without building a `SlicedPacket`; the other layers by slices of the network and the transport layer.
 //!
-//! Each call here may give up, by the answer false or none, where the bytes are another frame or no frame: what is said
-//! then is of no use.
+//! Each function returns false or `None` if the bytes are another frame or no valid frame. The fields of the
+//! description that are written until then are meaningless.
 
 ghost use Rattle.std.specs.Prelude.{◌≡◌, ◌≤◌, ◌⊎◌, IfSome, Option, Some, true};
 ghost use Rattle.etherparse.specs.EtherTypes.{ipv4_type, ipv6_type};
@@ -17,12 +17,12 @@ ghost use Rattle.etherparse.specs.TransportParts.{TransportLayer};
 ghost use Rattle.etherparse.specs.UdpSlices.{udp_slice_header};
 ghost use Rattle.etherparse.specs.Types.TransportHeader.TheVariants as transport;
 ghost use Rattle.etherparse_c.specs.Description.{description, header_end};
-ghost use Rattle.etherparse_c.specs.Plain.{HasPlainIp, TellsNet, plain_payload, plain_told};
+ghost use Rattle.etherparse_c.specs.Plain.{HasPlainIp, DescribesNet, plain_payload, plain_description};
 
 use crate::describing::{no_refusal, source_number};
 use crate::numbers;
 use crate::packet::{Packet, Part, Payload};
-use crate::sliced_net::{describe_sliced, describe_whole};
+use crate::sliced_net::{describe_sliced, describe_unfragmented};
 use crate::tags::no_tag;
 use crate::vlans::place_vlans;
 use etherparse::{
@@ -30,66 +30,70 @@ use etherparse::{
     Ipv6HeaderSlice, LenSource, TcpHeader, TcpSlice, UdpHeader, UdpSlice, ether_type, ip_number,
 };
 
-/// What an IP header says that has no extension header and is of no fragment, and the payload that its length cuts.
+/// Fields and payload of an unfragmented IP packet without extension headers. The payload is limited by the IP header's
+/// length field, or by the end of the frame if the IPv6 payload length is 0.
 #[derive(Drop)]
 pub(crate) struct PlainIp<'a> {
     pub(crate) version: u8,
-    /// The number of the header's bytes.
+    /// Length of the IPv4 or IPv6 header in bytes.
     pub(crate) len: usize,
     pub(crate) identification: u32,
     pub(crate) number: IpNumber,
-    /// What set the payload's end.
+    /// Length field of the IP header that limits the payload, or `Slice` if the end of the frame does.
     pub(crate) end: LenSource,
     pub(crate) payload: &'a [u8],
 }
 
-/// Says what the layers of a plain frame are that begins with an Ethernet II header.
+/// Describes a frame in the struct that C reads, if it is plain: Ethernet II, at most two VLAN tags, then IP or ARP.
+/// Returns false for any other or invalid frame; the struct's fields are then meaningless.
 #[inline(always)]
-pub(crate) fn describe_plain(told: &mut Packet, bytes: &[u8]) -> bool
+pub(crate) fn describe_plain(described: &mut Packet, bytes: &[u8]) -> bool
     ensures { result ≡ true → ((layers : Layers) × IsFrame ethernet bytes.now layers
-        × (told.new ≡ description layers)) }
+        × (described.new ≡ description layers)) }
 {
     let Ok(frame) = Ethernet2Slice::from_slice_without_fcs(bytes) else {
         return false;
     };
     let Some(behind) = place_vlans(
-        &mut told.link_exts,
-        &mut told.link_ext_count,
+        &mut described.link_exts,
+        &mut described.link_ext_count,
         frame.ether_type(),
         frame.payload_slice(),
     ) else {
         return false;
     };
-    told.link = Part {
+    described.link = Part {
         kind: numbers::LINK_ETHERNET2,
         offset: 0,
         len: Ethernet2Header::LEN,
     };
-    told.refusal = no_refusal();
-    describe_net(told, behind.offset, behind.ether_type, behind.slice)
+    described.refusal = no_refusal();
+    describe_net(described, behind.offset, behind.ether_type, behind.slice)
 }
 
-/// Says what the layers of a plain frame are that begins with an IP header.
+/// Describes a packet that starts with an IP header in the struct that C reads. Returns false if it is invalid; the
+/// struct's fields are then meaningless.
 #[inline(always)]
-pub(crate) fn describe_plain_ip(told: &mut Packet, bytes: &[u8]) -> bool
+pub(crate) fn describe_plain_ip(described: &mut Packet, bytes: &[u8]) -> bool
     ensures { result ≡ true → ((layers : Layers) × IsFrame ip_entry bytes.now layers
-        × (told.new ≡ description layers)) }
+        × (described.new ≡ description layers)) }
 {
     let Some(ether_type) = type_of_version(bytes) else {
         return false;
     };
-    told.link = Part {
+    described.link = Part {
         kind: 0,
         offset: 0,
         len: 0,
     };
-    told.link_exts = [no_tag(), no_tag(), no_tag()];
-    told.link_ext_count = 0;
-    told.refusal = no_refusal();
-    describe_net(told, 0, ether_type, bytes)
+    described.link_exts = [no_tag(), no_tag(), no_tag()];
+    described.link_ext_count = 0;
+    described.refusal = no_refusal();
+    describe_net(described, 0, ether_type, bytes)
 }
 
-/// The type of the IP packet that bytes begin with, by the version that they say.
+/// Returns the ether type of a packet that starts with an IP header: IPv4 if its version is 4, else IPv6; `None` if
+/// there are no bytes.
 #[inline(always)]
 fn type_of_version(slice: &[u8]) -> Option<EtherType>
     ensures { IfSome result (λ type. (type.0 ≡ ipv4_type) ⊎ (type.0 ≡ ipv6_type)) }
@@ -103,19 +107,22 @@ fn type_of_version(slice: &[u8]) -> Option<EtherType>
     Some(ether_type::IPV6)
 }
 
-/// Says what the net layer is that bytes of a type begin with, `offset` bytes behind the frame's start, and what is in it.
+/// Describes the IPv4, IPv6 or ARP layer of an Ethernet payload with this ether type, and the layers in it, in the
+/// struct that C reads; the layer is at `offset` in the frame. Returns false for another ether type or invalid bytes;
+/// the struct's fields are then meaningless.
 #[inline(always)]
-fn describe_net(told: &mut Packet, offset: usize, ether_type: EtherType, slice: &[u8]) -> bool
+fn describe_net(described: &mut Packet, offset: usize, ether_type: EtherType, slice: &[u8]) -> bool
     requires { offset ≤ 64 }
-    ensures { result ≡ true → TellsNet (net_kind ether_type) slice.now offset told.old told.new }
+    ensures { result ≡ true → DescribesNet (net_kind ether_type) slice.now offset described.old described.new }
 {
     let Some(ip) = ip(ether_type, slice) else {
-        return describe_sliced(told, offset, ether_type, slice);
+        return describe_sliced(described, offset, ether_type, slice);
     };
-    describe_ip(told, offset, &ip)
+    describe_ip(described, offset, &ip)
 }
 
-/// The IP packet that bytes of a type begin with.
+/// Parses an unfragmented IP packet without extension headers, IPv4 or IPv6 by the ether type; in IPv6 only one whose
+/// next header is UDP, TCP or ICMPv6. Returns `None` for any other ether type, other packets and invalid bytes.
 #[inline(always)]
 fn ip<'a>(ether_type: EtherType, slice: &'a [u8]) -> Option<PlainIp<'a>>
     ensures { IfSome result (HasPlainIp (net_kind ether_type) slice.now) }
@@ -127,7 +134,8 @@ fn ip<'a>(ether_type: EtherType, slice: &'a [u8]) -> Option<PlainIp<'a>>
     }
 }
 
-/// The IPv4 packet that bytes begin with.
+/// Parses an unfragmented IPv4 packet without an authentication header. Returns `None` for other packets and invalid
+/// bytes.
 #[inline(always)]
 fn ipv4<'a>(slice: &'a [u8]) -> Option<PlainIp<'a>>
     ensures { IfSome result (HasPlainIp (Some only_ipv4) slice.now) }
@@ -154,7 +162,7 @@ fn ipv4<'a>(slice: &'a [u8]) -> Option<PlainIp<'a>>
     })
 }
 
-/// The IPv6 packet that bytes begin with, if UDP, TCP or ICMPv6 is behind its header.
+/// Parses an IPv6 packet whose next header is UDP, TCP or ICMPv6. Returns `None` for other packets and invalid bytes.
 #[inline(always)]
 fn ipv6<'a>(slice: &'a [u8]) -> Option<PlainIp<'a>>
     ensures { IfSome result (HasPlainIp (Some only_ipv6) slice.now) }
@@ -176,7 +184,7 @@ fn ipv6<'a>(slice: &'a [u8]) -> Option<PlainIp<'a>>
     })
 }
 
-/// Whether the number is that of UDP, TCP or ICMPv6, and so none of an extension header.
+/// Returns whether the next header of IPv6 is UDP, TCP or ICMPv6, and so no extension header.
 #[inline(always)]
 fn ends_chain(number: IpNumber) -> bool
     ensures { result ≡ true
@@ -185,7 +193,7 @@ fn ends_chain(number: IpNumber) -> bool
     number == IpNumber::UDP || number == IpNumber::TCP || number == IpNumber::IPV6_ICMP
 }
 
-/// What the length field of a datagram sets the end of its payload by.
+/// Returns `UdpHeaderLen` if the length field of UDP limits the datagram's payload, or `Slice` if that field is 0.
 #[inline(always)]
 fn datagram_end(datagram: &UdpSlice<'_>) -> LenSource
     ensures { result ≡ header_end (transport.Udp (udp_slice_header datagram.now)) }
@@ -197,40 +205,42 @@ fn datagram_end(datagram: &UdpSlice<'_>) -> LenSource
     }
 }
 
-/// Says what an IP packet is, which begins `offset` bytes behind the frame's start, and the transport layer in it.
+/// Describes an unfragmented IP packet without extension headers, and the transport layer in it, in the struct that C
+/// reads; the packet is at `offset` in the frame. Returns false if the transport layer is invalid; the struct's fields
+/// are then meaningless.
 #[inline(always)]
-fn describe_ip(told: &mut Packet, offset: usize, ip: &PlainIp<'_>) -> bool
+fn describe_ip(described: &mut Packet, offset: usize, ip: &PlainIp<'_>) -> bool
     requires offset { offset ≤ 64 }
     requires len { ip.now.len ≤ 64 }
     ensures { result ≡ true → ((transport : Option TransportLayer)
         × IsTransportIn slices (plain_payload ip.now) transport
-        × (told.new ≡ plain_told offset ip.now transport told.old)) }
+        × (described.new ≡ plain_description offset ip.now transport described.old)) }
 {
     let transport_offset = offset + ip.len;
     // Field by field, so that nothing is written between the fields.
-    told.net.kind = u32::from(ip.version);
-    told.net.offset = offset;
-    told.net.len = ip.len;
-    told.ip.version = ip.version;
-    told.ip.number = ip.number.0;
-    told.ip.fragmented = 0;
-    told.ip.more_fragments = 0;
-    told.ip.fragment_offset = 0;
-    told.ip.identification = ip.identification;
-    told.ip.header_len = ip.len;
+    described.net.kind = u32::from(ip.version);
+    described.net.offset = offset;
+    described.net.len = ip.len;
+    described.ip.version = ip.version;
+    described.ip.number = ip.number.0;
+    described.ip.fragmented = 0;
+    described.ip.more_fragments = 0;
+    described.ip.fragment_offset = 0;
+    described.ip.identification = ip.identification;
+    described.ip.header_len = ip.len;
     if ip.number == IpNumber::UDP {
         let Ok(datagram) = UdpSlice::from_slice(ip.payload) else {
             return false;
         };
-        told.source_port = datagram.source_port();
-        told.destination_port = datagram.destination_port();
-        told.transport = Part {
+        described.source_port = datagram.source_port();
+        described.destination_port = datagram.destination_port();
+        described.transport = Part {
             kind: numbers::TRANSPORT_UDP,
             offset: transport_offset,
             len: UdpHeader::LEN,
         };
-        told.payload = Payload {
-            len_source: source_number(datagram_end(&datagram).cut_by(ip.end)),
+        described.payload = Payload {
+            len_source: source_number(datagram_end(&datagram).limited_by(ip.end)),
             incomplete: 0,
             offset: transport_offset + UdpHeader::LEN,
             len: datagram.payload().len(),
@@ -242,14 +252,14 @@ fn describe_ip(told: &mut Packet, offset: usize, ip: &PlainIp<'_>) -> bool
             return false;
         };
         let len = TcpHeader::MIN_LEN + segment.options().len();
-        told.source_port = segment.source_port();
-        told.destination_port = segment.destination_port();
-        told.transport = Part {
+        described.source_port = segment.source_port();
+        described.destination_port = segment.destination_port();
+        described.transport = Part {
             kind: numbers::TRANSPORT_TCP,
             offset: transport_offset,
             len,
         };
-        told.payload = Payload {
+        described.payload = Payload {
             len_source: source_number(ip.end),
             incomplete: 0,
             offset: transport_offset + len,
@@ -257,5 +267,5 @@ fn describe_ip(told: &mut Packet, offset: usize, ip: &PlainIp<'_>) -> bool
         };
         return true;
     }
-    describe_whole(told, transport_offset, ip.number, ip.end, ip.payload)
+    describe_unfragmented(described, transport_offset, ip.number, ip.end, ip.payload)
 }

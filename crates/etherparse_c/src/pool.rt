@@ -1,10 +1,10 @@
-//! A pool as C points to it.
+//! Reassembly pool at the address that C holds.
 
 ghost use Rattle.std.specs.Prelude.{◌≡◌, is_some, true};
 
 use crate::held::Held;
 
-/// A pool. C has its address alone.
+/// Reassembly pool of IP fragments; C holds its address and never reads its fields.
 #[repr(C)]
 #[derive(Drop)]
 pub struct Pool {

@@ -1,20 +1,23 @@
-//! What C is told of a frame that is given to a pool.
+//! Result of passing a frame to a reassembly pool, as numbers for C.
 
 use crate::packet::Refusal;
 
-/// What is told of a frame that is given to a pool. What the status does not speak of is 0.
+/// Result of passing a frame to a reassembly pool, or of taking a reassembled payload, as numbers for C. Fields that do
+/// not belong to the returned status are 0.
 #[repr(C)]
 #[derive(Clone, Copy)]
 pub struct PoolAnswer {
-    /// Why the bytes are no frame.
+    /// Slicing error if the bytes passed to the pool are not a valid frame (status 1); else all its fields are 0.
     pub refusal: Refusal,
-    /// Why the fragment in the frame is refused: 1 where its length is no multiple of 8 though more follow, 2 where it
-    /// ends behind the pool's limit, 3 where its end contradicts the known end or what came.
+    /// Reason why the pool rejects an IP fragment (status 7): 1 if its length is not a multiple of 8 though more
+    /// fragments follow, 2 if it ends after the maximum length of a reassembled payload, 3 if its end contradicts
+    /// earlier fragments. Else 0.
     pub fragment_refusal: u32,
-    /// Which length field counts the fragments of a payload that is complete: that of their version of IP.
+    /// Length field that limits the fragments of a complete reassembled payload: the total length of IPv4 or the
+    /// payload length of IPv6 (`enum etherparse_len_source`).
     pub len_source: u32,
-    /// The protocol number of the payload.
+    /// IP protocol number of a complete reassembled payload; 0 if none is complete.
     pub ip_number: u8,
-    /// The number of its bytes.
+    /// Length of a complete reassembled payload in bytes; 0 if none is complete.
     pub len: usize,
 }

@@ -1,21 +1,21 @@
-//! Putting fragmented payloads together, in a pool that C points to.
+//! Calls for C that reassemble IP fragments in a pool whose address C holds.
 
 ghost use Rattle.std.specs.Prelude.{◌≡◌, None, Ok, Some, is_some, nat_le, true};
 ghost use Rattle.etherparse_c.specs.SliceAnswers.{entry_of};
 ghost use Rattle.etherparse_c.specs.PoolAnswers.{Changes, Discards, DropsOlder, IsFresh, IsHandedOut, IsNewPool};
 ghost use Rattle.etherparse_c.specs.PoolAnswers.{IsPushAnswer, IsPushed, IsTakeAnswer, IsTakenWith, Tells};
-ghost use Rattle.etherparse_c.specs.PoolAnswers.{bytes_in, nothing_told, payload_told, refusal_told, refused_status};
+ghost use Rattle.etherparse_c.specs.PoolAnswers.{bytes_in, empty_answer, payload_answer, error_description, refused_status};
 ghost use Rattle.etherparse_c.specs.PoolAnswers.{streams_in};
 
 use crate::describing::{no_refusal, source_number};
 use crate::handle::Handle;
 use crate::held::Held;
-use crate::loose::Loose;
 use crate::numbers;
 use crate::owned_pool::OwnedPool;
 use crate::placing::placed;
 use crate::pool::Pool;
 use crate::pool_answer::PoolAnswer;
+use crate::raw_box::RawBox;
 use crate::refusing::refusal_part;
 use crate::slicing::entry_of;
 use crate::state::State;
@@ -24,8 +24,8 @@ use etherparse::{Entry, SlicedPacket};
 use std::alloc::Global;
 use std::mem::replace;
 
-/// Makes a pool without streams, whose address is left in `pool`: no payload has more than 65535 bytes. The status is
-/// 0, or 5 where there was no memory, and `pool` is as it was.
+/// Creates an empty reassembly pool and stores its address in `pool`. Reassembled payloads have at most 65535 bytes.
+/// Returns status 0, or 5 if an allocation fails; then `pool` is unchanged.
 #[unsafe(no_mangle)]
 pub extern "C" fn etherparse_1_pool_new(alloc: Global, pool: &mut Handle) -> u32
     ensures { IsNewPool 65535 pool.old pool.new result }
@@ -33,7 +33,8 @@ pub extern "C" fn etherparse_1_pool_new(alloc: Global, pool: &mut Handle) -> u32
     new_pool(alloc, 65_535, pool)
 }
 
-/// The same of a pool in which no payload has more than `limit` bytes.
+/// Creates an empty reassembly pool and stores its address in `pool`. Reassembled payloads have at most `limit` bytes.
+/// Returns status 0, or 5 if an allocation fails; then `pool` is unchanged.
 #[unsafe(no_mangle)]
 pub extern "C" fn etherparse_1_pool_with_limit(alloc: Global, limit: u16, pool: &mut Handle) -> u32
     ensures { IsNewPool limit pool.old pool.new result }
@@ -41,19 +42,24 @@ pub extern "C" fn etherparse_1_pool_with_limit(alloc: Global, limit: u16, pool: 
     new_pool(alloc, limit, pool)
 }
 
-/// Frees a pool.
+/// Frees a reassembly pool with all fragments and payloads in it.
 #[unsafe(no_mangle)]
 pub extern "C" fn etherparse_1_pool_free(pool: OwnedPool) {
     let OwnedPool { handle } = pool;
-    let Pool { held } = Box::into_inner(handle.into_loose().into_box());
-    let _ = held.into_loose().into_box();
+    let Pool { held } = Box::into_inner(handle.into_raw_box().into_box());
+    let _ = held.into_raw_box().into_box();
 }
 
-/// Gives a frame to a pool, which may carry a fragment, at a time and on a channel of the caller's. `entry` and
-/// `ether_type` are those of `etherparse_1_slice`. The status is 6 where a payload is complete with it, which is copied
-/// to the front of `buffer`; 3 where one is that is longer than the buffer, and waits; 0 where none is; 1 where the
-/// bytes are no frame, 7 where the fragment is refused, 5 where there was no memory for it, 2 where `entry` is another
-/// number, and 8 where a payload waits: in these cases the pool is as it was. But for 6 the buffer is.
+/// Passes a frame, which may carry an IP fragment, to a reassembly pool. `timestamp` and `channel` are numbers of the
+/// caller: old streams can be dropped by timestamp, and fragments of different channels are never reassembled together.
+/// `entry` is the first header of the frame: 0 Ethernet II, 1 Linux cooked capture, 2 the payload of `ether_type`, 3 IP
+/// of either version.
+///
+/// Returns the status: 6 if the frame completes a payload, which is copied to the start of `buffer`; 3 if it completes
+/// a payload that is longer than the buffer, and the pool keeps the payload until it is taken or discarded; 0 if it
+/// completes none. With any other status the pool is unchanged: 2 if `entry` is above 3; otherwise 8 if the pool still
+/// keeps an earlier complete payload; otherwise 1 if the bytes are not a valid frame, 7 if the fragment is rejected, 5
+/// if an allocation fails. With any status but 6 the buffer is unchanged.
 #[unsafe(no_mangle)]
 pub extern "C" fn etherparse_1_pool_push(
     alloc: Global,
@@ -64,40 +70,42 @@ pub extern "C" fn etherparse_1_pool_push(
     timestamp: u64,
     channel: u64,
     buffer: &mut [u8],
-    told: &mut PoolAnswer,
+    answer: &mut PoolAnswer,
 ) -> u32
     ensures { Changes pool.old pool.new (λ old new. IsPushAnswer (entry_of entry ether_type) bytes.now timestamp
-        channel old new buffer.old buffer.new told.new result) }
+        channel old new buffer.old buffer.new answer.new result) }
 {
     let mut state = taken(alloc, &mut pool.held);
-    let frame = GivenFrame {
+    let frame = TimedFrame {
         bytes,
         timestamp,
         channel,
     };
-    let status = pushed(&mut state, entry, ether_type, frame, buffer, told);
+    let status = pushed(&mut state, entry, ether_type, frame, buffer, answer);
     pool.held = holding(state);
     status
 }
 
-/// Hands out the payload that waits in a pool: the status is 6, and it is copied to the front of `buffer`; 3 where it
-/// is longer, and still waits; 0 where none waits. But for 6 the buffer is as it was.
+/// Copies the complete payload that a reassembly pool keeps, since an earlier buffer was too small for it, to the start
+/// of `buffer`. Returns status 6 if it is copied; 3 if it is longer than this buffer, and is kept; 0 if the pool keeps
+/// none. With any status but 6 the buffer is unchanged.
 #[unsafe(no_mangle)]
 pub extern "C" fn etherparse_1_pool_take(
     alloc: Global,
     pool: &mut Pool,
     buffer: &mut [u8],
-    told: &mut PoolAnswer,
+    answer: &mut PoolAnswer,
 ) -> u32
-    ensures { Changes pool.old pool.new (λ old new. IsTakeAnswer old new buffer.old buffer.new told.new result) }
+    ensures { Changes pool.old pool.new (λ old new. IsTakeAnswer old new buffer.old buffer.new answer.new result) }
 {
     let mut state = taken(alloc, &mut pool.held);
-    let status = waiting_handed_out(&mut state, buffer, told);
+    let status = copy_waiting_payload(&mut state, buffer, answer);
     pool.held = holding(state);
     status
 }
 
-/// Gives up the payload that waits in a pool, if one does. The streams are as they were.
+/// Discards the complete payload that a reassembly pool keeps because the caller's buffer was too small, if any.
+/// Incomplete payloads are unchanged.
 #[unsafe(no_mangle)]
 pub extern "C" fn etherparse_1_pool_discard(alloc: Global, pool: &mut Pool)
     ensures { Changes pool.old pool.new Discards }
@@ -107,7 +115,8 @@ pub extern "C" fn etherparse_1_pool_discard(alloc: Global, pool: &mut Pool)
     pool.held = holding(state);
 }
 
-/// Drops the streams whose last fragment came before `timestamp`.
+/// Drops from a reassembly pool each incomplete IP datagram whose last accepted fragment has a timestamp below
+/// `timestamp`.
 #[unsafe(no_mangle)]
 pub extern "C" fn etherparse_1_pool_drop_older(alloc: Global, pool: &mut Pool, timestamp: u64)
     ensures { Changes pool.old pool.new (DropsOlder timestamp) }
@@ -117,7 +126,8 @@ pub extern "C" fn etherparse_1_pool_drop_older(alloc: Global, pool: &mut Pool, t
     pool.held = holding(state);
 }
 
-/// How many streams a pool holds.
+/// Returns the number of streams in a reassembly pool: IP datagrams that are incomplete, since only some of their
+/// fragments were accepted.
 #[unsafe(no_mangle)]
 pub extern "C" fn etherparse_1_pool_streams(alloc: Global, pool: &mut Pool) -> usize
     ensures { Changes pool.old pool.new (Tells streams_in result) }
@@ -128,8 +138,8 @@ pub extern "C" fn etherparse_1_pool_streams(alloc: Global, pool: &mut Pool) -> u
     count
 }
 
-/// How many bytes of payloads a pool holds: of each stream those from 0 to its greatest end, and the payload that
-/// waits. It looks at each stream.
+/// Returns the number of payload bytes in a reassembly pool: for each incomplete datagram up to the greatest end of its
+/// fragments, and a complete payload that is not yet taken. Takes time linear in the number of datagrams.
 #[unsafe(no_mangle)]
 pub extern "C" fn etherparse_1_pool_bytes(alloc: Global, pool: &mut Pool) -> usize
     ensures { Changes pool.old pool.new (Tells bytes_in result) }
@@ -140,7 +150,8 @@ pub extern "C" fn etherparse_1_pool_bytes(alloc: Global, pool: &mut Pool) -> usi
     held
 }
 
-/// A pool of this limit, whose address is left in `pool`.
+/// Creates a reassembly pool for payloads of at most `limit` bytes and stores its address in `pool`. Returns status 0,
+/// or 5 if an allocation fails; then `pool` is unchanged.
 fn new_pool(alloc: Global, limit: u16, pool: &mut Handle) -> u32
     ensures { IsNewPool limit pool.old pool.new result }
 {
@@ -154,15 +165,15 @@ fn new_pool(alloc: Global, limit: u16, pool: &mut Handle) -> u32
         Ok(made) => made,
         Err(failed) => {
             let Pool { held } = failed.value;
-            let _ = held.into_loose().into_box();
+            let _ = held.into_raw_box().into_box();
             return numbers::OUT_OF_MEMORY;
         }
     };
-    *pool = Handle::of(Loose::of(made));
+    *pool = Handle::of(RawBox::of(made));
     numbers::OK
 }
 
-/// A pool of this limit without streams.
+/// Returns the state of an empty reassembly pool for payloads of at most `limit` bytes.
 fn fresh(alloc: Global, limit: u16) -> State
     ensures { IsFresh limit result }
 {
@@ -172,69 +183,71 @@ fn fresh(alloc: Global, limit: u16) -> State
     }
 }
 
-/// What is held, of which nothing is left there.
+/// Returns the boxed state of a reassembly pool and leaves a null pointer in `held`, its pointer to the state.
 fn taken(alloc: Global, held: &mut Held) -> Box<State>
     requires { is_some held.old.state ≡ true }
     ensures { Some result.value ≡ held.old.state }
 {
-    replace(held, Held::none(alloc)).into_loose().into_box()
+    replace(held, Held::none(alloc)).into_raw_box().into_box()
 }
 
-/// A state that is held.
+/// Converts the boxed state of a reassembly pool to the pointer that the pool stores.
 fn holding(state: Box<State>) -> Held
     ensures { result.state ≡ Some state.value }
 {
-    Held::of(Loose::of(state))
+    Held::of(RawBox::of(state))
 }
 
-/// A frame that is given to a pool, with its time and its channel.
+/// Frame that C passes to a reassembly pool, with its timestamp and channel (numbers of the caller's own).
 #[derive(Drop)]
-struct GivenFrame<'a> {
+struct TimedFrame<'a> {
     bytes: &'a [u8],
     timestamp: u64,
     channel: u64,
 }
 
-/// Gives a frame to a pool, unless a payload waits.
+/// Passes a frame to a reassembly pool and returns the status for C. It is 2 if C's number of the frame's first header
+/// is above 3; otherwise it is 8, and the frame is not processed, if the pool still keeps a complete payload.
 fn pushed(
     state: &mut State,
     entry: u32,
     ether_type: u16,
-    frame: GivenFrame<'_>,
+    frame: TimedFrame<'_>,
     buffer: &mut [u8],
-    told: &mut PoolAnswer,
+    answer: &mut PoolAnswer,
 ) -> u32
     ensures { let given = frame.entry in IsPushAnswer (entry_of entry ether_type) given.bytes.now
-        given.timestamp given.channel state.old state.new buffer.old buffer.new told.new result }
+        given.timestamp given.channel state.old state.new buffer.old buffer.new answer.new result }
 {
-    *told = nothing_told();
+    *answer = empty_answer();
     let Some(entry) = entry_of(entry, ether_type) else {
         return numbers::UNKNOWN_CHOICE;
     };
     if let Some(payload) = &state.waiting {
-        *told = payload_told(payload);
+        *answer = payload_answer(payload);
         return numbers::PAYLOAD_WAITS;
     }
-    pushed_frame(state, entry, frame, buffer, told)
+    push_frame(state, entry, frame, buffer, answer)
 }
 
-/// Gives a frame to a pool in which no payload waits.
-fn pushed_frame(
+/// Slices a frame and passes it to a reassembly pool that keeps no complete payload. Returns the status for C: 6 or 3
+/// if a payload is complete, 0 if none is, 1 for an invalid frame, 7 for a rejected fragment, 5 if an allocation fails.
+fn push_frame(
     state: &mut State,
     entry: Entry,
-    frame: GivenFrame<'_>,
+    frame: TimedFrame<'_>,
     buffer: &mut [u8],
-    told: &mut PoolAnswer,
+    answer: &mut PoolAnswer,
 ) -> u32
-    requires told { told.old ≡ nothing_told }
+    requires answer { answer.old ≡ empty_answer }
     requires waiting { state.old.waiting ≡ None }
     ensures { let given = frame.entry in IsPushed entry given.bytes.now given.timestamp given.channel
-        state.old state.new buffer.old buffer.new told.new result }
+        state.old state.new buffer.old buffer.new answer.new result }
 {
     let packet = match SlicedPacket::from_entry(entry, frame.bytes) {
         Ok(packet) => packet,
         Err(error) => {
-            told.refusal = refusal_part(&error);
+            answer.refusal = refusal_part(&error);
             return numbers::REFUSED;
         }
     };
@@ -243,34 +256,36 @@ fn pushed_frame(
         .process_sliced_packet(&packet, frame.timestamp, frame.channel)
     {
         Ok(None) => numbers::OK,
-        Ok(Some(payload)) => handed_out(payload, &mut state.waiting, buffer, told),
-        Err(error) => refused(&error, told),
+        Ok(Some(payload)) => copy_payload(payload, &mut state.waiting, buffer, answer),
+        Err(error) => refused(&error, answer),
     }
 }
 
-/// Hands out the payload that waits, if one does.
-fn waiting_handed_out(state: &mut State, buffer: &mut [u8], told: &mut PoolAnswer) -> u32
+/// Copies the complete payload that a reassembly pool keeps to the buffer. Returns status 6 if it is copied, 3 if the
+/// buffer is too small (the payload is kept), or 0 if there is none.
+fn copy_waiting_payload(state: &mut State, buffer: &mut [u8], answer: &mut PoolAnswer) -> u32
     ensures pool { state.new.pool ≡ state.old.pool }
-    ensures taken { IsTakenWith state.old.waiting state.new buffer.old buffer.new told.new result }
+    ensures taken { IsTakenWith state.old.waiting state.new buffer.old buffer.new answer.new result }
 {
-    *told = nothing_told();
+    *answer = empty_answer();
     match replace(&mut state.waiting, None) {
-        Some(payload) => handed_out(payload, &mut state.waiting, buffer, told),
+        Some(payload) => copy_payload(payload, &mut state.waiting, buffer, answer),
         None => numbers::OK,
     }
 }
 
-/// Copies a payload that is complete to the buffer. Where that has too few bytes, the payload waits.
-fn handed_out(
+/// Copies a complete reassembled payload to the caller's buffer and returns status 6. If the buffer is too small, the
+/// pool keeps the payload, and the status is 3.
+fn copy_payload(
     payload: IpDefragPayloadVec,
     waiting: &mut Option<IpDefragPayloadVec>,
     buffer: &mut [u8],
-    told: &mut PoolAnswer,
+    answer: &mut PoolAnswer,
 ) -> u32
     requires { waiting.old ≡ None }
-    ensures { IsHandedOut payload waiting.new buffer.old buffer.new told.new result }
+    ensures { IsHandedOut payload waiting.new buffer.old buffer.new answer.new result }
 {
-    *told = payload_told(&payload);
+    *answer = payload_answer(&payload);
     let mut len = 0;
     if placed(payload.payload.as_slice(), buffer, &mut len) == numbers::OK {
         return numbers::COMPLETE;
@@ -279,9 +294,9 @@ fn handed_out(
     numbers::TOO_SMALL
 }
 
-/// Nothing is told.
-fn nothing_told() -> PoolAnswer
-    ensures { result ≡ nothing_told }
+/// Returns the result of a pool call with neither a payload nor an error: all fields are 0.
+fn empty_answer() -> PoolAnswer
+    ensures { result ≡ empty_answer }
 {
     PoolAnswer {
         refusal: no_refusal(),
@@ -292,9 +307,10 @@ fn nothing_told() -> PoolAnswer
     }
 }
 
-/// What is told of a payload.
-fn payload_told(payload: &IpDefragPayloadVec) -> PoolAnswer
-    ensures { result ≡ payload_told payload.now }
+/// Returns the result of a pool call for a complete reassembled payload: its length, IP protocol number and length
+/// source.
+fn payload_answer(payload: &IpDefragPayloadVec) -> PoolAnswer
+    ensures { result ≡ payload_answer payload.now }
 {
     PoolAnswer {
         refusal: no_refusal(),
@@ -305,10 +321,11 @@ fn payload_told(payload: &IpDefragPayloadVec) -> PoolAnswer
     }
 }
 
-/// Why a fragment is refused.
-fn refused(error: &IpDefragError, told: &mut PoolAnswer) -> u32
-    requires { told.old ≡ nothing_told }
-    ensures told { told.new ≡ refusal_told error.now }
+/// Stores the number (1 to 3) of the reason why the reassembly pool rejects a fragment, and returns status 7; stores 0
+/// and returns 5 if an allocation failed.
+fn refused(error: &IpDefragError, answer: &mut PoolAnswer) -> u32
+    requires { answer.old ≡ empty_answer }
+    ensures answer { answer.new ≡ error_description error.now }
     ensures status { result ≡ refused_status error.now }
 {
     let (number, status) = match error {
@@ -317,11 +334,12 @@ fn refused(error: &IpDefragError, told: &mut PoolAnswer) -> u32
         IpDefragError::ConflictingEnd { .. } => (3, numbers::FRAGMENT_REFUSED),
         IpDefragError::AllocationFailure { .. } => (0, numbers::OUT_OF_MEMORY),
     };
-    told.fragment_refusal = number;
+    answer.fragment_refusal = number;
     status
 }
 
-/// Drops the streams whose timestamp is below this one.
+/// Drops from a reassembly pool each incomplete IP datagram whose last accepted fragment has a timestamp below
+/// `timestamp`.
 fn drop_older(state: &mut State, timestamp: u64)
     ensures { DropsOlder timestamp state.old state.new }
 {
@@ -332,14 +350,15 @@ fn drop_older(state: &mut State, timestamp: u64)
     );
 }
 
-/// How many streams a pool holds.
+/// Returns the number of streams in a reassembly pool: IP datagrams that are not yet complete.
 fn stream_count(state: &State) -> usize
     ensures { result ≡ streams_in state.now }
 {
     state.pool.stream_count()
 }
 
-/// How many bytes of payloads a pool holds, the payload that waits among them.
+/// Returns the number of payload bytes in a reassembly pool: those of incomplete datagrams, and of a complete payload
+/// that is not yet taken.
 fn held_bytes(state: &State) -> usize
     ensures { result ≡ bytes_in state.now }
 {

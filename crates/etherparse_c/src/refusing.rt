@@ -1,4 +1,4 @@
-//! What C is told of a refusal.
+//! Converts a slicing error to the numbers (kind, layer, lengths) that C gets.
 
 ghost use Rattle.std.specs.Prelude.{◌≡◌};
 ghost use Rattle.etherparse_c.specs.RefusalNumbers.{content_part, layer_number, len_part, refusal_part};
@@ -10,7 +10,7 @@ use etherparse::err::{
     Layer, LenError, ip, ip_auth, ipv4, ipv6, ipv6_exts, linux_sll, macsec, tcp,
 };
 
-/// What is said of a refusal.
+/// Converts a slicing error to the numbers that C gets: its kind, and the lengths and layer or the invalid field value.
 pub(crate) fn refusal_part(error: &SliceError) -> Refusal
     ensures { result ≡ refusal_part error.now }
 {
@@ -49,7 +49,7 @@ pub(crate) fn refusal_part(error: &SliceError) -> Refusal
     }
 }
 
-/// A layer needs more bytes than there are.
+/// Converts a length error (kind 1: a layer has too few or too many bytes) to the numbers that C gets.
 fn len_part(error: &LenError) -> Refusal
     ensures { result ≡ len_part error.now }
 {
@@ -64,7 +64,8 @@ fn len_part(error: &LenError) -> Refusal
     }
 }
 
-/// Bytes hold what they must not: this kind, with this number, where it speaks of one.
+/// Returns the numbers that C gets for an invalid header field: the error kind, and the field's value, or 0 for kinds
+/// without one.
 fn content_part(kind: u32, number: u32) -> Refusal
     ensures { result ≡ content_part kind number }
 {
@@ -79,7 +80,7 @@ fn content_part(kind: u32, number: u32) -> Refusal
     }
 }
 
-/// The number of a layer.
+/// Returns C's number of the layer that a length error names (`enum etherparse_layer`).
 fn layer_number(layer: &Layer) -> u32
     ensures { result ≡ layer_number layer.now }
 {

@@ -1,72 +1,77 @@
-//! What C says of the headers of a frame that is built: numbers alone, whose layout is C's.
+//! Header fields of a frame to build, as C passes them: numbers only, in C's memory layout.
 
-/// The headers before the transport header: of which version IP is, the addresses, and whether an Ethernet II header
-/// stands before the IP header. The addresses of the other version are not read.
+/// Headers of a frame to build before its transport header: an Ethernet II header or none, and an IPv4 or IPv6 header.
+/// The addresses of the IP version that is not used are not read.
 #[repr(C)]
 #[derive(Clone, Copy)]
 pub struct Route {
-    /// 4 or 6.
+    /// IP version of the frame to build: 4 or 6.
     pub version: u8,
-    /// 0 if the frame begins with the IP header, else it begins with an Ethernet II header.
+    /// 0 if the frame to build starts with the IP header; otherwise it starts with an Ethernet II header.
     pub with_ethernet: u8,
-    /// The number of hops that the packet may take.
+    /// Time to live of the IPv4 header, or hop limit of the IPv6 header.
     pub hop_limit: u8,
-    /// The sender's Ethernet address.
+    /// Source MAC address of the Ethernet II header, if there is one.
     pub ethernet_source: [u8; 6],
-    /// The receiver's Ethernet address.
+    /// Destination MAC address of the Ethernet II header, if there is one.
     pub ethernet_destination: [u8; 6],
-    /// The sender's IPv4 address.
+    /// Source IPv4 address; not read if the IP version is 6.
     pub ipv4_source: [u8; 4],
-    /// The receiver's IPv4 address.
+    /// Destination IPv4 address; not read if the IP version is 6.
     pub ipv4_destination: [u8; 4],
-    /// The sender's IPv6 address.
+    /// Source IPv6 address; not read if the IP version is 4.
     pub ipv6_source: [u8; 16],
-    /// The receiver's IPv6 address.
+    /// Destination IPv6 address; not read if the IP version is 4.
     pub ipv6_destination: [u8; 16],
 }
 
-/// The fields of a TCP header without options.
+/// Fields of a TCP header to build, without options, as C passes them.
 #[repr(C)]
 #[derive(Clone, Copy)]
 pub struct TcpFields {
-    /// The sender's port.
+    /// Source port of TCP.
     pub source_port: u16,
-    /// The receiver's port.
+    /// Destination port of TCP.
     pub destination_port: u16,
-    /// Where the payload lies in the sender's stream.
+    /// TCP sequence number of the first payload byte, or of SYN if that flag is set.
     pub sequence_number: u32,
-    /// The place in the receiver's stream that is waited for.
+    /// TCP acknowledgment number: next sequence number that the sender of the segment expects to receive, if the flag
+    /// ACK is set.
     pub acknowledgment_number: u32,
-    /// How many bytes the sender takes.
+    /// TCP window: number of bytes that the sender of the segment is willing to receive.
     pub window_size: u16,
-    /// Where the urgent data end, counted from the sequence number.
+    /// TCP urgent pointer: end of the urgent data as an offset from the sequence number, if the flag URG is set.
     pub urgent_pointer: u16,
-    /// The flags of byte 13 of the header: FIN is 1, SYN 2, RST 4, PSH 8, ACK 16, URG 32, ECE 64, CWR 128.
+    /// TCP flags, as in byte 13 of the header: FIN is 1, SYN 2, RST 4, PSH 8, ACK 16, URG 32, ECE 64, CWR 128.
     pub flags: u8,
 }
 
-/// A route with VLAN tags (IEEE 802.1Q) behind its Ethernet II header.
+/// Headers of a frame to build before its transport header, with up to two VLAN tags (IEEE 802.1Q) after the Ethernet
+/// II header.
 #[repr(C)]
 #[derive(Clone, Copy)]
 pub struct TaggedRoute {
-    /// The route, which begins with an Ethernet II header where there are tags.
+    /// Ethernet II and IP header fields; with VLAN tags, the frame must start with an Ethernet II header
+    /// (`with_ethernet` is not 0).
     pub route: Route,
-    /// How many tags there are: 0 to 2.
+    /// Number of VLAN tags: 0 to 2.
     pub tag_count: u32,
-    /// Their identifiers, each at most 4095, from the outside in. Those of tags that are not there are not read.
+    /// VLAN identifiers of the tags, each at most 4095, from the outermost to the innermost. Those of absent tags are
+    /// not read.
     pub vlan_ids: [u16; 2],
 }
 
-/// What the header of a fragment says: that of IPv4 (RFC 791, 3.1), or of IPv6 its fragment header (RFC 8200, 4.5).
+/// Fields of an IP fragment to build: of the IPv4 header (RFC 791, 3.1), or of the IPv6 fragment header (RFC 8200,
+/// 4.5).
 #[repr(C)]
 #[derive(Clone, Copy)]
 pub struct FragmentFields {
-    /// The protocol number of the whole payload.
+    /// IP protocol number of the reassembled payload (of UDP, for example, 17).
     pub ip_number: u8,
-    /// 0 if this is the last fragment, else more follow.
+    /// 0 if the fragment is the last one of its datagram; any other value sets the flag "more fragments".
     pub more_fragments: u8,
-    /// Where the fragment lies in the whole payload, in bytes: a multiple of 8.
+    /// Offset of the fragment in the reassembled IP payload, in bytes: a multiple of 8.
     pub fragment_offset: u16,
-    /// What fragments of one payload have in common; of IPv4 at most 65535.
+    /// Identification that all fragments of an IP datagram share; in IPv4 at most 65535.
     pub identification: u32,
 }

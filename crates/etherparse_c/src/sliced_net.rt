@@ -1,17 +1,19 @@
-//! The layers of plain frames that are described by slices: ARP, IP with extension headers or of a fragment, and what is
-//! neither UDP nor TCP in an IP packet.
+//! Describes less frequent layers of plain frames (IP or ARP after Ethernet II and at most two VLAN tags, or IP without
+//! a link header) from their slices: ARP, IP with extension headers or fragmented, and IP payloads other than UDP and
+//! TCP.
 //!
-//! Each call here may give up, by the answer false, where the bytes are no such layer: what is said then is of no use.
+//! Each function that returns a `bool` returns false if the bytes are not such a layer. The fields of the description
+//! that are written until then are meaningless.
 
 ghost use Rattle.std.specs.Prelude.{◌≡◌, ◌≤◌, ◌<◌, ◌^◌, ◌+◌, Option, Some, false, true};
 ghost use Rattle.std.specs.Option.{option_map};
-ghost use Rattle.etherparse.specs.Frame.{IsTransportBehind, IsTransportIn, net_kind};
+ghost use Rattle.etherparse.specs.Frame.{IsTransportAfterNet, IsTransportIn, net_kind};
 ghost use Rattle.etherparse.specs.Frame.{only_arp, only_ipv4, only_ipv6};
 ghost use Rattle.etherparse.specs.IpPayload.{ip_payload_of};
 ghost use Rattle.etherparse.specs.Layers.{net_layer_of, net_payload};
 ghost use Rattle.etherparse.specs.Readings.{slices};
 ghost use Rattle.etherparse.specs.TransportParts.{IsTransportPart, TransportLayer, payload_in, transport_layer_of};
-ghost use Rattle.etherparse_c.specs.Plain.{TellsNet, net_told, transport_told};
+ghost use Rattle.etherparse_c.specs.Plain.{DescribesNet, net_description, transport_description};
 
 use crate::describing::{
     destination_port, source_number, source_port, transport_end, transport_part,
@@ -23,89 +25,95 @@ use etherparse::{
     TransportSlice, ether_type,
 };
 
-/// Says what the net layer is that bytes of a type begin with, `offset` bytes behind the frame's start, and what is in
-/// it. Apart, since plain IP packets come more often, and are told without it.
+/// Describes the IPv4, IPv6 or ARP layer of an Ethernet payload, and the layers in it, in the struct that C reads.
+/// Returns false for another ether type or invalid bytes. Not inlined, since unfragmented IP packets without extension
+/// headers, which are more frequent, do not need it.
 #[inline(never)]
 pub(crate) fn describe_sliced(
-    told: &mut Packet,
+    described: &mut Packet,
     offset: usize,
     ether_type: EtherType,
     slice: &[u8],
 ) -> bool
     requires { offset ≤ 64 }
-    ensures { result ≡ true → TellsNet (net_kind ether_type) slice.now offset told.old told.new }
+    ensures { result ≡ true → DescribesNet (net_kind ether_type) slice.now offset described.old described.new }
 {
     match ether_type {
-        ether_type::IPV4 => describe_ipv4(told, offset, slice),
-        ether_type::IPV6 => describe_ipv6(told, offset, slice),
-        ether_type::ARP => describe_arp(told, offset, slice),
+        ether_type::IPV4 => describe_ipv4(described, offset, slice),
+        ether_type::IPV6 => describe_ipv6(described, offset, slice),
+        ether_type::ARP => describe_arp(described, offset, slice),
         _ => false,
     }
 }
 
-/// Says it of an IPv4 packet. Each kind has a piece of code of its own, so that no layer is moved.
+/// Describes an IPv4 packet in the struct that C reads; the packet is at `offset` in the frame. Returns false if it is
+/// invalid; the struct's fields are then meaningless.
 #[inline(always)]
-fn describe_ipv4(told: &mut Packet, offset: usize, slice: &[u8]) -> bool
+fn describe_ipv4(described: &mut Packet, offset: usize, slice: &[u8]) -> bool
     requires { offset ≤ 64 }
-    ensures { result ≡ true → TellsNet (Some only_ipv4) slice.now offset told.old told.new }
+    ensures { result ≡ true → DescribesNet (Some only_ipv4) slice.now offset described.old described.new }
 {
     let Ok(packet) = Ipv4Slice::from_slice(slice) else {
         return false;
     };
-    describe_layer(told, offset, &NetSlice::Ipv4(packet))
+    describe_layer(described, offset, &NetSlice::Ipv4(packet))
 }
 
-/// Says it of an IPv6 packet.
+/// Describes an IPv6 packet in the struct that C reads; the packet is at `offset` in the frame. Returns false if it is
+/// invalid; the struct's fields are then meaningless.
 #[inline(always)]
-fn describe_ipv6(told: &mut Packet, offset: usize, slice: &[u8]) -> bool
+fn describe_ipv6(described: &mut Packet, offset: usize, slice: &[u8]) -> bool
     requires { offset ≤ 64 }
-    ensures { result ≡ true → TellsNet (Some only_ipv6) slice.now offset told.old told.new }
+    ensures { result ≡ true → DescribesNet (Some only_ipv6) slice.now offset described.old described.new }
 {
     let Ok(packet) = Ipv6Slice::from_slice(slice) else {
         return false;
     };
-    describe_layer(told, offset, &NetSlice::Ipv6(packet))
+    describe_layer(described, offset, &NetSlice::Ipv6(packet))
 }
 
-/// Says it of an ARP packet.
+/// Describes an ARP packet in the struct that C reads; the packet is at `offset` in the frame. Returns false if it is
+/// invalid; the struct's fields are then meaningless.
 #[inline(always)]
-fn describe_arp(told: &mut Packet, offset: usize, slice: &[u8]) -> bool
+fn describe_arp(described: &mut Packet, offset: usize, slice: &[u8]) -> bool
     requires { offset ≤ 64 }
-    ensures { result ≡ true → TellsNet (Some only_arp) slice.now offset told.old told.new }
+    ensures { result ≡ true → DescribesNet (Some only_arp) slice.now offset described.old described.new }
 {
     let Ok(packet) = ArpPacketSlice::from_slice(slice) else {
         return false;
     };
-    describe_layer(told, offset, &NetSlice::Arp(packet))
+    describe_layer(described, offset, &NetSlice::Arp(packet))
 }
 
-/// Says what a net layer is, which begins `offset` bytes behind the frame's start, and what is in it.
+/// Describes a sliced network layer (IPv4, IPv6 or ARP), and the transport layer in it, in the struct that C reads; the
+/// layer is at `offset` in the frame. Returns false if the transport layer is invalid; the struct's fields are then
+/// meaningless.
 #[inline(always)]
-fn describe_layer(told: &mut Packet, offset: usize, net: &NetSlice<'_>) -> bool
+fn describe_layer(described: &mut Packet, offset: usize, net: &NetSlice<'_>) -> bool
     requires { offset ≤ 64 }
     ensures { result ≡ true → ((transport : Option TransportLayer)
-        × IsTransportBehind slices (net_payload (net_layer_of net.now)) transport
-        × (told.new ≡ net_told offset (net_layer_of net.now) transport told.old)) }
+        × IsTransportAfterNet slices (net_payload (net_layer_of net.now)) transport
+        × (described.new ≡ net_description offset (net_layer_of net.now) transport described.old)) }
 {
     let header = net_layer_part(net, offset);
     let behind = offset + header.len;
-    told.net = header;
-    told.ip = ip_layer_part(net);
+    described.net = header;
+    described.ip = ip_layer_part(net);
     match net.ip_payload_ref() {
-        Some(payload) => describe_transport(told, behind, payload),
+        Some(payload) => describe_transport(described, behind, payload),
         None => {
-            tell_transport(told, behind, &None, LenSource::ArpAddrLengths, &[]);
+            describe_transport_layer(described, behind, &None, LenSource::ArpAddrLengths, &[]);
             true
         }
     }
 }
 
-/// Says what the transport layer is in an IP payload of this protocol number, which is no fragment, where it has one, and
-/// the payload of the last layer. The IP payload begins `offset` bytes behind the frame's start, and `end` is what set its
-/// end. Apart, since UDP and TCP come more often, and are told without it.
+/// Describes the transport layer, if any, in an unfragmented IP payload, and the payload after it, in the struct that C
+/// reads. Returns false if the transport layer is invalid. Not inlined, since UDP and TCP, which are more frequent, do
+/// not need it.
 #[inline(never)]
-pub(crate) fn describe_whole(
-    told: &mut Packet,
+pub(crate) fn describe_unfragmented(
+    described: &mut Packet,
     offset: usize,
     number: IpNumber,
     end: LenSource,
@@ -114,7 +122,7 @@ pub(crate) fn describe_whole(
     requires { offset < 2 ^ 63 + 256 }
     ensures { result ≡ true → ((transport : Option TransportLayer)
         × IsTransportPart slices number.0 false bytes.now transport
-        × (told.new ≡ transport_told offset end bytes.now transport told.old)) }
+        × (described.new ≡ transport_description offset end bytes.now transport described.old)) }
 {
     let payload = IpPayloadSlice {
         ip_number: number,
@@ -122,16 +130,18 @@ pub(crate) fn describe_whole(
         len_source: end,
         payload: bytes,
     };
-    describe_transport(told, offset, &payload)
+    describe_transport(described, offset, &payload)
 }
 
-/// Says the same of any IP payload.
+/// Describes the transport layer, if any, in an IP payload, and the payload after it, in the struct that C reads; the
+/// IP payload is at `offset` in the frame. Returns false if the transport layer is invalid; the struct's fields are
+/// then meaningless.
 #[inline(always)]
-fn describe_transport(told: &mut Packet, offset: usize, payload: &IpPayloadSlice<'_>) -> bool
+fn describe_transport(described: &mut Packet, offset: usize, payload: &IpPayloadSlice<'_>) -> bool
     requires { offset < 2 ^ 63 + 256 }
     ensures { result ≡ true → ((transport : Option TransportLayer)
         × IsTransportIn slices (ip_payload_of payload.now) transport
-        × (told.new ≡ transport_told offset payload.now.len_source payload.now.payload.now transport told.old)) }
+        × (described.new ≡ transport_description offset payload.now.len_source payload.now.payload.now transport described.old)) }
 {
     let Ok(transport) = TransportSlice::from_ip_number(
         payload.ip_number,
@@ -140,8 +150,8 @@ fn describe_transport(told: &mut Packet, offset: usize, payload: &IpPayloadSlice
     ) else {
         return false;
     };
-    tell_transport(
-        told,
+    describe_transport_layer(
+        described,
         offset,
         &transport,
         payload.len_source,
@@ -150,32 +160,32 @@ fn describe_transport(told: &mut Packet, offset: usize, payload: &IpPayloadSlice
     true
 }
 
-/// Says what a transport layer is that begins `offset` bytes behind the frame's start, where there is one in these bytes,
-/// and the payload of the last layer. `end` is what set the end of the bytes.
+/// Describes a sliced transport layer, if any, and the payload after it in the struct that C reads. Without a transport
+/// layer, the payload is the IP payload.
 #[inline(always)]
-fn tell_transport(
-    told: &mut Packet,
+fn describe_transport_layer(
+    described: &mut Packet,
     offset: usize,
     transport: &Option<TransportSlice<'_>>,
     end: LenSource,
     bytes: &[u8],
 )
     requires { offset < 2 ^ 63 + 256 }
-    ensures { told.new ≡ transport_told offset end bytes.now (option_map transport_layer_of transport.now) told.old }
+    ensures { described.new ≡ transport_description offset end bytes.now (option_map transport_layer_of transport.now) described.old }
 {
     let header = transport_part(transport, offset);
-    told.source_port = source_port(transport);
-    told.destination_port = destination_port(transport);
-    told.payload = Payload {
-        len_source: source_number(transport_end(transport).cut_by(end)),
+    described.source_port = source_port(transport);
+    described.destination_port = destination_port(transport);
+    described.payload = Payload {
+        len_source: source_number(transport_end(transport).limited_by(end)),
         incomplete: 0,
         offset: offset + header.len,
         len: payload_in(transport, bytes).len(),
     };
-    told.transport = header;
+    described.transport = header;
 }
 
-/// The payload of the transport layer that some bytes are, or else these bytes.
+/// Returns the payload of the transport layer, or `bytes`, the IP payload, if there is no transport layer.
 #[inline(always)]
 fn payload_in<'a>(transport: &Option<TransportSlice<'a>>, bytes: &'a [u8]) -> &'a [u8]
     ensures { result.now ≡ payload_in bytes.now (option_map transport_layer_of transport.now) }

@@ -1,7 +1,7 @@
-//! Slicing a frame.
+//! Call for C that slices a frame strictly.
 
 ghost use Rattle.std.specs.Prelude.{◌≡◌};
-ghost use Rattle.etherparse_c.specs.SliceAnswers.{IsSliceAnswer, entry_of, nothing_said, refused_packet};
+ghost use Rattle.etherparse_c.specs.SliceAnswers.{IsSliceAnswer, entry_of, no_description, refused_packet};
 
 use crate::describing::describe;
 use crate::packet::Packet;
@@ -11,10 +11,12 @@ use crate::{laws, numbers};
 use etherparse::err::packet::SliceError;
 use etherparse::{Entry, EtherType, SlicedPacket};
 
-/// Slices a frame into its layers. `entry` says what it begins with: 0 an Ethernet II header, 1 the header of a Linux
-/// cooked capture, 2 what an ether type says, 3 an IP header of either version; `ether_type` is read for 2 alone. The
-/// status is 0 where the bytes are a frame, which `packet` then describes, 1 where they are none, and `packet` says
-/// why, and 2 where `entry` is another number. Whatever `packet` held is overwritten.
+/// Slices a frame strictly into its layers and describes them in `packet`, which is overwritten. `entry` is its first
+/// header: 0 Ethernet II, 1 Linux cooked capture, 2 the payload of `ether_type`, 3 IP of either version; `ether_type`
+/// is read for 2 only.
+///
+/// Returns the status: 0 if the bytes are a valid frame, which `packet` describes; 1 if they are not, with the error in
+/// `packet`; 2 if `entry` is above 3.
 #[unsafe(no_mangle)]
 pub extern "C" fn etherparse_1_slice(
     entry: u32,
@@ -24,7 +26,7 @@ pub extern "C" fn etherparse_1_slice(
 ) -> u32
     ensures { IsSliceAnswer (entry_of entry ether_type) bytes.now result packet.new }
 {
-    // No code: that the layers stand where C is told.
+    // Used by the proof only: the layers are at the described offsets.
     laws::frame_places();
     if entry == 0 && describe_plain(packet, bytes) {
         return numbers::OK;
@@ -35,14 +37,15 @@ pub extern "C" fn etherparse_1_slice(
     slice_any(entry, ether_type, bytes, packet)
 }
 
-/// The same of any frame.
+/// Slices any frame strictly and describes it in `packet`. Used for the frames that the faster function for common
+/// frames (Ethernet II or IP, at most two VLAN tags) does not handle.
 #[inline(never)]
 fn slice_any(entry: u32, ether_type: u16, bytes: &[u8], packet: &mut Packet) -> u32
     ensures { IsSliceAnswer (entry_of entry ether_type) bytes.now result packet.new }
 {
     laws::frame_places();
     let Some(entry) = entry_of(entry, ether_type) else {
-        say_nothing(packet);
+        describe_no_layers(packet);
         return numbers::UNKNOWN_CHOICE;
     };
     let mut sliced = SlicedPacket::new();
@@ -52,13 +55,14 @@ fn slice_any(entry: u32, ether_type: u16, bytes: &[u8], packet: &mut Packet) -> 
             numbers::OK
         }
         Err(error) => {
-            say_refused(packet, &error);
+            describe_error(packet, &error);
             numbers::REFUSED
         }
     }
 }
 
-/// What a frame begins with.
+/// Converts C's number for the first header of a frame: 0 Ethernet II, 1 Linux cooked capture, 2 the payload of
+/// `ether_type`, 3 IP of either version; `None` for any other number.
 #[inline(always)]
 pub(crate) fn entry_of(entry: u32, ether_type: u16) -> Option<Entry>
     ensures { result ≡ entry_of entry ether_type }
@@ -72,17 +76,17 @@ pub(crate) fn entry_of(entry: u32, ether_type: u16) -> Option<Entry>
     }
 }
 
-/// No layer, and no refusal.
-pub(crate) fn say_nothing(told: &mut Packet)
-    ensures { told.new ≡ nothing_said }
+/// Clears the description that C reads: no layers and no error.
+pub(crate) fn describe_no_layers(described: &mut Packet)
+    ensures { described.new ≡ no_description }
 {
-    describe(told, &SlicedPacket::new());
+    describe(described, &SlicedPacket::new());
 }
 
-/// No layer, and this refusal.
-pub(crate) fn say_refused(told: &mut Packet, error: &SliceError)
-    ensures { told.new ≡ refused_packet error.now }
+/// Writes a slicing error to the description that C reads, without any layers.
+pub(crate) fn describe_error(described: &mut Packet, error: &SliceError)
+    ensures { described.new ≡ refused_packet error.now }
 {
-    say_nothing(told);
-    told.refusal = refusal_part(error);
+    describe_no_layers(described);
+    described.refusal = refusal_part(error);
 }

@@ -1,4 +1,4 @@
-//! Slicing many frames in one call.
+//! Call for C that slices many frames at once.
 
 ghost use Rattle.etherparse_c.specs.ManyAnswers.{IsManyAnswer};
 ghost use Rattle.etherparse_c.specs.SliceAnswers.{entry_of};
@@ -7,11 +7,13 @@ use crate::numbers;
 use crate::packet::Packet;
 use crate::slicing::{entry_of, etherparse_1_slice};
 
-/// Slices the frames that stand one behind the other in `bytes`: the first up to the first of `ends`, each other from
-/// the end before it up to its own. Each fills in the packet of its place as `etherparse_1_slice` does, and `sliced` is
-/// how many were. The status is 0 where all were; 2 where `entry` is none, and no frame is sliced, or a frame ends
-/// before it begins or behind the last byte, and those before it are; 3 where there are fewer packets than ends, and
-/// none is. The other packets are as they were.
+/// Slices consecutive frames in `bytes` strictly: frame i ends at `ends[i]` and starts at the end of the frame before
+/// it, or at 0. The description of frame i, or its error, is written to `packets[i]`; `sliced` is the number of written
+/// descriptions. The other packets are unchanged.
+///
+/// Returns the status: 0 if all frames are sliced; 3 if there are fewer packets than ends, which is checked first, and
+/// none is sliced; 2 if `entry`, the number of the first header, is above 3, and none is sliced; 2 also if a frame ends
+/// before it starts or after the last byte, and only the frames before it are sliced.
 #[unsafe(no_mangle)]
 pub extern "C" fn etherparse_1_slice_many(
     entry: u32,
@@ -37,7 +39,7 @@ pub extern "C" fn etherparse_1_slice_many(
         if end < start || bytes.len() < end {
             return numbers::UNKNOWN_CHOICE;
         }
-        // The packet says itself whether its frame is refused.
+        // The packet itself states whether its frame is rejected.
         let _ = etherparse_1_slice(entry, ether_type, &bytes[start..end], &mut packets[place]);
         *sliced = place + 1;
         start = end;

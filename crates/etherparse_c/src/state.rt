@@ -1,8 +1,9 @@
-//! What is behind a pool that C points to.
+//! State of a reassembly pool whose address C holds.
 
 use etherparse::defrag::{IpDefragPayloadVec, IpDefragPool};
 
-/// A pool whose timestamps and channels are numbers, and a payload that is complete, for which no buffer had room yet.
+/// State of a reassembly pool that C uses: the streams, with numbers of C as timestamps and channels, and a complete
+/// payload that did not fit into the caller's buffer, if any.
 #[derive(Drop)]
 pub struct State {
     pub(crate) pool: IpDefragPool<u64, u64>,

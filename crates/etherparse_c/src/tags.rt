@@ -1,4 +1,4 @@
-//! The tags of link extensions.
+//! Describes the VLAN and MACsec tags of a frame for C.
 
 ghost use Rattle.std.specs.Prelude.{◌≡◌, ◌+◌, ◌<◌, ◌≤◌, ◌^◌, length, map};
 ghost use Rattle.etherparse.specs.LinkExtensions.{LinkExtension, link_extension_of, macsec, vlan};
@@ -14,12 +14,13 @@ use etherparse::{
     LaxLinkExtSlice, LinkExtSlice, MacsecHeaderSlice, SingleVlanHeader, SingleVlanSlice,
 };
 
-/// The slice of a link extension, of a frame or of what is read laxly.
+/// Slice of a VLAN or MACsec tag with its payload. Implemented for the slices of the strict and of the lax parser.
 pub(crate) trait TagSlice {
-    /// The link extension that it shows.
+    /// Decoded VLAN or MACsec tag of a slice, for contracts.
     ghost extension: { Self → LinkExtension };
 
-    /// The tag, which begins `offset` bytes behind the frame's start.
+    /// Returns the description of a VLAN or MACsec tag for C: its kind, VLAN identifier and length; it is at `offset`
+    /// in the frame.
     fn tag_part(&self, offset: usize) -> LinkExt
         ensures { result ≡ tag_part offset (extension self.now) };
 }
@@ -48,14 +49,15 @@ impl TagSlice for LaxLinkExtSlice<'_> {
     }
 }
 
-/// The places for tags, and how far behind the frame's start the tags end.
+/// Descriptions of a frame's VLAN and MACsec tags, at most three, and the offset in the frame at which the tags end.
 #[derive(Drop)]
 pub(crate) struct Tags {
     pub(crate) slots: [LinkExt; 3],
     pub(crate) end: usize,
 }
 
-/// The tags of link extensions, of which the first begins `offset` bytes behind the frame's start.
+/// Returns the descriptions of up to three consecutive VLAN or MACsec tags for C, and the offset after them; the first
+/// tag is at `offset` in the frame.
 #[inline(always)]
 pub(crate) fn placed_tags<Slice: TagSlice>(extensions: &[Slice], offset: usize) -> Tags
     requires most { length extensions.now ≤ 3 }
@@ -93,7 +95,7 @@ pub(crate) fn placed_tags<Slice: TagSlice>(extensions: &[Slice], offset: usize) 
     }
 }
 
-/// The place of a tag that is not there.
+/// Returns the description of an absent VLAN or MACsec tag for C: all fields are 0.
 #[inline(always)]
 pub(crate) fn no_tag() -> LinkExt
     ensures { result ≡ no_tag }
@@ -106,7 +108,7 @@ pub(crate) fn no_tag() -> LinkExt
     }
 }
 
-/// A VLAN tag that begins `offset` bytes behind the frame's start.
+/// Returns the description of a VLAN tag at `offset` in the frame for C.
 #[inline(always)]
 pub(crate) fn vlan_part(tag: &SingleVlanSlice<'_>, offset: usize) -> LinkExt
     ensures { result ≡ tag_part offset (vlan (vlan_slice_header tag.now) (vlan_slice_payload tag.now)) }
@@ -119,7 +121,7 @@ pub(crate) fn vlan_part(tag: &SingleVlanSlice<'_>, offset: usize) -> LinkExt
     }
 }
 
-/// A MACsec tag that begins there, whatever its payload.
+/// Returns the description of a MACsec tag at `offset` in the frame for C, from its header alone.
 #[inline(always)]
 fn macsec_part(header: &MacsecHeaderSlice<'_>, offset: usize) -> LinkExt
     ensures { (payload : MacsecPayload) → result ≡ tag_part offset (macsec (macsec_header_slice_header header.now) payload) }

@@ -1,9 +1,9 @@
-//! The text of a refusal.
+//! Call for C that writes the text of an error.
 
 ghost use Rattle.std.specs.Prelude.{◌≡◌, ◌++◌, ◌∷◌, [], IfOk};
 ghost use Rattle.refusal_texts.specs.ReasonTexts.{reason_text_with};
-ghost use Rattle.etherparse_c.specs.RefusalTexts.{IsTextAnswer, content_told, error_told, layer_told, len_told};
-ghost use Rattle.etherparse_c.specs.RefusalTexts.{source_told, text_told};
+ghost use Rattle.etherparse_c.specs.RefusalTexts.{IsTextAnswer, content_error_of, error_of_numbers, layer_of_number, len_error_of};
+ghost use Rattle.etherparse_c.specs.RefusalTexts.{source_of_number, text_of_number};
 
 use crate::numbers;
 use crate::packet::Refusal;
@@ -16,9 +16,12 @@ use etherparse::err::{
 use refusal_texts::push_reason_with;
 use std::alloc::{AllocError, Global};
 
-/// Writes the text of a refusal, ended by a zero byte, to the front of `buffer`, and the number of these bytes to
-/// `written`. The status is 0 where it did; 2 where the numbers are those of no refusal, 3 where the buffer has too few
-/// bytes, and `written` says how many are needed, 5 where there was no memory: then the buffer is as it was.
+/// Writes the text of a slicing error and a terminating zero byte to the start of `buffer`, and their number of bytes
+/// to `written`. Allocates, and frees the memory before it returns.
+///
+/// Returns the status: 0 if the text is written; 2 if the numbers in `refusal` are not those of an error; 3 if the
+/// buffer is too small, and `written` is the needed length; 5 if an allocation fails. With any status but 0 the buffer
+/// is unchanged.
 #[unsafe(no_mangle)]
 pub extern "C" fn etherparse_1_refusal_text(
     alloc: Global,
@@ -26,10 +29,10 @@ pub extern "C" fn etherparse_1_refusal_text(
     buffer: &mut [u8],
     written: &mut usize,
 ) -> u32
-    ensures { IsTextAnswer (text_told refusal.now) buffer.old buffer.new written.new result }
+    ensures { IsTextAnswer (text_of_number refusal.now) buffer.old buffer.new written.new result }
 {
     *written = 0;
-    let Some(error) = error_told(refusal) else {
+    let Some(error) = error_of_numbers(refusal) else {
         return numbers::UNKNOWN_CHOICE;
     };
     match ended_text(alloc, &error, refusal.number) {
@@ -38,7 +41,8 @@ pub extern "C" fn etherparse_1_refusal_text(
     }
 }
 
-/// The text of an error with this number, and a zero byte.
+/// Returns the text of a slicing error with a terminating zero byte. `number` is the invalid field's value, and is
+/// printed in place of the error's own.
 fn ended_text(alloc: Global, error: &SliceError, number: u32) -> Result<Vec<u8>, AllocError>
     ensures { IfOk result (λ text. text.items ≡ reason_text_with error.now number ++ 0 ∷ []) }
 {
@@ -48,25 +52,26 @@ fn ended_text(alloc: Global, error: &SliceError, number: u32) -> Result<Vec<u8>,
     Ok(text)
 }
 
-/// The error of the numbers of a refusal, where they are those of one. The number that the bytes hold stands apart
-/// from it, since C's may be greater than the error's field has room for.
-fn error_told(refusal: &Refusal) -> Option<SliceError>
-    ensures { result ≡ error_told refusal.now }
+/// Converts the numbers that C got for a slicing error back to the error, with the value of the invalid field set to 0,
+/// since C's number may be too large for that field. Returns `None` if the numbers are not those of an error.
+fn error_of_numbers(refusal: &Refusal) -> Option<SliceError>
+    ensures { result ≡ error_of_numbers refusal.now }
 {
     if refusal.kind == 1 {
-        len_told(refusal)
+        len_error_of(refusal)
     } else {
-        content_told(refusal.kind)
+        content_error_of(refusal.kind)
     }
 }
 
-/// The error for want of bytes, where its layer and what set the end are known.
-fn len_told(refusal: &Refusal) -> Option<SliceError>
-    ensures { result ≡ len_told refusal.now (layer_told refusal.now.layer) (source_told refusal.now.len_source) }
+/// Converts the numbers that C got for a length error back to the error, or returns `None` if the layer or the length
+/// source is unknown.
+fn len_error_of(refusal: &Refusal) -> Option<SliceError>
+    ensures { result ≡ len_error_of refusal.now (layer_of_number refusal.now.layer) (source_of_number refusal.now.len_source) }
 {
     let (Some(layer), Some(len_source)) = (
-        layer_told(refusal.layer),
-        source_told(refusal.len_source),
+        layer_of_number(refusal.layer),
+        source_of_number(refusal.len_source),
     ) else {
         return None;
     };
@@ -79,9 +84,10 @@ fn len_told(refusal: &Refusal) -> Option<SliceError>
     }))
 }
 
-/// The error of another kind, with the number 0.
-fn content_told(kind: u32) -> Option<SliceError>
-    ensures { result ≡ content_told kind }
+/// Converts C's kind of an invalid header field (2 to 14) back to the error, with the field's value set to 0; `None`
+/// for other kinds.
+fn content_error_of(kind: u32) -> Option<SliceError>
+    ensures { result ≡ content_error_of kind }
 {
     match kind {
         2 => Some(SliceError::LinuxSll(linux_sll::HeaderError::UnsupportedPacketTypeField {
@@ -107,9 +113,9 @@ fn content_told(kind: u32) -> Option<SliceError>
     }
 }
 
-/// The layer of a number.
-fn layer_told(number: u32) -> Option<Layer>
-    ensures { result ≡ layer_told number }
+/// Converts C's number of a layer (1 to 21) to the layer, or returns `None` for other numbers.
+fn layer_of_number(number: u32) -> Option<Layer>
+    ensures { result ≡ layer_of_number number }
 {
     match number {
         1 => Some(Layer::Ethernet2Header),
@@ -137,9 +143,10 @@ fn layer_told(number: u32) -> Option<Layer>
     }
 }
 
-/// What sets an end, by its number.
-fn source_told(number: u32) -> Option<LenSource>
-    ensures { result ≡ source_told number }
+/// Converts C's number (0 to 5) of a length source, the length field that limits bytes, to the library's value, or
+/// returns `None` for other numbers.
+fn source_of_number(number: u32) -> Option<LenSource>
+    ensures { result ≡ source_of_number number }
 {
     match number {
         0 => Some(LenSource::Slice),

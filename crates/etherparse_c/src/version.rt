@@ -1,11 +1,13 @@
-//! The version of the archive.
+//! Version of the C library.
 
 ghost use Rattle.std.specs.Prelude.{◌≡◌};
 
-/// The version: 10000 times the major number, 100 times the minor one, and the patch. The header says the same.
+/// Version of the C library: 10000 times the major number, plus 100 times the minor number, plus the patch number.
+/// `etherparse.h` has an equal constant.
 pub const VERSION: u32 = 100;
 
-/// The version of the archive, for a caller to compare with that of the header.
+/// Returns the version of the linked C library (`libetherparse_c.a`), to be compared with the version constant in
+/// `etherparse.h`.
 #[unsafe(no_mangle)]
 pub extern "C" fn etherparse_1_version() -> u32
     ensures { result ≡ 100 }

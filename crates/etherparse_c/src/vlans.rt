@@ -1,4 +1,4 @@
-//! The VLAN tags of plain frames.
+//! VLAN tags of frames with an Ethernet II header and at most two such tags.
 
 ghost use Rattle.std.specs.Prelude.{◌≡◌, IfSome, List, length, true};
 ghost use Rattle.etherparse.specs.LinkExtensions.{IsVlanType, LinkExtension};
@@ -9,19 +9,19 @@ use crate::packet::LinkExt;
 use crate::tags::{no_tag, vlan_part};
 use etherparse::{EtherType, Ethernet2Header, SingleVlanHeader, SingleVlanSlice, ether_type};
 
-/// The bytes behind the tags of a frame of Ethernet II.
+/// Bytes after the Ethernet II header and VLAN tags of a frame, with their ether type.
 #[derive(Drop)]
 pub(crate) struct Behind<'a> {
-    /// How far behind the frame's start they lie.
+    /// Offset of the bytes after the VLAN tags from the start of the frame.
     pub(crate) offset: usize,
-    /// Their type.
+    /// Ether type of the bytes after the VLAN tags, such as IPv4.
     pub(crate) ether_type: EtherType,
-    /// The bytes.
+    /// Bytes after the VLAN tags of a frame.
     pub(crate) slice: &'a [u8],
 }
 
-/// Fills in the places of the tags that bytes of a type begin with, which are a frame's payload: at most two, of VLAN.
-/// None where there are others.
+/// Describes the VLAN tags (at most two) at the start of an Ethernet II payload for C, and stores their number. Returns
+/// the bytes after them, or `None` if a tag is truncated.
 #[inline(always)]
 pub(crate) fn place_vlans<'a>(
     slots: &mut [LinkExt; 3],
@@ -67,7 +67,7 @@ pub(crate) fn place_vlans<'a>(
     })
 }
 
-/// Whether the type is one of VLAN tags.
+/// Returns whether the ether type is that of a VLAN tag: 0x8100, 0x88A8 or 0x9100.
 #[inline(always)]
 fn is_vlan(ether_type: EtherType) -> bool
     ensures { result ≡ true → IsVlanType ether_type }

@@ -1,4 +1,5 @@
-//! Prints the lines of hexadecimal that are Ethernet frames of UDP from or to port 53 in VLAN 5.
+//! Example program: prints the Ethernet frames that carry UDP from or to port 53 and have a tag of VLAN 5. Each line of
+//! standard input is a frame in hexadecimal.
 #![tactic(auto)]
 
 ghost use Rattle.std.specs.Prelude.{◌≡◌, ◌↔◌, IsTrue};
@@ -22,7 +23,8 @@ fn main(rt: HostRuntime) -> io::Result<()> {
     Ok(())
 }
 
-/// Whether bytes are an Ethernet frame of UDP from or to this port, with a tag of this VLAN.
+/// Returns true if the bytes are an Ethernet frame that carries UDP from or to the given port and has a tag of the
+/// given VLAN. Returns false for any other frame, and for bytes that are not a frame.
 pub fn keeps(frame: &[u8], vlan: VlanId, port: u16) -> bool
     ensures { IsTrue result ↔ ((layers : Layers) × IsFrame ethernet frame.now layers
         × IsTrue (is_wanted vlan port layers)) }
@@ -34,7 +36,7 @@ pub fn keeps(frame: &[u8], vlan: VlanId, port: u16) -> bool
     }
 }
 
-/// Whether a packet is of UDP from or to this port, with a tag of this VLAN.
+/// Returns true if the sliced packet carries UDP from or to the given port and has a tag of the given VLAN.
 fn wants(packet: &SlicedPacket<'_>, vlan: VlanId, port: u16) -> bool
     ensures { result ≡ is_wanted vlan port (layers_of packet.now) }
 {

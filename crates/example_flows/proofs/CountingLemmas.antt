@@ -1,4 +1,4 @@
--- What a map of counts becomes with a segment.
+-- The map of counts after a segment.
 use Rattle.std.proofs.Common.{◌≡◌, ℕ, Option, Some, None, Ok, Err, sym}
 use Rattle.std.specs.Prelude.{IsErr, Result, unwrap_or}
 use Rattle.std.proofs.lemmas.Bool.{false≢true}
@@ -9,14 +9,14 @@ use Rattle.std.specs.declared.net.socket_addr.SocketAddr.{SocketAddr}
 use Rattle.example_flows.specs.declared.Count.{Count}
 use Rattle.example_flows.specs.Flows.{Segment, CountsSegment, IsFlow, nothing, with_segment}
 
--- what was seen of a flow before
+-- The previous count of a flow is the one in the map, or the empty count.
 pub seen_before : (IsDefault : Count → Type 0) (seen : Option Count) (before : Count)
     → ((count : Count) → IsDefault count → count ≡ nothing) → UnwrapsOrElse seen IsDefault before
     → before ≡ unwrap_or seen nothing
 seen_before IsDefault (Some count) before none is = is
 seen_before IsDefault None before none is = none before is
 
--- the count of the flow was set
+-- If the count of the flow is set, the map counts the segment.
 pub counted : (E : Type 0) (cmp : SocketAddr × SocketAddr → SocketAddr × SocketAddr → Ordering)
     (found : Option Segment) (old new : BTreeMap (SocketAddr × SocketAddr) Count) (segment : Segment)
     (source destination : SocketAddr) (flow : SocketAddr × SocketAddr) (source_port destination_port : ℕ) (seen : Count)
@@ -29,7 +29,7 @@ counted E cmp found old new segment source destination flow source_port destinat
     found_is
     (flow, rw (flow_is, sym source_port_is, sym destination_port_is) its, rw (sym seen_is) updates)
 
--- there was no memory for a flow that was not seen
+-- If the allocation for a new flow fails, the map is unchanged.
 pub lacked : (E : Type 0) (result : Result (Unit {0}) E)
     (cmp : SocketAddr × SocketAddr → SocketAddr × SocketAddr → Ordering) (found : Option Segment)
     (old new : BTreeMap (SocketAddr × SocketAddr) Count) (segment : Segment) (source destination : SocketAddr)

@@ -1,4 +1,4 @@
--- The flow of a segment, and what the flow's count becomes.
+-- The flow of a TCP segment, and the counts after it.
 use Rattle.std.specs.Prelude.{◌≡◌, ℕ, ◌+◌, ◌-◌, ◌^◌, min, List, length, Option, Some, None, Result, Ok, Err, unwrap_or}
 use Rattle.std.specs.BTreeMap.{BTreeMap, get, Updates, IsUnchanged}
 use Rattle.std.specs.Net.Addr.{IsV4And, IsV6And, ipv4_octets, ipv6_segments, segments_of}
@@ -13,38 +13,38 @@ use Rattle.etherparse.specs.TransportParts.{TransportLayer}
 use Rattle.etherparse.specs.Types.TcpHeader.{TcpHeader}
 use Rattle.example_flows.specs.declared.Count.{Count}
 
--- the source and the destination address of IPv4 or IPv6
+-- the source and the destination address of an IPv4 or IPv6 header
 pub data Addresses : Type 0 where
   v4 : List ℕ → List ℕ → Addresses
   v6 : List ℕ → List ℕ → Addresses
 
--- those of a net layer, where it is IP
+-- the addresses of a network layer, or `None` if it is not IP
 abbrev pub addresses_in : NetLayer → Option Addresses
 addresses_in (ipv4 header extensions payload) = Some (v4 header.source header.destination)
 addresses_in (ipv6 header extensions payload) = Some (v6 header.source header.destination)
 addresses_in (arp packet) = None
 
--- a TCP segment: the addresses, the header and the number of bytes behind it
+-- a TCP segment: the IP addresses, the TCP header, and the length of the payload in bytes
 pub record Segment : Type 0 where
   pub addresses : Addresses
   pub tcp : TcpHeader
   pub len : ℕ
 
--- the segment of these, where both are there
+-- the segment with these addresses and header, or `None` if one is missing
 abbrev pub segment_between : Option Addresses → Option TcpHeader → ℕ → Option Segment
 segment_between (Some addresses) (Some tcp) len = Some (record { addresses = addresses; tcp = tcp; len = len })
 segment_between addresses tcp len = None
 
--- the segment of a transport layer
+-- the segment in a transport layer after this network layer, or `None`
 abbrev pub segment_over : Option NetLayer → TransportLayer → Option Segment
 segment_over net layer =
     segment_between (option_and_then addresses_in net) (tcp_header_in layer.header) (length layer.payload)
 
--- the segment in a frame
+-- the TCP segment in a frame with these layers, or `None`
 abbrev pub segment_in : Layers → Option Segment
 segment_in layers = option_and_then (segment_over layers.net) layers.transport
 
--- an address of IPv4 or of IPv6, and a port
+-- The socket address has this IPv4 address and port.
 abbrev pub IsV4End : List ℕ → ℕ → SocketAddr → Type 0
 IsV4End address port end = IsV4And (socket_ip end) (λ ip. ipv4_octets ip ≡ address) × IsPlainSocket end port
 
@@ -52,18 +52,18 @@ abbrev pub IsV6End : List ℕ → ℕ → SocketAddr → Type 0
 IsV6End address port end =
     IsV6And (socket_ip end) (λ ip. ipv6_segments ip ≡ segments_of address) × IsPlainSocket end port
 
--- the flow between these addresses and these ports
+-- The flow has these addresses and ports.
 abbrev pub IsFlow : Addresses → ℕ → ℕ → SocketAddr × SocketAddr → Type 0
 IsFlow (v4 source destination) source_port destination_port flow =
     IsV4End source source_port flow.0 × IsV4End destination destination_port flow.1
 IsFlow (v6 source destination) source_port destination_port flow =
     IsV6End source source_port flow.0 × IsV6End destination destination_port flow.1
 
--- nothing was seen
+-- the count of a flow without segments
 abbrev pub nothing : Count
 nothing = record { segments = 0; syn = 0; fin = 0; bytes = 0 }
 
--- a count with one more segment, each number up to the greatest that fits 64 bits
+-- the count after one more segment; each number stops at the maximum of 64 bits
 abbrev pub with_segment : Count → TcpHeader → ℕ → Count
 with_segment count tcp len = record {
   segments = min (count.segments + 1) (2 ^ 64 - 1);
@@ -72,12 +72,12 @@ with_segment count tcp len = record {
   bytes = min (count.bytes + len) (2 ^ 64 - 1);
 }
 
--- the flow of a segment
+-- The flow is that of the segment.
 abbrev pub IsFlowOf : Segment → SocketAddr × SocketAddr → Type 0
 IsFlowOf segment flow = IsFlow segment.addresses segment.tcp.source_port segment.tcp.destination_port flow
 
--- What a map of counts becomes with a segment, where there is one: the count of the segment's flow has it, and the
--- others are as they were. Memory may be wanting only for a flow that was not seen, and then the map is as it was.
+-- The map counts a segment, if there is one: the count of its flow includes the segment, and all others are unchanged.
+-- Out of memory is possible only for a new flow, and the map is then unchanged.
 abbrev pub CountsSegment : {E : Type 0} → (SocketAddr × SocketAddr → SocketAddr × SocketAddr → Ordering)
     → Option Segment → BTreeMap (SocketAddr × SocketAddr) Count → BTreeMap (SocketAddr × SocketAddr) Count
     → Result (Unit {0}) E → Type 0
@@ -88,7 +88,7 @@ CountsSegment cmp (Some segment) old new (Err error) =
     (flow : SocketAddr × SocketAddr) × IsFlowOf segment flow × (get cmp old flow ≡ None) × IsUnchanged old new
 CountsSegment cmp None old new result = (new ≡ old) × (result ≡ Ok tt)
 
--- what it becomes with the frame of these layers
+-- The map counts the segment in a frame with these layers, if there is one.
 abbrev pub Counts : {E : Type 0} → (SocketAddr × SocketAddr → SocketAddr × SocketAddr → Ordering) → Layers
     → BTreeMap (SocketAddr × SocketAddr) Count → BTreeMap (SocketAddr × SocketAddr) Count → Result (Unit {0}) E → Type 0
 Counts cmp layers old new result = CountsSegment cmp (segment_in layers) old new result

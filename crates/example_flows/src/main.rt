@@ -1,4 +1,5 @@
-//! Counts the TCP segments of each flow among Ethernet frames, which stand in lines of hexadecimal.
+//! Example program: counts the segments of each TCP flow. Each line of standard input is an Ethernet frame in
+//! hexadecimal.
 #![tactic(auto)]
 
 ghost use Rattle.std.specs.Prelude.{◌≡◌, Ok};
@@ -13,10 +14,12 @@ use std::collections::BTreeMap;
 use std::io;
 use std::net::SocketAddr;
 
-/// What was seen of each flow: from this address and port to that one.
+/// Counts of each TCP flow. A flow is one direction of a connection: the source and the destination, each an IP address
+/// and a port.
 pub type Flows = BTreeMap<(SocketAddr, SocketAddr), Count>;
 
-/// What was seen of a flow: segments, those that open and those that close it, and bytes of payload.
+/// Counts of one TCP flow: segments, segments with the flag SYN, segments with the flag FIN, and bytes of TCP payload.
+/// A count stops at `u64::MAX`.
 #[derive(Clone, Copy, Debug, Default)]
 pub struct Count {
     pub segments: u64,
@@ -38,7 +41,8 @@ fn main(rt: HostRuntime) -> io::Result<()> {
     Ok(())
 }
 
-/// Counts the TCP segment that an Ethernet frame carries, if it carries one.
+/// Adds the TCP segment in an Ethernet frame to the counts of its flow. Bytes that are not a frame, and frames without
+/// a TCP segment, change nothing. Allocates for a new flow; if the allocation fails, the counts are unchanged.
 pub fn add_segment(flows: &mut Flows, frame: &[u8]) -> Result<(), AllocError>
     ensures frames { (layers : Layers) → IsFrame ethernet frame.now layers
         → Counts ⟦<(SocketAddr, SocketAddr) as Ord>⟧.cmp layers flows.old flows.new result }
@@ -52,7 +56,8 @@ pub fn add_segment(flows: &mut Flows, frame: &[u8]) -> Result<(), AllocError>
     }
 }
 
-/// Counts the TCP segment of a packet, if it is one.
+/// Adds the TCP segment of a sliced packet to the counts of its flow. A packet without TCP over IPv4 or IPv6 changes
+/// nothing.
 fn add_packet(flows: &mut Flows, packet: &SlicedPacket<'_>) -> Result<(), AllocError>
     ensures { Counts ⟦<(SocketAddr, SocketAddr) as Ord>⟧.cmp (layers_of packet.now) flows.old flows.new result }
 {

@@ -1,4 +1,4 @@
--- What a step of UDP holds, and one of TCP once its header was changed; what is appended where there may be no step.
+-- The headers in a builder step, also after its TCP header was changed, and the bytes appended if there may be no step.
 use Rattle.std.proofs.Common.{◌≡◌, List, ℕ, ◌+◌, ◌<◌, ◌++◌, length, Option, Some, None, Result, Ok, Err, ap, refl}
 use Rattle.std.proofs.Common.{subst, ◌∙◌}
 use Rattle.std.specs.Prelude.{Vec, MatchResult, OnOk, OnErr, IfErr, vec_len, vec_capacity}
@@ -14,7 +14,7 @@ use Rattle.etherparse.specs.Types.TransportHeader.{TransportHeader}
 use Rattle.etherparse.specs.Types.TransportHeader.TheVariants as header
 use Rattle.example_generators.specs.Requests.{AppendsWhere}
 
--- the same headers
+-- Frames with equal link and IP headers and one transport header have equal headers.
 pub same_transport : (link known_link : LinkPart) (headers known_headers : IpHeaders) (behind : TransportHeader)
     → link ≡ known_link → headers ≡ known_headers
     → held_transport link headers behind ≡ held_transport known_link known_headers behind
@@ -22,7 +22,7 @@ same_transport link known_link headers known_headers behind link_is headers_are 
     ap (λ (part : LinkPart). held_transport part headers behind) link_is
     ∙ ap (λ (ip : IpHeaders). held_transport known_link ip behind) headers_are
 
--- what writing a step appends is the frame of the headers that the step is known to hold
+-- Writing a step appends the frame with the headers that the step is known to have.
 pub appends_known : {Z : Type 0} (held known : Held) (payload : List ℕ) (old new : Vec ℕ Z)
     (result : Result (Unit {0}) BuildWriteError) → held ≡ known
     → OnOk result (IsBuildable held (length payload) × (new.items ≡ old.items ++ built_frame held payload))
@@ -33,19 +33,19 @@ appends_known held known payload old new result same ok err refused full =
     subst (λ (h : Held). AppendsFrame h payload old new result) same
     (record { ok = ok; err = err; refused = refused; full = full })
 
--- the headers that were found are written
+-- If there are headers, the frame with them is appended.
 pub appends_some : {Z : Type 0} (found : Option Held) (held : Held) (payload : List ℕ) (old new : Vec ℕ Z)
     (result : Result (Unit {0}) BuildWriteError) → found ≡ Some held → AppendsFrame held payload old new result
     → AppendsWhere found payload old new (Some result)
 appends_some found held payload old new result found_is appends = rw found_is appends
 
--- none were found
+-- If there are no headers, nothing is appended.
 pub appends_none : {Z : Type 0} (found : Option Held) (payload : List ℕ) (buf : Vec ℕ Z)
     (result : Option (Result (Unit {0}) BuildWriteError)) → found ≡ None → result ≡ None
     → AppendsWhere found payload buf buf result
 appends_none found payload buf result found_is result_is = rw (found_is, result_is) refl
 
--- headers with another TCP header behind them
+-- the headers with a changed TCP header
 abbrev pub with_tcp : (TcpHeader → TcpHeader) → Inside → Inside
 with_tcp change (transport_packet headers (header.Tcp tcp)) = transport_packet headers (header.Tcp (change tcp))
 with_tcp change inside = inside
@@ -53,7 +53,7 @@ with_tcp change inside = inside
 abbrev pub held_with_tcp : (TcpHeader → TcpHeader) → Held → Held
 held_with_tcp change held = record { link = held.link; inside = with_tcp change held.inside }
 
--- what is known of a value that was unwrapped
+-- A property of all `Ok` values of a result holds of the unwrapped value.
 pub unwrapped : {T E : Type 0} (result : Result T E) (value : T) (P : T → Type 0) (Q : E → Type 0)
     → result ≡ Ok value → MatchResult result P Q → P value
 unwrapped result value P Q is holds = rw is at holds

@@ -1,4 +1,4 @@
--- The link header that all frames of this crate but the answers have.
+-- The link header of all frames of this crate except the answers.
 use Rattle.std.specs.Prelude.{[], ◌∷◌}
 use Rattle.etherparse.specs.Steps.{no_type}
 use Rattle.etherparse.specs.Types.LinkPart.{LinkPart}

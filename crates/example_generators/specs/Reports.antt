@@ -1,4 +1,4 @@
--- The headers of a datagram over IPv6.
+-- The headers of a UDP datagram over IPv6.
 use Rattle.std.specs.Prelude.{ℕ, List, [], ◌∷◌, Some}
 use Rattle.etherparse.specs.BuiltFrames.{Held, held_transport}
 use Rattle.etherparse.specs.Ipv6.{default_ipv6_header}
@@ -14,7 +14,7 @@ use Rattle.example_generators.specs.Ends.{ethernet_header}
 abbrev pub documentation_address : ℕ → List ℕ
 documentation_address last = 32 ∷ 1 ∷ 13 ∷ 184 ∷ 0 ∷ 0 ∷ 0 ∷ 0 ∷ 0 ∷ 0 ∷ 0 ∷ 0 ∷ 0 ∷ 0 ∷ 0 ∷ last ∷ []
 
--- the header of IPv6, with hop by hop options and destination options
+-- the IPv6 header with hop-by-hop options and destination options
 abbrev pub ip_headers : IpHeaders
 ip_headers = version.Ipv6
     (record default_ipv6_header {
@@ -27,10 +27,10 @@ ip_headers = version.Ipv6
       destination_options = Some (raw_extension_with (record { 0 = 0 }) (1 ∷ 4 ∷ 0 ∷ 0 ∷ 0 ∷ 0 ∷ []));
     })
 
--- the header of the datagram
+-- the UDP header
 abbrev pub udp_header : TransportHeader
 udp_header = header.Udp (record { source_port = 4000; destination_port = 53; length = 0; checksum = 0 })
 
--- all of them
+-- all headers of the frame
 abbrev pub report_headers : Held
 report_headers = held_transport ethernet_header ip_headers udp_header

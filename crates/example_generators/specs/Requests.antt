@@ -1,4 +1,4 @@
--- The headers of a request and of its answer, and what is appended of an answer.
+-- The headers of a request and of its answer, and the bytes appended for an answer.
 use Rattle.std.specs.Prelude.{◌≡◌, ℕ, List, [], ◌∷◌, Option, Some, None, Result, Vec}
 use Rattle.std.specs.Option.{option_and_then}
 use Rattle.etherparse.specs.AppendedFrames.{AppendsFrame}
@@ -13,8 +13,8 @@ use Rattle.etherparse.specs.Types.LinkPart.TheVariants as link
 use Rattle.etherparse.specs.Types.TransportHeader.TheVariants as header
 use Rattle.etherparse.specs.Types.UdpHeader.{UdpHeader}
 
--- the headers of a datagram of UDP over IPv4 between these hardware addresses, addresses and ports, each the sender's
--- and the receiver's
+-- the headers of a UDP datagram over IPv4 with these MAC addresses, IP addresses and ports, each as source and
+-- destination
 abbrev pub datagram : List ℕ × List ℕ → List ℕ × List ℕ → ℕ × ℕ → Held
 datagram hardware addresses ports = held_transport
     (link.Ethernet2 (record { source = hardware.0; destination = hardware.1; ether_type = no_type }))
@@ -28,7 +28,7 @@ request_headers = datagram
     (192 ∷ 0 ∷ 2 ∷ 1 ∷ [], 192 ∷ 0 ∷ 2 ∷ 2 ∷ [])
     (4000, 53)
 
--- the headers of the answer to a datagram of UDP over IPv4, from its receiver to its sender; nothing else has one
+-- the headers of the answer to a UDP datagram over IPv4, from its receiver to its sender; `None` for any other packet
 abbrev pub answer_between : Option LinkLayer → Option NetLayer → Option UdpHeader → Option Held
 answer_between (Some (ethernet2 frame payload)) (Some (ipv4 ip extensions inside)) (Some udp) = Some (datagram
     (frame.destination, frame.source)
@@ -42,7 +42,7 @@ answer_to layers = answer_between
     layers.net
     (option_and_then (λ (layer : TransportLayer). udp_header_in layer.header) layers.transport)
 
--- the frame of the headers is appended, where there are some; the buffer is else as it was, and there is no result
+-- If there are headers, the frame with them is appended. Otherwise the buffer is unchanged and there is no result.
 abbrev pub AppendsWhere : {Z : Type 0} → Option Held → List ℕ → Vec ℕ Z → Vec ℕ Z
     → Option (Result (Unit {0}) BuildWriteError) → Type 0
 AppendsWhere (Some held) payload old new (Some result) = AppendsFrame held payload old new result

@@ -1,4 +1,4 @@
--- The headers of the first segment of a connection.
+-- The headers of the first segment of a TCP connection.
 use Rattle.std.specs.Prelude.{ℕ, true, [], ◌∷◌}
 use Rattle.etherparse.specs.BuiltFrames.{Held, held_transport}
 use Rattle.etherparse.specs.Steps.{ipv4_headers_between}
@@ -7,7 +7,7 @@ use Rattle.etherparse.specs.Types.TcpHeader.{TcpHeader}
 use Rattle.etherparse.specs.Types.TransportHeader.TheVariants as header
 use Rattle.example_generators.specs.Ends.{ethernet_header}
 
--- the TCP header, with the greatest segment 1460, nothing, and the window scale 7
+-- the TCP header with the options maximum segment size 1460, no-operation, and window scale 7
 abbrev pub tcp_header : ℕ → TcpHeader
 tcp_header sequence_number = record default_tcp_header {
   source_port = 4000;
@@ -18,7 +18,7 @@ tcp_header sequence_number = record default_tcp_header {
   options = 2 ∷ 4 ∷ 5 ∷ 180 ∷ 1 ∷ 3 ∷ 3 ∷ 7 ∷ [];
 }
 
--- the headers of the segment
+-- all headers of the frame
 abbrev pub syn_headers : ℕ → Held
 syn_headers sequence_number = held_transport
     ethernet_header

@@ -1,4 +1,4 @@
-//! The fragments of a payload of IPv4 that is too long for one Ethernet frame.
+//! Builds the frames of the IPv4 fragments of a payload that is too long for one Ethernet frame.
 
 ghost use Rattle.std.specs.Prelude.{◌≡◌, ◌*◌, IfSome};
 ghost use Rattle.std.specs.Option.{option_map};
@@ -10,10 +10,12 @@ ghost use Rattle.example_generators.specs.Fragments.{cut_from, fragment_headers,
 use etherparse::err::packet::BuildWriteError;
 use etherparse::{IpFragOffset, IpHeaders, IpNumber, Ipv4Header, PacketBuilder};
 
-/// How many bytes of a payload a frame carries, a multiple of 8: those of 1500 that the header of IPv4 leaves.
+/// Number of payload bytes in each IPv4 fragment but the last: the MTU of 1500 bytes minus the IPv4 header of 20 bytes.
+/// It is a multiple of 8, as fragment offsets require.
 const CUT_LEN: usize = 1480;
 
-/// The cut of a payload at a place, and whether more follow it; none behind the payload's end.
+/// Returns the bytes of the payload for the fragment with the offset `place`, at most 1480, and true if more bytes
+/// follow (the More Fragments flag). Returns `None` if the offset is not before the end of the payload.
 pub fn cut_at(payload: &[u8], place: IpFragOffset) -> Option<(&[u8], bool)>
     ensures value { option_map (λ found. (found.0.now, found.1)) result ≡ cut_from payload.now (8 * place) }
     ensures cut { IfSome result (λ found. IsCut payload.now (fragment_with place found.1 found.0.now)) }
@@ -26,7 +28,8 @@ pub fn cut_at(payload: &[u8], place: IpFragOffset) -> Option<(&[u8], bool)>
     Some((&payload[start..end], end < payload.len()))
 }
 
-/// Appends a fragment of a payload.
+/// Builds the Ethernet frame of an IPv4 fragment with the offset `place`, the More Fragments flag `more` and the
+/// payload bytes `cut`, and appends it to `buf`.
 pub fn write_fragment(
     place: IpFragOffset,
     more: bool,
@@ -40,7 +43,8 @@ pub fn write_fragment(
         .write(buf, IpNumber::UDP, cut)
 }
 
-/// The header of IPv4, which says where the fragment belongs, and whether more follow it.
+/// Returns the IPv4 header of a fragment with the offset `place` and the More Fragments flag `more`. All fragments have
+/// the identification 1, so they are reassembled into one datagram.
 fn ip_headers(place: IpFragOffset, more: bool) -> IpHeaders
     ensures { result ≡ ip_headers place more }
 {

@@ -1,5 +1,6 @@
-//! Prints frames that are built here, in lines of hexadecimal under headings: a request and its answer, the first
-//! segment of a TCP connection, a datagram of IPv6 with extension headers, and the fragments of a long datagram.
+//! Example program: builds Ethernet frames, and prints them in hexadecimal under headings. The frames carry a UDP
+//! request and its answer, the first segment of a TCP connection, a UDP datagram over IPv6 with extension headers, and
+//! the fragments of a long UDP datagram.
 #![tactic(auto)]
 
 ghost use Rattle.std.specs.Prelude.{◌≡◌};
@@ -44,10 +45,11 @@ fn main(rt: HostRuntime) -> io::Result<()> {
     print_fragments(&rt, &mut frame)
 }
 
-/// Prints the fragments of a datagram of UDP over IPv4 of 4000 bytes, each of which is put into `frame`.
+/// Prints the Ethernet frames of the IPv4 fragments of a UDP datagram of 4000 bytes, one line each in hexadecimal.
+/// `frame` is the buffer in which each frame is built.
 fn print_fragments(rt: &(impl Print + Eprint + Alloc), frame: &mut Vec<u8>) -> io::Result<()> {
     let mut payload = [7; 4000];
-    // the header of UDP: from port 4000 to 53, the length 4000, and no checksum
+    // UDP header: source port 4000, destination port 53, length 4000, no checksum
     payload[..8].copy_from_slice(&[0x0f, 0xa0, 0, 53, 0x0f, 0xa0, 0, 0]);
     for index in 0..45 {
         let place = IpFragOffset::try_new(185 * index).unwrap();
@@ -63,7 +65,7 @@ fn print_fragments(rt: &(impl Print + Eprint + Alloc), frame: &mut Vec<u8>) -> i
     Ok(())
 }
 
-/// Prints a frame as a line of hexadecimal.
+/// Prints the bytes of a frame as one line of hexadecimal digits.
 fn print_frame(rt: &(impl Print + Alloc), frame: &[u8]) -> io::Result<()> {
     println!(rt; "{}", hex::encode(rt.alloc(), frame)?)
 }

@@ -1,4 +1,4 @@
-//! A datagram of UDP over IPv6 with extension headers.
+//! Builds the frame of a UDP datagram over IPv6 with extension headers.
 
 ghost use Rattle.std.specs.Prelude.{◌≡◌};
 ghost use Rattle.etherparse.specs.AppendedFrames.{AppendsFrame};
@@ -9,7 +9,8 @@ use etherparse::{
     IpHeaders, IpNumber, Ipv6Extensions, Ipv6Header, Ipv6RawExtHeader, PacketBuilder,
 };
 
-/// Appends a datagram of this payload.
+/// Builds the Ethernet frame of a UDP datagram with this payload over IPv6 with extension headers (ports 4000 to 53),
+/// and appends it to the buffer.
 pub fn write_report(payload: &[u8], buf: &mut Vec<u8>) -> Result<(), BuildWriteError>
     ensures { AppendsFrame report_headers payload.now buf.old buf.new result }
 {
@@ -19,8 +20,8 @@ pub fn write_report(payload: &[u8], buf: &mut Vec<u8>) -> Result<(), BuildWriteE
         .write(buf, payload)
 }
 
-/// The header of IPv6, between addresses for documentation (RFC 3849), with the hop by hop option of a router alert
-/// (RFC 2711) and with destination options that say nothing.
+/// Returns an IPv6 header with two extension headers: hop-by-hop options with a router alert (RFC 2711), and
+/// destination options with nothing but padding. The addresses are reserved for documentation (RFC 3849).
 fn ip_headers() -> IpHeaders
     ensures { result ≡ ip_headers }
 {

@@ -1,4 +1,4 @@
-//! A request and its answer, datagrams of UDP over IPv4.
+//! Builds the frames of a request and of its answer, UDP datagrams over IPv4.
 
 ghost use Rattle.std.specs.Prelude.{◌≡◌, None, option_map};
 ghost use Rattle.etherparse.specs.AppendedFrames.{AppendsFrame};
@@ -14,7 +14,8 @@ use etherparse::{
     LinkSlice, NetSlice, PacketBuilder, PacketBuilderStep, SlicedPacket, TransportSlice, UdpHeader,
 };
 
-/// Appends a request with this payload.
+/// Builds the Ethernet frame of a request with this payload, a UDP datagram over IPv4 from port 4000 to port 53, and
+/// appends it to the buffer.
 pub fn write_request(payload: &[u8], buf: &mut Vec<u8>) -> Result<(), BuildWriteError>
     ensures { AppendsFrame request_headers payload.now buf.old buf.new result }
 {
@@ -24,8 +25,9 @@ pub fn write_request(payload: &[u8], buf: &mut Vec<u8>) -> Result<(), BuildWrite
         .write(buf, payload)
 }
 
-/// Appends the answer to a request, from its receiver to its sender. Only an Ethernet frame of a datagram of UDP over
-/// IPv4 has one.
+/// Builds the Ethernet frame of an answer with this payload, with the MAC addresses, IP addresses and ports of
+/// `request` swapped, and appends it to `buf`. Returns `None` if `request` is not an Ethernet frame of a UDP datagram
+/// over IPv4.
 pub fn write_answer(
     request: &[u8],
     payload: &[u8],
@@ -42,7 +44,8 @@ pub fn write_answer(
     }
 }
 
-/// The headers of the answer to a packet.
+/// Returns a packet builder with the headers of an answer to `packet`: its MAC addresses, IP addresses and ports are
+/// swapped. Returns `None` if `packet` is not a UDP datagram over IPv4 in an Ethernet frame.
 fn answer_to(packet: &SlicedPacket<'_>) -> Option<PacketBuilderStep<UdpHeader>>
     ensures { option_map (transport_held Udp) result ≡ answer_to (layers_of packet.now) }
 {

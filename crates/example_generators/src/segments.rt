@@ -1,4 +1,4 @@
-//! The first segment of a TCP connection, with options.
+//! Builds the frame of the first segment of a TCP connection, with TCP options.
 
 ghost use Rattle.std.specs.Prelude.{[]};
 ghost use Rattle.etherparse.specs.AppendedFrames.{AppendsFrame};
@@ -7,8 +7,8 @@ ghost use Rattle.example_generators.specs.Segments.{syn_headers};
 use etherparse::err::packet::BuildWriteError;
 use etherparse::{PacketBuilder, TcpOptionElement};
 
-/// Appends the first segment of a TCP connection (RFC 9293, 3.5), which tells the greatest segment (3.7.1), and by how
-/// many bits the window is shifted (RFC 7323, 2.2).
+/// Builds the Ethernet frame of the first segment (SYN) of a TCP connection over IPv4 (RFC 9293, 3.5), and appends it
+/// to the buffer. Its options are the maximum segment size (3.7.1) and the window scale (RFC 7323, 2.2).
 pub fn write_syn(sequence_number: u32, buf: &mut Vec<u8>) -> Result<(), BuildWriteError>
     ensures { AppendsFrame (syn_headers sequence_number) [] buf.old buf.new result }
 {

@@ -1,4 +1,4 @@
--- What becomes of a pool with a frame that is given to it, and with a drop by time.
+-- The pool after a frame is added, and after streams are dropped by time.
 use Rattle.std.specs.Prelude.{ℕ, Bool, Option, Result, nat_le}
 use Rattle.std.specs.Option.{option_map}
 use Rattle.etherparse.specs.Calls.{Kept, kept_by}
@@ -11,13 +11,13 @@ use Rattle.etherparse.specs.Types.IpDefragPayloadVec.{IpDefragPayloadVec}
 use Rattle.etherparse.specs.Types.IpDefragPool.{IpDefragPool}
 use Rattle.etherparse.specs.Types.IpFragId.{IpFragId}
 
--- the pool takes the frame of these layers, and its answer is this
+-- The pool is passed a frame with these layers at this time, and returns this result.
 abbrev pub Takes : (Unit {0} → Unit {0} → Bool) → Layers → ℕ → IpDefragPool ℕ (Unit {0}) → IpDefragPool ℕ (Unit {0})
     → Result (Option IpDefragPayloadVec) IpDefragError → Type 0
 Takes eq layers time old new answer =
     TakesFrame eq old new (option_map packet_fragment (fragment_of layers)) time tt answer
 
--- the pool keeps of each stream what it held, where the last accepted fragment came at this time or later
+-- The pool keeps exactly the streams whose last accepted fragment arrived at this time or later, unchanged.
 abbrev pub DropsBefore : (Unit {0} → Unit {0} → Bool) → ℕ → IpDefragPool ℕ (Unit {0}) → IpDefragPool ℕ (Unit {0}) → Type 0
 DropsBefore eq oldest old new = (table : IpFragId (Unit {0}) → Option (Kept ℕ)) → HoldsTable eq old table
     → HoldsTable eq new (λ name. kept_by (nat_le oldest) (table name))

@@ -1,5 +1,6 @@
-//! Puts the fragmented payloads of Ethernet frames together. Each line of standard input is a time in seconds and a
-//! frame in hexadecimal. A stream of which no fragment was taken for more than 30 seconds is dropped.
+//! Example program: reassembles the IP payloads that are fragmented over several Ethernet frames. Each line of standard
+//! input is a time in seconds and a frame in hexadecimal. Fragments of an incomplete payload are dropped if no further
+//! fragment of it is accepted for more than 30 seconds.
 #![tactic(auto)]
 
 ghost use Rattle.std.specs.Prelude.{◌≡◌, IsErrAnd, IsOkAnd, nat_le};
@@ -14,13 +15,15 @@ use etherparse::err::packet::SliceError;
 use etherparse::{Entry, SlicedPacket};
 use std::io;
 
-/// The streams of one wire, so without a channel, with the time of each frame in seconds.
+/// Reassembly pool, which collects the fragments of IP datagrams until their payloads are complete. All frames are from
+/// one network, so no channel identifier (`()`) is needed to keep sources apart. Timestamps are in seconds.
 pub type Pool = IpDefragPool<u64, ()>;
 
-/// What a pool answers a frame: the payload that is complete with it, if any, or why its fragment does not fit.
+/// Result of adding a frame to the reassembly pool: the payload if the frame's fragment completes it, `None` if it does
+/// not or the frame has no fragment, or the error of the fragment.
 pub type Answer = Result<Option<IpDefragPayloadVec>, IpDefragError>;
 
-/// For how many seconds a stream is kept.
+/// Number of seconds for which the fragments of an incomplete IP payload are kept after the last of them was accepted.
 const PATIENCE: u64 = 30;
 
 fn main(rt: HostRuntime) -> io::Result<()> {
@@ -49,7 +52,8 @@ fn main(rt: HostRuntime) -> io::Result<()> {
     Ok(())
 }
 
-/// Gives an Ethernet frame to the pool. Bytes that are no frame are refused, and change nothing.
+/// Slices an Ethernet frame, and adds its IP fragment to the reassembly pool with the timestamp `time`; a frame without
+/// a fragment changes nothing. Returns `Err` if the bytes are not a frame; the pool is then unchanged.
 pub fn take(pool: &mut Pool, frame: &[u8], time: u64) -> Result<Answer, SliceError>
     ensures frames { (layers : Layers) → IsFrame ethernet frame.now layers
         → IsOkAnd result (Takes ⟦<() as PartialEq>⟧.eq layers time pool.old pool.new) }
@@ -63,7 +67,8 @@ pub fn take(pool: &mut Pool, frame: &[u8], time: u64) -> Result<Answer, SliceErr
     }
 }
 
-/// Drops the streams whose last accepted fragment came before `oldest`.
+/// Drops the incomplete IP payloads whose last accepted fragment has a timestamp below `oldest` (in seconds) from the
+/// reassembly pool.
 pub fn drop_before(pool: &mut Pool, oldest: u64)
     ensures { DropsBefore ⟦<() as PartialEq>⟧.eq oldest pool.old pool.new }
 {

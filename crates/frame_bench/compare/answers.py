@@ -1,6 +1,6 @@
-"""What frame_bench answers, read from the standards' pictures of headers and from the tables of refusals in its documents.
+"""A second implementation of frame_bench, from the standards' header diagrams and its documents' error tables.
 
-It is written apart from the program, so that the two can be compared (hostile.py): `python3 answers.py < LINES`.
+It is written independently of the program, so that the two can be compared (hostile.py): `python3 answers.py < LINES`.
 """
 
 import re
@@ -11,7 +11,7 @@ GREATEST_END = 65535
 
 
 class Refused(Exception):
-    """Bytes that are no frame, with the line that says why."""
+    """Bytes that are not a frame, with the line that reports why."""
 
 
 def refuse_if(condition, *words):
@@ -20,7 +20,7 @@ def refuse_if(condition, *words):
 
 
 class Picture:
-    """A header as its standard draws it: names and numbers of bits, from the first bit on."""
+    """A header as in its standard's diagram: names and widths in bits, from the first bit on."""
 
     def __init__(self, text):
         fields = [field.split(":") for field in text.split()]
@@ -42,7 +42,7 @@ ETHERNET = Picture("destination:48 source:48 type:16")
 COOKED = Picture("packet_type:16 hardware:16 address_length:16 address:64 protocol:16")
 # IEEE 802.1Q, 9.6
 VLAN = Picture("priority:3 drop:1 id:12 type:16")
-# IEEE 802.1AE, 9.3 to 9.7: the tag behind its ether type, without the identifier of the channel
+# IEEE 802.1AE, 9.3 to 9.7: the tag after its ether type, without the secure channel identifier
 MACSEC = Picture(
     "version:1 end_station:1 has_channel:1 broadcast:1 encrypted:1 changed:1 association:2"
     " unused:2 short_length:6 packet_number:32"
@@ -58,7 +58,7 @@ IPV4 = Picture(
 IPV6 = Picture(
     "version:4 traffic_class:8 flow:20 payload_length:16 next:8 hop_limit:8 source:128 destination:128"
 )
-# RFC 8200, 4.3, 4.4 and 4.6: of any options or routing header, what says where it ends
+# RFC 8200, 4.3, 4.4 and 4.6: the fields of an options or routing header that determine its end
 OPTIONS = Picture("next:8 further_eights:8 content:48")
 # RFC 8200, 4.5
 FRAGMENT = Picture("next:8 reserved:8 offset:13 unused:2 more:1 identification:32")
@@ -85,7 +85,7 @@ NUMBER_OF_UDP, NUMBER_OF_TCP, NUMBER_OF_ICMPV4, NUMBER_OF_ICMPV6 = 17, 6, 1, 58
 
 
 class Packet:
-    """The layers of a frame, as the answer names them, and the fragment that the frame carries, if any."""
+    """The layers of a frame, named as in the answer, and the fragment that the frame carries, if any."""
 
     def __init__(self):
         self.link = "-"
@@ -93,9 +93,9 @@ class Packet:
         self.vlan_ids = []
         self.net = "-"
         self.transport = "-"
-        # The bytes of the innermost layer's payload.
+        # Payload of the innermost layer.
         self.payload = b""
-        # The stream's name, the offset in units of 8 bytes, whether more fragments follow, and the bytes.
+        # Stream identifier, offset in units of 8 bytes, whether more fragments follow, and the bytes.
         self.fragment = None
 
     def text(self):
@@ -104,7 +104,7 @@ class Packet:
 
 
 def packet_of(entry, data):
-    """The layers of a frame that begins with a header of this entry; raises where it is none."""
+    """Returns the layers of a frame that begins with a header of this entry; raises if it is not a frame."""
     packet = Packet()
     if entry == "ip":
         refuse_if(len(data) < 1, "len", 1, 0, "Slice", "IpHeader", 0)
@@ -134,14 +134,14 @@ def packet_of(entry, data):
 
 
 def read_ethernet(packet, data):
-    """The type of what stands behind an Ethernet II header."""
+    """Reads an Ethernet II header; returns the ether type of its payload."""
     refuse_if(len(data) < 14, "len", 14, len(data), "Slice", "Ethernet2Header", 0)
     packet.link = "eth"
     return ETHERNET.read(data)["type"]
 
 
 def read_cooked(packet, data):
-    """The ether type of what stands behind the header of a cooked capture, or None where it is of another protocol."""
+    """Reads the header of a cooked capture; returns the ether type of its payload, or None for another protocol."""
     refuse_if(len(data) < 16, "len", 16, len(data), "Slice", "LinuxSllHeader", 0)
     header = COOKED.read(data)
     refuse_if(header["packet_type"] > 7, "sll-packet-type", header["packet_type"])
@@ -154,7 +154,7 @@ def read_cooked(packet, data):
 
 
 def read_extensions(packet, kind, offset):
-    """Goes through tags while they are named and there is room for them: the type and the offset of what is behind."""
+    """Reads tags, at most MOST_LINK_EXTENSIONS; returns the ether type and the offset of the bytes after them."""
     while len(packet.extensions) < MOST_LINK_EXTENSIONS:
         data = packet.payload
         if kind in VLAN_TYPES:
@@ -174,7 +174,7 @@ def read_extensions(packet, kind, offset):
 
 
 def read_macsec(packet, data, offset):
-    """A MACsec tag: the type of its payload, None where that is changed, and the length of the tag."""
+    """Reads a MACsec tag; returns its payload's ether type (None if modified or encrypted) and its length."""
     refuse_if(len(data) < 6, "len", 6, len(data), "Slice", "MacsecHeader", offset)
     tag = MACSEC.read(data)
     refuse_if(tag["version"] == 1, "macsec-version")
@@ -185,7 +185,7 @@ def read_macsec(packet, data, offset):
     refuse_if(len(data) < length, "len", length, len(data), "Slice", "MacsecHeader", offset)
     end = len(data)
     if short > 0:
-        # The short length counts the type of a plain payload, which belongs to the header here.
+        # The short length includes the ether type of an unmodified payload, which is part of the header here.
         end = length + short - (2 if is_plain else 0)
         refuse_if(len(data) < end, "len", end, len(data), "Slice", "MacsecPacket", offset)
     packet.extensions.append("macsec")
@@ -204,7 +204,7 @@ def read_arp(packet, data, offset):
 
 
 def read_ipv4(packet, data, offset, is_open):
-    """An IPv4 packet; its version is open where nothing in front of it says it."""
+    """Reads an IPv4 packet; `is_open` if no ether type before it determines the version."""
     refuse_if(len(data) < 20, "len", 20, len(data), "Slice", "Ipv4Header", offset)
     header = IPV4.read(data)
     refuse_if(header["version"] != 4, "ipv4-version", header["version"])
@@ -231,7 +231,7 @@ def read_ipv4(packet, data, offset, is_open):
 
 
 def authentication(data, source, offset, zero):
-    """An authentication header: the number behind it, and its length."""
+    """Reads an authentication header; returns its next header number and its length."""
     refuse_if(len(data) < 12, "len", 12, len(data), source, "IpAuthHeader", offset)
     header = AUTHENTICATION.read(data)
     refuse_if(header["words_less_two"] == 0, zero)
@@ -248,7 +248,7 @@ def read_ipv6(packet, data, offset, is_open):
     refuse_if(len(data) < end, "len", end, len(data), "Slice", "Ipv6Packet", offset)
     source = "Ipv6HeaderPayloadLen"
     if end == 40 and len(data) > 40:
-        # Length 0: the packet takes all there is.
+        # Length 0: the packet extends to the end of the bytes.
         end = len(data)
         source = "Slice"
     packet.net = "ipv6"
@@ -275,7 +275,7 @@ def read_ipv6(packet, data, offset, is_open):
             number = part["next"]
         is_first = False
         payload, offset = payload[length:], offset + length
-    # The pool goes by the first fragment header.
+    # The pool uses the first fragment header.
     if first_fragment is not None and (first_fragment["more"] == 1 or first_fragment["offset"] > 0):
         stream = (6, header["source"], header["destination"], first_fragment["identification"], number)
         packet.fragment = (stream, first_fragment["offset"], first_fragment["more"] == 1, payload)
@@ -284,7 +284,7 @@ def read_ipv6(packet, data, offset, is_open):
 
 
 def read_transport(packet, number, is_fragment, source, offset):
-    """The transport layer in the payload, where that is whole and of a number that is read."""
+    """Reads the transport layer in the payload, if that is not a fragment and its protocol is supported."""
     if is_fragment:
         return
     data = packet.payload
@@ -318,17 +318,17 @@ def read_transport(packet, number, is_fragment, source, offset):
 
 
 class Stream:
-    """The accepted fragments of a stream, in their order, and the time of the last."""
+    """The accepted fragments of a stream, in their order, and the timestamp of the last one."""
 
     def __init__(self):
-        # Start, end and bytes of each.
+        # Start, end and bytes of each fragment.
         self.accepted = []
         self.end = None
         self.reach = 0
         self.timestamp = None
 
     def refusal(self, limit, offset, more, data):
-        """Why a fragment does not fit into a payload of at most so many bytes, or None."""
+        """Returns the error of a fragment that does not fit into a payload of at most `limit` bytes, or None."""
         end = 8 * offset + len(data)
         if end > limit:
             return f"err too-big {offset} {len(data)} {limit}"
@@ -349,7 +349,7 @@ class Stream:
             self.end = start + len(data)
 
     def is_complete(self):
-        """Whether the end is known and no position below it is missing."""
+        """Returns whether the end is known and no position below it is missing."""
         if self.end is None:
             return False
         covered = 0
@@ -360,7 +360,7 @@ class Stream:
         return covered >= self.end
 
     def payload(self):
-        """Each byte of the last fragment there, up to the known end."""
+        """Returns the bytes up to the known end, each from the last fragment that covers it."""
         data = bytearray(self.end)
         for start, end, part in self.accepted:
             data[start:end] = part
@@ -372,7 +372,7 @@ class Pool:
         self.begin(GREATEST_END)
 
     def begin(self, limit):
-        """Gives all streams up, and goes on with this limit."""
+        """Drops all streams, and continues with this limit."""
         self.limit = limit
         self.streams = {}
         return "ok"
@@ -404,7 +404,7 @@ LIMIT = re.compile(rb"[0-9]{1,5}")
 
 
 def bytes_said(word):
-    """The bytes of a word of hexadecimal digits; raises ValueError where it is none."""
+    """Parses a word of hexadecimal digits; raises ValueError if it is anything else."""
     if word == b"-":
         return b""
     if not HEXADECIMAL.fullmatch(word):
@@ -413,14 +413,14 @@ def bytes_said(word):
 
 
 def number_said(word):
-    """The number of a word of decimal digits; raises ValueError where it is none."""
+    """Parses a number of decimal digits; raises ValueError if it is anything else."""
     if not DECIMAL.fullmatch(word) or int(word) >= 2**64:
         raise ValueError
     return int(word)
 
 
 def limit_said(word):
-    """The limit of a word of decimal digits; raises ValueError where it is none."""
+    """Parses a limit of decimal digits; raises ValueError if it is anything else."""
     if not LIMIT.fullmatch(word) or int(word) > GREATEST_END:
         raise ValueError
     return int(word)
@@ -433,7 +433,7 @@ def entry_said(word):
 
 
 def answer(pool, line):
-    """The answer to one line, behind those that the pool has seen."""
+    """Returns the answer to one line, after those that the pool has processed."""
     words = line.split(b" ")
     try:
         if words[0] == b"slice" and len(words) == 3:
@@ -455,13 +455,13 @@ def answer(pool, line):
 
 
 def lines_of(text):
-    """The lines of a text; a last one without its end counts where it is not empty."""
+    """Returns the lines of a text; a last one without a line feed counts if it is not empty."""
     lines = text.split(b"\n")
     return lines[:-1] if lines[-1] == b"" else lines
 
 
 def answers_to(text):
-    """The answers to the lines of a text, each without its end."""
+    """Returns the answers to the lines of a text, without line feeds."""
     pool = Pool()
     return [answer(pool, line) for line in lines_of(text)]
 

@@ -2,8 +2,8 @@
 
     python3 compare/cases.py out/frame_bench
 
-Before any proof `rt try --cases cases` runs the same files. Lines that are too long to be stored come behind them. The
-status is 1 where an answer is another.
+Before any proof `rt try --cases cases` runs the same files. Lines that are too long to be stored are run after them.
+The status is 1 if an answer differs.
 """
 
 import pathlib
@@ -14,13 +14,13 @@ CASES = pathlib.Path(__file__).resolve().parent.parent / "cases"
 
 
 def stored():
-    """The name, the input and the answers of each stored run."""
+    """Yields the name, the input and the answers of each stored run."""
     for answers in sorted(CASES.glob("*.stdout")):
         yield answers.stem, answers.with_suffix("").read_bytes(), answers.read_bytes()
 
 
 def long_lines():
-    """Lines over several of the pieces that are read at once, and of an odd number of digits."""
+    """Yields lines that extend over several chunks of input, and lines with an odd number of digits."""
     digits = b"a" * 240_000
     front = b"00000001000000000000000000001234"
     given, wanted = b"", b""

@@ -14,7 +14,7 @@ import sys
 
 
 def joined(*parts):
-    """The bytes of some words of hexadecimal digits, or bytes as they are."""
+    """Joins words of hexadecimal digits and bytes."""
     return b"".join(bytes.fromhex(part) if isinstance(part, str) else part for part in parts)
 
 
@@ -41,7 +41,7 @@ AUTHENTICATED = joined(
     *("001504d200100000", "0102030405060708"),
 )
 OPTIONS = joined("46000018000040001400e39dc0a80101c0a80102", "01010100")
-# Both at once, in front of four bytes of the number 59.
+# Both at once, before four bytes of protocol number 59.
 OPTIONS_AND_AUTHENTICATION = joined(
     *("460000280000000040330000c0a80101c0a80102", "01010101"),
     *("3b01000000000002", "00000003", "01020304"),
@@ -62,7 +62,7 @@ TIMES = "000000010000000200000003"
 
 
 def open_packet(number, data):
-    """An IPv6 packet of payload length 0, whose data goes up to the end of the bytes."""
+    """Returns an IPv6 packet of payload length 0, whose data extends to the end of the bytes."""
     return joined(f"600000000000{number:02x}40", bytes(32), data)
 
 
@@ -71,7 +71,7 @@ def macsec(*parts):
 
 
 def message(number, kind):
-    """A message of 20 bytes of this type behind an IPv6 header of payload length 0."""
+    """Returns a message of 20 bytes of this type after an IPv6 header of payload length 0."""
     return open_packet(number, joined(f"{kind:02x}", bytes(19)))
 
 
@@ -84,12 +84,12 @@ TAG_AND_TYPE = (22, 8, "Slice", "MacsecHeader", 14)
 
 
 def behind_ipv6(required, layer):
-    """Of what a payload length of 0 says nothing is there."""
+    """Returns rows for a packet of payload length 0 that ends with its header: no byte of the next layer is present."""
     return [VERSION, IPV6, (41, required, "Ipv6HeaderPayloadLen", layer, 40)]
 
 
 def messages(number, kinds, layer):
-    """Messages with a header of eight bytes."""
+    """Returns cases of messages with a header of eight bytes."""
     table = [*behind_ipv6(8, layer), (48, 8, "Slice", layer, 40)]
     return [("ip", message(number, kind), table) for kind in kinds]
 
@@ -174,8 +174,9 @@ CUTS = [
     ),
     ("ip", AUTHENTICATED, [VERSION, IPV4, (52, 52, "Slice", "Ipv4Packet", 0)]),
     ("ip", OPTIONS, [VERSION, IPV4, (24, 24, "Slice", "Ipv4Header", 0)]),
-    # MACsec tags: a VLAN tag behind one, and an ARP packet behind one with an identifier; a short length that counts
-    # the type; a modified payload; an encrypted one behind an identifier, and one without a short length.
+    # MACsec tags: one before a VLAN tag, and one with a secure channel identifier before an ARP packet; a short length
+    # that includes the ether type; a modified payload; an encrypted one after an identifier, and one without a short
+    # length.
     (
         "eth",
         macsec("000000000001", "8100", "00011234"),
@@ -203,12 +204,11 @@ CUTS = [
         [ETHERNET, TAG, (28, 14, "Slice", "MacsecHeader", 14), (31, 17, "Slice", "MacsecPacket", 14)],
     ),
     ("eth", macsec("0c0000000001"), [ETHERNET, TAG]),
-    # Replies, unreachable destinations, source quenches, redirects, times exceeded, problems with parameters and a
-    # type that is not known, of ICMPv4; errors, echoes, the messages of neighbours and routers, and a type that is not
-    # known, of ICMPv6.
+    # ICMPv4: echo reply, destination unreachable, source quench, redirect, time exceeded, parameter problem and an
+    # unknown type. ICMPv6: errors, echo reply, the messages of neighbor and router discovery, and an unknown type.
     *messages(1, [0, 3, 4, 5, 11, 12, 42], "Icmpv4"),
     *messages(58, [1, 2, 3, 4, 129, 133, 134, 135, 136, 137, 200], "Icmpv6"),
-    # By an ether type, where the version is that of the type.
+    # After an ether type, which determines the version.
     (
         "eth",
         joined(ADDRESSES, "0800", OPTIONS_AND_AUTHENTICATION),
@@ -249,10 +249,10 @@ CUTS = [
     ),
 ]
 
-# Lengths above those that the frames have.
+# Lengths above those of the frames.
 LONGER = [63, 64, 255, 256, 1023, 4096, 32767, 32768, 65535]
 
-# What follows an answer `ok` for an Ethernet II frame over IPv4.
+# Start of an answer `ok` for an Ethernet II frame with IPv4.
 OK = "ok eth - ipv4"
 
 
@@ -261,7 +261,7 @@ def word(number):
 
 
 def lying():
-    """A frame, a place in it, the bytes that are put there, and the answer."""
+    """Yields a frame, a position in it, the bytes that are written there, and the answer."""
     total, udp = "Ipv4HeaderTotalLen", "UdpHeaderLen"
     for length in range(20):
         yield DATAGRAM, 16, word(length), f"err len 20 {length} {total} Ipv4Packet 14"
@@ -294,7 +294,7 @@ def lying():
 
 
 def rows():
-    """Each line and its answer."""
+    """Yields each line and its answer."""
     for entry, frame, table in CUTS:
         shortest = 0
         for below, required, source, layer, start in table:
@@ -302,7 +302,7 @@ def rows():
                 answer = f"err len {required} {length - start} {source} {layer} {start}"
                 yield f"slice {entry} {frame[:length].hex() or '-'}", answer
             shortest = below
-    # A payload whose end nothing but that of the bytes sets is there as far as it goes.
+    # A payload that no length field limits extends to the end of the bytes.
     for length in range(40, 44):
         yield f"slice ip {OPEN_LENGTH[:length].hex()}", f"ok - - ipv6 - {OPEN_LENGTH[40:length].hex() or '-'}"
     for frame, place, data, answer in lying():

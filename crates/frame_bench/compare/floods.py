@@ -26,7 +26,7 @@ GREATEST = 2**64 - 1
 
 
 def fragment(units, more, payload, identification=1):
-    """An IPv4 packet that carries a fragment of UDP (RFC 791, 3.1)."""
+    """Returns an IPv4 packet that carries a fragment of UDP (RFC 791, 3.1)."""
     flags = more << 13 | units
     front = struct.pack(">BBHHHBBH", 0x45, 0, 20 + len(payload) // 2, identification, flags, 64, 17, 0)
     return front.hex() + "c0a80101c0a80102" + payload
@@ -42,7 +42,7 @@ WHOLE = "payload 17 000102030405060708090a0b0c0d0e0f"
 
 
 def cycle(rows, count):
-    """These lines again and again, so many in all, with their answers."""
+    """Repeats lines with their answers, `count` in all."""
     return itertools.islice(itertools.cycle(rows), count)
 
 
@@ -50,10 +50,10 @@ def first_fragments(channels):
     return ((pool_line(FIRST, channel), "none") for channel in channels)
 
 
-# A pool finds names by std's FoldHasher, which has a fixed seed and takes each write of at most 8 bytes by a
-# multiplication that gives 0 if the bytes equal the state before. Up to three bytes, single ones and numbers of two, are
-# given to it as one number, after a number below 256 (ep_defrag/src/name_hasher.rt). A channel from 256 on is given to
-# it as it is. If it equals this state the state becomes 0, so the names of all such channels collide.
+# A pool finds stream identifiers by std's FoldHasher, which has a fixed seed and processes each write of up to 8 bytes
+# by a multiplication whose result is 0 if the bytes equal the state before. Up to three bytes, single ones and numbers
+# of two, are passed to it as one number, after a number below 256 (ep_defrag/src/name_hasher.rt). A channel from 256 on
+# is passed unchanged. If it equals the state, the state becomes 0, so the identifiers of all such channels collide.
 MULTIPLIER = 0x9E3779B97F4A7C15
 SEED = 0x243F6A8885A308D3
 WRITTEN_AT_ONCE = 1 << 40
@@ -66,7 +66,7 @@ def fold(state, number, length):
 
 
 def alike_channel(identification):
-    """The channel with which the name of a fragment of this identification hashes as all others of such channels."""
+    """Returns the channel for this identification that makes the stream identifier collide with all others made so."""
     state = SEED
     for waiting in (
         bytes([2, 0]),  # no tags
@@ -81,7 +81,7 @@ def alike_channel(identification):
 
 
 def names(count, channel_of):
-    """So many streams, each named by its number's low 16 bits and a channel: all begin, and then each is completed."""
+    """Yields the lines of `count` streams, identified by 16 bits and a channel: all begin, then each is completed."""
     for units, more, payload, answer in ((0, 1, EIGHT, "none"), (1, 0, "08090a0b0c0d0e0f", WHOLE)):
         for number in range(count):
             packet = fragment(units, more, payload, number & 0xFFFF)
@@ -89,7 +89,7 @@ def names(count, channel_of):
 
 
 def floods(options):
-    """The name of each flood, and its lines with their answers."""
+    """Yields the name of each flood, and its lines with their answers."""
     lines, streams = options.lines, options.streams
     long_frame = "0708090a0b0c0102030405061234" + "5a" * 65521
     long_line = (f"slice eth {long_frame}", "ok eth - - - " + "5a" * 65521)
@@ -170,13 +170,13 @@ def floods(options):
 
 
 def pieces(rows):
-    """The lines and their answers, in pieces of some length."""
+    """Yields the lines and their answers, in chunks of up to 4,096 lines."""
     while part := list(itertools.islice(rows, 4096)):
         yield tuple("".join(f"{text}\n" for text in texts).encode("ascii") for texts in zip(*part))
 
 
 class Reading(threading.Thread):
-    """Reads what a program writes, up to its end."""
+    """Reads the output of a program, up to its end."""
 
     def __init__(self, source):
         super().__init__()
@@ -192,14 +192,14 @@ class Reading(threading.Thread):
 
 
 def sizes_of(process):
-    """The greatest resident size of a process that still runs, and its present one, in MiB."""
+    """Returns the greatest and the current resident size of a running process, in MiB."""
     with open(f"/proc/{process}/status", encoding="ascii") as status:
         kilobytes = dict(line.split(":") for line in status if line.startswith(("VmHWM:", "VmRSS:")))
     return tuple(int(kilobytes[name].split()[0]) / 1024 for name in ("VmHWM", "VmRSS"))
 
 
 def measure(program, rows):
-    """How many lines were answered, whether rightly, in how many processor seconds, and the sizes in MiB."""
+    """Returns the number of answers, whether they are right, the processor seconds, and the sizes in MiB."""
     run = subprocess.Popen([program], stdin=subprocess.PIPE, stdout=subprocess.PIPE)
     reading = Reading(run.stdout)
     wanted, length = hashlib.sha256(), 0
@@ -212,7 +212,7 @@ def measure(program, rows):
     while reading.length < length and run.poll() is None:
         time.sleep(0.01)
     if rows is None:
-        # Answered at the end of input alone: until then, all is read.
+        # The line is answered only at the end of the input: wait until all of it is read.
         time.sleep(1)
         wanted.update(b"err line\n")
     sizes = sizes_of(run.pid)

@@ -20,16 +20,16 @@ import answers
 
 VLAN_TYPES = [0x8100, 0x88A8, 0x9100]
 EXTENSIONS = [0, 43, 44, 51, 60]
-# The VLAN identifiers of a stream's frames, the innermost first, where None is a MACsec tag: some differ in their order
-# alone, in how many they are, or in any one of three.
+# VLAN identifiers of a stream's frames, innermost first; None is a MACsec tag. Some differ only in their order, in
+# their number, or in any one of three.
 STREAM_TAGS = [[], [], [], [1], [1], [2], [1, 2], [2, 1], [None, 1]]
 STREAM_TAGS += [[1, 2, 3], [1, 2, 4], [1, 4, 3], [3, 2, 1], [4, 2, 1]]
-# How often a field is not what the other fields ask for.
+# How often a field does not match the other fields.
 SELDOM = 0.06
 
 
 class Frames:
-    """Frames with each layer's fields random, most of them with lengths that hold."""
+    """Frames with random fields in each layer, most of them with correct lengths."""
 
     def __init__(self, chance):
         self.chance = chance
@@ -45,13 +45,13 @@ class Frames:
         return self.chance.randbytes(length)
 
     def length_near(self, length, most):
-        """A length field: mostly this length, and else near it or anything."""
+        """Returns a length field: mostly this length, otherwise one near it or any other."""
         if not self.seldom():
             return length & most
         near = [0, 1, length - 1, length + 1, length - 8, length + 8, self.chance.randrange(most + 1), most]
         return self.chance.choice(near) & most
 
-    # Transport layers: the number and the bytes.
+    # Transport layers: protocol number and bytes.
 
     def udp(self):
         payload = self.some_bytes()
@@ -89,7 +89,7 @@ class Frames:
     # Headers of IP.
 
     def extension(self, kind, number):
-        """An extension header of this kind, in front of what has this number."""
+        """Returns an extension header of this kind, with this next header number."""
         if kind == 44:
             more_and_offset = self.chance.choice([0, 0, 1, self.chance.randrange(65536)])
             front = bytes([number, self.chance.randrange(256)])
@@ -102,7 +102,7 @@ class Frames:
         return bytes([number, self.length_near(eights, 0xFF)]) + self.chance.randbytes(6 + 8 * eights)
 
     def ipv4(self, number, data, fragment=None, names=None, authenticated=False):
-        """An IPv4 packet: its fragment is an offset and a bit, its names are addresses and an identification."""
+        """Returns an IPv4 packet; `fragment` is an offset and a flag, `names` addresses and identification."""
         if authenticated or number == 51 or (fragment is None and self.seldom(0.08)):
             data = self.extension(51, number) + data
             number = 51
@@ -119,7 +119,7 @@ class Frames:
         return 0x0800, front + addresses + options + data
 
     def ipv6(self, number, data, names=None, kinds=None):
-        """An IPv6 packet with extension headers of these kinds, the outermost first."""
+        """Returns an IPv6 packet with extension headers of these kinds, outermost first."""
         if kinds is None:
             count = self.chance.choice([0, 0, 0, 1, 1, 2, 3, 4, 6])
             kinds = [self.chance.choice(EXTENSIONS[1:] if place else EXTENSIONS) for place in range(count)]
@@ -155,7 +155,7 @@ class Frames:
     # Links and tags.
 
     def tagged(self, kind, data, tags):
-        """What is behind tags, the innermost first: a VLAN's identifier, or None for MACsec."""
+        """Prepends tags, innermost first, to a payload: a VLAN identifier, or None for MACsec."""
         for identifier in tags:
             if identifier is not None:
                 data = struct.pack(">HH", self.chance.randrange(16) << 12 | identifier, kind) + data
@@ -196,7 +196,7 @@ class Frames:
         return data
 
     def mutated(self, data):
-        """The same with some bytes changed, cut off, taken out or put in."""
+        """Returns the data with some bytes changed, truncated, removed or inserted."""
         for _ in range(self.chance.choice([1, 1, 2, 4])):
             at = self.chance.randrange(len(data) + 1)
             way = self.chance.randrange(6)
@@ -216,19 +216,19 @@ class Frames:
 
 
 class Lines:
-    """Lines to the program, of which those to its pool are of few streams."""
+    """Lines to the program; the lines to its pool belong to few streams."""
 
     def __init__(self, chance):
         self.chance = chance
         self.frames = Frames(chance)
         self.now = 0
-        # Fragments that are still to be given, of payloads that were cut.
+        # Fragments of payloads that are still to be sent.
         self.waiting = []
         # The stream of the last fragment of any length.
         self.last = None
 
     def number(self, value):
-        """A number as a word, with leading zeros now and then."""
+        """Returns a number as a word, sometimes with leading zeros."""
         digits = str(value)
         if self.frames.seldom(0.03):
             digits = digits.zfill(self.chance.choice([2, 19, 20, 21]))
@@ -243,10 +243,10 @@ class Lines:
         return self.chance.randrange(2) if not self.frames.seldom(0.03) else self.chance.choice([2**64 - 1, 2**64])
 
     def stream(self, identification):
-        """What names a stream but for its channel, and what stands in front of each fragment's bytes.
+        """Returns the identifier of a stream, without its channel, and the headers before each fragment's bytes.
 
-        These are the version, tags, addresses, identification and number, and the kinds of the extension headers behind
-        an IPv6 fragment header, or whether an IPv4 header is authenticated.
+        These are the version, tags, addresses, identification and protocol number, and the kinds of the extension
+        headers after an IPv6 fragment header, or whether an IPv4 header is authenticated.
         """
         version = self.chance.choice([4, 4, 6])
         tags = self.chance.choice(STREAM_TAGS)
@@ -258,12 +258,12 @@ class Lines:
         return version, tags, address, identification, number, behind
 
     def beside(self, stream):
-        """A stream that differs from another in its tags alone, if at all."""
+        """Returns a stream that differs from another at most in its tags."""
         version, _, *others = stream
         return version, self.chance.choice(STREAM_TAGS), *others
 
     def fragment(self, stream, offset, more, data):
-        """A frame that carries a fragment."""
+        """Returns a frame that carries a fragment."""
         version, tags, address, identification, number, behind = stream
         if version == 4:
             names = (bytes([192, 168, 1, 1, 192, 168, 1, 2 + address]), identification)
@@ -296,7 +296,7 @@ class Lines:
         return self.fragment(self.last, offset, self.frames.seldom(0.6), self.chance.randbytes(length))
 
     def cut(self):
-        """Cuts of one payload, or of two whose streams differ in their tags, to be given among other lines."""
+        """Queues cuts of one payload, or of two whose streams differ in their tags, to be sent among other lines."""
         stream, channel = self.stream(self.chance.randrange(2, 8)), self.channel()
         cuts = [(stream, channel, part) for part in self.parts()]
         if self.frames.seldom(0.3):
@@ -306,7 +306,7 @@ class Lines:
         self.waiting.extend(reversed(cuts))
 
     def parts(self):
-        """Cuts of one payload, in any order and with repeats."""
+        """Returns cuts of one payload, in any order and with repeats."""
         whole = self.chance.randbytes(self.chance.choice([40, 41, 64, 200, 1000, self.chance.randrange(3000)]))
         if self.frames.seldom(0.01):
             whole = self.chance.randbytes(self.chance.choice([65527, 65528, 65535]))
@@ -341,7 +341,7 @@ class Lines:
         return f"frag {entry} {self.number(self.time())} {self.number(channel)} {data.hex() or '-'}"
 
     def limit_line(self):
-        """Mostly a limit of a lasting pool, and else one that leaves out some fragments, or that is none."""
+        """Returns mostly the greatest limit, otherwise one that rejects some fragments, or an invalid line."""
         limit = 65535
         if self.frames.seldom(0.25):
             limit = self.chance.choice([0, 7, 8, 9, 16, 24, 40, 64, 200, 1000, 3000, self.chance.randrange(65536)])
@@ -358,7 +358,7 @@ class Lines:
         return f"slice {entry} {data.hex() or '-'}"
 
     def mutated(self, line):
-        """A line that is near one that asks something."""
+        """Returns a line that differs a little from a request."""
         at = self.chance.randrange(len(line) + 1)
         way = self.chance.randrange(8)
         byte = self.chance.choice([b" ", b"\t", b"\r", b"\0", b"\xff", b"g", b"+", b"-", b"0", self.chance.randbytes(1)])
@@ -399,7 +399,7 @@ class Lines:
 
 
 def kind_of(answer):
-    """What an answer says, without its numbers and bytes."""
+    """Returns the kind of an answer: its words without numbers and bytes."""
     words = answer.split(" ")
     if words[0] == "ok" and len(words) > 1:
         tags = "+".join(sorted({tag.partition(":")[0] for tag in words[2].split(",")}))
@@ -410,7 +410,7 @@ def kind_of(answer):
 
 
 def compare(program, seed, batch, count):
-    """One run of the program: what its answers say, and the differences."""
+    """Runs the program once; returns the counts of kinds, the number of answers and the differences."""
     lines = Lines(random.Random(f"{seed} {batch}"))
     text = b"".join(lines.line() + b"\n" for _ in range(count))
     expected = answers.answers_to(text)

@@ -1,4 +1,4 @@
--- Each input has one output.
+-- Each input has exactly one output.
 use Rattle.std.proofs.Common.{◌≡◌, ◌⊎◌, inl, inr, ℕ, List, [], ◌∷◌, ◌++◌}
 use Rattle.std.proofs.Common.{refl, sym, ap, ◌∙◌, subst}
 use Rattle.std.specs.Prelude.{codes}
@@ -22,16 +22,16 @@ use Rattle.frame_bench.specs.declared.requests.Request.{Request}
 use Rattle.frame_bench.specs.declared.requests.Request.TheVariants.{Slice, Fragment, Drop, Limit}
 use Rattle.frame_bench.proofs.AskLemmas.{ask_bytes, ask_cases, ask_one}
 
--- there is one of which this holds, and one only
+-- Holds if exactly one value has the property.
 pub record HasOne {X : Type 0} (P : X → Type 0) : Type 0 where
   pub some : (x : X) × P x
   pub one : (x y : X) → P x → P y → x ≡ y
 
--- one is named
+-- Exactly one value is equal to a value.
 HasOne-is : {X : Type 0} (value : X) → HasOne (λ x. x ≡ value)
 HasOne-is value = record { some = (value, refl); one = λ x y a b. a ∙ sym b }
 
--- one is told by another
+-- Exactly one value is determined by another if that one is determined.
 HasOne-by : {X Y : Type 0} (P : Y → Type 0) (Q : Y → X → Type 0) → HasOne P → ((y : Y) → HasOne (Q y))
     → HasOne (λ x. (y : Y) × P y × Q y x)
 HasOne-by P Q told each = record {
@@ -40,7 +40,7 @@ HasOne-by P Q told each = record {
       (each a.0).one x z a.2 (subst (λ y. Q y z) (sym (told.one a.0 b.0 a.1 b.1)) b.2);
 }
 
--- what is told of bytes from an entry on: of the frame that they are, or of why they are none
+-- Holds if the value is that of the frame that the bytes are, or that of the error that rejects them.
 abbrev IsToldOf : {X : Type 0} → Entry → List ℕ → (Layers → X) → (SliceError → X) → X → Type 0
 IsToldOf entry bytes of_layers of_error x =
     ((layers : Layers) × IsFrame entry bytes layers × (x ≡ of_layers layers))
@@ -68,7 +68,7 @@ HasOne-told entry bytes of_layers of_error frame = record {
   one = told_one entry bytes of_layers of_error frame;
 }
 
--- what a line's request says, or else this
+-- Holds if the value is that of a line's request, or the default if the line is none.
 abbrev IsAsked : {X : Type 0} → List ℕ → (Request → List ℕ → X → Type 0) → X → X → Type 0
 IsAsked line Says else x =
     ((request : Request) × (bytes : List ℕ) × Asks line request bytes × Says request bytes x)
@@ -100,7 +100,7 @@ module _ {X : Type 0} (line : List ℕ) (Says : Request → List ℕ → X → T
 
 module _ (decided : (entry : Entry) (bytes : List ℕ) → AreBytes bytes
     → IsDecided (IsFrame entry bytes) (RefusesFrame entry bytes)) where
-  -- a request makes something of a pool, and is replied to
+  -- A request has exactly one history after it, and exactly one reply.
   after_request : (before : PoolHistory) (request : Request) (bytes : List ℕ) → AreBytes bytes
       → HasOne (IsAfterRequest before request bytes)
   after_request before (Slice entry) bytes are = HasOne-is before
@@ -120,7 +120,7 @@ module _ (decided : (entry : Entry) (bytes : List ℕ) → AreBytes bytes
   request_reply history (Drop timestamp) bytes are = HasOne-is (call_reply history (drops_streams timestamp))
   request_reply history (Limit max) bytes are = HasOne-is (codes "ok")
 
-  -- so does a line, and so do lines
+  -- A line has exactly one history after it, and so do lines.
   after_line : (before : PoolHistory) (line : List ℕ) → HasOne (IsAfterLine before line)
   after_line before line = HasOne-asked line (IsAfterRequest before) before (after_request before)
 
@@ -139,7 +139,7 @@ module _ (decided : (entry : Entry) (bytes : List ℕ) → AreBytes bytes
       let same = (after_line before line).one x.0 y.0 x.1 y.1 in
       after_one x.0 lines a b x.2 (subst (λ (h : PoolHistory). IsAfterLines h lines b) (sym same) y.2)
 
-  -- a line has an answer
+  -- A line has exactly one answer.
   line_answer : (before : List (List ℕ)) (line : List ℕ) → HasOne (IsAnswer before line)
   line_answer before line =
       HasOne-asked line (IsReplyAfter before) (codes "err line")
@@ -148,7 +148,7 @@ module _ (decided : (entry : Entry) (bytes : List ℕ) → AreBytes bytes
       (record { some = after_some (new_pool 65535) before; one = after_one (new_pool 65535) before })
       (λ history. request_reply history request bytes are))
 
-  -- lines have answers
+  -- Lines have answers.
   answers_some : (before lines : List (List ℕ)) → (text : List ℕ) × AreAnswers before lines text
   answers_some before [] = ([], refl)
   answers_some before (line ∷ lines) =
@@ -156,7 +156,7 @@ module _ (decided : (entry : Entry) (bytes : List ℕ) → AreBytes bytes
       let rest = answers_some (before ++ (line ∷ [])) lines in
       (first.0 ++ line_feed ∷ rest.0, (first.0, rest.0, first.1, refl, rest.1))
 
-  -- lines have no other answers
+  -- Lines have no other answers.
   answers_one : (before lines : List (List ℕ)) (a b : List ℕ) → AreAnswers before lines a → AreAnswers before lines b
       → a ≡ b
   answers_one before [] a b x y = x ∙ sym y
@@ -165,7 +165,7 @@ module _ (decided : (entry : Entry) (bytes : List ℕ) → AreBytes bytes
       let rest = answers_one (before ++ (line ∷ [])) lines x.1 y.1 x.4 y.4 in
       x.3 ∙ rw (first, rest) (sym y.3)
 
-  -- an input has one output
+  -- An input has exactly one output.
   pub answered : (before : List (List ℕ)) (input : List ℕ) → IsAnswered before input
   answered before input = record {
     some = answers_some before (lines_of input);

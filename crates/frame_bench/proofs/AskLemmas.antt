@@ -1,4 +1,4 @@
--- What a line asks, which is one thing or nothing.
+-- A line is exactly one request, or none.
 use Rattle.std.proofs.Common.{◌≡◌, ◌≢◌, ◌⊎◌, inl, inr, ℕ, List, [], ◌∷◌, ◌++◌}
 use Rattle.std.proofs.Common.{refl, sym, ap, ◌∙◌, subst, arith, Result, Ok, Err}
 use Rattle.std.specs.Prelude.{codes}
@@ -19,7 +19,7 @@ use Rattle.frame_bench.proofs.RequestLemmas.{asked_from_timestamp, asked_limit, 
 use Rattle.frame_bench.proofs.RequestLemmas.{asks_fragment}
 use Rattle.frame_bench.proofs.TextLemmas.{NumberAt, number_at_cases, number_cases, number_one, limit_cases, limit_one}
 
--- a text begins with a word or does not
+-- A text begins with a word or does not.
 front_cases : (word text : List ℕ) → ((rest : List ℕ) × (text ≡ word ++ rest)) ⊎ ((rest : List ℕ) → text ≢ word ++ rest)
 front_cases [] text = inl (text, refl)
 front_cases (w ∷ word) [] = inr (λ rest e. cc e)
@@ -33,7 +33,7 @@ front_cases (w ∷ word) (x ∷ text) =
       | inr other ↦ inr (λ rest e. let head : x ≡ w = cc e in other head)
     ]
 
--- a text is `-` or not
+-- A text is `-` or not.
 dash_cases : (text : List ℕ) → (text ≡ codes "-") ⊎ (text ≢ codes "-")
 dash_cases [] = inr (λ e. cc e)
 dash_cases (x ∷ []) =
@@ -43,7 +43,7 @@ dash_cases (x ∷ []) =
     ]
 dash_cases (x ∷ y ∷ text) = inr (λ e. cc e)
 
--- a text that is not `-` says bytes or does not
+-- A text that is not `-` represents bytes or does not.
 digits_cases : (text : List ℕ) (decoded : Result (List ℕ) FromHexError) → text ≢ codes "-" → decode_of text ≡ decoded
     → ((bytes : List ℕ) × IsHex text bytes) ⊎ ((bytes : List ℕ) → IsHex text bytes → ⊥)
 digits_cases [] decoded other is =
@@ -52,7 +52,7 @@ digits_cases (x ∷ text) (Ok bytes) other is = inl (bytes, inr (omega arith, is
 digits_cases (x ∷ text) (Err error) other is =
     inr (λ bytes. λ h. elim h [ inl dash ↦ other dash.0 | inr digits ↦ (cc (digits.1, is)) ])
 
--- a text says bytes or does not
+-- A text represents bytes or does not.
 hex_cases : (text : List ℕ) → ((bytes : List ℕ) × IsHex text bytes) ⊎ ((bytes : List ℕ) → IsHex text bytes → ⊥)
 hex_cases text =
     elim (dash_cases text) [
@@ -60,19 +60,19 @@ hex_cases text =
       | inr other ↦ digits_cases text (decode_of text) other refl
     ]
 
--- a text says no other bytes
+-- A text represents no other bytes.
 hex_one : (text a b : List ℕ) → IsHex text a → IsHex text b → a ≡ b
 hex_one text a b (inl x) (inl y) = x.1 ∙ sym y.1
 hex_one text a b (inl x) (inr y) = let odd = rw x.0 at y.1 in cc odd
 hex_one text a b (inr x) (inl y) = let odd = rw y.0 at x.1 in cc odd
 hex_one text a b (inr x) (inr y) = decode_of-same text a b x.1 y.1
 
--- what a text says are bytes
+-- The numbers that a text represents are below 256.
 hex_bytes : (text bytes : List ℕ) → IsHex text bytes → AreBytes bytes
 hex_bytes text bytes (inl x) = rw x.1 (λ i. omega arith)
 hex_bytes text bytes (inr x) = (decode_of-ok text bytes x.1).3
 
--- a text begins with an entry's word and a space, or with none
+-- A text begins with the word of an entry and a space, or with none.
 entry_cases : (text : List ℕ)
     → ((entry : Entry) × (rest : List ℕ) × EntryAt text entry rest)
     ⊎ ((entry : Entry) (rest : List ℕ) → EntryAt text entry rest → ⊥)
@@ -100,7 +100,7 @@ entry_cases text =
     no_entry text no_ethernet no_linux_sll no_ip Ip rest at =
         no_ip rest (begins_with text at.0 (codes "ip") rest at.1 at.2)
 
--- a line asks something, or it asks nothing
+-- Holds if a line is a request, or is none.
 abbrev AsksOrNot : List ℕ → Type 0
 AsksOrNot line =
     ((request : Request) × (bytes : List ℕ) × Asks line request bytes)
@@ -178,7 +178,7 @@ limit_line_cases rest =
           none asked.0 asked.2)
     ]
 
--- a line that begins with none of the words asks nothing
+-- A line that begins with none of the words is not a request.
 no_ask : (line : List ℕ) → ((rest : List ℕ) → line ≢ codes "slice" ++ space ∷ rest)
     → ((rest : List ℕ) → line ≢ codes "frag" ++ space ∷ rest)
     → ((rest : List ℕ) → line ≢ codes "drop" ++ space ∷ rest)
@@ -191,7 +191,7 @@ no_ask line no_slice no_fragment no_drop no_limit (Fragment entry timestamp chan
 no_ask line no_slice no_fragment no_drop no_limit (Drop timestamp) bytes asks = no_drop asks.0 asks.1
 no_ask line no_slice no_fragment no_drop no_limit (Limit max) bytes asks = no_limit asks.0 asks.1
 
--- a line asks something or nothing
+-- A line is a request or is none.
 pub ask_cases : (line : List ℕ) → AsksOrNot line
 ask_cases line =
     elim (front_cases (codes "slice" ++ space ∷ []) line) [
@@ -208,14 +208,14 @@ ask_cases line =
       ]
     ]
 
--- what a line asks are bytes
+-- The numbers in a request are below 256.
 pub ask_bytes : (line : List ℕ) (request : Request) (bytes : List ℕ) → Asks line request bytes → AreBytes bytes
 ask_bytes line (Slice entry) bytes asks = hex_bytes asks.1 bytes asks.4
 ask_bytes line (Fragment entry timestamp channel) bytes asks = hex_bytes asks.3 bytes asks.8
 ask_bytes line (Drop timestamp) bytes asks = rw asks.3 (λ i. omega arith)
 ask_bytes line (Limit max) bytes asks = rw asks.3 (λ i. omega arith)
 
--- a line asks nothing else
+-- A line is no other request.
 pub ask_one : (line : List ℕ) (r s : Request) (a b : List ℕ) → Asks line r a → Asks line s b → (r ≡ s) × (a ≡ b)
 ask_one line (Slice entry) s a b (word, text, names, parts, is) y =
     let again =

@@ -1,4 +1,4 @@
--- Digits that are decoded whatever they are, and tested in the end.
+-- Decoding of all characters as digits, with one test at the end.
 use Rattle.std.proofs.Common.{◌≡◌, ℕ, ◌+◌, ◌*◌, ◌%◌, ◌<◌, ◌≤◌, Bool, true, if◌then◌else◌, nat_lt, eqb, List, length, take, drop, get_or}
 use Rattle.std.proofs.Common.{slice_index, slice_set, unwrap_or, Option, Some, None, Ok, refl, ap, ◌∙◌, inl, inr, arith}
 use Rattle.std.specs.Int.Bits.{bit_or}
@@ -14,7 +14,7 @@ use Rattle.frame_bench.specs.declared.hex_text.TheConstants.{DIGIT_VALUES}
 
 -- ---- the table
 
--- the value of a digit, and 256 of any other byte
+-- value of a digit, and 256 for any other byte
 abbrev pub table_value : ℕ → ℕ
 table_value byte = unwrap_or (hex_digit_value byte) 256
 
@@ -26,7 +26,7 @@ value-in_table byte below = eqb-true _ _ (agree_below_at has_value (λ _. true) 
 
 -- ---- lower case digits
 
--- a digit as it is computed
+-- digit as it is computed
 abbrev pub computed_digit : ℕ → ℕ
 computed_digit value = if nat_lt value 10 then 48 + value else 87 + value
 
@@ -38,16 +38,16 @@ digit-computed value below = eqb-true _ _ (agree_below_at has_digit (λ _. true)
 
 -- ---- pairs of digits
 
--- a value that is small is that of a digit
+-- A value below 256 is that of a digit.
 some_value : (found : Option ℕ) → unwrap_or found 256 < 256 → found ≡ Some (unwrap_or found 256)
 some_value (Some value) small = refl
 some_value None small = absurd (omega (arith, small))
 
--- and that of a digit is small
+-- The value of a digit is below 16.
 small_value : (byte : ℕ) → is_hex_digit byte ≡ true → table_value byte < 16
 small_value byte digit = grind (arith)
 
--- the byte of two digits
+-- Two digits represent the byte of their values.
 pub pair_read : (high low at : ℕ) → 16 * table_value high + table_value low < 256
     → pair_value high low at ≡ Ok (table_value high * 16 + table_value low)
 pair_read high low at small =
@@ -57,14 +57,14 @@ pair_read high low at small =
     ap (digit_or_error low (at + 1)) (some_value (hex_digit_value low) (omega (arith, small))) in
     rw (first, second) refl
 
--- after some pairs: if all sums are bytes, they are the first bytes of the text, and if one is not, the text does not
--- decode
+-- Holds if after some pairs, if all sums are below 256, the bytes so far are the first bytes of the text, and if one is
+-- not, the text does not decode.
 pub record IsDecodedTo (text bytes : List ℕ) (at seen : ℕ) : Type 0 where
   pub front : seen < 256
       → decode_pairs 0 text ≡ prepend (take at bytes) (decode_pairs (2 * at) (drop (2 * at) text))
   pub other : 256 ≤ seen → AllPass is_hex_digit text → ⊥
 
--- one pair more
+-- It holds after one more pair.
 pub IsDecodedTo-more : (text bytes : List ℕ) (at seen : ℕ) → length text ≡ 2 * length bytes → at < length bytes
     → IsDecodedTo text bytes at seen
     → (let sum = 16 * table_value (slice_index text (2 * at)) + table_value (slice_index text (2 * at + 1)) in
@@ -93,7 +93,7 @@ IsDecodedTo-more text bytes at seen long within decoded =
           ];
     }
 
--- all pairs
+-- After all pairs the bytes are the text's.
 pub IsDecodedTo-all : (text bytes : List ℕ) (at seen : ℕ) → length text ≡ 2 * length bytes → length bytes ≤ at
     → IsDecodedTo text bytes at seen → seen < 256 → decode_of text ≡ Ok bytes
 IsDecodedTo-all text bytes at seen long whole decoded small =

@@ -1,4 +1,4 @@
--- The program's pool after the calls that lines make.
+-- The program's pool after the calls of lines.
 use Rattle.std.proofs.Common.{◌≡◌, ℕ, nat_eq, List, [], ◌∷◌, ◌++◌, None, refl, subst}
 use Rattle.std.specs.Prelude.{Result, Ok, Err, OnOk}
 use Rattle.etherparse.specs.Types.IpDefragPool.{IpDefragPool}
@@ -6,17 +6,17 @@ use Rattle.etherparse.specs.Pools.{limit_of, HoldsTable}
 use Rattle.frame_bench.specs.LineCalls.{PoolHistory, new_pool, IsAfterLine, IsAfterLines, IsHistory, HoldsHistory}
 use Rattle.frame_bench.specs.LineCalls.{HoldsLines}
 
--- what holds anyway holds at Ok
+-- A fact holds if the result is Ok.
 pub at_ok : {T E P : Type 0} (r : Result T E) → P → OnOk r P
 at_ok (Ok x) p = p
 at_ok (Err e) p = tt
 
--- a new pool is what the request for it made
+-- A new pool is in the state after the request for it.
 pub HoldsHistory-new : (pool : IpDefragPool ℕ ℕ) (limit : ℕ) → limit_of pool ≡ limit
     → HoldsTable nat_eq pool (λ name. None) → HoldsHistory (new_pool limit) pool
 HoldsHistory-new pool limit is empty = record { limit = is; table = empty }
 
--- what some lines made of a pool and then one more
+-- The history after some lines and one more is that of the one line after that of the others.
 IsAfterLines-push : (lines : List (List ℕ)) (line : List ℕ) (before history after : PoolHistory)
     → IsAfterLines before lines history → IsAfterLine history line after
     → IsAfterLines before (lines ++ line ∷ []) after

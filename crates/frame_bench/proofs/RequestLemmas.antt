@@ -1,4 +1,4 @@
--- What a line asks whose first words are known.
+-- The request of a line whose first words are known.
 use Rattle.std.proofs.Common.{◌≡◌, ◌≢◌, ℕ, List, [], ◌∷◌, ◌++◌, Option, Some}
 use Rattle.std.proofs.Common.{None, get_or, refl, ap, ◌∙◌, sym, subst, arith, Bor}
 use Rattle.std.specs.Prelude.{IfSome, IfNone, MatchOption}
@@ -12,7 +12,7 @@ use Rattle.frame_bench.specs.declared.requests.Request.{Request}
 use Rattle.frame_bench.specs.declared.requests.Request.TheVariants.{Slice, Fragment, Drop, Limit}
 use Rattle.frame_bench.proofs.TextLemmas.{NumberAt, number_at_one}
 
--- behind the word comes a space or does not
+-- A word is followed by a space or is not.
 pub behind_word : (text word rest : List ℕ) (o : Option (Bor (List ℕ))) → text ≡ word ++ rest
     → MatchOption o ((r : List ℕ) → rest ≢ (space ∷ []) ++ r) (λ x. rest ≡ (space ∷ []) ++ x.now)
     → IfSome o (λ r. text ≡ word ++ space ∷ r.now) × IfNone o ((r : List ℕ) → text ≡ word ++ space ∷ r → ⊥)
@@ -20,22 +20,22 @@ behind_word text word rest (Some x) parts is = (parts ∙ ap (λ t. word ++ t) i
 behind_word text word rest None parts refused =
     (tt, λ r e. refused r (append_cancel_left word rest (space ∷ r) (sym parts ∙ e)))
 
--- texts with other first bytes are not the same
+-- Texts with different first bytes differ.
 pub other_word : {A : Type 0} (x y : ℕ) (text rest : List ℕ) → x ∷ text ≡ y ∷ rest → x ≢ y → A
 other_word x y text rest same other = absurd (other (ap (λ t. get_or t 0 0) same))
 
--- a text that begins with a word begins with what the word is
+-- A text that begins with a word begins with an equal word.
 pub begins_with : (text word known rest : List ℕ) → word ≡ known → text ≡ word ++ space ∷ rest
     → text ≡ known ++ space ∷ rest
 begins_with text word known rest same parts = parts ∙ ap (λ w. w ++ space ∷ rest) same
 
--- what two words are that one text begins with
+-- Two words that one text begins with, followed by their rests, are equal.
 both : (text v w known other a b : List ℕ) → v ≡ known → w ≡ other → text ≡ v ++ space ∷ a → text ≡ w ++ space ∷ b
     → known ++ space ∷ a ≡ other ++ space ∷ b
 both text v w known other a b is_known is_other first second =
     sym (begins_with text v known a is_known first) ∙ begins_with text w other b is_other second
 
--- a text begins with the word of one entry
+-- A text begins with the word of one entry only.
 pub same_entry : (text : List ℕ) (entry other : Entry) (a b : List ℕ) → EntryAt text entry a → EntryAt text other b
     → (entry ≡ other) × (a ≡ b)
 same_entry text Ethernet Ethernet a b x y = (
@@ -71,23 +71,23 @@ same_entry text Ip (EtherType type) a b x y = absurd y.1
 
 -- ---- the words of a line, one by one
 
--- it is this request that is asked, of the bytes that the last word says
+-- Holds if the request is this, with the bytes of the last word.
 abbrev pub AsksOf : Request → List ℕ → Request → List ℕ → Type 0
 AsksOf is text request said = (is ≡ request) × IsHex text said
 
--- the words from the channel on
+-- Holds if the words from the channel on are those of the request.
 abbrev pub AsksFromChannel : Entry → ℕ → List ℕ → Request → List ℕ → Type 0
 AsksFromChannel entry timestamp text request said =
     (number rest : List ℕ) × (channel : ℕ) × NumberAt text number rest channel
     × AsksOf (Fragment entry timestamp channel) rest request said
 
--- the words from the timestamp on
+-- Holds if the words from the timestamp on are those of the request.
 abbrev pub AsksFromTimestamp : Entry → List ℕ → Request → List ℕ → Type 0
 AsksFromTimestamp entry text request said =
     (time rest : List ℕ) × (timestamp : ℕ) × NumberAt text time rest timestamp
     × AsksFromChannel entry timestamp rest request said
 
--- what the lines with these first words ask
+-- The requests of lines with these first words.
 pub asked_slice : (rest : List ℕ) (request : Request) (said : List ℕ)
     → Asks (codes "slice" ++ space ∷ rest) request said
     → (entry : Entry) × (text : List ℕ) × EntryAt rest entry text × AsksOf (Slice entry) text request said
@@ -152,7 +152,7 @@ asked_limit rest (Limit max) said (text, parts, is, none) = (
   none,
 )
 
--- the same where further words are known
+-- The requests of lines with further known words.
 pub asked_slice_of : (rest text : List ℕ) (entry : Entry) → EntryAt rest entry text
     → (request : Request) (said : List ℕ) → Asks (codes "slice" ++ space ∷ rest) request said
     → AsksOf (Slice entry) text request said
@@ -187,7 +187,7 @@ asked_from_channel text number rest timestamp channel entry at request said asks
     subst (λ n. AsksOf (Fragment entry timestamp n) rest request said) (sym same.2)
     (subst (λ t. AsksOf (Fragment entry timestamp asks.2) t request said) (sym same.1) asks.4)
 
--- a line with all these words asks this
+-- A line with all these words is this request.
 pub asks_fragment : (rest text time timed number numbered said : List ℕ) (entry : Entry) (timestamp channel : ℕ)
     → EntryAt rest entry text → NumberAt text time timed timestamp
     → NumberAt timed number numbered channel → IsHex numbered said

@@ -1,4 +1,4 @@
--- How far a text is without a byte, where it is looked at in steps.
+-- The first occurrence of a byte in a text that is searched in steps.
 use Rattle.std.proofs.Common.{◌≡◌, ◌≢◌, ℕ, ◌+◌, ◌-◌, ◌<◌, ◌≤◌, ◌==◌, not, true, false, inl, inr, List, length, take}
 use Rattle.std.proofs.Common.{drop}
 use Rattle.std.proofs.Common.{get_or, sym, ap, ◌∙◌, arith}
@@ -9,22 +9,22 @@ use Rattle.std.proofs.lemmas.List.{get_or-take, get_or-drop, length-drop, length
 use Rattle.std.proofs.lemmas.List.Elements.{All-from_get_or, All-get_or}
 use Rattle.std.proofs.lemmas.Simd.{run_in_chunk_fails, run_in_chunk_stops}
 
--- a byte that fails the test is another one, and one that passes it is the same
+-- A byte that fails the test differs from the mark, and a byte that passes it is equal.
 other_byte : (byte mark : ℕ) → (byte == mark) ≡ false → byte ≢ mark
 other_byte byte mark fails same = grind (arith)
 
 same_byte : (byte mark : ℕ) → (byte == mark) ≡ true → byte ≡ mark
 same_byte byte mark passes = grind (arith)
 
--- no byte in front of this place is the mark
+-- Holds if no byte before this index is the mark.
 abbrev pub IsWithoutBefore : ℕ → List ℕ → ℕ → Type 0
 IsWithoutBefore mark text end = (at : ℕ) → at < end → get_or text at 0 ≢ mark
 
--- how many bytes of a step stand in front of the first mark
+-- number of bytes of a step before the first mark
 abbrev pub len_in : ℕ → List ℕ → ℕ → ℕ
 len_in mark text start = prefix_len (λ byte. not (byte == mark)) (chunk start 16 text)
 
--- what a step shows
+-- After a step no byte before the result is the mark.
 pub without_in_step : (mark start len : ℕ) (text : List ℕ) → start + 16 ≤ length text → len ≡ len_in mark text start
     → IsWithoutBefore mark text start → IsWithoutBefore mark text (start + len)
 without_in_step mark start len text room counted before at below =
@@ -41,7 +41,7 @@ mark_in_step mark start len text room counted short =
     same_byte (get_or text (start + len) 0) mark
     (run_in_chunk_stops (λ byte. byte == mark) text start 16 len 0 room counted short)
 
--- what the rest behind the steps shows
+-- After the rest no byte before the result is the mark.
 pub without_in_rest : (mark start len : ℕ) (text : List ℕ) → start + len ≤ length text
     → IsWithoutBefore mark text start → All (λ byte. byte ≢ mark) (take len (drop start text))
     → IsWithoutBefore mark text (start + len)
@@ -58,7 +58,7 @@ without_in_rest mark start len text room before rest at below same =
           (omega (arith, length-take len (drop start text), length-drop start text)) rest (found ∙ same)
     ]
 
--- the front of a text up to there is without the mark
+-- The first bytes of a text up to the result do not contain the mark.
 pub front_without : (mark len : ℕ) (text : List ℕ) → len ≤ length text → IsWithoutBefore mark text len
     → All (λ byte. byte ≢ mark) (take len text)
 front_without mark len text room before =

@@ -1,4 +1,4 @@
--- Where a text parts at a byte, and the numbers in it.
+-- Splitting of a text at a byte, and the numbers in it.
 use Rattle.std.proofs.Common.{◌≡◌, ◌≢◌, ℕ, ◌^◌, ◌⊎◌, inl, inr, List, [], ◌∷◌, ◌++◌, length, refl, sym, ap, ◌∙◌, subst}
 use Rattle.std.proofs.Common.{arith}
 use Rattle.std.specs.List.{All}
@@ -13,15 +13,15 @@ use Rattle.std.proofs.lemmas.Str.Parse.{digit_from_value}
 use Rattle.line_io.specs.Lines.{space}
 use Rattle.frame_bench.specs.Requests.{IsNumber, IsLimit}
 
--- the byte is not in the text
+-- Holds if the byte is not in the text.
 abbrev pub IsWithout : ℕ → List ℕ → Type 0
 IsWithout mark text = All (λ byte. byte ≢ mark) text
 
--- what stands behind the first elements
+-- Equal lists have equal first elements and equal rests.
 tails : (x y : ℕ) (xs ys : List ℕ) → x ∷ xs ≡ y ∷ ys → (x ≡ y) × (xs ≡ ys)
 tails x y xs ys same = (cc same, cc same)
 
--- a text parts at the first of these bytes in one way
+-- A text is split at the first of these bytes in one way.
 pub same_split : (mark : ℕ) (a b r s : List ℕ) → IsWithout mark a → IsWithout mark b
     → a ++ mark ∷ r ≡ b ++ mark ∷ s → (a ≡ b) × (r ≡ s)
 same_split mark [] [] r s in_a in_b same = (refl, (tails mark mark r s same).1)
@@ -36,7 +36,7 @@ same_split mark (x ∷ a) (y ∷ b) r s in_a in_b same =
     both.1 in
     (rw (both.0, rest.0) refl, rest.1)
 
--- a text without the byte does not part at it
+-- A text without the byte is not split at it.
 pub no_split : (mark : ℕ) (text word rest : List ℕ) → IsWithout mark text → text ≢ word ++ mark ∷ rest
 no_split mark [] [] rest without same = cc same
 no_split mark [] (w ∷ word) rest without same = cc same
@@ -46,7 +46,7 @@ no_split mark (x ∷ text) (w ∷ word) rest without same =
     no_split mark text word rest (All-tail (λ byte. byte ≢ mark) x text without)
     (tails x w text (word ++ mark ∷ rest) same).1
 
--- a text parts at the first of these bytes, or is without it
+-- A text is split at the first of these bytes, or does not contain it.
 pub split_cases : (mark : ℕ) (text : List ℕ)
     → ((word rest : List ℕ) × IsWithout mark word × (text ≡ word ++ mark ∷ rest)) ⊎ IsWithout mark text
 split_cases mark [] = inr (All-nil (λ byte. byte ≢ mark))
@@ -66,7 +66,7 @@ split_cases mark (x ∷ text) =
           ]
     ]
 
--- a digit is no space
+-- Digits contain no space.
 digits_without : (text : List ℕ) → AllDigits 10 text → IsWithout space text
 digits_without [] digits = All-nil (λ byte. byte ≢ space)
 digits_without (c ∷ text) digits =
@@ -76,19 +76,19 @@ digits_without (c ∷ text) digits =
 pub number_without : (text : List ℕ) (number : ℕ) → IsNumber text number → IsWithout space text
 number_without text number is = digits_without text is.0.1
 
--- and its text is one of characters
+-- The text of a number is valid UTF-8.
 pub number_utf8 : (text : List ℕ) (number : ℕ) → IsNumber text number → IsUtf8 text
 number_utf8 text number is = IsUtf8-from_ascii text (IsAscii-from_digits text is.0.1)
 
--- a text says no other number
+-- A text is no other number.
 pub number_one : (text : List ℕ) (a b : ℕ) → IsNumber text a → IsNumber text b → a ≡ b
 number_one text a b x y = sym x.2 ∙ y.2
 
--- nor another limit
+-- A text is no other limit.
 pub limit_one : (text : List ℕ) (a b : ℕ) → IsLimit text a → IsLimit text b → a ≡ b
 limit_one text a b x y = number_one text a b x.0 y.0
 
--- each byte is a digit, or one is none
+-- All bytes are digits, or some byte is not.
 digits_cases : (text : List ℕ) → AllDigits 10 text ⊎ (AllDigits 10 text → ⊥)
 digits_cases [] = inl tt
 digits_cases (c ∷ text) =
@@ -100,7 +100,7 @@ digits_cases (c ∷ text) =
       | inr above ↦ inr (λ digits. omega (arith, digits.0, above))
     ]
 
--- a text says a number or does not
+-- A text is a number or is not.
 pub number_cases : (text : List ℕ) → ((number : ℕ) × IsNumber text number) ⊎ ((number : ℕ) → IsNumber text number → ⊥)
 number_cases text =
     elim (digits_cases text) [
@@ -117,7 +117,7 @@ number_cases text =
       | inr other ↦ inr (λ number is. other is.0.1)
     ]
 
--- nor a limit
+-- A text is a limit or is not.
 pub limit_cases : (text : List ℕ) → ((limit : ℕ) × IsLimit text limit) ⊎ ((limit : ℕ) → IsLimit text limit → ⊥)
 limit_cases text =
     elim (number_cases text) [
@@ -131,11 +131,11 @@ limit_cases text =
       | inr none ↦ inr (λ limit is. none limit is.0)
     ]
 
--- a number and a space stand at the front of a text
+-- Holds if a text begins with a number and a space.
 abbrev pub NumberAt : List ℕ → List ℕ → List ℕ → ℕ → Type 0
 NumberAt text word rest number = (text ≡ word ++ space ∷ rest) × IsNumber word number
 
--- no other number does
+-- A text begins with no other number and rest.
 pub number_at_one : (text word other rest left : List ℕ) (a b : ℕ) → NumberAt text word rest a
     → NumberAt text other left b → (word ≡ other) × (rest ≡ left) × (a ≡ b)
 number_at_one text word other rest left a b x y =
@@ -143,7 +143,7 @@ number_at_one text word other rest left a b x y =
     same_split space word other rest left (number_without word a x.1) (number_without other b y.1) (sym x.0 ∙ y.0) in
     (same.0, same.1, number_one word a b x.1 (subst (λ t. IsNumber t b) (sym same.0) y.1))
 
--- a number and a space stand at the front of a text, or they do not
+-- A text begins with a number and a space, or does not.
 pub number_at_cases : (text : List ℕ)
     → ((word rest : List ℕ) × (number : ℕ) × NumberAt text word rest number)
     ⊎ ((word rest : List ℕ) (number : ℕ) → NumberAt text word rest number → ⊥)

@@ -1,4 +1,4 @@
--- What is replied to a request.
+-- Replies to requests.
 use Rattle.std.specs.Prelude.{◌≡◌, ℕ, List, codes}
 use Rattle.etherparse.specs.Calls.{drops_streams}
 use Rattle.frame_bench.specs.LineCalls.{PoolHistory}
@@ -7,8 +7,8 @@ use Rattle.frame_bench.specs.SliceReplies.{IsSliceReply}
 use Rattle.frame_bench.specs.declared.requests.Request.{Request}
 use Rattle.frame_bench.specs.declared.requests.Request.TheVariants.{Slice, Fragment, Drop, Limit}
 
--- The reply to a request about these bytes, on the pool that has this behind it, of which a frame's layers need
--- nothing.
+-- Holds if this is the reply to a request with these bytes, on a pool with this history. A request about a frame's
+-- layers does not depend on the history.
 abbrev pub IsReply : PoolHistory → Request → List ℕ → List ℕ → Type 0
 IsReply history (Slice entry) bytes reply = IsSliceReply entry bytes reply
 IsReply history (Fragment entry timestamp channel) bytes reply =

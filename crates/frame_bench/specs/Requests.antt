@@ -1,4 +1,4 @@
--- What a line asks.
+-- The requests of lines.
 use Rattle.std.specs.Prelude.{◌≡◌, ℕ, ◌^◌, ◌<◌, ◌≤◌, ◌⊎◌, List, [], ◌∷◌, ◌++◌, length, codes, Ok}
 use Rattle.std.specs.Str.Parse.{IsNumeral, digits_value}
 use Rattle.hex.specs.Hex.{decode_of}
@@ -8,31 +8,31 @@ use Rattle.line_io.specs.Lines.{space, words}
 use Rattle.frame_bench.specs.declared.requests.Request.{Request}
 use Rattle.frame_bench.specs.declared.requests.Request.TheVariants.{Slice, Fragment, Drop, Limit}
 
--- the word names the entry; none names a payload whose ether type is given
+-- Holds if the word names the entry. No word names a payload whose ether type is given.
 abbrev pub NamesEntry : List ℕ → Entry → Type 0
 NamesEntry word Ethernet = word ≡ codes "eth"
 NamesEntry word LinuxSll = word ≡ codes "sll"
 NamesEntry word (EtherType type) = ⊥
 NamesEntry word Ip = word ≡ codes "ip"
 
--- the text is the word of an entry, a space, and then this
+-- Holds if the text is the word of an entry, a space, and then this rest.
 abbrev pub EntryAt : List ℕ → Entry → List ℕ → Type 0
 EntryAt text entry rest = (word : List ℕ) × NamesEntry word entry × (text ≡ word ++ space ∷ rest)
 
--- the bytes that a text says: `-` none, and else each byte by two hexadecimal digits of either case
+-- Holds if the text represents these bytes: `-` for none, and otherwise two hexadecimal digits of either case for each.
 abbrev pub IsHex : List ℕ → List ℕ → Type 0
 IsHex text bytes = ((text ≡ codes "-") × (bytes ≡ [])) ⊎ ((0 < length text) × (decode_of text ≡ Ok bytes))
 
--- the number that a text says: 1 to 20 decimal digits of a value below 2 ^ 64
+-- Holds if the text is this number: 1 to 20 decimal digits of a value below 2 ^ 64.
 abbrev pub IsNumber : List ℕ → ℕ → Type 0
 IsNumber text number =
     IsNumeral 10 text × (length text ≤ 20) × (digits_value 10 text ≡ number) × (number < 2 ^ 64)
 
--- the limit that a text says: 1 to 5 decimal digits of a value of at most 65535
+-- Holds if the text is this limit: 1 to 5 decimal digits of a value of at most 65535.
 abbrev pub IsLimit : List ℕ → ℕ → Type 0
 IsLimit text limit = IsNumber text limit × (length text ≤ 5) × (limit ≤ 65535)
 
--- the line asks this of these bytes, in words that exactly one space parts
+-- Holds if the line is this request with these bytes, in words separated by exactly one space.
 abbrev pub Asks : List ℕ → Request → List ℕ → Type 0
 Asks line (Slice entry) bytes =
     (word text : List ℕ) × NamesEntry word entry × (line ≡ words (codes "slice" ∷ word ∷ text ∷ []))

@@ -1,4 +1,4 @@
--- What is replied about a frame, as text.
+-- Texts of the replies to requests about the layers of a frame.
 use Rattle.std.specs.Prelude.{◌≡◌, ℕ, ◌⊎◌, List, [], ◌∷◌, ◌++◌, Option, Some, None, codes}
 use Rattle.std.specs.Fmt.{decimal}
 use Rattle.hex.specs.Hex.{encode_lower}
@@ -26,7 +26,7 @@ use Rattle.etherparse.specs.FrameRefusals.{RefusesFrame}
 use Rattle.etherparse.specs.Types.Entry.{Entry}
 use Rattle.line_io.specs.Lines.{words}
 
--- the word for what is not there
+-- word for an absent layer
 abbrev pub absent : List ℕ
 absent = codes "-"
 
@@ -35,7 +35,7 @@ abbrev pub hex_text : List ℕ → List ℕ
 hex_text [] = absent
 hex_text (byte ∷ bytes) = encode_lower (byte ∷ bytes)
 
--- the word for a link layer; without a header there is none
+-- word for a link layer, `-` without a header
 abbrev pub link_word : Option LinkLayer → List ℕ
 link_word (Some (ethernet2 header payload)) = codes "eth"
 link_word (Some (sll header payload)) = codes "sll"
@@ -43,51 +43,51 @@ link_word (Some (ether_payload type source payload)) = absent
 link_word (Some (linux_sll_payload protocol payload)) = absent
 link_word None = absent
 
--- the text of a link extension: a VLAN with its identifier
+-- text of a link extension, a VLAN tag with its identifier
 abbrev pub extension_text : LinkExtension → List ℕ
 extension_text (vlan tag payload) = codes "vlan:" ++ decimal tag.vlan_id
 extension_text (macsec tag payload) = codes "macsec"
 
--- the byte between two link extensions, `,`
+-- byte between two link extensions, `,`
 abbrev pub comma : ℕ
 comma = 44
 
--- the texts of link extensions, a comma before each
+-- texts of link extensions, a comma before each
 abbrev pub further_extensions : List LinkExtension → List ℕ
 further_extensions [] = []
 further_extensions (extension ∷ others) = comma ∷ (extension_text extension ++ further_extensions others)
 
--- the word for the link extensions: their texts, with a comma between two
+-- word for the link extensions: their texts, separated by commas
 abbrev pub extensions_word : List LinkExtension → List ℕ
 extensions_word [] = absent
 extensions_word (extension ∷ others) = extension_text extension ++ further_extensions others
 
--- the word for a net layer
+-- word for a network layer
 abbrev pub net_word : Option NetLayer → List ℕ
 net_word (Some (ipv4 header extensions payload)) = codes "ipv4"
 net_word (Some (ipv6 header extensions payload)) = codes "ipv6"
 net_word (Some (arp packet)) = codes "arp"
 net_word None = absent
 
--- the word for a transport header
+-- word for a transport header
 abbrev pub transport_header_word : TransportHeader → List ℕ
 transport_header_word (header.Udp header) = codes "udp"
 transport_header_word (header.Tcp header) = codes "tcp"
 transport_header_word (header.Icmpv4 header) = codes "icmpv4"
 transport_header_word (header.Icmpv6 header) = codes "icmpv6"
 
--- the word for a transport layer
+-- word for a transport layer
 abbrev pub transport_word : Option TransportLayer → List ℕ
 transport_word (Some layer) = transport_header_word layer.header
 transport_word None = absent
 
--- The text of a frame's layers: link, link extensions, net, transport, and the payload of the innermost.
+-- text of a frame's layers: link, link extensions, network, transport, and the payload of the innermost layer
 abbrev pub layers_text : Layers → List ℕ
 layers_text layers =
     words (codes "ok" ∷ link_word layers.link ∷ extensions_word layers.link_exts ∷ net_word layers.net
     ∷ transport_word layers.transport ∷ hex_text (last_payload layers) ∷ [])
 
--- the text of a refusal
+-- text of a slice error
 abbrev pub refusal_text : SliceError → List ℕ
 refusal_text (Len error) =
     words (codes "err" ∷ codes "len" ∷ decimal error.required_len ∷ decimal error.len ∷ len_source_name error.len_source
@@ -115,7 +115,8 @@ refusal_text (Ipv6Exts (exts_error.IpAuth auth_error.ZeroPayloadLen)) =
 refusal_text (Tcp (tcp_error.DataOffsetTooSmall data_offset)) =
     words (codes "err" ∷ codes "tcp-data-offset" ∷ decimal data_offset ∷ [])
 
--- the reply about bytes from an entry on: the layers of the frame that they are, or why they are none
+-- Holds if this is the reply about bytes that begin with a layer: the layers of the frame, or the error of bytes that
+-- are not a frame.
 abbrev pub IsSliceReply : Entry → List ℕ → List ℕ → Type 0
 IsSliceReply entry bytes reply =
     ((layers : Layers) × IsFrame entry bytes layers × (reply ≡ layers_text layers))

@@ -1,4 +1,4 @@
-//! How the program ends.
+//! Exit status of the program and the error line that it prints.
 
 ghost use Rattle.std.specs.Prelude.{List, ◌≡◌, ℕ};
 ghost use Rattle.std.specs.Option.{option_map};
@@ -6,17 +6,18 @@ ghost use Rattle.frame_bench.specs.Endings.{complaint_of, run_error_text, status
 
 use line_io::RunError;
 
-/// How the program ends after a run.
+/// How the program ends after it has answered its input or failed: exit status and error line.
 #[derive(Debug, Drop)]
 pub struct Ending {
-    /// The status of the process.
+    /// Exit status of the process: 0 if all lines were answered, 1 after an error.
     pub status: u8,
-    /// The line for standard error, without its line feed.
+    /// Line that the program prints to standard error, without its line feed, or `None` if there was no error.
     pub complaint: Option<&'static str>,
 }
 
 impl Ending {
-    /// After a whole run the status is 0 and nothing is said, and after an error it is 1 and the error's text is said.
+    /// Returns exit status 0 without an error line if all lines were answered, and exit status 1 with the text of the
+    /// error otherwise.
     pub fn after(run: Result<(), RunError>) -> Ending
         ensures status { result.status ≡ status_of run }
         ensures complaint { option_map (λ text. text.now) result.complaint ≡ complaint_of run }
@@ -34,11 +35,12 @@ impl Ending {
     }
 }
 
-/// An error with a line of text for standard error.
+/// Error that has a line of text for standard error. It is implemented by `RunError`: reading, writing or an allocation
+/// failed.
 pub trait ErrorText {
     ghost text_of: { Self → List ℕ };
 
-    /// The line, without its line feed.
+    /// Line that describes the error, with the program's name and without a line feed: "frame_bench: read failed".
     fn text(&self) -> &'static str
         ensures { result.now ≡ text_of self.now };
 }

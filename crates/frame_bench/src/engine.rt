@@ -1,4 +1,4 @@
-//! From the lines of a reader to their answers in a writer.
+//! The engine of the program: reads request lines from a reader and writes an answer line for each to a writer.
 
 ghost use Rattle.std.specs.Prelude.{ℕ, List, ◌≡◌, ◌⊎◌, ◌<◌, ◌∷◌, ◌++◌, ◌+◌, ◌↔◌, [], false};
 ghost use Rattle.std.specs.Prelude.{true, length, OnErr, OnOk};
@@ -18,14 +18,18 @@ use line_io::{RunError, Watched, zeros};
 use std::alloc::{AllocError, Global};
 use std::io::{Read, Write};
 
-/// How many bytes are read at a time, at most.
+/// Greatest number of bytes that one read of the input returns: 64 KiB.
 const PIECE_LEN: usize = 65_536;
 
-/// Writes the answer to each line of the reader, in a line of its own, until the reader has ended. Neither may have
-/// failed before, nor the reader have ended.
+/// Reads request lines until the end of the reader, and writes one answer line for each. When it is called, neither the
+/// reader nor the writer may have failed, and the reader may not have ended.
 ///
-/// The reader is read in pieces of 64 KiB, at most as often as it may be, and what answers the lines that ended in a
-/// piece is written before the next is read. The first failure of a read or a write ends the run.
+/// The reader is read in chunks of at most 64 KiB, as often as its limit of reads allows. The answers to the lines that
+/// end in a chunk are written before the next chunk is read.
+///
+/// # Errors
+///
+/// The first read, write or allocation that fails ends the run.
 pub fn run<R: Read, W: Write>(
     alloc: Global,
     reader: &mut Watched<R>,
@@ -35,24 +39,24 @@ pub fn run<R: Read, W: Write>(
     requires reader_open { has_ended reader.old ≡ false }
     requires writer_sound { has_failed writer.old ≡ false }
 
-    // What was written answers what was read, and at an error begins the answer to it.
+    // The output is the answers to the input, and after an error the start of them.
     ensures ok { OnOk result (Transfers AnswersTo R.remaining reader.old reader.new
         W.contents writer.old writer.new) }
     ensures err { OnErr result (Transfers BeginsAnswersTo R.remaining reader.old reader.new
         W.contents writer.old writer.new) }
 
-    // All is read, but of a reader that still gives bytes after that many reads.
+    // All input is read, unless the reader still returns bytes after its limit of reads.
     ensures ended { OnOk result (has_ended reader.new ≡ true) }
     ensures whole { OnOk result (IsAtEnd (R.remaining (inner_of reader.new)) ⊎ (reads_left reader.new ≡ 0)) }
 
     // The writer is not read.
     ensures writer_reads { KeepsReads writer.old writer.new }
 
-    // The error says which of the two failed.
+    // The error reports which side failed.
     ensures read { (result ≡ Err RunError.Read) ↔ (has_failed reader.new ≡ true) }
     ensures write { (result ≡ Err RunError.Write) ↔ (has_failed writer.new ≡ true) }
 {
-    // No code: that each input has an output is what the clause on errors rests on.
+    // A law, not code: the clause on errors needs that each input has an output.
     laws::answers();
     let mut buffer = zeros(alloc, PIECE_LEN)?;
     let piece = buffer.as_mut_slice();
@@ -64,23 +68,24 @@ pub fn run<R: Read, W: Write>(
     writer.write_all(session.output.as_slice())
 }
 
-/// The pool after the lines that have ended, the line that has begun, and room for what its answer needs.
+/// State between two chunks of input: the reassembly pool, the start of a line that is not yet complete, and buffers.
 #[derive(Drop)]
 struct Session {
-    /// What a new pool takes its memory from.
+    /// Allocator for reassembly pools that a `limit` line creates.
     alloc: Global,
-    /// The pool. Timestamps and channels are numbers.
+    /// Reassembly pool that all earlier `frag`, `drop` and `limit` lines have changed. Timestamps and channels are
+    /// 64-bit numbers.
     pool: IpDefragPool<u64, u64>,
-    /// What came of the line so far.
+    /// Start of a request line whose line feed has not been read yet.
     line: Vec<u8>,
-    /// The bytes that a line says.
+    /// Bytes of a frame, decoded from the hexadecimal digits of a request line.
     bytes: Vec<u8>,
-    /// Answers that are not yet written.
+    /// Answer lines that are not yet written.
     output: Vec<u8>,
 }
 
 impl Session {
-    /// No line has begun.
+    /// Returns the state before any input: a new reassembly pool with the limit 65535, and empty buffers.
     fn new(alloc: Global) -> Session
         ensures line { result.line.items ≡ [] }
         ensures holds { HoldsLines [] result.pool }
@@ -94,7 +99,8 @@ impl Session {
         }
     }
 
-    /// Takes the next piece of input, and puts together the answers to the lines that end in it.
+    /// Processes the next chunk of input. It replaces the contents of the output buffer by the answers to the lines
+    /// that end in the chunk, and keeps the start of an incomplete line.
     fn take(&mut self, piece: &[u8]) -> Result<(), AllocError>
         requires { IsWithinLine self.old.line.items }
         ensures { OnOk result ((before : List (List ℕ)) → HoldsLines before self.old.pool →
@@ -110,7 +116,8 @@ impl Session {
         Ok(())
     }
 
-    /// Puts together the answer to the line that ends so. One that lies within the piece is not copied.
+    /// Appends the answer to the request line that ends with `end`, the last part of the line, after the parts that
+    /// earlier chunks had. A line that is within one chunk is not copied.
     fn end_line(&mut self, end: &[u8]) -> Result<(), AllocError>
         ensures line { OnOk result (self.new.line.items ≡ []) }
         ensures answer { OnOk result ((before : List (List ℕ)) → HoldsLines before self.old.pool → (answer : List ℕ)
@@ -141,7 +148,7 @@ impl Session {
         Ok(())
     }
 
-    /// Puts together the answer to a last line that no line feed ended.
+    /// Clears the output buffer, and appends the answer to the last line if the input ends without a line feed.
     fn finish(&mut self) -> Result<(), AllocError>
         requires { IsWithinLine self.old.line.items }
         ensures { OnOk result ((before : List (List ℕ)) → HoldsLines before self.old.pool →
@@ -161,7 +168,7 @@ impl Session {
     }
 }
 
-/// Reads once, and writes the answers to the lines that end in what was read.
+/// Reads one chunk of input, and writes the answers to the request lines that end in it.
 fn step<R: Read, W: Write>(
     session: &mut Session,
     reader: &mut Watched<R>,
@@ -185,7 +192,7 @@ fn step<R: Read, W: Write>(
     ensures read { (result ≡ Err RunError.Read) ↔ (has_failed reader.new ≡ true) }
     ensures write { (result ≡ Err RunError.Write) ↔ (has_failed writer.new ≡ true) }
 {
-    // No code, as in `run`.
+    // A law, not code, as in `run`.
     laws::answers();
     let count = reader.read(piece)?;
     session.take(&piece[..count])?;

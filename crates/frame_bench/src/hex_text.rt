@@ -1,4 +1,4 @@
-//! Bytes as hexadecimal digits.
+//! Encoding of bytes as hexadecimal digits, and decoding.
 
 ghost use Rattle.std.specs.Prelude.{◌≡◌, ◌*◌, ◌<◌, ◌++◌, ℕ, List, length, slice_index, unwrap_or, Ok, IfOk, OnOk, IsTrue};
 ghost use Rattle.hex.specs.Hex.{decode_of, encode_lower, hex_digit_value, lower_digits};
@@ -7,10 +7,11 @@ ghost use Rattle.frame_bench.specs.SliceReplies.{hex_text};
 
 use std::alloc::AllocError;
 
-/// Entry of `DIGIT_VALUES` for a byte that is no digit.
+/// Table value for a byte that is not a hexadecimal digit: 256, above every value of two digits.
 const X: u16 = 256;
 
-/// Value of each byte as a digit of either case.
+/// Table of the value, 0 to 15, of each ASCII byte that is a hexadecimal digit of either case, and `X` for all other
+/// bytes.
 static DIGIT_VALUES: [u16; 256] = [
     X, X, X, X, X, X, X, X, X, X, X, X, X, X, X, X, // 0x00
     X, X, X, X, X, X, X, X, X, X, X, X, X, X, X, X, // 0x10
@@ -30,7 +31,8 @@ static DIGIT_VALUES: [u16; 256] = [
     X, X, X, X, X, X, X, X, X, X, X, X, X, X, X, X, // 0xf0
 ];
 
-/// Whether a text says bytes, which are then left in `bytes`.
+/// Decodes a text of hexadecimal digits, two for each byte, into the vector `bytes`, or `-` for no bytes. Returns false
+/// if the text is anything else, and the contents of the vector then have no meaning.
 pub fn decode(text: &[u8], bytes: &mut Vec<u8>) -> Result<bool, AllocError>
     ensures said { IfOk result (λ is_hex. IsTrue is_hex → IsHex text.now bytes.new.items) }
     ensures only { IfOk result (λ is_hex. (said : List ℕ) → IsHex text.now said → IsTrue is_hex) }
@@ -49,8 +51,9 @@ pub fn decode(text: &[u8], bytes: &mut Vec<u8>) -> Result<bool, AllocError>
     Ok(decode_pairs(text, bytes.as_mut_slice()))
 }
 
-/// Decodes two digits into each byte of `bytes`, and returns whether all are digits. A byte that is none makes a sum of
-/// at least 256, whose bits `seen` keeps: so no digit decides a branch.
+/// Decodes two hexadecimal digits into each byte of `bytes`, and returns whether all are digits. A byte that is not a
+/// digit makes a sum of at least 256. The bits of all sums are collected and checked once at the end, so that there is
+/// no branch for each digit.
 fn decode_pairs(text: &[u8], bytes: &mut [u8]) -> bool
     requires { length text.now ≡ 2 * length bytes.old }
     ensures said { IsTrue result → decode_of text.now ≡ Ok bytes.new }
@@ -67,7 +70,7 @@ fn decode_pairs(text: &[u8], bytes: &mut [u8]) -> bool
     seen < 256
 }
 
-/// Returns the value of a digit of either case, and 256 for any other byte.
+/// Returns the value, 0 to 15, of an ASCII byte that is a hexadecimal digit of either case, and 256 for any other byte.
 #[inline]
 fn digit_value(byte: u8) -> u16
     ensures { result ≡ unwrap_or (hex_digit_value byte) 256 }
@@ -75,7 +78,7 @@ fn digit_value(byte: u8) -> u16
     DIGIT_VALUES[usize::from(byte)]
 }
 
-/// Appends bytes as lower case digits, and no bytes as `-`.
+/// Appends bytes to the output as lower case hexadecimal digits, two for each byte, or `-` if there are no bytes.
 pub fn push(output: &mut Vec<u8>, bytes: &[u8]) -> Result<(), AllocError>
     ensures { OnOk result (output.new.items ≡ output.old.items ++ hex_text bytes.now) }
 {
@@ -90,7 +93,7 @@ pub fn push(output: &mut Vec<u8>, bytes: &[u8]) -> Result<(), AllocError>
     Ok(())
 }
 
-/// Writes each byte as two lower case digits.
+/// Writes each byte as two lower case hexadecimal digits into `text`, which is twice as long.
 fn encode_pairs(bytes: &[u8], text: &mut [u8])
     requires { length text.old ≡ 2 * length bytes.now }
     ensures { text.new ≡ encode_lower bytes.now }
@@ -103,8 +106,8 @@ fn encode_pairs(bytes: &[u8], text: &mut [u8])
     }
 }
 
-/// Returns the lower case digit of a value. It is computed, so that the compiler takes eight bytes at once; a table of
-/// pairs takes more than twice as long.
+/// Returns the lower case hexadecimal digit of a value from 0 to 15. It is computed, so that the compiler can process
+/// eight bytes at once; a table of digit pairs takes more than twice as long.
 #[inline]
 fn lower_digit(value: u8) -> u8
     requires { value < 16 }

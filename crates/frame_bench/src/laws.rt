@@ -1,9 +1,10 @@
-//! What holds of every input, the contract of a function that does nothing.
+//! The law that each input of the program has exactly one output: the contract of a function that does nothing.
 
 ghost use Rattle.std.specs.Prelude.{ℕ, List};
 ghost use Rattle.frame_bench.specs.Answers.{IsAnswered};
 
-/// Behind any lines, an input has an output, and one only. It follows from the law of frames.
+/// Whatever lines came before, the program has exactly one output for an input. It follows from the law `frames`: bytes
+/// are sliced in exactly one way or rejected with exactly one error.
 pub fn answers()
     ensures { (before : List (List ℕ)) (input : List ℕ) → IsAnswered before input }
 {

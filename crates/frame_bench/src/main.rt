@@ -1,21 +1,22 @@
 //! Answers each line of standard input with one line of standard output.
 //!
-//! A line `slice eth HEX` asks for the layers of a frame that begins with an Ethernet II header, `slice sll HEX` for
-//! those of a Linux cooked capture, and `slice ip HEX` for those of an IP packet, where HEX is two hexadecimal digits
-//! for each byte, or `-` for none. The answer is `ok LINK EXTS NET TRANSPORT PAYLOAD`, with `-` for a layer that is not
-//! there and commas between link extensions, or says why the bytes are no frame.
+//! A line `slice eth HEX` requests the layers of a frame that begins with an Ethernet II header, `slice sll HEX` of a
+//! frame of a Linux cooked capture, and `slice ip HEX` of an IP packet. HEX is two hexadecimal digits for each byte, or
+//! `-` for no bytes. The answer is `ok LINK EXTS NET TRANSPORT PAYLOAD`, with `-` for an absent layer and commas
+//! between link extensions, or the error of bytes that are not a frame.
 //!
-//! A line `frag eth TS CHANNEL HEX`, or `sll` or `ip`, hands such a frame to a pool that puts fragmented payloads
-//! together. TS is the frame's timestamp, CHANNEL tells streams apart, and each is 1 to 20 decimal digits of a value
-//! that fits in 64 bits. The answer is `none`, `payload NUMBER HEX` with the payload that is complete with this frame,
-//! or says why the fragment is refused or why the bytes are no frame. A line `drop TS` is answered `ok`, and the pool
-//! keeps the streams whose last accepted fragment has no timestamp below TS.
+//! A line `frag eth TS CHANNEL HEX` (or `sll` or `ip`) passes such a frame to a pool that reassembles fragmented
+//! payloads. TS is the frame's timestamp, and CHANNEL keeps fragments of different sources apart; each is 1 to 20
+//! decimal digits of a value that fits in 64 bits. The answer is `none`, `payload NUMBER HEX` with the IP protocol
+//! number and the bytes of the payload that the frame completes, or the error of a rejected fragment or of bytes that
+//! are not a frame. A line `drop TS` is answered with `ok`, and the pool drops each incomplete datagram whose last
+//! accepted fragment has a timestamp below TS.
 //!
-//! A line `limit MAX`, MAX 1 to 5 decimal digits of at most 65535, is answered `ok`, and a new pool takes the place of
-//! the one before, which is given up with its streams: one in which no payload is longer than MAX bytes. The limit of
-//! the first pool is 65535.
+//! A line `limit MAX` (MAX is 1 to 5 decimal digits of at most 65535) is answered with `ok`, and a new pool replaces
+//! the one before, which is dropped with its incomplete datagrams. In the new pool no payload is longer than MAX bytes.
+//! The limit of the first pool is 65535.
 //!
-//! Any other line is answered `err line`.
+//! Any other line is answered with `err line`.
 #![tactic(auto)]
 
 ghost use Rattle.std.specs.Prelude.{◌≡◌, ◌≢◌, ◌≤◌, ◌⊎◌, false, true};
@@ -51,8 +52,8 @@ fn main(rt: HostRuntime) -> ExitCode {
     answered(&rt, rt.alloc(), &mut reader, &mut writer)
 }
 
-/// Answers the lines of a reader in a writer. The status is 0 where all are answered, and else 1, and why is said on
-/// standard error.
+/// Reads request lines from a reader and writes their answers to a writer. The exit status is 0 if all lines are
+/// answered; otherwise it is 1, and the reason is printed to standard error.
 fn answered<R: Read, W: Write>(
     rt: &impl Eprint,
     alloc: Global,
@@ -73,7 +74,8 @@ fn answered<R: Read, W: Write>(
     ended(rt, run(alloc, reader, writer))
 }
 
-/// How the program ends after a run.
+/// Returns the exit status for the outcome of answering all lines: 0, or 1 after an error, which is printed to standard
+/// error.
 fn ended(rt: &impl Eprint, outcome: Result<(), RunError>) -> ExitCode
     ensures { exit_status result ≡ status_of outcome }
 {

@@ -1,10 +1,10 @@
-//! The reply about a fragment and a drop.
+//! Answers to `frag` lines, which pass a frame to the reassembly pool, and the effect of `drop` lines.
 
 ghost use Rattle.std.specs.Prelude.{◌≡◌, ◌∷◌, ◌++◌, [], nat_le, ℕ, IsFalse, List, OnOk};
 ghost use Rattle.std.specs.Fmt.{decimal};
-ghost use Rattle.etherparse.specs.Calls.{drops_streams, payload_handed_out};
-ghost use Rattle.etherparse.specs.Pools.{plain_frame_answer, plain_payload, wants_memory};
-ghost use Rattle.etherparse.specs.FragmentRefusals.{is_want_of_memory};
+ghost use Rattle.etherparse.specs.Calls.{drops_streams, payload_returned};
+ghost use Rattle.etherparse.specs.Pools.{plain_frame_answer, plain_payload, is_allocation_failure_in};
+ghost use Rattle.etherparse.specs.FragmentRefusals.{is_allocation_failure};
 ghost use Rattle.etherparse.specs.Types.IpDefragError.TheVariants.{SegmentTooBig};
 ghost use Rattle.etherparse.specs.Layers.{layers_of};
 ghost use Rattle.line_io.specs.Lines.{space};
@@ -20,8 +20,8 @@ use etherparse::{Entry, SlicedPacket};
 use line_io::decimals;
 use std::alloc::AllocError;
 
-/// Hands the frame to the pool and appends what it answers, or appends why the bytes are no frame. A payload that is
-/// handed out goes back to the pool.
+/// Passes the frame of a `frag` line to the reassembly pool and appends the pool's answer, or appends the slicing error
+/// if the bytes are not a frame. A reassembled payload is given back to the pool, which uses its memory again.
 pub fn push_fragment(
     output: &mut Vec<u8>,
     pool: &mut IpDefragPool<u64, u64>,
@@ -43,7 +43,8 @@ pub fn push_fragment(
     }
 }
 
-/// Hands a packet to the pool and appends what it answers.
+/// Passes a sliced packet to the reassembly pool and appends the pool's answer: `none`, a payload, or the error of a
+/// fragment.
 fn push_frame(
     output: &mut Vec<u8>,
     pool: &mut IpDefragPool<u64, u64>,
@@ -63,7 +64,7 @@ fn push_frame(
     Ok(())
 }
 
-/// Gives the payload of an answer back to the pool, if it has one.
+/// Gives the reassembled payload in the pool's answer, if it has one, back to the pool, which uses its memory again.
 fn give_back(
     pool: &mut IpDefragPool<u64, u64>,
     answer: Result<Option<IpDefragPayloadVec>, IpDefragError>,
@@ -75,7 +76,8 @@ fn give_back(
     }
 }
 
-/// Drops the streams whose timestamp is below this one.
+/// Drops the incomplete datagrams of the reassembly pool whose last accepted fragment has a timestamp below
+/// `timestamp`.
 pub fn drop_below(pool: &mut IpDefragPool<u64, u64>, timestamp: u64)
     ensures { (history : PoolHistory) → HoldsHistory history pool.old →
         HoldsHistory (with_call history (drops_streams timestamp)) pool.new }
@@ -88,12 +90,13 @@ pub fn drop_below(pool: &mut IpDefragPool<u64, u64>, timestamp: u64)
     );
 }
 
-/// Appends what a pool answered to a frame. Want of memory has no text and is an error here.
+/// Appends the reassembly pool's answer to a frame: `none`, a payload, or the error of a fragment. An allocation
+/// failure has no text and is returned as an error.
 fn push_pool_answer(
     output: &mut Vec<u8>,
     answer: &Result<Option<IpDefragPayloadVec>, IpDefragError>,
 ) -> Result<(), AllocError>
-    ensures memory { OnOk result (IsFalse (wants_memory answer.now)) }
+    ensures memory { OnOk result (IsFalse (is_allocation_failure_in answer.now)) }
     ensures text { OnOk result (output.new.items
         ≡ output.old.items ++ pool_answer_text (plain_frame_answer answer.now)) }
 {
@@ -104,20 +107,21 @@ fn push_pool_answer(
     }
 }
 
-/// Appends a payload's number and its bytes.
+/// Appends a reassembled payload: `payload`, its IP protocol number in decimal, and its bytes in hexadecimal.
 fn push_payload(output: &mut Vec<u8>, payload: &IpDefragPayloadVec) -> Result<(), AllocError>
     ensures { OnOk result (output.new.items
-        ≡ output.old.items ++ pool_answer_text (payload_handed_out (plain_payload payload.now))) }
+        ≡ output.old.items ++ pool_answer_text (payload_returned (plain_payload payload.now))) }
 {
     let number = payload.ip_number.0;
-    decimals::push_behind(output, b"payload ", u64::from(number))?;
+    decimals::push_with_text(output, b"payload ", u64::from(number))?;
     output.push(b' ')?;
     hex_text::push(output, payload.payload.as_slice())
 }
 
-/// Appends the text of a pool's refusal. Want of memory has none and is an error here.
+/// Appends the line for a fragment that the reassembly pool rejected: `err`, a word for the error, and its numbers. An
+/// allocation failure has no text and is returned as an error.
 fn push_pool_error(output: &mut Vec<u8>, error: &IpDefragError) -> Result<(), AllocError>
-    ensures memory { OnOk result (IsFalse (is_want_of_memory error.now)) }
+    ensures memory { OnOk result (IsFalse (is_allocation_failure error.now)) }
     ensures text { OnOk result (output.new.items ≡ output.old.items ++ pool_error_text error.now) }
 {
     match error {
@@ -153,7 +157,8 @@ fn push_pool_error(output: &mut Vec<u8>, error: &IpDefragError) -> Result<(), Al
     }
 }
 
-/// Appends the numbers of a fragment that is too long, its offset in units of 8 bytes.
+/// Appends the line for a fragment that ends above the limit of the reassembly pool: its offset in units of 8 bytes,
+/// its length in bytes, and the limit.
 fn push_too_big(
     output: &mut Vec<u8>,
     offset: u16,
@@ -169,14 +174,14 @@ fn push_too_big(
         u64::from(offset),
         payload_len as u64,
     )?;
-    decimals::push_behind(output, b" ", u64::from(max))
+    decimals::push_with_text(output, b" ", u64::from(max))
 }
 
-/// Appends a text and two numbers with a space between them.
+/// Appends a text and two decimal numbers with a space between the numbers.
 fn push_pair(output: &mut Vec<u8>, text: &[u8], first: u64, second: u64) -> Result<(), AllocError>
     ensures { OnOk result (output.new.items
         ≡ output.old.items ++ (text.now ++ (decimal first ++ space ∷ decimal second))) }
 {
-    decimals::push_behind(output, text, first)?;
-    decimals::push_behind(output, b" ", second)
+    decimals::push_with_text(output, text, first)?;
+    decimals::push_with_text(output, b" ", second)
 }

@@ -1,4 +1,4 @@
-//! What the lines `frag`, `drop` and `limit` ask.
+//! Parsing of the request lines `frag`, `drop` and `limit`, which concern the reassembly pool.
 
 ghost use Rattle.std.specs.Prelude.{◌≡◌, ◌∷◌, ◌++◌, ℕ, List, IfNone, IfOk, IfSome, codes};
 ghost use Rattle.line_io.specs.Lines.{space};
@@ -11,8 +11,8 @@ use crate::texts::split_at_first;
 use std::alloc::AllocError;
 use std::str;
 
-/// What a line asks that has this text behind `frag` and a space, where it does. The bytes that it says are then left
-/// in `bytes`.
+/// Parses the rest of a `frag` line, after the word and a space, or returns `None` if it is invalid. The vector `bytes`
+/// is overwritten by the decoded frame.
 pub fn parse_fragment(text: &[u8], bytes: &mut Vec<u8>) -> Result<Option<Request>, AllocError>
     ensures some { IfOk result (λ found. IfSome found (λ request.
         Asks (codes "frag" ++ space ∷ text.now) request bytes.new.items)) }
@@ -39,7 +39,8 @@ pub fn parse_fragment(text: &[u8], bytes: &mut Vec<u8>) -> Result<Option<Request
     }
 }
 
-/// What a line asks that has this text behind `drop` and a space, where it does. No bytes are then left in `bytes`.
+/// Parses the rest of a `drop` line, after the word and a space, or returns `None` if it is not a number. The vector
+/// `bytes` is cleared, as the line contains no frame.
 pub fn parse_drop(text: &[u8], bytes: &mut Vec<u8>) -> Option<Request>
     ensures some { IfSome result (λ request. Asks (codes "drop" ++ space ∷ text.now) request bytes.new.items) }
     ensures none { IfNone result ((request : Request) (said : List ℕ) →
@@ -50,7 +51,8 @@ pub fn parse_drop(text: &[u8], bytes: &mut Vec<u8>) -> Option<Request>
     Some(Request::Drop { timestamp })
 }
 
-/// What a line asks that has this text behind `limit` and a space, where it does. No bytes are then left in `bytes`.
+/// Parses the rest of a `limit` line, after the word and a space, or returns `None` if it is not 1 to 5 decimal digits
+/// of at most 65535. The vector `bytes` is cleared, as the line contains no frame.
 pub fn parse_limit(text: &[u8], bytes: &mut Vec<u8>) -> Option<Request>
     ensures some { IfSome result (λ request. Asks (codes "limit" ++ space ∷ text.now) request bytes.new.items) }
     ensures none { IfNone result ((request : Request) (said : List ℕ) →
@@ -61,7 +63,8 @@ pub fn parse_limit(text: &[u8], bytes: &mut Vec<u8>) -> Option<Request>
     Some(Request::Limit { max })
 }
 
-/// The limit that a text says, where it does: 1 to 5 decimal digits of a value that fits.
+/// Parses 1 to 5 decimal digits as the limit of a reassembly pool, or returns `None` if the text is anything else or
+/// above 65535.
 fn limit(text: &[u8]) -> Option<u16>
     ensures some { IfSome result (IsLimit text.now) }
     ensures none { IfNone result ((value : ℕ) → IsLimit text.now value → ⊥) }
@@ -72,7 +75,8 @@ fn limit(text: &[u8]) -> Option<u16>
     u16::try_from(number(text)?).ok()
 }
 
-/// The number at the front of a text, and what stands behind it and a space.
+/// Parses the decimal number at the start of a text. Returns it with the text after the number and one space, or `None`
+/// if the text does not begin with them.
 fn number_at(text: &[u8]) -> Option<(u64, &[u8])>
     ensures some { IfSome result (λ found. (word : List ℕ) × (text.now ≡ word ++ space ∷ found.1.now)
         × IsNumber word found.0) }
@@ -83,7 +87,7 @@ fn number_at(text: &[u8]) -> Option<(u64, &[u8])>
     Some((number(word)?, rest))
 }
 
-/// The number that a text says, where it does: 1 to 20 decimal digits of a value that fits.
+/// Parses 1 to 20 decimal digits, or returns `None` if the text is anything else or the value does not fit in 64 bits.
 fn number(text: &[u8]) -> Option<u64>
     ensures some { IfSome result (IsNumber text.now) }
     ensures none { IfNone result ((value : ℕ) → IsNumber text.now value → ⊥) }

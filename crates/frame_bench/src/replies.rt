@@ -1,4 +1,4 @@
-//! The answer to a line.
+//! The answer line to a request line.
 
 ghost use Rattle.std.specs.Prelude.{◌≡◌, ◌∷◌, ◌++◌, [], ℕ, List, OnOk};
 ghost use Rattle.line_io.specs.Lines.{line_feed};
@@ -12,8 +12,8 @@ use crate::slice_replies::push_slice;
 use etherparse::defrag::IpDefragPool;
 use std::alloc::{AllocError, Global};
 
-/// Appends the answer to a line behind any others, after which the pool stands, and a line feed. What `bytes` holds is
-/// overwritten. A new pool takes its memory from `alloc`.
+/// Appends the answer to a request line, and a line feed. The reassembly pool must be as all earlier lines left it. The
+/// contents of `bytes` are overwritten, and a `limit` line allocates its new pool from `alloc`.
 pub fn push_line(
     alloc: Global,
     output: &mut Vec<u8>,
@@ -31,7 +31,7 @@ pub fn push_line(
     Ok(())
 }
 
-/// Appends the answer to a line.
+/// Appends the answer to a request line, without a line feed, or `err line` if the line is not a request.
 fn push_answer(
     alloc: Global,
     output: &mut Vec<u8>,
@@ -50,7 +50,8 @@ fn push_answer(
     }
 }
 
-/// Appends the reply to a request.
+/// Appends the answer to a parsed request, whose frame, if it has one, is in `bytes`. It changes or replaces the
+/// reassembly pool as the request demands.
 fn push_reply(
     alloc: Global,
     output: &mut Vec<u8>,

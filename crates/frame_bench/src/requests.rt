@@ -1,4 +1,4 @@
-//! What a line asks.
+//! Parsing of a request line: the first word chooses among `slice`, `frag`, `drop` and `limit`.
 
 ghost use Rattle.std.specs.Prelude.{◌∷◌, ◌++◌, ℕ, List, IfNone, IfOk, IfSome, codes};
 ghost use Rattle.etherparse.specs.Types.Entry.{Entry};
@@ -12,33 +12,34 @@ use crate::texts::behind;
 use etherparse::Entry;
 use std::alloc::AllocError;
 
-/// What a line asks of its bytes.
+/// A parsed request line, without the bytes of its frame, which the parser decodes into a separate vector.
 #[derive(Clone, Copy, Debug)]
 pub enum Request {
-    /// The layers of a frame.
+    /// `slice`: print the layers of a frame whose bytes start with this header (Ethernet II, Linux SLL or IP).
     Slice(Entry),
-    /// What the pool answers a frame, which may carry a fragment.
+    /// `frag`: pass a frame to the reassembly pool, and print the payload that it completes, `none`, or its error.
     Fragment {
-        /// What the frame begins with.
+        /// Header that the bytes of the frame start with: Ethernet II, Linux SLL or IP.
         entry: Entry,
-        /// When it came.
+        /// Timestamp of the frame: a number that the request line states.
         timestamp: u64,
-        /// What tells its streams apart.
+        /// Channel of the frame: a number that keeps fragments of different sources apart.
         channel: u64,
     },
-    /// That the pool drops the streams whose timestamp is below this one.
+    /// `drop`: drop the incomplete datagrams whose last accepted fragment has a timestamp below the given one.
     Drop {
-        /// The least timestamp that is kept.
+        /// Least timestamp that is kept. A datagram is dropped if its last accepted fragment has a lower one.
         timestamp: u64,
     },
-    /// That a new pool takes the place of the one before, with its streams.
+    /// `limit`: replace the reassembly pool, with its incomplete datagrams, by a new and empty pool of the given limit.
     Limit {
-        /// The greatest length of a payload, in bytes.
+        /// Greatest length of a payload that the new reassembly pool accepts, in bytes.
         max: u16,
     },
 }
 
-/// What a line asks, where it does. The bytes that it says are then left in `bytes`.
+/// Parses a request line, or returns `None` if the line is not a request. The vector `bytes` is overwritten by the
+/// frame that the line contains in hexadecimal.
 pub fn parse(line: &[u8], bytes: &mut Vec<u8>) -> Result<Option<Request>, AllocError>
     ensures some { IfOk result (λ found. IfSome found (λ request. Asks line.now request bytes.new.items)) }
     ensures none { IfOk result (λ found. IfNone found
@@ -59,8 +60,8 @@ pub fn parse(line: &[u8], bytes: &mut Vec<u8>) -> Result<Option<Request>, AllocE
     }
 }
 
-/// What a line asks that has this text behind `slice` and a space, where it does. The bytes that it says are then left
-/// in `bytes`.
+/// Parses the rest of a `slice` line, after the word and a space, or returns `None` if it is invalid. The vector
+/// `bytes` is overwritten by the decoded frame.
 fn parse_slice(text: &[u8], bytes: &mut Vec<u8>) -> Result<Option<Request>, AllocError>
     ensures some { IfOk result (λ found. IfSome found (λ request.
         Asks (codes "slice" ++ space ∷ text.now) request bytes.new.items)) }
@@ -77,7 +78,8 @@ fn parse_slice(text: &[u8], bytes: &mut Vec<u8>) -> Result<Option<Request>, Allo
     }
 }
 
-/// The entry whose word stands at the front of a text, and what stands behind that word and a space.
+/// Parses the word `eth`, `sll` or `ip` at the start of a text: the header that a frame starts with. Returns it with
+/// the text after the word and one space, or `None` for any other word.
 pub fn entry_at(text: &[u8]) -> Option<(Entry, &[u8])>
     ensures some { IfSome result (λ found. EntryAt text.now found.0 found.1.now) }
     ensures none { IfNone result ((entry : Entry) (rest : List ℕ) → EntryAt text.now entry rest → ⊥) }

@@ -1,4 +1,4 @@
-//! The reply about a frame.
+//! Answers to `slice` lines: the layers of a frame, or the error that rejects it.
 
 ghost use Rattle.std.specs.Prelude.{◌≡◌, ◌∷◌, ◌++◌, [], ℕ, List, OnOk, map};
 ghost use Rattle.std.specs.Option.{option_map};
@@ -17,7 +17,8 @@ use etherparse::{Entry, LinkExtSlice, LinkSlice, NetSlice, SlicedPacket, Transpo
 use line_io::decimals;
 use std::alloc::AllocError;
 
-/// Appends the text of the frame's layers, or why the bytes are no frame.
+/// Appends the answer to a `slice` line: a word for each layer of the frame and its payload, or the text of the slicing
+/// error.
 pub fn push_slice(output: &mut Vec<u8>, entry: Entry, bytes: &[u8]) -> Result<(), AllocError>
     ensures { OnOk result ((reply : List ℕ) × IsSliceReply entry bytes.now reply
         × (output.new.items ≡ output.old.items ++ reply)) }
@@ -28,7 +29,8 @@ pub fn push_slice(output: &mut Vec<u8>, entry: Entry, bytes: &[u8]) -> Result<()
     }
 }
 
-/// Appends a word for each layer, and the payload of the innermost.
+/// Appends `ok`, a word for each layer of a sliced packet (link, extensions, network, transport), and the payload of
+/// its innermost layer in hexadecimal.
 fn push_layers(output: &mut Vec<u8>, packet: &SlicedPacket<'_>) -> Result<(), AllocError>
     ensures { OnOk result (output.new.items ≡ output.old.items ++ layers_text (layers_of packet.now)) }
 {
@@ -44,7 +46,7 @@ fn push_layers(output: &mut Vec<u8>, packet: &SlicedPacket<'_>) -> Result<(), Al
     hex_text::push(output, packet.payload())
 }
 
-/// Appends a word and a space.
+/// Appends a word and a space to the output.
 fn push_word(output: &mut Vec<u8>, word: &str) -> Result<(), AllocError>
     ensures { OnOk result (output.new.items ≡ output.old.items ++ (word.now ++ space ∷ [])) }
 {
@@ -53,7 +55,8 @@ fn push_word(output: &mut Vec<u8>, word: &str) -> Result<(), AllocError>
     Ok(())
 }
 
-/// The word for a link layer.
+/// Returns the word for the link layer of a packet: `eth` (Ethernet II), `sll` (Linux cooked capture), or `-` if it
+/// starts with neither header.
 fn link_word(link: &Option<LinkSlice<'_>>) -> &'static str
     ensures { result.now ≡ link_word (option_map link_layer_of link.now) }
 {
@@ -64,7 +67,7 @@ fn link_word(link: &Option<LinkSlice<'_>>) -> &'static str
     }
 }
 
-/// Appends the link extensions with a comma between two, or `-` for none.
+/// Appends the link extensions of a packet (VLAN tags and MACsec) with commas between them, or `-` if there are none.
 fn push_extensions(output: &mut Vec<u8>, extensions: &[LinkExtSlice<'_>]) -> Result<(), AllocError>
     ensures { OnOk result (output.new.items
         ≡ output.old.items ++ extensions_word (map link_extension_of extensions.now)) }
@@ -80,20 +83,20 @@ fn push_extensions(output: &mut Vec<u8>, extensions: &[LinkExtSlice<'_>]) -> Res
     Ok(())
 }
 
-/// Appends a link extension: a VLAN with its identifier.
+/// Appends the word for one link extension: `vlan:` with the VLAN identifier in decimal, or `macsec`.
 fn push_extension(output: &mut Vec<u8>, extension: &LinkExtSlice<'_>) -> Result<(), AllocError>
     ensures { OnOk result (output.new.items ≡ output.old.items ++ extension_text (link_extension_of extension.now)) }
 {
     match extension {
         LinkExtSlice::Vlan(tag) => {
             let vlan_id = tag.vlan_identifier().value();
-            decimals::push_behind(output, b"vlan:", u64::from(vlan_id))
+            decimals::push_with_text(output, b"vlan:", u64::from(vlan_id))
         }
         LinkExtSlice::Macsec(_) => output.extend_from_slice(b"macsec"),
     }
 }
 
-/// The word for a net layer.
+/// Returns the word for the network layer of a packet: `ipv4`, `ipv6` or `arp`, and `-` if it has none.
 fn net_word(net: &Option<NetSlice<'_>>) -> &'static str
     ensures { result.now ≡ net_word (option_map net_layer_of net.now) }
 {
@@ -105,7 +108,7 @@ fn net_word(net: &Option<NetSlice<'_>>) -> &'static str
     }
 }
 
-/// The word for a transport layer.
+/// Returns the word for the transport layer of a packet: `udp`, `tcp`, `icmpv4` or `icmpv6`, and `-` if it has none.
 fn transport_word(transport: &Option<TransportSlice<'_>>) -> &'static str
     ensures { result.now ≡ transport_word (option_map transport_layer_of transport.now) }
 {
@@ -118,18 +121,19 @@ fn transport_word(transport: &Option<TransportSlice<'_>>) -> &'static str
     }
 }
 
-/// Appends the text of a refusal.
+/// Appends the line for the error of a frame that can't be sliced: `err`, a word for the error, and the values of its
+/// fields.
 pub fn push_refusal(output: &mut Vec<u8>, error: &SliceError) -> Result<(), AllocError>
     ensures { OnOk result (output.new.items ≡ output.old.items ++ refusal_text error.now) }
 {
     match error {
         SliceError::Len(error) => push_len_error(output, error),
         SliceError::LinuxSll(linux_sll::HeaderError::UnsupportedPacketTypeField { packet_type }) =>
-            { decimals::push_behind(output, b"err sll-packet-type ", u64::from(*packet_type)) }
+            { decimals::push_with_text(output, b"err sll-packet-type ", u64::from(*packet_type)) }
         SliceError::LinuxSll(
             linux_sll::HeaderError::UnsupportedArpHardwareId { arp_hardware_type },
         ) => {
-            decimals::push_behind(
+            decimals::push_with_text(
                 output,
                 b"err sll-arp-hardware ",
                 u64::from(*arp_hardware_type),
@@ -142,19 +146,19 @@ pub fn push_refusal(output: &mut Vec<u8>, error: &SliceError) -> Result<(), Allo
             output.extend_from_slice(b"err macsec-short-length")
         }
         SliceError::Ip(ip::HeaderError::UnsupportedIpVersion { version_number }) => {
-            decimals::push_behind(output, b"err ip-version ", u64::from(*version_number))
+            decimals::push_with_text(output, b"err ip-version ", u64::from(*version_number))
         }
         SliceError::Ip(ip::HeaderError::Ipv4HeaderLengthSmallerThanHeader { ihl }) => {
-            decimals::push_behind(output, b"err ip-ihl ", u64::from(*ihl))
+            decimals::push_with_text(output, b"err ip-ihl ", u64::from(*ihl))
         }
         SliceError::Ipv4(ipv4::HeaderError::UnexpectedVersion { version_number }) => {
-            decimals::push_behind(output, b"err ipv4-version ", u64::from(*version_number))
+            decimals::push_with_text(output, b"err ipv4-version ", u64::from(*version_number))
         }
         SliceError::Ipv4(ipv4::HeaderError::HeaderLengthSmallerThanHeader { ihl }) => {
-            decimals::push_behind(output, b"err ipv4-ihl ", u64::from(*ihl))
+            decimals::push_with_text(output, b"err ipv4-ihl ", u64::from(*ihl))
         }
         SliceError::Ipv6(ipv6::HeaderError::UnexpectedVersion { version_number }) => {
-            decimals::push_behind(output, b"err ipv6-version ", u64::from(*version_number))
+            decimals::push_with_text(output, b"err ipv6-version ", u64::from(*version_number))
         }
         SliceError::Ipv4Exts(ip_auth::HeaderError::ZeroPayloadLen) => {
             output.extend_from_slice(b"err ipv4-auth-zero")
@@ -166,18 +170,19 @@ pub fn push_refusal(output: &mut Vec<u8>, error: &SliceError) -> Result<(), Allo
             ipv6_exts::HeaderError::IpAuth(ip_auth::HeaderError::ZeroPayloadLen),
         ) => output.extend_from_slice(b"err ipv6-auth-zero"),
         SliceError::Tcp(tcp::HeaderError::DataOffsetTooSmall { data_offset }) => {
-            decimals::push_behind(output, b"err tcp-data-offset ", u64::from(*data_offset))
+            decimals::push_with_text(output, b"err tcp-data-offset ", u64::from(*data_offset))
         }
     }
 }
 
-/// Appends the numbers and names of a layer that has too few bytes.
+/// Appends the line for a slicing error of too few bytes: `err len`, the required and the actual length, the length's
+/// source, the layer, and the position of the layer in the frame.
 fn push_len_error(output: &mut Vec<u8>, error: &LenError) -> Result<(), AllocError>
     ensures { OnOk result (output.new.items ≡ output.old.items ++ refusal_text (SliceError.Len error.now)) }
 {
     let offset = error.layer_start_offset;
-    decimals::push_behind(output, b"err len ", error.required_len as u64)?;
-    decimals::push_behind(output, b" ", error.len as u64)?;
+    decimals::push_with_text(output, b"err len ", error.required_len as u64)?;
+    decimals::push_with_text(output, b" ", error.len as u64)?;
     output.push(b' ')?;
     push_word(output, error.len_source.name())?;
     push_word(output, error.layer.name())?;

@@ -1,5 +1,5 @@
-//! What no contract says: answers from outside, and readers and writers that move little or fail. Most answers from
-//! outside stand in `cases`, which the built program is run on.
+//! Tests of properties that no contract states: answers that are known from outside, and readers and writers that move
+//! few bytes or fail. Most answers from outside are in the folder `cases`, on whose files the built program is run.
 
 mod decimals;
 mod failing;

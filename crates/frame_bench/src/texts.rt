@@ -1,4 +1,4 @@
-//! Taking texts apart.
+//! Splitting of the words of a request line.
 
 ghost use Rattle.std.specs.Prelude.{◌≡◌, ◌≢◌, ◌==◌, ◌<◌, ◌≤◌, ◌+◌, ◌∷◌, ◌++◌, ℕ, List, IfNone, IfSome};
 ghost use Rattle.std.specs.Prelude.{length, not, slice_index, take};
@@ -8,7 +8,8 @@ ghost use Rattle.line_io.specs.Lines.{space};
 
 use std::simd::prelude::*;
 
-/// What stands in front of the first byte `mark`, and behind it.
+/// Splits a text at its first byte that equals `mark`, and returns the parts before and after this byte, or `None` if
+/// the text has no such byte.
 pub fn split_at_first(text: &[u8], mark: u8) -> Option<(&[u8], &[u8])>
     ensures some { IfSome result (λ parts. All (λ byte. byte ≢ mark) parts.0.now
         × (text.now ≡ parts.0.now ++ mark ∷ parts.1.now)) }
@@ -21,10 +22,11 @@ pub fn split_at_first(text: &[u8], mark: u8) -> Option<(&[u8], &[u8])>
     Some((&text[..end], &text[end + 1..]))
 }
 
-/// How many bytes are looked at in one step.
+/// Number of text bytes that are compared with the searched byte at once, by one SIMD instruction.
 const STEP: usize = 16;
 
-/// How many bytes stand in front of the first byte `mark`; all of them where there is none.
+/// Returns the index of the first byte of a text that equals `mark`, or the length of the text if there is no such
+/// byte.
 fn len_before(text: &[u8], mark: u8) -> usize
     ensures within { result ≤ length text.now }
     ensures front { All (λ byte. byte ≢ mark) (take result text.now) }
@@ -41,7 +43,8 @@ fn len_before(text: &[u8], mark: u8) -> usize
     start + len_before_by_one(&text[start..], mark)
 }
 
-/// The same, one byte after the other.
+/// Returns the index of the first byte of a text that equals `mark`, or the length of the text if there is none. It
+/// compares byte by byte, for the last bytes of a text (fewer than 16).
 fn len_before_by_one(text: &[u8], mark: u8) -> usize
     ensures within { result ≤ length text.now }
     ensures front { All (λ byte. byte ≢ mark) (take result text.now) }
@@ -53,7 +56,8 @@ fn len_before_by_one(text: &[u8], mark: u8) -> usize
     }
 }
 
-/// The same of the bytes of one step, all compared at once.
+/// Searches the 16 bytes of a text from `start` on for `mark`, all at once. Returns the index of the first match among
+/// them, or 16 if there is none.
 fn len_in_step(text: &[u8], start: usize, mark: u8) -> usize
     requires { start + 16 ≤ length text.now }
     ensures { result ≡ prefix_len (λ byte. not (byte == mark)) (chunk start 16 text.now) }
@@ -68,7 +72,7 @@ fn len_in_step(text: &[u8], start: usize, mark: u8) -> usize
     }
 }
 
-/// What stands behind a word and a space at the front of a text.
+/// Returns the text after the given word and one space, or `None` if the text does not begin with them.
 pub fn behind<'a>(text: &'a [u8], word: &[u8]) -> Option<&'a [u8]>
     ensures some { IfSome result (λ rest. text.now ≡ word.now ++ space ∷ rest.now) }
     ensures none { IfNone result ((rest : List ℕ) → text.now ≡ word.now ++ space ∷ rest → ⊥) }

@@ -1,5 +1,6 @@
-//! What no contract of the header crates says: rows from outside, texts, and that calls succeed. The tests stand here,
-//! above those crates, so that each of these is proved once.
+//! Tests of the crates that parse and write headers, for everything that their contracts don't cover: examples from
+//! standards, error texts, and calls that have to succeed. They are in a crate of their own, so that the header crates
+//! are proved only once.
 #![tactic(auto)]
 
 #[cfg(test)]

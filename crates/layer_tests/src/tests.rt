@@ -1,4 +1,4 @@
-//! The tests of each crate, and what they share.
+//! Tests of each crate that parses and writes headers, and the helpers that the tests share.
 
 mod base;
 mod checks;

@@ -1,4 +1,4 @@
--- The digits of a number, two at a time, the last ones first.
+-- Lemmas about writing the digits of a number from the last to the first, two at a time.
 use Rattle.std.proofs.Common.{◌≡◌, ℕ, zero, suc, ◌+◌, ◌-◌, ◌*◌, ◌/◌, ◌%◌, ◌^◌, ◌<◌, ◌≤◌, List, [], ◌∷◌, ◌++◌, length, drop, take}
 use Rattle.std.proofs.Common.{Bool, true, ◌&&◌, T, eqb, eqb→eq, get_or, sym, ap, ◌∙◌, subst, arith, append_assoc}
 use Rattle.std.proofs.Common.{inl, inr, eq-zero-or-pos}
@@ -11,11 +11,11 @@ use Rattle.line_io.specs.declared.digits.TheConstants.{PAIRS}
 
 -- ---- two digits
 
--- the digits of a number below 100, with a zero in front where it has one digit
+-- The two digits of a number below 100, with a leading zero if it is below 10.
 abbrev pub two_digits : ℕ → List ℕ
 two_digits number = (48 + number / 10) ∷ (48 + number % 10) ∷ []
 
--- the table has them at their place
+-- The table contains the digits at the position of the number.
 abbrev has_digits : ℕ → Bool
 has_digits number =
     eqb (get_or PAIRS (2 * number) 0) (48 + number / 10) && eqb (get_or PAIRS (2 * number + 1) 0) (48 + number % 10)
@@ -45,13 +45,13 @@ second_of_pair number below =
     eqb→eq (get_or PAIRS (2 * number + 1) 0) (48 + number % 10)
     (and_r (eqb (get_or PAIRS (2 * number) 0) (48 + number / 10)) _ (has_digits-below 100 number tt below))
 
--- a number of two digits
+-- A number from 10 to 99 has two digits.
 pub decimal_two : (number : ℕ) → 10 ≤ number → number < 100 → decimal number ≡ two_digits number
 decimal_two number least most =
     decimal_step number least (omega (arith, most))
     ∙ ap (λ t. t ++ (48 + number % 10) ∷ []) (decimal_digit (number / 10) (omega (arith, most)))
 
--- the last two digits of a longer one
+-- A number of at least three digits ends with the two digits of its remainder by 100.
 pub decimal_more : (number : ℕ) → 100 ≤ number → number < 2 ^ 64
     → decimal number ≡ decimal (number / 100) ++ two_digits (number % 100)
 decimal_more number least fits =
@@ -65,7 +65,7 @@ decimal_more number least fits =
     ∙ ap (λ n. decimal (number / 100) ++ (48 + n) ∷ (48 + number % 10) ∷ []) tens
     ∙ ap (λ n. decimal (number / 100) ++ (48 + number % 100 / 10) ∷ (48 + n) ∷ []) ones
 
--- ---- numbers of a known count of digits
+-- ---- numbers with a known number of digits
 
 pub decimal_three : (number : ℕ) → 100 ≤ number → number < 1000
     → decimal number ≡ (48 + number / 100) ∷ two_digits (number % 100)
@@ -129,22 +129,22 @@ decimal_ten number least most =
 
 -- ---- digits from the last to the first
 
--- the digits from this place on, with those of what is left of the number in front, are those of the number
+-- The digits from index `start` on, after the digits of `rest`, are the digits of the number.
 abbrev pub AreLastDigits : ℕ → ℕ → ℕ → List ℕ → Type 0
 AreLastDigits number rest start digits = decimal number ≡ decimal rest ++ drop start digits
 
--- what is left has no more digits than there is room for
+-- The remaining number has at most `start` digits.
 abbrev pub HasRoom : ℕ → ℕ → Type 0
 HasRoom rest start = (0 < start) × (rest < 10 ^ start)
 
--- where three digits are left, there is room for one more than two
+-- If at least three digits remain, there is space for three.
 pub HasRoom-three : (rest start : ℕ) → HasRoom rest start → 100 ≤ rest → 3 ≤ start
 HasRoom-three rest zero room three = absurd (omega (arith, room.0))
 HasRoom-three rest (suc zero) room three = absurd (omega (arith, room.1, three))
 HasRoom-three rest (suc (suc zero)) room three = absurd (omega (arith, room.1, three))
 HasRoom-three rest (suc (suc (suc start))) room three = omega arith
 
--- where two digits are left, there is room for them
+-- If at least two digits remain, there is space for two.
 pub HasRoom-two : (rest start : ℕ) → HasRoom rest start → 10 ≤ rest → 2 ≤ start
 HasRoom-two rest zero room two = absurd (omega (arith, room.0))
 HasRoom-two rest (suc zero) room two = absurd (omega (arith, room.1, two))
@@ -159,12 +159,12 @@ HasRoom-more rest start room three =
     let same : suc (suc (start - 2)) ≡ start = omega (arith, some) in
     (omega (arith, some), less_room rest (start - 2) (subst (λ n. rest < 10 ^ n) (sym same) room.1))
 
--- at first no digit is written
+-- At the start, no digit is written.
 pub AreLastDigits-none : (number : ℕ) (digits : List ℕ) → length digits ≡ 20 → AreLastDigits number number 20 digits
 AreLastDigits-none number digits long =
     sym (append-nil (decimal number)) ∙ ap (λ t. decimal number ++ t) (sym (drop_all 20 digits (omega (arith, long))))
 
--- the next two digits in front
+-- The next two digits are written before the digits at `start`.
 pub AreLastDigits-more : (number rest start : ℕ) (digits written : List ℕ) → AreLastDigits number rest start digits
     → drop (start - 2) written ≡ two_digits (rest % 100) ++ drop (start - 2 + 2) digits → 2 ≤ start → 100 ≤ rest
     → rest < 2 ^ 64 → AreLastDigits number (rest / 100) (start - 2) written
@@ -175,7 +175,7 @@ AreLastDigits-more number rest start digits written last puts some three fits =
     ∙ ap (λ n. decimal (rest / 100) ++ (two_digits (rest % 100) ++ drop n digits)) (sym same)
     ∙ ap (λ t. decimal (rest / 100) ++ t) (sym puts)
 
--- the first two digits
+-- The first two digits are written, which completes the number.
 pub AreLastDigits-two : (number rest start : ℕ) (digits written : List ℕ) → AreLastDigits number rest start digits
     → drop (start - 2) written ≡ two_digits rest ++ drop (start - 2 + 2) digits → 2 ≤ start → 10 ≤ rest → rest < 100
     → drop (start - 2) written ≡ decimal number
@@ -184,7 +184,7 @@ AreLastDigits-two number rest start digits written last puts some least most =
     puts ∙ ap (λ n. two_digits rest ++ drop n digits) same
     ∙ ap (λ t. t ++ drop start digits) (sym (decimal_two rest least most)) ∙ sym last
 
--- the first digit
+-- The first digit is written, which completes the number.
 pub AreLastDigits-one : (number rest start : ℕ) (digits written : List ℕ) → AreLastDigits number rest start digits
     → drop (start - 1) written ≡ (48 + rest) ∷ drop (start - 1 + 1) digits → 0 < start → rest < 10
     → drop (start - 1) written ≡ decimal number
@@ -193,15 +193,15 @@ AreLastDigits-one number rest start digits written last puts some one =
     puts ∙ ap (λ n. (48 + rest) ∷ drop n digits) same
     ∙ ap (λ t. t ++ drop start digits) (sym (decimal_digit rest one)) ∙ sym last
 
--- ---- the digits that are appended
+-- ---- the appended digits
 
--- all from the first on, in room for twenty
+-- The digits from the first one to the end of the 20 bytes are the digits of the number.
 pub digits-whole : (number start : ℕ) (digits : List ℕ) → length digits ≡ 20 → drop start digits ≡ decimal number
     → take (20 - start) (drop start digits) ≡ decimal number
 digits-whole number start digits long are =
     take_all (20 - start) (drop start digits) (omega (arith, length-drop start digits, long)) ∙ are
 
--- all behind the first
+-- The digits after the first one are the digits of the number without the first.
 pub digits-behind_first : (number start : ℕ) (digits : List ℕ) → length digits ≡ 20
     → drop start digits ≡ decimal number
     → take (20 - (start + 1)) (drop (start + 1) digits) ≡ drop 1 (decimal number)

@@ -1,18 +1,18 @@
--- The lines of a text, where it is put together from parts.
+-- Lemmas about the lines of a text that is built from parts.
 use Rattle.std.proofs.Common.{◌≡◌, ◌≢◌, ℕ, ◌==◌, false, List, [], ◌∷◌, ◌++◌, refl, ap, ◌∙◌, arith}
 use Rattle.std.proofs.lemmas.List.Elements.{All-head, All-tail}
 use Rattle.line_io.specs.Lines.{IsWithinLine, line_feed, lines_of, onto_first}
 
--- the test for a line feed fails
+-- A byte other than a line feed fails the test for a line feed.
 not_ended : (byte : ℕ) → byte ≢ line_feed → (byte == line_feed) ≡ false
 not_ended byte other = grind (arith)
 
--- a byte that ends no line stands in the first line
+-- A byte other than a line feed belongs to the first line.
 pub lines_of-onto_first : (byte : ℕ) (rest : List ℕ) → byte ≢ line_feed
     → lines_of (byte ∷ rest) ≡ onto_first byte (lines_of rest)
 lines_of-onto_first byte rest other = rw (not_ended byte other) refl
 
--- a line feed ends the line in front of it
+-- A line feed ends the line before it.
 pub lines_of-ended : (line rest : List ℕ) → IsWithinLine line
     → lines_of (line ++ line_feed ∷ rest) ≡ line ∷ lines_of rest
 lines_of-ended [] rest within = refl
@@ -21,7 +21,7 @@ lines_of-ended (byte ∷ line) rest within =
     let tail : IsWithinLine line = All-tail (λ x. x ≢ line_feed) byte line within in
     lines_of-onto_first byte (line ++ line_feed ∷ rest) other ∙ ap (onto_first byte) (lines_of-ended line rest tail)
 
--- a text that isn't empty and has no line feed is one line
+-- A text without line feed that is not empty is a single line.
 pub lines_of-within : (byte : ℕ) (line : List ℕ) → IsWithinLine (byte ∷ line)
     → lines_of (byte ∷ line) ≡ (byte ∷ line) ∷ []
 lines_of-within byte [] within = lines_of-onto_first byte [] (All-head (λ x. x ≢ line_feed) byte [] within)

@@ -9,22 +9,23 @@ line_feed = 10
 abbrev pub space : ℕ
 space = 32
 
--- a byte in front of the first line
+-- the lines with a byte added to the start of the first line
 abbrev pub onto_first : ℕ → List (List ℕ) → List (List ℕ)
 onto_first byte [] = (byte ∷ []) ∷ []
 onto_first byte (line ∷ lines) = (byte ∷ line) ∷ lines
 
--- the lines of a text, without the line feed that ends each; a last one that no line feed ends counts if it isn't empty
+-- the lines of a text, without the line feed at the end of each; a last line without line feed counts if it is not
+-- empty
 abbrev pub lines_of : List ℕ → List (List ℕ)
 lines_of [] = []
 lines_of (byte ∷ rest) = if byte == line_feed then [] ∷ lines_of rest else onto_first byte (lines_of rest)
 
--- words in one line, with exactly one space between two
+-- words in one line, separated by single spaces
 abbrev pub words : List (List ℕ) → List ℕ
 words [] = []
 words (word ∷ []) = word
 words (word ∷ next ∷ rest) = word ++ space ∷ words (next ∷ rest)
 
--- no line ends within the text
+-- the text contains no line feed
 abbrev pub IsWithinLine : List ℕ → Type 0
 IsWithinLine text = All (λ byte. byte ≢ line_feed) text

@@ -1,4 +1,4 @@
-//! Numbers as decimal digits.
+//! Appends numbers in decimal to a byte buffer.
 
 ghost use Rattle.std.specs.Prelude.{◌≡◌, ◌<◌, ◌≤◌, ◌+◌, ◌*◌, ◌/◌, ◌%◌, ◌∷◌, ◌++◌};
 ghost use Rattle.std.specs.Prelude.{OnErr, OnOk, drop, length, vec_capacity, vec_len};
@@ -7,60 +7,63 @@ ghost use Rattle.std.specs.Fmt.{decimal};
 use crate::digits::{self, PAIRS};
 use std::alloc::AllocError;
 
-/// How many digits the greatest number has.
+/// Number of decimal digits of the greatest 64 bit number.
 const MOST_DIGITS: usize = 20;
 
-/// Below this number digits are counted by comparisons, and all appended at once.
+/// Least number with more than ten decimal digits. If the buffer has space for ten digits (four for numbers below
+/// 10,000), the digits of smaller numbers are counted by comparisons and appended in one copy.
 const SHORT_END: u64 = 10_000_000_000;
 
-/// Appends a text and then a number. Where the compiler knows the text's length, a text of up to eleven bytes is
-/// appended by moves of that size, and not by a call that copies any number of bytes.
+/// Appends `text` and then `number` in decimal to `output`. Allocates only if the capacity of `output` is too small. If
+/// the capacity suffices for the text, and the compiler knows that its length is 1 to 11 bytes, the text is copied by a
+/// few moves of constant size instead of a call.
 #[inline(always)]
-pub fn push_behind(output: &mut Vec<u8>, text: &[u8], number: u64) -> Result<(), AllocError>
+pub fn push_with_text(output: &mut Vec<u8>, text: &[u8], number: u64) -> Result<(), AllocError>
     ensures text { OnOk result (output.new.items ≡ output.old.items ++ (text.now ++ decimal number)) }
     ensures full { OnErr result (vec_capacity output.old
         < vec_len output.old + (length text.now + length (decimal number))) }
 {
     if let Some(text) = text.as_array::<1>() {
-        return push_behind_array(output, text, number);
+        return push_with_array(output, text, number);
     }
     if let Some(text) = text.as_array::<2>() {
-        return push_behind_array(output, text, number);
+        return push_with_array(output, text, number);
     }
     if let Some(text) = text.as_array::<3>() {
-        return push_behind_array(output, text, number);
+        return push_with_array(output, text, number);
     }
     if let Some(text) = text.as_array::<4>() {
-        return push_behind_array(output, text, number);
+        return push_with_array(output, text, number);
     }
     if let Some(text) = text.as_array::<5>() {
-        return push_behind_array(output, text, number);
+        return push_with_array(output, text, number);
     }
     if let Some(text) = text.as_array::<6>() {
-        return push_behind_array(output, text, number);
+        return push_with_array(output, text, number);
     }
     if let Some(text) = text.as_array::<7>() {
-        return push_behind_array(output, text, number);
+        return push_with_array(output, text, number);
     }
     if let Some(text) = text.as_array::<8>() {
-        return push_behind_array(output, text, number);
+        return push_with_array(output, text, number);
     }
     if let Some(text) = text.as_array::<9>() {
-        return push_behind_array(output, text, number);
+        return push_with_array(output, text, number);
     }
     if let Some(text) = text.as_array::<10>() {
-        return push_behind_array(output, text, number);
+        return push_with_array(output, text, number);
     }
     if let Some(text) = text.as_array::<11>() {
-        return push_behind_array(output, text, number);
+        return push_with_array(output, text, number);
     }
-    push_behind_any(output, text, number)
+    push_with_slice(output, text, number)
 }
 
-/// Appends a text of a length that the compiler knows, and then a number. It is one function for all texts of a length,
-/// so that a caller is no longer than a call. Without the copy the compiler would take the text for a part of the output.
+/// Appends a text of constant length `N` and then a number in decimal. All texts of a length share this function, so
+/// that callers contain only a call. It copies `text` first, since the compiler would otherwise assume that it may
+/// alias `output`.
 #[inline(never)]
-fn push_behind_array<const N: usize>(
+fn push_with_array<const N: usize>(
     output: &mut Vec<u8>,
     text: &[u8; N],
     number: u64,
@@ -70,16 +73,16 @@ fn push_behind_array<const N: usize>(
         < vec_len output.old + (length text.now + length (decimal number))) }
 {
     if output.capacity() - output.len() < N {
-        return push_behind_any(output, text, number);
+        return push_with_slice(output, text, number);
     }
     let text = *text;
     output.extend_from_slice(&text)?;
     push(output, number)
 }
 
-/// Appends any text and then a number.
+/// Appends a text of any length and then a number in decimal to `output`.
 #[inline(never)]
-fn push_behind_any(output: &mut Vec<u8>, text: &[u8], number: u64) -> Result<(), AllocError>
+fn push_with_slice(output: &mut Vec<u8>, text: &[u8], number: u64) -> Result<(), AllocError>
     ensures text { OnOk result (output.new.items ≡ output.old.items ++ (text.now ++ decimal number)) }
     ensures full { OnErr result (vec_capacity output.old
         < vec_len output.old + (length text.now + length (decimal number))) }
@@ -88,8 +91,9 @@ fn push_behind_any(output: &mut Vec<u8>, text: &[u8], number: u64) -> Result<(),
     push(output, number)
 }
 
-/// Appends a number. It costs its digits, where `write!` costs several calls. With room for four digits below 10,000, or
-/// for ten below 10^10, no branch has to ask for memory, and each is a few moves.
+/// Appends a number in decimal, without leading zeros. Allocates only if the capacity of `output` is too small. It is
+/// faster than `write!`: a number below 10,000 with space for four digits, or one below 10^10 with space for ten, is
+/// appended by a few moves, and no branch of this case allocates.
 pub fn push(output: &mut Vec<u8>, number: u64) -> Result<(), AllocError>
     ensures text { OnOk result (output.new.items ≡ output.old.items ++ decimal number) }
     ensures full { OnErr result (vec_capacity output.old < vec_len output.old + length (decimal number)) }
@@ -110,7 +114,7 @@ pub fn push(output: &mut Vec<u8>, number: u64) -> Result<(), AllocError>
     }
 }
 
-/// Appends a number of one to four digits, where there is room for a digit.
+/// Appends a number of one to four decimal digits to `output`, which must have space for at least one byte.
 #[inline]
 fn push_four(output: &mut Vec<u8>, number: u64) -> Result<(), AllocError>
     requires room { vec_len output.old < vec_capacity output.old }
@@ -132,7 +136,7 @@ fn push_four(output: &mut Vec<u8>, number: u64) -> Result<(), AllocError>
     }
 }
 
-/// Appends a number of five to eight digits.
+/// Appends a number of five to eight decimal digits to `output`.
 #[inline]
 fn push_eight(output: &mut Vec<u8>, number: u64) -> Result<(), AllocError>
     requires least { 10000 ≤ number }
@@ -153,7 +157,7 @@ fn push_eight(output: &mut Vec<u8>, number: u64) -> Result<(), AllocError>
     }
 }
 
-/// Appends a number of nine or ten digits.
+/// Appends a number of nine or ten decimal digits to `output`.
 #[inline]
 fn push_ten(output: &mut Vec<u8>, number: u64) -> Result<(), AllocError>
     requires least { 100000000 ≤ number }
@@ -168,7 +172,7 @@ fn push_ten(output: &mut Vec<u8>, number: u64) -> Result<(), AllocError>
     }
 }
 
-/// Appends any number.
+/// Appends a number of any number of decimal digits to `output`.
 #[cold]
 #[inline(never)]
 fn push_any(output: &mut Vec<u8>, number: u64) -> Result<(), AllocError>
@@ -176,23 +180,25 @@ fn push_any(output: &mut Vec<u8>, number: u64) -> Result<(), AllocError>
     ensures full { OnErr result (vec_capacity output.old < vec_len output.old + length (decimal number)) }
 {
     let mut digits = [0; MOST_DIGITS];
-    let start = put_digits(&mut digits, number);
+    let start = write_digits(&mut digits, number);
     output.extend_from_slice(&digits[start..])
 }
 
-/// Appends the digits of a number without the first.
-pub fn push_behind_first(output: &mut Vec<u8>, number: u64) -> Result<(), AllocError>
+/// Appends the decimal digits of a number, except for the first one. Allocates only if the capacity of `output` is too
+/// small.
+pub fn push_without_first_digit(output: &mut Vec<u8>, number: u64) -> Result<(), AllocError>
     ensures text { OnOk result (output.new.items ≡ output.old.items ++ drop 1 (decimal number)) }
     ensures full { OnErr result (vec_capacity output.old < vec_len output.old + length (decimal number)) }
 {
     let mut digits = [0; MOST_DIGITS];
-    let start = put_digits(&mut digits, number);
+    let start = write_digits(&mut digits, number);
     output.extend_from_slice(&digits[start + 1..])
 }
 
-/// Puts the digits of a number at the end, two with each division, and answers where the first stands.
+/// Writes the decimal digits of a number at the end of the array `digits`, two per division, and returns the index of
+/// the first digit in it.
 #[inline]
-fn put_digits(digits: &mut [u8; MOST_DIGITS], number: u64) -> usize
+fn write_digits(digits: &mut [u8; MOST_DIGITS], number: u64) -> usize
     ensures text { drop result digits.new ≡ decimal number }
     ensures bound { result < 20 }
 {
@@ -200,11 +206,11 @@ fn put_digits(digits: &mut [u8; MOST_DIGITS], number: u64) -> usize
     let mut rest = number;
     'pairs: while rest >= 100 {
         start -= 2;
-        put_pair(digits, start, rest % 100);
+        write_pair(digits, start, rest % 100);
         rest /= 100;
     }
     if rest >= 10 {
-        put_pair(digits, start - 2, rest);
+        write_pair(digits, start - 2, rest);
         start - 2
     } else {
         digits[start - 1] = b'0' + rest as u8;
@@ -212,9 +218,9 @@ fn put_digits(digits: &mut [u8; MOST_DIGITS], number: u64) -> usize
     }
 }
 
-/// Puts the two digits of a number below 100.
+/// Writes the two decimal digits of a number below 100 into the array at the indices `at` and `at + 1`.
 #[inline]
-fn put_pair(digits: &mut [u8; MOST_DIGITS], at: usize, number: u64)
+fn write_pair(digits: &mut [u8; MOST_DIGITS], at: usize, number: u64)
     requires number { number < 100 }
     requires room { at + 2 ≤ 20 }
     ensures { drop at digits.new ≡ (48 + number / 10) ∷ (48 + number % 10) ∷ drop (at + 2) digits.old }

@@ -1,9 +1,10 @@
-//! The digits of numbers of a known count of digits, as arrays that are appended without a call.
+//! Decimal digits of numbers with a known number of digits, as ASCII arrays of constant length that can be appended
+//! without a call.
 
 ghost use Rattle.std.specs.Prelude.{◌≡◌, ◌<◌, ◌≤◌, ◌+◌, ◌/◌, ◌%◌};
 ghost use Rattle.std.specs.Fmt.{decimal};
 
-/// The digits of each number below 100, two for each.
+/// Decimal digits in ASCII of the numbers 00 to 99, two bytes each.
 pub(crate) static PAIRS: [u8; 200] = *b"\
     0001020304050607080910111213141516171819\
     2021222324252627282930313233343536373839\
@@ -11,7 +12,7 @@ pub(crate) static PAIRS: [u8; 200] = *b"\
     6061626364656667686970717273747576777879\
     8081828384858687888990919293949596979899";
 
-/// The first digit of a pair.
+/// Returns the first of the two decimal digits of a number below 100, in ASCII.
 #[inline]
 fn tens(pair: u64) -> u8
     requires { pair < 100 }
@@ -20,7 +21,7 @@ fn tens(pair: u64) -> u8
     PAIRS[2 * pair as usize]
 }
 
-/// The second digit of a pair.
+/// Returns the second of the two decimal digits of a number below 100, in ASCII.
 #[inline]
 fn ones(pair: u64) -> u8
     requires { pair < 100 }
@@ -29,7 +30,7 @@ fn ones(pair: u64) -> u8
     PAIRS[2 * pair as usize + 1]
 }
 
-/// The digits of a number of two digits.
+/// Returns the ASCII digits of a number with two decimal digits.
 #[inline]
 pub(crate) fn two(number: u64) -> [u8; 2]
     requires least { 10 ≤ number }
@@ -39,7 +40,7 @@ pub(crate) fn two(number: u64) -> [u8; 2]
     [tens(number), ones(number)]
 }
 
-/// Those of a number of three digits.
+/// Returns the ASCII digits of a number with three decimal digits.
 #[inline]
 pub(crate) fn three(number: u64) -> [u8; 3]
     requires least { 100 ≤ number }
@@ -54,7 +55,7 @@ pub(crate) fn three(number: u64) -> [u8; 3]
     ]
 }
 
-/// Those of a number of four digits.
+/// Returns the ASCII digits of a number with four decimal digits.
 #[inline]
 pub(crate) fn four(number: u64) -> [u8; 4]
     requires least { 1000 ≤ number }
@@ -70,7 +71,7 @@ pub(crate) fn four(number: u64) -> [u8; 4]
     ]
 }
 
-/// Those of a number of five digits.
+/// Returns the ASCII digits of a number with five decimal digits.
 #[inline]
 pub(crate) fn five(number: u64) -> [u8; 5]
     requires least { 10000 ≤ number }
@@ -88,7 +89,7 @@ pub(crate) fn five(number: u64) -> [u8; 5]
     ]
 }
 
-/// Those of a number of six digits.
+/// Returns the ASCII digits of a number with six decimal digits.
 #[inline]
 pub(crate) fn six(number: u64) -> [u8; 6]
     requires least { 100000 ≤ number }
@@ -107,7 +108,7 @@ pub(crate) fn six(number: u64) -> [u8; 6]
     ]
 }
 
-/// Those of a number of seven digits.
+/// Returns the ASCII digits of a number with seven decimal digits.
 #[inline]
 pub(crate) fn seven(number: u64) -> [u8; 7]
     requires least { 1000000 ≤ number }
@@ -128,7 +129,7 @@ pub(crate) fn seven(number: u64) -> [u8; 7]
     ]
 }
 
-/// Those of a number of eight digits.
+/// Returns the ASCII digits of a number with eight decimal digits.
 #[inline]
 pub(crate) fn eight(number: u64) -> [u8; 8]
     requires least { 10000000 ≤ number }
@@ -150,7 +151,7 @@ pub(crate) fn eight(number: u64) -> [u8; 8]
     ]
 }
 
-/// Those of a number of nine digits.
+/// Returns the ASCII digits of a number with nine decimal digits.
 #[inline]
 pub(crate) fn nine(number: u64) -> [u8; 9]
     requires least { 100000000 ≤ number }
@@ -174,7 +175,7 @@ pub(crate) fn nine(number: u64) -> [u8; 9]
     ]
 }
 
-/// Those of a number of ten digits.
+/// Returns the ASCII digits of a number with ten decimal digits.
 #[inline]
 pub(crate) fn ten(number: u64) -> [u8; 10]
     requires least { 1000000000 ≤ number }

@@ -1,5 +1,5 @@
-//! What programs share that write lines about what they read: readers and writers that remember how their calls went,
-//! and numbers as decimal digits.
+//! Input and output of programs that write lines: readers and writers that record how their calls ended, and numbers in
+//! decimal.
 #![tactic(auto)]
 
 pub mod buffer;

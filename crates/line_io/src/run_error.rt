@@ -1,18 +1,18 @@
-//! Why a run ended early.
+//! Errors that end the run of a program before its output is complete.
 
 ghost use Rattle.std.specs.Prelude.{◌≡◌};
 ghost use Rattle.line_io.specs.declared.run_error.RunError.TheVariants.{OutOfMemory};
 
 use std::alloc::AllocError;
 
-/// Why a run ended before all its input was answered.
+/// Error that ends the run of a program before its output is complete.
 #[derive(Debug, PartialEq, Eq, Drop)]
 pub enum RunError {
-    /// The reader failed.
+    /// Reading the program's input failed.
     Read,
-    /// The writer failed, or took none of what was to be written.
+    /// Writing the program's output failed, or a write of a nonempty slice wrote no byte.
     Write,
-    /// There was no memory.
+    /// An allocation of the program failed.
     OutOfMemory,
 }
 

@@ -1,28 +1,28 @@
-//! A reader or a writer that remembers how its calls went.
+//! Wrapper of a reader or writer that records how its calls ended.
 
 ghost use Rattle.std.specs.Prelude.{◌≡◌, ◌==◌, ◌+◌, ◌-◌, ◌<◌, ◌≤◌, length, true};
 ghost use Rattle.std.specs.Prelude.{false, is_err, IfOk, IfErr, MatchResult, OnOk, OnErr};
 ghost use Rattle.std.specs.Io.KnownBytes.{Appends, IsAtEnd, ReadConsumes, WriteAppends};
-ghost use Rattle.line_io.specs.WatchedWords.{AppendsFront, KeepsReads, has_ended};
+ghost use Rattle.line_io.specs.WatchedWords.{AppendsPrefix, KeepsReads, has_ended};
 ghost use Rattle.line_io.specs.WatchedWords.{has_failed, inner_of, is_at_end, reads_left};
 
 use crate::run_error::RunError;
 use std::io::{Read, Write};
 
-/// A reader or a writer that remembers whether a call failed, and of a reader whether it came to its end.
+/// Wrapper of a reader or writer that records whether a call failed and, for a reader, whether it reached its end.
 #[derive(Drop)]
 pub struct Watched<T> {
     inner: T,
-    /// Whether a call failed, or a write took none of a nonempty part.
+    /// True if a call of the wrapped reader or writer failed, or if a write of a nonempty slice wrote no byte.
     failed: bool,
-    /// Whether a read into a nonempty part gave no byte.
+    /// True if the wrapped reader is at its end: a read into a nonempty slice returned 0 bytes.
     at_end: bool,
-    /// How many more reads may be made, so that a reader without an end is left at last.
+    /// Number of read calls that are still allowed. It ensures that a reader without an end is not read forever.
     reads_left: u64,
 }
 
 impl<T> Watched<T> {
-    /// Watches a reader or a writer from here on. A reader is read so often at most.
+    /// Wraps a reader or writer. A reader can be read at most `reads` times.
     pub fn new(inner: T, reads: u64) -> Watched<T>
         ensures inner { inner_of result ≡ inner }
         ensures failed { has_failed result ≡ false }
@@ -37,7 +37,7 @@ impl<T> Watched<T> {
         }
     }
 
-    /// Whether a call failed, or a write took none of a nonempty part.
+    /// Returns true if a call of the wrapped reader or writer failed, or if a write of a nonempty slice wrote no byte.
     pub fn failed(&self) -> bool
         ensures { result ≡ has_failed self.now }
     {
@@ -46,14 +46,16 @@ impl<T> Watched<T> {
 }
 
 impl<R: Read> Watched<R> {
-    /// Whether a read into a nonempty part gave no byte, or no more reads may be made. Nothing more is read then.
+    /// Returns true if the wrapped reader is at its end (a read into a nonempty slice returned 0 bytes), or if no more
+    /// reads are allowed. `read` must not be called then.
     pub fn ended(&self) -> bool
         ensures { result ≡ has_ended self.now }
     {
         self.at_end || self.reads_left == 0
     }
 
-    /// Reads once, and tells how many bytes came to the front of `piece`.
+    /// Reads once from the wrapped reader into a slice, and returns the number of bytes read, 0 at the end. The slice
+    /// must not be empty, and the reader must neither have failed nor ended.
     pub fn read(&mut self, piece: &mut [u8]) -> Result<usize, RunError>
         requires sound { has_failed self.old ≡ false }
         requires open { has_ended self.old ≡ false }
@@ -83,7 +85,8 @@ impl<R: Read> Watched<R> {
 }
 
 impl<W: Write> Watched<W> {
-    /// Writes once, and tells how many bytes were taken of the front of `part`, at least one.
+    /// Writes once to the wrapped writer, and returns the number of bytes written, at least 1. `part` must not be
+    /// empty, and the writer must not have failed.
     fn write(&mut self, part: &[u8]) -> Result<usize, RunError>
         requires sound { has_failed self.old ≡ false }
         requires some { 0 < length part.now }
@@ -103,12 +106,13 @@ impl<W: Write> Watched<W> {
         }
     }
 
-    /// Writes all bytes, in as many writes as it takes. At an error a front of them was written.
+    /// Writes all bytes to the wrapped writer, with as many write calls as needed. On error, only a prefix of the bytes
+    /// was written. The writer must not have failed before.
     pub fn write_all(&mut self, bytes: &[u8]) -> Result<(), RunError>
         requires { has_failed self.old ≡ false }
         ensures all { OnOk result (Appends (W.contents (inner_of self.old)) (W.contents (inner_of self.new))
             bytes.now) }
-        ensures front { OnErr result (AppendsFront (W.contents (inner_of self.old)) (W.contents (inner_of self.new))
+        ensures front { OnErr result (AppendsPrefix (W.contents (inner_of self.old)) (W.contents (inner_of self.new))
             bytes.now) }
         ensures reads { KeepsReads self.old self.new }
         ensures failed { has_failed self.new ≡ is_err result }

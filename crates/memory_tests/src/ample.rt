@@ -1,5 +1,5 @@
-//! More of what takes memory than the other tests have: streams, fragments and bytes at once. `refuse.py` leaves these
-//! out, since it would run each thousands of times.
+//! Tests with 1,200 streams or fragments at once, or 2 MB. The script `refuse.py`, which makes each allocation of a
+//! test fail in a run of its own, skips them: they would need thousands of runs.
 
 use crate::checks::*;
 use crate::runs::fragment;
@@ -10,7 +10,8 @@ use etherparse::defrag::*;
 use etherparse::*;
 use std::process::Abort;
 
-/// The last fragment of a stream completes it.
+/// Passes the final fragment of the datagram `identification` to the reassembly pool, asserts that it completes the
+/// payload, and gives the payload back.
 fn ends(rt: &(impl Abort + Print), pool: &mut Pool, identification: u16) {
     let last = fragment(rt, 1, false, b"ijkl");
     let whole = answer(rt, pool, identification, &last).expect(rt, "whole");
@@ -18,7 +19,7 @@ fn ends(rt: &(impl Abort + Print), pool: &mut Pool, identification: u16) {
     pool.return_buf(whole);
 }
 
-/// 1,200 streams are there at once.
+/// Tests a reassembly pool with 1,200 incomplete datagrams at once. Then all of them are completed.
 #[test]
 fn streams(rt: HostRuntime) {
     let mut pool = IpDefragPool::new(rt.alloc());
@@ -30,7 +31,7 @@ fn streams(rt: HostRuntime) {
     }
 }
 
-/// 1,200 fragments in one list.
+/// Tests a list of 1,200 fragments of one payload, added to a reassembly buffer by one call.
 #[test]
 fn fragments(rt: HostRuntime) {
     let mut fragments = Vec::new(rt.alloc());
@@ -50,7 +51,7 @@ fn fragments(rt: HostRuntime) {
     same(&rt, &buffer.data().len(), &9600);
 }
 
-/// 2 MB of a capture in one piece.
+/// Tests a capture reader that is passed 2 MB of a capture at once.
 #[test]
 fn piece(rt: HostRuntime) {
     let piece = vec![in rt.alloc(); 0; 2_000_000].expect(&rt, "refused");

@@ -1,4 +1,5 @@
-//! Fragments of one payload: an accepted one asks for memory at most twice, and no other asks.
+//! Tests of a reassembly buffer whose allocations fail: an accepted fragment allocates at most twice, and a rejected
+//! fragment never.
 
 use crate::checks::*;
 use crate::samples::*;
@@ -7,14 +8,15 @@ use etherparse::*;
 use std::alloc::Global;
 use std::process::Abort;
 
-/// A fragment at an offset in units of 8 bytes, whether more follow, and its bytes.
+/// A fragment in a test: its offset in units of 8 bytes, its more-fragments flag and its bytes.
 type Step = (u16, bool, &'static [u8]);
 
 fn new_buffer(alloc: Global) -> IpDefragBuf {
     IpDefragBuf::new(IpNumber::UDP, Vec::new(alloc), Vec::new(alloc))
 }
 
-/// A fragment is accepted, and where that was refused, when it is added again.
+/// Adds a fragment to a reassembly buffer and asserts that it is accepted. If an allocation fails, it prints `name` and
+/// asserts that a second try is accepted.
 fn adds(
     rt: &(impl Abort + Print),
     buffer: &mut IpDefragBuf,
@@ -32,7 +34,8 @@ fn adds(
     same(rt, &answer, &Ok(()));
 }
 
-/// Fragments that are accepted in turn make these bytes, whole.
+/// Asserts that the given fragments, added in order to a new reassembly buffer, are all accepted and complete the
+/// payload `bytes`.
 fn makes(rt: &(impl Abort + Print), alloc: Global, name: &str, steps: &[Step], bytes: &[u8]) {
     let mut buffer = new_buffer(alloc);
     for step in steps {
@@ -110,7 +113,8 @@ fn overlapping(rt: HostRuntime) {
     );
 }
 
-/// Each fragment comes twice, and then one over both of the first.
+/// Fragments of a payload of 20 bytes: the first two are sent twice each, then one fragment overwrites both, and a
+/// final one follows.
 const REPEATED: [Step; 6] = [
     (0, true, b"abcdefgh"),
     (0, true, b"abcdefgh"),
@@ -131,7 +135,8 @@ fn repeated(rt: HostRuntime) {
     );
 }
 
-/// A final fragment over one that does not say so, and the gap is filled last.
+/// Fragments of a payload of 48 bytes. The final fragment overwrites an earlier fragment with an equal end, and the
+/// last one fills the gap.
 const LAST_FILLS: [Step; 4] = [
     (0, true, b"abcdefghijklmnop"),
     (4, true, b"ABCDEFGHIJKLMNOP"),
@@ -150,7 +155,7 @@ fn last_fills(rt: HostRuntime) {
     );
 }
 
-/// 2,000 bytes, and a final fragment without bytes.
+/// Fragments of a payload of 2,000 bytes: one with all bytes, and an empty final fragment.
 const LARGE_AND_EMPTY: [Step; 2] = [(0, true, &[7; 2000]), (250, false, b"")];
 
 #[test]
@@ -164,7 +169,7 @@ fn large_and_empty(rt: HostRuntime) {
     );
 }
 
-/// A clone, and where that was refused, the one that is made then.
+/// Returns a clone of a reassembly buffer. If an allocation fails, it prints so and clones a second time.
 fn copy(rt: &(impl Abort + Print), buffer: &IpDefragBuf) -> IpDefragBuf {
     match buffer.clone() {
         Ok(copy) => copy,
@@ -185,7 +190,7 @@ fn clones(rt: HostRuntime) {
     same(&rt, &copy(&rt, &buffer), &buffer);
 }
 
-/// A fragment is refused with this error.
+/// Asserts that a reassembly buffer rejects a fragment with the given error.
 fn refuses(
     rt: &impl Abort,
     buffer: &mut IpDefragBuf,
@@ -199,7 +204,8 @@ fn refuses(
     );
 }
 
-/// What is in place or refused asks for no memory, nor does what only looks.
+/// Tests that a reassembly buffer does not allocate for a rejected fragment, for a fragment that only overwrites bytes
+/// it holds, or for an accessor.
 #[test]
 fn without_memory(rt: HostRuntime) {
     let mut buffer = new_buffer(rt.alloc());

@@ -1,20 +1,21 @@
-//! What the tests of all calls ask.
+//! Helpers of the tests whose allocations fail: comparison, report of a failed call, and a deliberate allocation.
 
 use std::alloc::Global;
 use std::fmt::Debug;
 use std::process::Abort;
 
-/// What is shown is what is expected.
+/// Asserts that two values are equal.
 pub fn same<T: PartialEq + Debug>(rt: &impl Abort, shown: &T, expected: &T) {
     assert_eq!(rt; shown, expected);
 }
 
-/// Names a call that was refused.
+/// Prints `refused: ` and the name of a call that reported an allocation failure.
 pub fn refused(rt: &(impl Abort + Print), name: &str) {
     println!(rt; "refused: {name}").expect(rt, "no output");
 }
 
-/// A vector without spare room that holds these bytes.
+/// Returns a vector of the given bytes without spare capacity. If the allocation fails, it prints so and tries a second
+/// time.
 pub fn full(rt: &(impl Abort + Print), alloc: Global, bytes: &[u8]) -> Vec<u8> {
     match Vec::from_slice(alloc, bytes) {
         Ok(full) => full,
@@ -25,7 +26,8 @@ pub fn full(rt: &(impl Abort + Print), alloc: Global, bytes: &[u8]) -> Vec<u8> {
     }
 }
 
-/// Asks for memory once. Where a call before it asked without saying so, a request of the test is named by no call.
+/// Makes one allocation, and prints so if it fails. Tests of calls that must not allocate end with it: if such a call
+/// allocated and hid the failure, no line would report the failed allocation, and the script `refuse.py` finds that.
 pub fn asks_once(rt: &(impl Abort + Print), alloc: Global) {
     same(rt, &full(rt, alloc, b"abc").len(), &3);
 }

@@ -1,5 +1,6 @@
-//! Frames with each kind of the builder's steps are written with one request for memory. Where that is refused, the
-//! answer says so and the vector is as it was.
+//! Tests that the packet builder writes a frame with one allocation. If it fails, the call returns an error and the
+//! vector is unchanged. The frames have builder steps of each kind: link headers, tags, ARP, IP headers and transport
+//! headers.
 
 use crate::checks::*;
 use crate::samples::*;
@@ -8,7 +9,7 @@ use etherparse::*;
 use std::alloc::Global;
 use std::process::Abort;
 
-/// The last header of a frame.
+/// Last header of a frame that a test builds. It chooses among eight test frames.
 #[derive(Clone, Copy)]
 enum Last {
     Arp,
@@ -21,12 +22,12 @@ enum Last {
     Cooked,
 }
 
-/// An Ethernet II header.
+/// Returns a packet builder that has an Ethernet II header and no further header yet.
 fn ethernet() -> PacketBuilderStep<Ethernet2Header> {
     PacketBuilder::ethernet2([1; 6], [2; 6])
 }
 
-/// Appends a frame.
+/// Appends the test frame that ends with the header `last`, with a payload of 8 bytes (except for ARP), to a vector.
 fn append(rt: &impl Abort, last: Last, buf: &mut Vec<u8>) -> Result<(), BuildWriteError> {
     let payload = b"abcdefgh";
     match last {
@@ -65,7 +66,8 @@ fn append(rt: &impl Abort, last: Last, buf: &mut Vec<u8>) -> Result<(), BuildWri
     }
 }
 
-/// A frame of so many bytes is written behind what a vector holds, and where that was refused, when it is asked again.
+/// Asserts that the builder appends a frame of `len` bytes to a vector. If the allocation fails, it prints so, and
+/// asserts that the vector's length is unchanged and a second try succeeds.
 fn builds(rt: &(impl Abort + Print), buf: &mut Vec<u8>, last: Last, len: usize) {
     let before = buf.len();
     let mut answer = append(rt, last, buf);
@@ -78,7 +80,7 @@ fn builds(rt: &(impl Abort + Print), buf: &mut Vec<u8>, last: Last, len: usize) 
     same(rt, &buf.len().saturating_sub(before), &len);
 }
 
-/// The same into an empty vector.
+/// Asserts that the builder writes a frame of `len` bytes to an empty vector, at the second try if an allocation fails.
 fn builds_alone(rt: &(impl Abort + Print), alloc: Global, last: Last, len: usize) {
     builds(rt, &mut Vec::new(alloc), last, len);
 }
@@ -123,7 +125,7 @@ fn of_cooked_captures(rt: HostRuntime) {
     builds_alone(&rt, rt.alloc(), Last::Cooked, 16 + 1088 + 8 + 8);
 }
 
-/// Behind bytes that fill a vector.
+/// Tests that the builder appends a frame to a vector of 3 bytes without spare capacity, and that these bytes stay.
 #[test]
 fn behind_bytes(rt: HostRuntime) {
     let mut buf = full(&rt, rt.alloc(), b"abc");

@@ -1,5 +1,5 @@
-//! The greatest value of each header type is written with one request for memory. Where that is refused, the vector is
-//! as it was.
+//! Tests that the longest value of each header type is written with one allocation. If it fails, the vector is
+//! unchanged.
 
 use crate::checks::*;
 use crate::samples::*;
@@ -8,9 +8,10 @@ use etherparse::*;
 use std::alloc::Global;
 use std::process::Abort;
 
-/// What is written behind what a vector holds.
+/// A header, or chain of extension headers, that can be appended to a vector. It is implemented by all header types
+/// that have a `write` function, except `IcmpEchoHeader` (part of an ICMP header), so that one helper tests them all.
 trait Append {
-    /// Whether it was written.
+    /// Appends the header to a vector, and returns false if the allocation fails.
     fn append(&self, buf: &mut Vec<u8>) -> bool;
 }
 
@@ -146,7 +147,8 @@ impl Append for (Ipv6Extensions, IpNumber) {
     }
 }
 
-/// The header is written behind what a vector holds, and where that was refused, when it is asked again.
+/// Asserts that a header of `len` bytes is appended to a vector. If the allocation fails, it prints `name`, and asserts
+/// that the vector's length is unchanged and a second try succeeds.
 fn writes<H: Append>(
     rt: &(impl Abort + Print),
     buf: &mut Vec<u8>,
@@ -163,7 +165,7 @@ fn writes<H: Append>(
     same(rt, &buf.len().saturating_sub(before), &len);
 }
 
-/// The same into an empty vector.
+/// Asserts that a header of `len` bytes is written to an empty vector, at the second try if the allocation fails.
 fn writes_alone<H: Append>(
     rt: &(impl Abort + Print),
     alloc: Global,
@@ -295,7 +297,8 @@ fn ip_with_extensions(rt: HostRuntime) {
     );
 }
 
-/// Behind bytes that fill a vector.
+/// Tests that the longest IPv6 headers are appended to a vector of 3 bytes without spare capacity, and that these bytes
+/// stay.
 #[test]
 fn behind_bytes(rt: HostRuntime) {
     let mut buf = full(&rt, rt.alloc(), b"abc");

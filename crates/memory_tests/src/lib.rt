@@ -1,9 +1,10 @@
-//! What calls answer where there is no memory: one request for memory is refused in a run.
+//! Tests of calls whose allocations fail: the script `refuse.py` makes each allocation of a test fail in a run of its
+//! own.
 //!
-//! Each test passes whichever of its requests is refused, and where none is. A call that answers want of memory is
-//! named on a line `refused: NAME`, and is made again, which has to give its ordinary answer. `refuse.py` refuses each
-//! request of each test in turn, looks that one call is named for each, and compares which requests are those of which
-//! call with the table in `requests`.
+//! Each test, except those in `ample`, passes whichever of its allocations fails, and if none fails. A call that
+//! reports an allocation failure is named on a line `refused: NAME`. It is then made a second time and has to return
+//! its ordinary result. The script skips `ample`, checks that one call is named for each failed allocation, and
+//! compares the allocations of each call with the table in `requests`.
 #![tactic(auto)]
 
 #[cfg(test)]

@@ -1,5 +1,5 @@
-//! Streams in a pool: a frame that is refused memory changes nothing, and a frame, a drop or a payload that is given
-//! back asks for none where nothing has to grow.
+//! Tests of a reassembly pool whose allocations fail. A frame whose allocation fails changes nothing, and frames, drops
+//! and returned payloads do not allocate if nothing has to grow.
 
 use crate::checks::*;
 use crate::samples::*;
@@ -10,7 +10,7 @@ use std::process::Abort;
 
 type Pool = IpDefragPool<u64, u8>;
 
-/// How many streams are there.
+/// Returns the number of incomplete datagrams in a reassembly pool, counted by the calls of `retain`.
 fn streams(pool: &mut Pool) -> u32 {
     let asked = Cell::new(0u32);
     pool.retain(|_timestamp| {
@@ -20,8 +20,9 @@ fn streams(pool: &mut Pool) -> u32 {
     asked.get()
 }
 
-/// A frame whose fragment ends there is answered this payload, or nothing where it is empty, and where that was refused,
-/// when it is taken again. No stream begins or ends at a refusal. The payload goes back.
+/// Passes a frame, whose fragment ends at byte `len`, to a reassembly pool. Asserts that it completes the given
+/// payload, or none if `payload` is empty, and gives the payload back. If an allocation fails, it prints `name`,
+/// asserts that the number of streams is unchanged, and tries a second time.
 fn answers(
     rt: &(impl Abort + Print),
     pool: &mut Pool,
@@ -51,7 +52,7 @@ const FIRST: &str = "process_sliced_packet, a stream's first frame";
 
 const LATER: &str = "process_sliced_packet, a later frame";
 
-/// Two streams that differ in the VLAN alone, and one that begins again.
+/// Tests two datagrams whose keys differ only in the VLAN identifier. Both are completed, and one begins a second time.
 #[test]
 fn streams_by_vlan(rt: HostRuntime) {
     let mut pool = IpDefragPool::new(rt.alloc());
@@ -63,7 +64,7 @@ fn streams_by_vlan(rt: HostRuntime) {
     same(&rt, &streams(&mut pool), &1);
 }
 
-/// A stream's first frame alone, of which each request is refused.
+/// Tests only the first frame of a datagram, so that each of its allocations is made to fail.
 #[test]
 fn first_frame(rt: HostRuntime) {
     let mut pool = IpDefragPool::new(rt.alloc());
@@ -71,7 +72,7 @@ fn first_frame(rt: HostRuntime) {
     same(&rt, &streams(&mut pool), &1);
 }
 
-/// A frame that carries the first 2,000 bytes of a payload, and one that carries none of another.
+/// Tests a frame with the first 2,000 bytes of a payload, and a frame with an empty first fragment of another payload.
 #[test]
 fn large_and_empty(rt: HostRuntime) {
     let mut pool = IpDefragPool::new(rt.alloc());
@@ -82,7 +83,7 @@ fn large_and_empty(rt: HostRuntime) {
     same(&rt, &streams(&mut pool), &2);
 }
 
-/// A frame is refused with this error.
+/// Asserts that a reassembly pool rejects the fragment in a frame with the given error.
 fn refuses(
     rt: &impl Abort,
     pool: &mut Pool,
@@ -94,7 +95,7 @@ fn refuses(
     same(rt, &answer, &Err(error));
 }
 
-/// 7 bytes where more fragments follow are refused.
+/// Asserts that a reassembly pool rejects a fragment of 7 bytes whose more-fragments flag is set.
 fn refuses_unaligned(rt: &impl Abort, pool: &mut Pool, timestamp: u64) {
     let error = IpDefragError::UnalignedFragmentPayloadLen {
         offset: offset(rt, 1),
@@ -103,7 +104,8 @@ fn refuses_unaligned(rt: &impl Abort, pool: &mut Pool, timestamp: u64) {
     refuses(rt, pool, (VLAN_1_UNALIGNED, timestamp), error);
 }
 
-/// The last 8 bytes of 24 are refused for this limit.
+/// Asserts that a reassembly pool with the limit `max` rejects a fragment of the bytes 16 to 23 of a payload, since it
+/// ends at 24, above the limit.
 fn refuses_behind(rt: &impl Abort, pool: &mut Pool, max: u16) {
     let error = IpDefragError::SegmentTooBig {
         offset: offset(rt, 2),
@@ -113,7 +115,8 @@ fn refuses_behind(rt: &impl Abort, pool: &mut Pool, max: u16) {
     refuses(rt, pool, (VLAN_1_BEHIND, 1), error);
 }
 
-/// A refused fragment leaves the timestamp, so that the drop takes the stream.
+/// Tests that a rejected fragment does not change the timestamp of its datagram: a drop by timestamp still removes the
+/// datagram.
 #[test]
 fn refused_keeps_time(rt: HostRuntime) {
     let mut pool = IpDefragPool::new(rt.alloc());
@@ -124,13 +127,14 @@ fn refused_keeps_time(rt: HostRuntime) {
     answers(&rt, &mut pool, FIRST, (VLAN_1_LAST, 6), 16, b"");
 }
 
-/// A frame is answered nothing, and asks for no memory.
+/// Passes a frame to a reassembly pool, and asserts that it completes no payload and that no allocation fails.
 fn skips(rt: &impl Abort, pool: &mut Pool, frame: &[u8]) {
     let packet = SlicedPacket::from_ethernet(frame).expect(rt, "no frame");
     same(rt, &pool.process_sliced_packet(&packet, 1, 0), &Ok(None));
 }
 
-/// What is skipped, refused or in place asks for no memory, nor do drops.
+/// Tests that a reassembly pool does not allocate for a frame without a fragment, for a rejected fragment, for a
+/// fragment that only overwrites bytes it holds, or for a drop.
 #[test]
 fn without_memory(rt: HostRuntime) {
     let mut pool = IpDefragPool::new(rt.alloc());
@@ -145,8 +149,8 @@ fn without_memory(rt: HostRuntime) {
     asks_once(&rt, rt.alloc());
 }
 
-/// What ends behind the limit asks for no memory, with and without a stream, nor does a pool of another limit, which
-/// takes the place of the first one and its streams.
+/// Tests that a reassembly pool does not allocate for a fragment that ends above its limit, whether its datagram has
+/// begun or not. A new pool of another limit, which replaces the first one, does not allocate either.
 #[test]
 fn limits_without_memory(rt: HostRuntime) {
     let mut pool = IpDefragPool::with_limit(rt.alloc(), 8);

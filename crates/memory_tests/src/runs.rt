@@ -1,4 +1,5 @@
-//! Runs: want of memory stops a run at the very call that asked, and a run that is made again has its ordinary answers.
+//! Tests of functions that take a whole list of calls or fragments. If an allocation fails, the run stops at the very
+//! call that failed, and a repeated run returns its ordinary results.
 
 use crate::checks::*;
 use crate::samples::*;
@@ -7,16 +8,18 @@ use etherparse::*;
 use std::alloc::{AllocError, Global};
 use std::process::Abort;
 
-/// Names the call at which a run stopped.
+/// Prints the name of a function that ran a list, and the index of the call or fragment at which an allocation failed.
 fn stopped(rt: &(impl Abort + Print), name: &str, stop: &RunStop) {
     let at = stop.at;
     println!(rt; "refused: {name}, at {at}").expect(rt, "no output");
 }
 
-/// Both halves of a payload and a frame of another stream in between.
+/// Three frames: both fragments of a payload with VLAN identifier 1, and between them a fragment of another datagram
+/// with VLAN identifier 2.
 const FRAMES: [&[u8]; 3] = [VLAN_1_FIRST, VLAN_2_FIRST, VLAN_1_LAST];
 
-/// The same, and behind the first of them one that ends at 24.
+/// Four frames: both fragments of a payload of 16 bytes with VLAN identifier 1, and between them a fragment that ends
+/// at byte 24 and a fragment of another datagram.
 const FRAMES_BEHIND: [&[u8]; 4] = [VLAN_1_FIRST, VLAN_1_BEHIND, VLAN_2_FIRST, VLAN_1_LAST];
 
 type Calls = Vec<PoolCall<'static, u64, u8, u64>>;
@@ -38,7 +41,8 @@ fn call_list(
     Ok(calls)
 }
 
-/// The calls, and where that was refused, when they are made again.
+/// Returns a list of pool calls, one for each of the given frames. If an allocation fails, it prints so and builds the
+/// list a second time.
 fn calls(rt: &(impl Abort + Print), alloc: Global, frames: &[&'static [u8]]) -> Calls {
     match call_list(rt, alloc, frames) {
         Ok(calls) => calls,
@@ -49,7 +53,8 @@ fn calls(rt: &(impl Abort + Print), alloc: Global, frames: &[&'static [u8]]) -> 
     }
 }
 
-/// The same frames as bytes, behind bytes that are no frame.
+/// Four frames as bytes: a byte that is no frame, both fragments of a payload with VLAN identifier 1, and between them
+/// a fragment of another datagram.
 const BYTES: [&[u8]; 4] = [b"\x50", VLAN_1_FIRST, VLAN_2_FIRST, VLAN_1_LAST];
 
 type Frames = Vec<FrameCall<'static, u64, u8, u64>>;
@@ -68,7 +73,8 @@ fn frame_list(alloc: Global) -> Result<Frames, AllocError> {
     Ok(calls)
 }
 
-/// The calls with bytes, and where that was refused, when they are made again.
+/// Builds a list of frames for `run_frames`, which passes each to a reassembly pool: one invalid frame and three
+/// fragments. If an allocation fails, it prints so and builds the list a second time.
 fn frames(rt: &(impl Abort + Print), alloc: Global) -> Frames {
     match frame_list(alloc) {
         Ok(calls) => calls,
@@ -79,7 +85,7 @@ fn frames(rt: &(impl Abort + Print), alloc: Global) -> Frames {
     }
 }
 
-/// Whether a frame was answered this payload, or nothing where it is empty.
+/// Returns whether the pool's result for a frame is the given payload, or no payload if `payload` is empty.
 fn is_payload(answer: &PoolAnswer, payload: &[u8]) -> bool {
     match answer {
         PoolAnswer::Frame(Ok(None)) => payload.is_empty(),
@@ -88,7 +94,7 @@ fn is_payload(answer: &PoolAnswer, payload: &[u8]) -> bool {
     }
 }
 
-/// The answers of a run over the packets.
+/// Runs `run_calls` on a list of three sliced frames, and returns the results of the calls, or where the run stopped.
 fn answers_of_calls(rt: &(impl Abort + Print), alloc: Global) -> Result<Vec<PoolAnswer>, RunStop> {
     let calls = calls(rt, alloc, &FRAMES);
     let keep = |limit: &u64, timestamp: &u64| *timestamp >= *limit;
@@ -98,7 +104,8 @@ fn answers_of_calls(rt: &(impl Abort + Print), alloc: Global) -> Result<Vec<Pool
     }
 }
 
-/// There are so many answers, of which the last is the first stream's payload.
+/// Asserts that a run returned `count` results, and that the last result is the reassembled payload of VLAN identifier
+/// 1.
 fn are_whole(rt: &impl Abort, answers: &[PoolAnswer], count: usize) {
     same(rt, &answers.len(), &count);
     same(
@@ -120,7 +127,8 @@ fn of_calls(rt: HostRuntime) {
     }
 }
 
-/// The answers of a run within 16 bytes, with a frame that ends behind them.
+/// Runs `run_calls_with_limit` with the limit 16 on a list of four sliced frames, and returns the results of the calls,
+/// or where the run stopped. One fragment ends above the limit.
 fn answers_within(rt: &(impl Abort + Print), alloc: Global) -> Result<Vec<PoolAnswer>, RunStop> {
     let calls = calls(rt, alloc, &FRAMES_BEHIND);
     let keep = |limit: &u64, timestamp: &u64| *timestamp >= *limit;
@@ -130,7 +138,8 @@ fn answers_within(rt: &(impl Abort + Print), alloc: Global) -> Result<Vec<PoolAn
     }
 }
 
-/// A frame behind the limit is refused without memory, and counts among the calls.
+/// Tests a run whose pool has a limit of 16 bytes. A fragment that ends above it is rejected without an allocation, and
+/// counts among the calls.
 #[test]
 fn of_calls_with_limit(rt: HostRuntime) {
     match answers_within(&rt, rt.alloc()) {
@@ -143,7 +152,8 @@ fn of_calls_with_limit(rt: HostRuntime) {
     }
 }
 
-/// The answers of a run over the frames.
+/// Runs `run_frames` on a list of four frames given as bytes, and returns the results of the calls, or where the run
+/// stopped.
 fn answers_of_frames(
     rt: &(impl Abort + Print),
     alloc: Global,
@@ -156,7 +166,7 @@ fn answers_of_frames(
     }
 }
 
-/// Whether it is the first stream's payload.
+/// Returns whether the result of a frame is the reassembled payload of VLAN identifier 1.
 fn is_whole(answer: &FrameAnswer) -> bool {
     match answer {
         FrameAnswer::Pool(answer) => is_payload(answer, WHOLE),
@@ -164,7 +174,7 @@ fn is_whole(answer: &FrameAnswer) -> bool {
     }
 }
 
-/// There are four answers, of which the last is the first stream's payload.
+/// Asserts that a run returned four results, and that the last result is the reassembled payload of VLAN identifier 1.
 fn are_whole_frames(rt: &impl Abort, answers: &[FrameAnswer]) {
     same(rt, &answers.len(), &4);
     same(rt, &is_whole(answers.last().expect(rt, "four")), &true);
@@ -184,7 +194,7 @@ fn of_frames(rt: HostRuntime) {
     }
 }
 
-/// A fragment of a list.
+/// Returns a fragment with the given offset in units of 8 bytes, more-fragments flag and bytes.
 pub fn fragment(
     rt: &impl Abort,
     units: u16,
@@ -198,7 +208,8 @@ pub fn fragment(
     }
 }
 
-/// What a new buffer without room puts together of 8, 8 and 4 bytes, where the first come again, alone and together.
+/// Runs `add_all` on five fragments of a payload of 20 bytes, and returns the reassembly buffer, or where the run
+/// stopped. Some fragments overwrite earlier ones, and the buffer has no capacity at first.
 fn put_together(rt: &impl Abort, alloc: Global) -> Result<IpDefragBuf, RunStop> {
     let fragments = [
         fragment(rt, 0, true, b"________"),
@@ -219,7 +230,7 @@ fn put_together(rt: &impl Abort, alloc: Global) -> Result<IpDefragBuf, RunStop> 
     }
 }
 
-/// The buffer holds the whole payload.
+/// Asserts that a reassembly buffer holds the complete payload of 20 bytes.
 fn holds_whole(rt: &impl Abort, buffer: &IpDefragBuf) {
     same(rt, &buffer.is_complete(), &true);
     same(

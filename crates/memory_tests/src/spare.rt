@@ -1,4 +1,5 @@
-//! Payloads that are given back to a pool: their memory serves the streams that begin later.
+//! Tests that a reassembly pool uses the memory of payloads that are given back, and of dropped datagrams, for later
+//! ones.
 
 use crate::checks::*;
 use crate::samples::*;
@@ -9,10 +10,11 @@ use std::process::Abort;
 
 pub type Pool = IpDefragPool<u64, u8>;
 
-/// Two fragments of a payload, of which the second is final and starts where the first ends.
+/// Two fragments of one payload: the bytes from the start, and the final bytes that follow them directly.
 type Halves = (&'static [u8], &'static [u8]);
 
-/// The answer to a fragment of a stream, and where that was refused, the answer to it when it comes again.
+/// Passes a fragment of the datagram `identification` to a reassembly pool, and returns the payload that it completes,
+/// if any. If an allocation fails, it prints so and tries a second time.
 pub fn answer(
     rt: &(impl Abort + Print),
     pool: &mut Pool,
@@ -29,7 +31,8 @@ pub fn answer(
     }
 }
 
-/// A stream begins with these bytes.
+/// Passes the first fragment of a datagram, with the bytes `payload`, to a reassembly pool, and asserts that it
+/// completes no payload.
 pub fn begins(rt: &(impl Abort + Print), pool: &mut Pool, identification: u16, payload: &[u8]) {
     let fragment = Fragment {
         offset: offset(rt, 0),
@@ -39,7 +42,7 @@ pub fn begins(rt: &(impl Abort + Print), pool: &mut Pool, identification: u16, p
     same(rt, &answer(rt, pool, identification, &fragment), &None);
 }
 
-/// The payload of a stream of two fragments.
+/// Passes both fragments of a datagram to a reassembly pool, and returns the payload that they complete.
 fn completed(
     rt: &(impl Abort + Print),
     pool: &mut Pool,
@@ -56,13 +59,14 @@ fn completed(
     answer(rt, pool, identification, &fragment).expect(rt, "whole")
 }
 
-/// 64 bytes.
+/// Both fragments of a payload of 64 bytes: 56 and 8 bytes.
 const LONG: Halves = (
     b"abcdefghijklmnopqrstuvwxyzabcdefghijklmnopqrstuvwxyzabcd",
     b"efghijkl",
 );
 
-/// A stream of 64 bytes ends, and its payload may go back. Then one of 16 bytes has these bytes alone.
+/// Completes a payload of 64 bytes in a reassembly pool, and gives it back if `gives_back` is true. Asserts that a
+/// payload of 16 bytes which is completed after it has no bytes of the long one.
 fn long_then_short(rt: &(impl Abort + Print), alloc: Global, gives_back: bool) {
     let mut pool = IpDefragPool::new(alloc);
     let long = completed(rt, &mut pool, 1, LONG);
@@ -84,13 +88,14 @@ fn given_back(rt: HostRuntime) {
     long_then_short(&rt, rt.alloc(), true);
 }
 
-/// The same, but for the requests that the memory of the first payload would have spared.
+/// Tests a second datagram after a payload that is not given back to the reassembly pool, so the second one makes the
+/// allocations that its memory would have saved.
 #[test]
 fn not_given_back(rt: HostRuntime) {
     long_then_short(&rt, rt.alloc(), false);
 }
 
-/// A payload that comes back to a pool where no place is reserved for it is freed: that asks for no memory.
+/// Tests that a payload given back to a reassembly pool that never had a stream is freed, which does not allocate.
 #[test]
 fn given_back_without_place(rt: HostRuntime) {
     let mut pool = IpDefragPool::new(rt.alloc());
@@ -100,7 +105,8 @@ fn given_back_without_place(rt: HostRuntime) {
     asks_once(&rt, rt.alloc());
 }
 
-/// Streams of two fragments, one after the other, whose payloads go back: after the first one none asks for memory.
+/// Tests 100 datagrams one after the other, of two fragments each, whose payloads are given back to the reassembly
+/// pool: only the first one allocates.
 #[test]
 fn steady(rt: HostRuntime) {
     let mut pool = IpDefragPool::new(rt.alloc());
@@ -111,7 +117,7 @@ fn steady(rt: HostRuntime) {
     asks_once(&rt, rt.alloc());
 }
 
-/// Streams begin and are dropped, one after the other: after the first one none asks for memory.
+/// Tests three datagrams that begin and are dropped, one after the other: only the first one allocates.
 #[test]
 fn dropped(rt: HostRuntime) {
     let mut pool = IpDefragPool::new(rt.alloc());
@@ -122,7 +128,8 @@ fn dropped(rt: HostRuntime) {
     asks_once(&rt, rt.alloc());
 }
 
-/// What a refused fragment would have begun its stream with serves the next one.
+/// Tests that the memory meant for a rejected first fragment stays in the reassembly pool, and that the next datagram
+/// uses it.
 #[test]
 fn refused_first(rt: HostRuntime) {
     let mut pool = IpDefragPool::new(rt.alloc());
@@ -143,7 +150,7 @@ fn refused_first(rt: HostRuntime) {
     asks_once(&rt, rt.alloc());
 }
 
-/// Gives a payload of another origin to a pool.
+/// Gives a reassembly pool a payload of 8 bytes that it did not reassemble itself.
 fn gives(rt: &(impl Abort + Print), alloc: Global, pool: &mut Pool) {
     pool.return_buf(IpDefragPayloadVec {
         ip_number: IpNumber::UDP,
@@ -152,7 +159,8 @@ fn gives(rt: &(impl Abort + Print), alloc: Global, pool: &mut Pool) {
     });
 }
 
-/// Where as many vectors lie as have a place, and there were four streams at once, a second one asks for no place.
+/// Tests a reassembly pool whose list of spare vectors is full of given-back payloads. After four datagrams that were
+/// open at once, a second open datagram allocates nothing.
 #[test]
 fn full_of_vectors(rt: HostRuntime) {
     let mut pool = IpDefragPool::new(rt.alloc());
@@ -168,8 +176,8 @@ fn full_of_vectors(rt: HostRuntime) {
     asks_once(&rt, rt.alloc());
 }
 
-/// The longest payload comes in two fragments, each of which a frame can carry; a stream ends with no bytes, and one
-/// begins with none.
+/// Tests the longest payload, 65535 bytes in two fragments that frames can carry, then a payload whose final fragment
+/// is empty, and a payload whose first fragment is empty.
 #[test]
 fn large_and_empty(rt: HostRuntime) {
     let mut pool = IpDefragPool::new(rt.alloc());
@@ -181,7 +189,8 @@ fn large_and_empty(rt: HostRuntime) {
     same(&rt, &short.payload.as_slice(), &b"abc".as_slice());
 }
 
-/// A last fragment that is in place hands out the payload without asking for memory, and the payload goes back.
+/// Tests a final fragment that only overwrites bytes which the reassembly pool holds: it returns the payload without an
+/// allocation.
 #[test]
 fn hand_out_in_place(rt: HostRuntime) {
     let mut pool = IpDefragPool::new(rt.alloc());

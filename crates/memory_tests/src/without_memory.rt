@@ -1,4 +1,4 @@
-//! Calls that ask for no memory, whatever they are given: parsing, and what a value is asked or told.
+//! Tests of calls that never allocate: parsing, accessors, setters and sizes.
 
 use crate::checks::*;
 use crate::samples::*;
@@ -6,7 +6,8 @@ use etherparse::defrag::*;
 use etherparse::*;
 use std::process::Abort;
 
-/// Bytes are a frame or are none, by both parsers.
+/// Asserts that both parsers (slices and owned headers), starting with the header `entry`, accept the bytes if
+/// `is_frame` is true, and reject them otherwise.
 fn reads(rt: &impl Abort, entry: Entry, bytes: &[u8], is_frame: bool) {
     let sliced = SlicedPacket::from_entry(entry, bytes);
     same(rt, &sliced.is_ok(), &is_frame);

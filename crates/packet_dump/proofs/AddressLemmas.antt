@@ -1,4 +1,4 @@
--- Addresses in a row of bytes: the numbers of one of IPv4, each behind a dot, and the groups of one of IPv6.
+-- Addresses written into a buffer: the numbers of an IPv4 address, each after a dot, and the groups of an IPv6 address.
 use Rattle.std.proofs.Common.{◌≡◌, ℕ, zero, suc, ◌+◌, ◌-◌, ◌*◌, ◌/◌, ◌%◌, ◌<◌, ◌≤◌, List, [], ◌∷◌, ◌++◌, drop, get_or, length, set, take}
 use Rattle.std.proofs.Common.{Bool, true, false, true≢false, nat_le, nat_lt, if◌then◌else◌, ◌&&◌, T, eqb, eqb→eq, inl, inr, eq-zero-or-pos}
 use Rattle.std.proofs.Common.{refl, sym, subst, ap, ◌∙◌, arith, append_assoc, codes}
@@ -13,14 +13,14 @@ use Rattle.std.proofs.lemmas.Fmt.{decimal_digit, decimal_step}
 use Rattle.std.proofs.lemmas.Grind.{take-set_at}
 use Rattle.std.proofs.lemmas.List.{append-nil, drop-take, length-drop, length-set, take_all}
 
--- one byte more behind what stands
+-- A byte set at the end of the written prefix extends it by one.
 put_at : (text front behind : List ℕ) (at next byte : ℕ) → take at text ≡ front ++ behind → next ≡ at + 1
     → at < length text → take next (set text at byte) ≡ front ++ (behind ++ byte ∷ [])
 put_at text front behind at next byte stands is_next within =
     take-set_at text at next byte is_next within ∙ ap (λ t. t ++ byte ∷ []) stands
     ∙ append_assoc front behind (byte ∷ [])
 
--- a dot and one digit
+-- Two bytes set at a position, such as a dot and a digit, extend the text before it.
 pub put_two : (text : List ℕ) (at first second : ℕ) → at + 1 < length text
     → take (at + 2) (set (set text at first) (at + 1) second) ≡ take at text ++ first ∷ second ∷ []
 put_two text at first second room =
@@ -47,7 +47,7 @@ at_least least number is = grind (arith, nat_tests)
 not_at_least : (least number : ℕ) → number < least → nat_le least number ≡ false
 not_at_least least number is = grind (arith, nat_tests)
 
--- of the three digits of a number below 256 those that are kept
+-- the digits of a number below 256 without leading zeros
 abbrev octet_digits : ℕ → List ℕ
 octet_digits number =
     (if nat_le 100 number then (48 + number / 10 / 10) ∷ [] else [])
@@ -81,7 +81,7 @@ octet_digits-are number most =
 behind_dot : (front text : List ℕ) → front ++ 46 ∷ text ≡ front ++ codes "." ++ text
 behind_dot front text = sym (append_assoc front (46 ∷ []) text)
 
--- four texts, each behind a dot, without the first dot
+-- Four texts written with a dot before each are the texts separated by dots, from the second byte on.
 pub four_dotted : (a b c d first second third text : List ℕ) (end : ℕ) → first ≡ 46 ∷ a → second ≡ first ++ 46 ∷ b
     → third ≡ second ++ 46 ∷ c → take end text ≡ third ++ 46 ∷ d → 0 < end
     → take (end - 1) (drop 1 text) ≡ a ++ codes "." ++ b ++ codes "." ++ c ++ codes "." ++ d
@@ -97,7 +97,7 @@ four_dotted a b c d first second third text end is_first is_second is_third is s
 
 -- ---- hexadecimal digits
 
--- the table has the digits of a byte at their place
+-- True if the table has the two digits of a byte at its position.
 abbrev has_pair : ℕ → Bool
 has_pair byte =
     eqb (get_or HEX_PAIRS (2 * byte) 0) (hex_digit (byte / 16))
@@ -127,9 +127,9 @@ pair-in_table byte below =
     eqb→eq _ _ (and_r (eqb (get_or HEX_PAIRS (2 * byte) 0) (hex_digit (byte / 16))) _ has) in
     ap (λ d. d ∷ get_or HEX_PAIRS (2 * byte + 1) 0 ∷ []) first ∙ ap (λ d. hex_digit (byte / 16) ∷ d ∷ []) second
 
--- ---- addresses of IPv6
+-- ---- IPv6 addresses
 
--- of four digits those that are kept, where behind one that is kept all are
+-- Of four digits, those that are kept are the last ones, if every digit after a kept one is kept.
 kept_digits : (a b c : Bool) (first second third fourth : ℕ) → (a ≡ true → b ≡ true) → (b ≡ true → c ≡ true)
     → (if a then first ∷ [] else []) ++ (if b then second ∷ [] else []) ++ (if c then third ∷ [] else []) ++ fourth ∷ []
     ≡ drop (if a then 0 else (if b then 1 else (if c then 2 else 3))) (first ∷ second ∷ third ∷ fourth ∷ [])
@@ -144,7 +144,7 @@ kept_digits false false false first second third fourth ab bc = refl
 nat_le-less : (more less number : ℕ) → less ≤ more → nat_le more number ≡ true → nat_le less number ≡ true
 nat_le-less more less number order is = grind (arith, nat_tests)
 
--- the digits of a group that are kept
+-- The kept digits of a group are its hexadecimal number.
 pub hex_is : (number : ℕ)
     → (if nat_le 4096 number then hex_digit (number / 256 / 16) ∷ [] else [])
     ++ (if nat_le 256 number then hex_digit (number / 256 % 16) ∷ [] else [])
@@ -160,7 +160,7 @@ hex_is number =
     (hex_digit (number / 256 % 16)) (hex_digit (number / 16 % 16)) (hex_digit (number % 16))
     (nat_le-less 4096 256 number (omega arith)) (nat_le-less 256 16 number (omega arith)))
 
--- a run of zeros in place of which `::` stands
+-- Groups written with `::` in place of the first longest run of zeros are the text of the address.
 pub compressed_groups : (groups : List ℕ) (run : ℕ × ℕ) (head joined whole : List ℕ) → run ≡ longest_zero_run groups
     → 1 < run.1 → length groups ≡ 8 → head ≡ groups_text (take run.0 groups) → joined ≡ head ++ 58 ∷ 58 ∷ []
     → whole ≡ joined ++ groups_text (take (8 - (run.0 + run.1)) (drop (run.0 + run.1) groups))
@@ -175,7 +175,7 @@ compressed_groups groups run head joined whole longest some eight is_head is_joi
     ∙ ap (λ t. t ++ groups_text (drop (run.0 + run.1) groups)) (is_joined ∙ ap (λ t. t ++ 58 ∷ 58 ∷ []) is_head)
     ∙ rw (← longest, long) refl
 
--- no such run
+-- Without a run of two or more zeros, the text of the address is that of all groups.
 pub whole_groups : (groups : List ℕ) (run : ℕ × ℕ) → run ≡ longest_zero_run groups → run.1 ≤ 1
     → groups_text groups ≡ hex_groups_text groups
 unfolding hex_groups_text

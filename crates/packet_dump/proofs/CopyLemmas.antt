@@ -1,4 +1,4 @@
--- What was read of a capture and written into a file.
+-- The input of a run, and the capture file that it writes.
 use Rattle.std.proofs.Common.{◌≡◌, ℕ, Bool, true, false, List, [], ◌++◌, Option, None, refl, sym, ap, subst, ◌∙◌}
 use Rattle.std.proofs.Common.{append_assoc, arith}
 use Rattle.std.proofs.KnownBytes.{Appends-nil, Appends-trans, Consumes-kept, Consumes-nil, Consumes-trans}
@@ -22,7 +22,7 @@ use Rattle.packet_dump.specs.declared.session.Standing.{Standing}
 use Rattle.packet_dump.proofs.DumpLemmas.{Draining, ends_at}
 use Rattle.packet_dump.proofs.SavingLemmas.{begins_where}
 
--- what a session read, and what was written of what is saved
+-- A session read these bytes, and these bytes were written into the capture file.
 abbrev pub Copied : DumpOptions → Bool → Session → Saving → List ℕ → List ℕ → Type 0
 Copied options wanted session saving read saved =
     (items : List Item) × (text : List ℕ) × (history : PoolHistory) × Stands options session read items history
@@ -36,13 +36,13 @@ saves_new options true = ([], refl, (omega arith, tt), refl, refl)
 no_stop : (fault : SaveFault) → Stopped fault ≡ Open None → ⊥
 no_stop fault is = cc
 
--- the file has not failed
+-- A new file has not failed.
 pub new_sound : (state : SaveState) → state ≡ new_state (asks state) → is_failed state ≡ false
 new_sound Unasked new = refl
 new_sound (Open link) new = refl
 new_sound (Stopped fault) new = absurd (no_stop fault new)
 
--- nothing was read or written
+-- At the start nothing is read or written.
 pub copied_new : (options : DumpOptions) (session : Session) (saving : Saving) (had held : Option (List ℕ))
     → Stands options session [] [] (new_pool options.limit) → saving.state ≡ new_state (asks saving.state)
     → saving.bytes.items ≡ [] → Moves (Copied options (asks saving.state) session saving) had had held held
@@ -63,7 +63,7 @@ copied_new options session saving had held stands new none =
       ),
     )
 
--- a file of which nothing was written begins a capture
+-- A file that nothing was written into begins a capture.
 pub copied_none : (options : DumpOptions) (wanted : Bool) (had held : Option (List ℕ))
     → Moves (BeginsSaved options wanted) had had held held
 copied_none options false had held = ([], [], Consumes-nil had, Appends-nil held, refl)
@@ -89,7 +89,7 @@ copied_none options true had held = (
   ),
 )
 
--- more was put together
+-- After more packets are drained, the written bytes still are right for the session.
 pub copied_drained : (options : DumpOptions) (wanted : Bool) (old new : Session) (standing : Standing)
     (start behind : Gathered) (had has held holds : Option (List ℕ))
     → Moves (Copied options wanted old start.saving) had has held holds → Draining old new standing start behind
@@ -111,7 +111,7 @@ copied_drained options wanted old new standing start behind had has held holds
       ),
     )
 
--- it was written, as far as the file took it
+-- After the pending bytes are flushed, as far as the file accepted them, the written bytes are right for the session.
 pub copied_flushed : (options : DumpOptions) (wanted : Bool) (session : Session) (old new : Saving)
     (had has held holds then_holds : Option (List ℕ)) → Moves (Copied options wanted session old) had has held holds
     → Flushes old new holds then_holds → new.bytes.items ≡ []
@@ -135,14 +135,14 @@ copied_flushed options wanted session old new had has held holds then_holds
       ),
     )
 
--- no more was read
+-- A read of no byte changes nothing.
 pub copied_kept : (options : DumpOptions) (wanted : Bool) (session : Session) (saving : Saving)
     (had has then_has held holds : Option (List ℕ)) → Moves (Copied options wanted session saving) had has held holds
     → Keeps has then_has → Moves (Copied options wanted session saving) had then_has held holds
 copied_kept options wanted session saving had has then_has held holds (read, saved, consumed, appended, copied) kept =
     (read, saved, Consumes-kept had has then_has read consumed kept, appended, copied)
 
--- a piece was read, and taken
+-- A chunk was read and taken by the session.
 pub copied_taken : (options : DumpOptions) (wanted : Bool) (old new : Session) (saving : Saving) (piece : List ℕ)
     (had has then_has held holds : Option (List ℕ)) → Moves (Copied options wanted old saving) had has held holds
     → Consumes has then_has piece
@@ -158,7 +158,7 @@ copied_taken options wanted old new saving piece had has then_has held holds
       (items, text, history, take options read items history stands, texts, saves),
     )
 
--- what was written begins a capture
+-- The written bytes begin a capture of the input.
 pub copied_begun : (options : DumpOptions) (wanted : Bool) (session : Session) (saving : Saving)
     (had has held holds : Option (List ℕ)) → Moves (Copied options wanted session saving) had has held holds
     → Moves (BeginsSaved options wanted) had has held holds
@@ -172,7 +172,7 @@ copied_begun options wanted session saving had has held holds
           (reader_rest session.capture, stands.reads.fits, stands.reads.parts) saves,
     )
 
--- a piece was read, and not taken
+-- A chunk was read but not taken; the written bytes begin a capture of the input.
 pub copied_piece : (options : DumpOptions) (wanted : Bool) (session : Session) (saving : Saving) (piece : List ℕ)
     (had has then_has held holds : Option (List ℕ)) → Moves (Copied options wanted session saving) had has held holds
     → Consumes has then_has piece → Moves (BeginsSaved options wanted) had then_has held holds
@@ -190,7 +190,7 @@ copied_piece options wanted session saving piece had has then_has held holds
       ) saves,
     )
 
--- a run ends, and what is saved was written
+-- At the end of a run, after the file is closed, it is the capture of the shown packets.
 pub copied_ended : (options : DumpOptions) (wanted ended : Bool) (old new : Session) (standing : Standing)
     (start behind : Gathered) (closed : Saving) (had has held holds then_holds : Option (List ℕ))
     → Moves (Copied options wanted old start.saving) had has held holds → Draining old new standing start behind

@@ -1,4 +1,4 @@
--- What was read and written of a capture, and where it stops.
+-- The input and output of a dump, and where it ends.
 use Rattle.std.proofs.Common.{◌≡◌, ◌≤◌, ℕ, Bool, if◌then◌else◌, true, false, List, [], ◌++◌, Option, refl, sym, ap, subst, ◌∙◌, append_assoc}
 use Rattle.std.proofs.KnownBytes.{Appends-nil, Appends-trans, Consumes-kept, Consumes-nil, Consumes-trans}
 use Rattle.std.proofs.lemmas.List.{append-nil}
@@ -6,7 +6,7 @@ use Rattle.std.specs.Io.KnownBytes.{Appends, Consumes, Keeps}
 use Rattle.capture_reader.specs.Captures.{Item, RefusesCapture, at_start, items_bytes}
 use Rattle.capture_reader.specs.Readers.{reader_rest}
 use Rattle.line_io.specs.Transfers.{Moves}
-use Rattle.line_io.specs.WatchedWords.{AppendsFront}
+use Rattle.line_io.specs.WatchedWords.{AppendsPrefix}
 use Rattle.capture_reader.specs.declared.refusal.CaptureError.{CaptureError}
 use Rattle.packet_dump.specs.Dumps.{AreAllTexts, AreShown, BeginsDump, IsDump, IsRefused}
 use Rattle.packet_dump.specs.PacketCalls.{PoolHistory, new_pool}
@@ -22,19 +22,19 @@ use Rattle.packet_dump.specs.declared.session.Standing.TheVariants.{MayEnd, Enou
 use Rattle.packet_dump.specs.declared.dump_options.DumpOptions.{DumpOptions}
 use Rattle.packet_dump.proofs.SessionLemmas.{refused_here}
 
--- no more packets were read than are wanted
+-- A session has read no more packets than are wanted.
 are_shown : (options : DumpOptions) (session : Session) (read : List ℕ) (items : List Item) (text : List ℕ) (history : PoolHistory)
     → Stands options session read items history → AreAllTexts options items text history → AreShown options items text
 are_shown options session read items text history stands texts =
     (subst (λ n. n ≤ options.most) stands.number stands.within, history, texts)
 
--- what is refused whatever follows is so where the reader has ended, and where it has not
+-- A capture that is rejected whatever bytes come after it is rejected whether or not the reader has ended.
 is_refused : (ended : Bool) (read : List ℕ) (found : List Item × CaptureError)
     → ((more : List ℕ) → RefusesCapture (read ++ more) found) → IsRefused ended read found
 is_refused true read found refused = refused_here read found refused
 is_refused false read found refused = refused
 
--- a run ends where the capture stands so
+-- A run that ends in this state of the capture ends at the items that were read.
 pub ends_at : (options : DumpOptions) (ended : Bool) (standing : Standing) (session : Session) (read : List ℕ)
     (items : List Item) (text : List ℕ) (start behind : Gathered) → ends_run standing ended ≡ true
     → (drains : Drains options session standing read items text start behind)
@@ -49,7 +49,7 @@ ends_at options ended (Cut error) session read items text start behind ends drai
 ends_at options ended (Refused error) session read items text start behind ends drains =
     (is_refused ended read (items ++ drains.0.more, error) drains.1.1, drains.1.0, drains.0.stands.number)
 
--- what counts the packets of a dump too is one
+-- A dump with counts is a dump.
 is_dump : (options : DumpOptions) (ended : Bool) (ending : Ending) (start summary : PlainSummary)
     (read written : List ℕ) → IsCountedDump options ended ending start summary read written
     → IsDump options ended ending read written
@@ -61,7 +61,7 @@ is_dump options ended (end.Broken packets error) start summary read written
     (items, ends, within, pool, texts, behind, counts, fates) =
     (items, ends.0, ends.1, ends.2, (within, pool, texts))
 
--- what was put together begins the dump, whatever comes behind
+-- A prefix of the lines of the items begins the dump, whatever bytes are read after them.
 begins : (options : DumpOptions) (session : Session) (read piece : List ℕ) (items : List Item) (front rest text : List ℕ)
     (history : PoolHistory) → Stands options session read items history → AreAllTexts options items text history
     → text ≡ front ++ rest → BeginsDump options (read ++ piece) front
@@ -78,20 +78,20 @@ begins options session read piece items front rest text history stands texts par
       (subst (λ (t : List ℕ). AreAllTexts options items t history) parts texts),
 )
 
--- what a session read, its writer wrote, and was counted since a summary was this
+-- A session read these bytes, these lines were written, and its packets were counted since the first summary.
 abbrev pub Told : DumpOptions → PlainSummary → Session → PlainSummary → List ℕ → List ℕ → Type 0
 Told options first session summary read written =
     (items : List Item) × (history : PoolHistory) × Stands options session read items history
     × AreAllTexts options items written history × IsCounted options items first summary
 
--- what draining a session does
+-- the effect of draining a session
 abbrev pub Draining : Session → Session → Standing → Gathered → Gathered → Type 0
 Draining old new standing start behind = (options : DumpOptions) (read : List ℕ) (items : List Item) (text : List ℕ)
     (history : PoolHistory)
     → Stands options old read items history → AreAllTexts options items text history
     → Drains options new standing read items text start behind
 
--- nothing was read or written
+-- At the start nothing is read or written.
 pub Moves-new : (options : DumpOptions) (session : Session) (summary : PlainSummary) (had held : Option (List ℕ))
     → Stands options session [] [] (new_pool options.limit)
     → Moves (Told options summary session summary) had had held held
@@ -103,7 +103,7 @@ Moves-new options session summary had held stands = (
   ([], new_pool options.limit, stands, (refl, refl), ([], refl, refl)),
 )
 
--- nothing more was read or written
+-- If nothing more is read or written, the output begins the dump.
 pub Moves-begun : (options : DumpOptions) (first : PlainSummary) (session : Session) (summary : PlainSummary)
     (had has held holds : Option (List ℕ)) → Moves (Told options first session summary) had has held holds
     → Moves (BeginsDump options) had has held holds
@@ -117,12 +117,12 @@ Moves-begun options first session summary had has held holds
           (begins options session read [] items written [] written history stands texts (sym (append-nil written))),
     )
 
--- the lines that were put together were written in part
+-- If the pending lines are written in part, the output begins the dump.
 pub Moves-front : (options : DumpOptions) (first : PlainSummary) (old new : Session) (standing : Standing)
     (start behind : Gathered) (had has held holds then_holds : Option (List ℕ))
     → Moves (Told options first old start.summary) had has held holds
     → Draining old new standing start behind
-    → AppendsFront holds then_holds new.output.items → Moves (BeginsDump options) had has held then_holds
+    → AppendsPrefix holds then_holds new.output.items → Moves (BeginsDump options) had has held then_holds
 Moves-front options first old new standing start behind had has held holds then_holds (
   read,
   written,
@@ -143,7 +143,7 @@ Moves-front options first old new standing start behind had has held holds then_
           drained.after drained.stands drained.texts regrouped),
     )
 
--- they were written whole
+-- If the pending lines are written completely, the output is the lines of the session's items.
 pub Moves-drained : (options : DumpOptions) (first : PlainSummary) (old new : Session) (standing : Standing)
     (start behind : Gathered) (had has held holds then_holds : Option (List ℕ))
     → Moves (Told options first old start.summary) had has held holds
@@ -166,7 +166,7 @@ Moves-drained options first old new standing start behind had has held holds the
       (items ++ drained.more, drained.after, drained.stands, drained.texts, drained.counts first counted),
     )
 
--- and the capture stands so that a run ends
+-- If a run ends in the new state of the capture, the output is the dump, with its counts.
 pub Moves-ended : (options : DumpOptions) (ended : Bool) (first : PlainSummary) (old new : Session)
     (standing : Standing) (start behind : Gathered) (last : PlainSummary)
     (had has held holds then_holds : Option (List ℕ)) → Moves (Told options first old start.summary) had has held holds
@@ -203,14 +203,14 @@ pub Moves-dump : (options : DumpOptions) (ended : Bool) (ending : Ending) (first
 Moves-dump options ended ending first last had has held holds (read, written, consumed, appended, counted) =
     (read, written, consumed, appended, is_dump options ended ending first last read written counted)
 
--- no more was read
+-- A read of no byte changes nothing.
 pub Moves-kept : (options : DumpOptions) (first : PlainSummary) (session : Session) (summary : PlainSummary)
     (had has then_has held holds : Option (List ℕ)) → Moves (Told options first session summary) had has held holds
     → Keeps has then_has → Moves (Told options first session summary) had then_has held holds
 Moves-kept options first session summary had has then_has held holds (read, written, consumed, appended, told) kept =
     (read, written, Consumes-kept had has then_has read consumed kept, appended, told)
 
--- a piece was read, and not taken
+-- A chunk was read but not taken; the output begins the dump.
 pub Moves-piece : (options : DumpOptions) (first : PlainSummary) (session : Session) (summary : PlainSummary)
     (piece : List ℕ) (had has then_has held holds : Option (List ℕ))
     → Moves (Told options first session summary) had has held holds → Consumes has then_has piece
@@ -224,7 +224,7 @@ Moves-piece options first session summary piece had has then_has held holds
       begins options session read piece items written [] written history stands texts (sym (append-nil written)),
     )
 
--- a piece was read, and taken
+-- A chunk was read and taken by the session.
 pub Moves-taken : (options : DumpOptions) (first : PlainSummary) (old new : Session) (summary : PlainSummary)
     (piece : List ℕ) (had has then_has held holds : Option (List ℕ))
     → Moves (Told options first old summary) had has held holds → Consumes has then_has piece
@@ -240,7 +240,7 @@ Moves-taken options first old new summary piece had has then_has held holds
       (items, history, take options read items history stands, texts, counted),
     )
 
--- no summary was wanted
+-- Without a summary, the output is that of a dump with counts.
 pub Moves-unsummed : (wanted : Bool) (options : DumpOptions) (ended : Bool) (ending : Ending)
     (first last : PlainSummary) (had has held holds : Option (List ℕ)) → wanted ≡ false
     → first ≡ new_summary wanted options.quiet → Moves (IsCountedDump options ended ending first last) had has held holds
@@ -260,7 +260,7 @@ Moves-unsummed wanted options ended ending first last had has held holds unasked
       ),
     )
 
--- a summary was wanted, and written
+-- With a summary, its text is written after the dump.
 pub Moves-summed : (wanted : Bool) (options : DumpOptions) (ended : Bool) (ending : Ending)
     (first last : PlainSummary) (had has held holds then_holds : Option (List ℕ)) → wanted ≡ true
     → first ≡ new_summary wanted options.quiet → Moves (IsCountedDump options ended ending first last) had has held holds

@@ -1,18 +1,18 @@
--- Texts of a filter of which one says no word.
+-- Filters with a primitive that cannot be parsed.
 use Rattle.std.proofs.Common.{◌≡◌, List, [], ◌∷◌, ◌++◌, Option, Some, None, Ok, Err}
 use Rattle.packet_filter.specs.declared.word.Word.{Word}
 use Rattle.packet_filter.specs.declared.word.WordError.{WordError}
 use Rattle.packet_dump.specs.Filters.{AreWords, IsSlot, IsWordOf}
 use Rattle.packet_dump.specs.declared.options.FilterText.{FilterText}
 
--- a text that is refused says no word
+-- A text with an error is no primitive of its kind.
 pub no_slot : (text : FilterText) (error : WordError)
     → ((word : Word) → IsWordOf text.kind text.text.now word → Err error ≡ Ok word)
     → (slot : Option Word) → IsSlot (Some text) slot → ⊥
 no_slot text error only None is = is
 no_slot text error only (Some word) is = let clash : Err error ≡ Ok word = only word is in cc
 
--- where one place has none, so have all together
+-- If one slot has no primitive, the filter has no list of primitives.
 pub no_words : (before : List (Option FilterText)) (place : Option FilterText) (behind : List (Option FilterText))
     → ((slot : Option Word) → IsSlot place slot → ⊥)
     → (words : List (Option Word)) → AreWords (before ++ place ∷ behind) words → ⊥

@@ -1,4 +1,4 @@
--- An option and its value in one word.
+-- An option and its value in one argument.
 use Rattle.std.proofs.Common.{◌≡◌, ℕ, ◌<◌, inl, inr, get_or, length, List, [], ◌∷◌, ◌++◌}
 use Rattle.std.proofs.Common.{Option, Some, None, refl, ap, append_assoc, ◌∙◌, sym, subst, suc, arith, nat_eq}
 use Rattle.std.specs.Prelude.{codes}
@@ -13,13 +13,13 @@ use Rattle.packet_dump.specs.declared.options.Word.{Word}
 use Rattle.packet_dump.specs.declared.options.Word.TheVariants as word
 use Rattle.packet_dump.proofs.ValueLemmas.{IsWord, branch, is_word, some_of}
 
--- ---- where `=` stands
+-- ---- position of `=`
 
--- a text in front of whose parts a byte stands
+-- the two parts of a text, with a byte added before the first
 abbrev behind_byte : ℕ → List ℕ × List ℕ → List ℕ × List ℕ
 behind_byte byte parts = (byte ∷ parts.0, parts.1)
 
--- nowhere
+-- A text without `=` has no parts.
 pub no_parts : (text : List ℕ) → ((i : ℕ) → i < length text → get_or text i 0 ≡ 61 → ⊥) → parts_at_equals text ≡ None
 no_parts [] never = refl
 no_parts (byte ∷ bytes) never =
@@ -27,7 +27,7 @@ no_parts (byte ∷ bytes) never =
     (λ same. absurd (never 0 (omega arith) (eqb-true byte 61 same)))
     (λ other. ap (option_map (behind_byte byte)) (no_parts bytes (λ i within is. never (suc i) (omega (arith, within)) is)))
 
--- behind what has none
+-- The first part, which has no `=`, and the second are the parts of the text.
 pub these_parts : (front behind : List ℕ) → ((i : ℕ) → i < length front → get_or front i 0 ≡ 61 → ⊥)
     → parts_at_equals (front ++ (61 ∷ behind)) ≡ Some (front, behind)
 these_parts [] behind never = refl
@@ -38,7 +38,7 @@ these_parts (byte ∷ front) behind never =
     (λ other. ap (option_map (behind_byte byte))
     (these_parts front behind (λ i within is. never (suc i) (omega (arith, within)) is)))
 
--- the parts are those of the text
+-- A text is its first part, `=`, and its second part.
 parts_are : (text : List ℕ) (parts : List ℕ × List ℕ) → parts_at_equals text ≡ Some parts
     → text ≡ parts.0 ++ (61 ∷ parts.1)
 parts_are [] parts is = let never : ⊥ = cc in absurd never
@@ -53,7 +53,7 @@ parts_are (byte ∷ bytes) parts is =
     subst (λ (p : List ℕ × List ℕ). byte ∷ bytes ≡ p.0 ++ (61 ∷ p.1)) found.2
     (ap (λ b. byte ∷ b) (parts_are bytes found.0 found.1))) is
 
--- ---- an option in front of it
+-- ---- the option before `=`
 
 option_word_is : (w : Word) (behind value : List ℕ) (option : Awaited) → option_with w behind ≡ Some (option, value)
     → (w ≡ word.Option option) × (behind ≡ value)
@@ -85,7 +85,7 @@ pub joined_none : (text : List ℕ) → ((option : Awaited) (value : List ℕ) �
     → joined_in text ≡ None
 joined_none text never = no_pair (joined_in text) (λ said is. never said.0 said.1 (joined_is text said.0 said.1 is))
 
--- such a word is in no row of the table, and is what it is joined of
+-- The argument is in no row of the table, and is the option joined to the value.
 abbrev pub JoinedSo : Awaited → List ℕ → List ℕ → Type 0
 JoinedSo option value text = (word_named text ≡ word.Unknown) × (joined_in text ≡ Some (option, value))
 
@@ -114,7 +114,7 @@ pub joined_so : (option : Awaited) (value text : List ℕ) → IsJoined option v
 joined_so option value text joined =
     subst (λ (t : List ℕ). JoinedSo option value t) (sym joined.2) (joined_by option value joined.0 joined.1)
 
--- a word of an option alone
+-- The name of an option has the meaning of that option.
 pub option_named : (option : Awaited) (name : List ℕ) → IsOptionWord option name → word_named name ≡ word.Option option
 option_named Count name (inl is) = ap word_named is
 option_named Count name (inr is) = ap word_named is

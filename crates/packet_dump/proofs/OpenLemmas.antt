@@ -1,4 +1,4 @@
--- The list of the open streams' names, behind each thing that changes the pool.
+-- The list of the names of open streams, after each operation that changes the pool.
 use Rattle.std.proofs.Common.{◌≡◌, ◌↔◌, ◌⊎◌, ℕ, ◌<◌, ◌≤◌, Bool, true, false, is_some, nat_eq, Option, Some, None}
 use Rattle.std.proofs.Common.{Result, Ok, Err}
 use Rattle.std.proofs.Common.{List, [], refl, sym, subst, ap, ◌∙◌, inl, inr, arith, cond}
@@ -62,7 +62,7 @@ version_decides (Ipv4 source destination number) (Ipv6 other_source other_destin
 version_decides (Ipv6 source destination number) (Ipv4 other_source other_destination other) =
     (λ same. absurd (false≢true same), λ is. let never : ⊥ = cc in absurd never)
 
--- two names are one stream's where they are the same
+-- The test for the same stream decides whether two names are equal.
 pub name_decides : (a b : IpFragId ℕ) → Decides (same_stream nat_eq a b) (a ≡ b)
 name_decides a b =
     let parts =
@@ -84,7 +84,7 @@ name_decides a b =
           ),
     )
 
--- ---- one stream is listed anew
+-- ---- listing a stream by its new number
 
 without_here : {X : Type 0} (stands : ℕ → Option X) (gone number : ℕ) → gone ≡ number
     → without stands (Some gone) number ≡ None
@@ -104,11 +104,12 @@ with_there : {X : Type 0} (stands : ℕ → Option X) (one : X) (under number : 
 with_there stands one under number other =
     cond-false (nat_eq under number) (Some one) (stands number) (ne_eqb under number other)
 
--- what stands under a number is what has it, and the other way round
+-- The function `stands` from numbers is the inverse of the function `has` to numbers.
 abbrev IsInverse : {X : Type 0} → (ℕ → Option X) → (X → Option ℕ) → Type 0
 IsInverse {X} stands has = (number : ℕ) (x : X) → (stands number ≡ Some x) ↔ (has x ≡ Some number)
 
--- the same of all but this one, which has no number
+-- The function `stands` from numbers is the inverse of the function `has` to numbers except for `one`, which has no
+-- entry.
 record IsInverseBut {X : Type 0} (stands : ℕ → Option X) (has : X → Option ℕ) (one : X) : Type 0 where
   others : (number : ℕ) (x : X) → (x ≡ one → ⊥) → (stands number ≡ Some x) ↔ (has x ≡ Some number)
   gone : (number : ℕ) → stands number ≡ Some one → ⊥
@@ -152,7 +153,7 @@ unlisted old new has one (Some under) inverse had changed = record {
   ];
 }
 
--- whether it is this one, and what it has now where it is another
+-- Each element is `one`, or has its number unchanged.
 abbrev pub Others : {X : Type 0} → (X → Option ℕ) → (X → Option ℕ) → X → Type 0
 Others {X} was has one = (x : X) → (x ≡ one) ⊎ ((x ≡ one → ⊥) × (has x ≡ was x))
 
@@ -200,8 +201,8 @@ listed_at old new was has one (Some under) but is_now changed others fresh = λ 
           ]
     ]
 
--- The stream of a name is listed under the number that it has now, and no longer under the one that it had; no other
--- stream has changed, and none had that number.
+-- The stream is listed by its new number and not by its old one; no other stream has changed, and none had the new
+-- number.
 pub relisted : (names between next : BTreeMap ℕ (IpFragId ℕ)) (old new : IpDefragPool Arrival ℕ) (name : IpFragId ℕ)
     (had has : Option ℕ) → IsListed names old → number_at name old ≡ had → number_at name new ≡ has
     → ((number : ℕ) → get nat_cmp between number ≡ without (get nat_cmp names) had number)
@@ -220,7 +221,7 @@ relisted names between next old new name had has listed was is taken put others 
 abbrev pub entry_number : Option (Stream Arrival ℕ) → Option ℕ
 entry_number entry = option_map (λ at. at.number) (option_map (λ stream. stream.timestamp) entry)
 
--- the number of a stream that was given a fragment: that which it had, none, or that of the packet
+-- The number of a stream after a fragment is the one before, none, or that of the packet.
 abbrev pub IsNumberAfter : Option ℕ → ℕ → Option ℕ → Type 0
 IsNumberAfter had number has = (has ≡ had) ⊎ ((has ≡ None) ⊎ (has ≡ Some number))
 
@@ -230,7 +231,7 @@ is_number_after (Err error) had number = inl refl
 is_number_after (Ok None) had number = inr (inr refl)
 is_number_after (Ok (Some payload)) had number = inr (inl refl)
 
--- which of these it is, the answer to the fragment says
+-- The answer to the fragment decides which number it is.
 entry_number_behind : (result : Result (Option IpDefragPayloadVec) IpDefragError) (old new : Option (Stream Arrival ℕ))
     (fragment : IpFragment) (at : Arrival) → BecomesEntry result old fragment at new
     → number_behind result (entry_number old) at.number ≡ entry_number new
@@ -242,7 +243,7 @@ entry_number_behind (Ok None) old None fragment at becomes = absurd becomes
 entry_number_behind (Ok None) old (Some new) fragment at becomes = sym (ap (λ t. Some t.number) becomes.timestamp)
 entry_number_behind (Ok (Some payload)) old new fragment at becomes = sym (ap entry_number becomes.0)
 
--- no other stream has changed
+-- No other stream has changed.
 pub others_same : (old new : IpDefragPool Arrival ℕ) (name : IpFragId ℕ)
     → ((other : IpFragId ℕ) → same_stream nat_eq name other ≡ false
     → stream_named nat_eq other new ≡ stream_named nat_eq other old)
@@ -274,7 +275,7 @@ module _ (old new : IpDefragPool Arrival ℕ) (name : IpFragId ℕ) (fragment : 
 
   module _ (differ : NamesDiffer nat_eq old) (last : ℕ) (later : last < at.number)
       (numbered : (other : IpFragId ℕ) (number : ℕ) → number_at other old ≡ Some number → number ≤ last) where
-    -- no number is greater than that of the packet
+    -- No number is greater than that of the packet.
     pub taken_numbered : (other : IpFragId ℕ) (number : ℕ) → number_at other new ≡ Some number → number ≤ at.number
     taken_numbered other number is = elim (taken_others other) [
       | inl alike ↦
@@ -289,7 +290,7 @@ module _ (old new : IpDefragPool Arrival ℕ) (name : IpFragId ℕ) (fragment : 
       | inr apart ↦ let most = numbered other number (sym apart.1 ∙ is) in omega arith
     ]
 
-    -- no other stream had the number that the stream has now
+    -- No other stream had the new number of the stream.
     pub taken_fresh : (names : BTreeMap ℕ (IpFragId ℕ)) → IsListed names old → (number : ℕ)
         → number_at name new ≡ Some number → (other : IpFragId ℕ) → number_at other old ≡ Some number → other ≡ name
     taken_fresh names listed number own other is = elim (taken_number differ) [
@@ -306,7 +307,7 @@ module _ (old new : IpDefragPool Arrival ℕ) (name : IpFragId ℕ) (fragment : 
       ]
     ]
 
--- ---- what the pool shows, and what is kept
+-- ---- streams of the pool and table of streams
 
 abbrev kept_arrival : Option (Kept Arrival) → Option Arrival
 kept_arrival kept = option_map (λ stream. stream.timestamp) kept
@@ -341,11 +342,11 @@ kept_by_arrival : (answers : Arrival → Bool) (kept : Option (Kept Arrival)) (a
 kept_by_arrival answers None at is = is
 kept_by_arrival answers (Some kept) at is = kept_if (answers kept.timestamp) kept at is
 
--- the streams that are open are among those that were, and none has changed
+-- The open streams of `new` are open in `old`, with the same arrivals.
 abbrev pub AreAmong : IpDefragPool Arrival ℕ → IpDefragPool Arrival ℕ → Type 0
 AreAmong new old = (name : IpFragId ℕ) (at : Arrival) → arrival_at name new ≡ Some at → arrival_at name old ≡ Some at
 
--- so it is after a drop
+-- The open streams after a drop are among those before it.
 pub dropped_among : (old new : IpDefragPool Arrival ℕ) (table : IpFragId ℕ → Option (Kept Arrival))
     (answers : Arrival → Bool) → HoldsTable nat_eq old table
     → HoldsTable nat_eq new (λ name. kept_by answers (table name)) → AreAmong new old
@@ -380,7 +381,7 @@ open_at_some pool (Some first) name is =
     let parts = cond_some (is_some (arrival_at first pool)) first name is in
     (ap Some parts.1, ap (λ n. is_some (arrival_at n pool)) (sym parts.1) ∙ parts.0)
 
--- the names are kept whose streams are open
+-- The list that keeps the names of open streams is the list of the new pool.
 pub swept_listed : (names next : BTreeMap ℕ (IpFragId ℕ)) (old new : IpDefragPool Arrival ℕ) → AreAmong new old
     → IsListed names old → ((number : ℕ) → get nat_cmp next number ≡ open_at new (get nat_cmp names number))
     → IsListed next new
@@ -395,7 +396,7 @@ swept_listed names next old new among listed kept number name = (
       ∙ cond-true (is_some (arrival_at name new)) (Some name) None parts.1,
 )
 
--- ---- a pool of the same streams
+-- ---- a pool with equal streams
 
 pub same_number : (old new : IpDefragPool Arrival ℕ) → streams_of new ≡ streams_of old → (name : IpFragId ℕ)
     → number_at name new ≡ number_at name old

@@ -1,4 +1,4 @@
--- What words come to, read one at a time, is what they ask, or how they are wrong.
+-- The answer of the parser to the arguments, read one at a time, is the request or the error of the command line.
 use Rattle.std.proofs.Common.{◌≡◌, ℕ, ◌+◌, ◌<◌, ◌≤◌, Bool, true, false, if◌then◌else◌, ◌||◌, ◌⊎◌, inl, inr, cond, List, [], ◌∷◌}
 use Rattle.std.proofs.Common.{◌++◌, length, drop, get_or, suc, Option, Some, None, Result, Ok, Err, refl, ap, ◌∙◌}
 use Rattle.std.proofs.Common.{sym, subst, arith, add_assoc, add-zero, zero-add, add-one, drop-cons}
@@ -26,7 +26,7 @@ use Rattle.packet_dump.proofs.JoinedLemmas.{joined_is, joined_none, joined_so, o
 use Rattle.packet_dump.proofs.ValueLemmas.{IsWord, file_word, input_is, is_word, unknown_word, value_in-is, value_in-none}
 use Rattle.packet_dump.proofs.ValueLemmas.{value_in-some}
 
--- ---- what the words come to
+-- ---- the answer of the parser
 
 abbrev pub continue : (State → Result Asked Fault) → Step → Result Asked Fault
 continue next (more state) = next state
@@ -39,7 +39,7 @@ outcome (text ∷ words) state = continue (λ next. outcome words next) (step st
 abbrev at : Settings → Bool → Option Awaited → State
 at settings named awaited = record { settings = settings; named = named; awaited = awaited }
 
--- these words lead to where such a value is awaited, or none is
+-- The arguments lead to the state in which the value of this option, or no value, is expected.
 abbrev Awaits : Option Awaited → List (List ℕ) → Type 0
 Awaits None lead = lead ≡ []
 Awaits (Some option) lead = (name : List ℕ) × IsOptionWord option name × (lead ≡ name ∷ [])
@@ -51,7 +51,7 @@ abbrev Ends : Settings → ℕ → List (List ℕ) → Result Asked Fault → Ty
 Ends settings before rest (Ok asked) = Asks settings rest asked
 Ends settings before rest (Err fault) = IsFault settings before rest fault
 
--- the words have this answer behind items that ask for these settings
+-- The arguments have this answer after items with these settings.
 record From (settings : Settings) (named : Bool) (words : List (List ℕ)) (answer : Result Asked Fault) : Type 0 where
   items : List Item
   rest : List (List ℕ)
@@ -59,7 +59,7 @@ record From (settings : Settings) (named : Bool) (words : List (List ℕ)) (answ
   one : named_count named + inputs items ≤ 1
   ends : Ends (fold with_item settings items) (named_count named + inputs items) rest answer
 
--- what words come to behind any such
+-- The arguments have the answer of the parser in every state.
 abbrev Later : List (List ℕ) → Type 0
 Later words = (settings : Settings) (named : Bool) (awaited : Option Awaited) (lead : List (List ℕ)) → Awaits awaited lead
     → From settings named (lead ++ words) (outcome words (at settings named awaited))
@@ -71,7 +71,7 @@ at_most_one : (named : Bool) → named_count named ≤ 1
 at_most_one true = omega arith
 at_most_one false = omega arith
 
--- ---- what the words come to is so
+-- ---- the answer of the parser is right
 
 end_here : (settings : Settings) (named : Bool) (rest : List (List ℕ)) (answer : Result Asked Fault)
     → Ends settings (named_count named) rest answer → From settings named rest answer
@@ -116,7 +116,7 @@ value_item Input value (file name) own spelled says = inr (Input, value, spelled
 value_item Input value standard_input own spelled says = inr (Input, value, spelled, says)
 value_item option value item own spelled says = absurd says
 
--- one option alone says what is read
+-- Only the option for the input has a value that names it.
 inputs_only : (option : Awaited) (value : List ℕ) (item : Item) → IsValue option value item → is_input item ≡ true
     → option ≡ Input
 inputs_only Input value item says is = refl
@@ -163,7 +163,7 @@ sound_value words settings named awaited option value own spelled None is later 
     end_here settings named (own ++ words) (Err (bad_value option value))
     (own, words, spelled, refl, λ item says. not_both (value_in option value) item (value_in-some option value item says) is)
 
--- of a word that begins with `-` and is in no row
+-- The answer is right for an argument that begins with `-` and is in no row of the table.
 sound_joined : (words : List (List ℕ)) (settings : Settings) (named : Bool) (text : List ℕ)
     (found : Option (Awaited × List ℕ)) → joined_in text ≡ found → is_dashed text ≡ true → is_known text ≡ false
     → Later words → From settings named (text ∷ words)
@@ -251,7 +251,7 @@ sound (text ∷ words) settings named (Some option) lead is =
     (sound_value words settings named (Some option) option text (is.0 ∷ text ∷ []) (inl (is.0, is.1, refl))
     (value_in option text) refl (λ item n. sound words (with_item settings item) n None [] refl))
 
--- ---- what is so is what the words come to
+-- ---- the right answer is that of the parser
 
 one_step : (words : List (List ℕ)) (settings : Settings) (named : Bool) (text : List ℕ) (w : Word) → word_named text ≡ w
     → outcome (text ∷ words) (at settings named None)
@@ -270,7 +270,7 @@ same_behind : (settings : Settings) (named : Bool) (awaited : Option Awaited) (o
 same_behind settings named awaited option value None = refl
 same_behind settings named awaited option value (Some item) = same_item settings named awaited value item (is_input item)
 
--- behind an option and its value
+-- The step of an option and its value.
 value_step : (option : Awaited) (value : List ℕ) (own words : List (List ℕ)) (settings : Settings) (named : Bool)
     → AreSpelled option value own → (said : Option Item) → value_in option value ≡ said
     → outcome (own ++ words) (at settings named None)
@@ -351,7 +351,7 @@ second_step text words settings true (inl plain) counted =
 second_step text words settings true (inr same) counted =
     one_step words settings true text word.StandardInput (ap word_named same)
 
--- what is read a second time
+-- A second input is an error.
 second_item : (words : List (List ℕ)) (settings : Settings) (named : Bool) (text : List ℕ) (item : Item) (input : Bool)
     → input ≡ true → named_count named ≡ 1
     → continue (λ next. outcome words next) (behind_item (at settings named None) text item input) ≡ Err (second_file text)
@@ -421,7 +421,7 @@ complete (item ∷ items) words rest settings named answer begin fits ends =
     (subst (λ (n : ℕ). n ≤ 1) total fits)
     (subst (λ (n : ℕ). Ends (fold with_item (with_item settings item) items) n rest answer) total ends)
 
--- ---- the clauses of the call
+-- ---- clauses of the contract
 
 pub ok_from : (words : List (List ℕ)) (result : Result Request UsageError)
     → outcome words first_state ≡ answer_of result → IfOk result (λ request. IsRequest words (asked_of request))
@@ -470,7 +470,7 @@ refused_from words answer is fault refuses =
 
 -- ---- the value of an option
 
--- what is set, and the word of a filter that is added, are what the item says
+-- The options that are set, and the text that is kept, are the settings after the item.
 pub set_item : (option : Awaited) (text : List ℕ) (item : Item) (state : State) (options : DumpOptions)
     → IsValue option text item → options ≡ options_with state.settings.options item → is_input item ≡ false
     → filtered (record state { settings = record state.settings { options = options } }) option text
@@ -498,7 +498,7 @@ set_item Input text (file name) state options says is plain = let never : ⊥ = 
 set_item Input text standard_input state options says is plain = let never : ⊥ = cc in absurd never
 set_item option text item state options says is plain = absurd says
 
--- no other option says what is read
+-- No other option names the input.
 pub no_input : (option : Awaited) (value : List ℕ) (item : Item) → IsValue option value item → (option ≡ Input → ⊥)
     → is_input item ≡ false
 no_input Input value item says never = absurd (never refl)
@@ -512,7 +512,7 @@ no_input Streams value (streams number) says never = refl
 no_input (Filter kind) value (filter other said) says never = refl
 no_input option value item says never = absurd says
 
--- ---- a word of several
+-- ---- one argument of several
 
 word_first : {A : Type 0} (words : List (String A)) (i : ℕ) (text : String A) → i < length words
     → text ≡ get_or words i text → texts (drop i words) ≡ string_bytes text ∷ texts (drop (i + 1) words)
@@ -520,7 +520,7 @@ word_first words i text within is =
     ap texts (drop-cons words i text within)
     ∙ rw add-one (ap (λ t. string_bytes t ∷ texts (drop (suc i) words)) (sym is))
 
--- the answer stands, whatever words follow
+-- The answer does not depend on the arguments after it.
 pub stops : {A : Type 0} (words : List (String A)) (i : ℕ) (text : String A) (said : List ℕ) (state : State)
     (answer : Result Asked Fault) → i < length words → text ≡ get_or words i text → said ≡ string_bytes text
     → step state said ≡ done answer → outcome (texts (drop i words)) state ≡ outcome (texts words) first_state
@@ -530,7 +530,7 @@ stops words i text said state answer within is reads steps before =
     ∙ ap (λ t. continue (λ n. outcome (texts (drop (i + 1) words)) n) (step state t)) (sym reads)
     ∙ ap (λ s. continue (λ n. outcome (texts (drop (i + 1) words)) n) s) steps
 
--- the words behind one that was read come to the same
+-- The remaining arguments have the answer of all arguments.
 pub goes_on : {A : Type 0} (words : List (String A)) (i : ℕ) (text : String A) (said : List ℕ) (state next : State)
     → i < length words → text ≡ get_or words i text → said ≡ string_bytes text → step state said ≡ more next
     → outcome (texts (drop i words)) state ≡ outcome (texts words) first_state
@@ -541,7 +541,7 @@ goes_on words i text said state next within is reads steps before =
     ∙ ap (λ s. continue (λ n. outcome (texts (drop (i + 1) words)) n) s) steps)
     ∙ before
 
--- no word follows
+-- After the last argument, the answer is that of the final state.
 pub runs_out : {A : Type 0} (words : List (String A)) (i : ℕ) (state : State) → length words ≤ i
     → outcome (texts (drop i words)) state ≡ outcome (texts words) first_state
     → outcome (texts words) first_state ≡ finished state

@@ -1,4 +1,4 @@
--- The program's pool after the calls that packets make.
+-- The program's pool after the calls for the packets of a capture.
 use Rattle.std.proofs.Common.{◌≡◌, ℕ, ◌+◌, ◌<◌, ◌≤◌, arith, Bool, true, false, if◌then◌else◌, cond, ◌&&◌, nat_eq}
 use Rattle.std.proofs.Common.{nat_le, nat_lt, ◌/◌, ◌-◌, List, [], ◌∷◌, ◌++◌, length, drop, Option, Some, None, is_some}
 use Rattle.std.proofs.Common.{inl, inr, refl, sym, ap, ◌∙◌, subst, append_assoc}
@@ -25,7 +25,7 @@ use Rattle.etherparse.specs.Types.IpFragId.{IpFragId}
 use Rattle.etherparse.specs.Calls.{Answer, gives_frame, drops_streams, table_after, answer_to, table_with, Kept}
 use Rattle.etherparse.specs.Calls.{kept_by}
 use Rattle.etherparse.specs.Pools.{limit_of, ChangesStream, HoldsEntry, HoldsTable, TakesFragment, TakesFrame}
-use Rattle.etherparse.specs.Pools.{plain_frame_answer, stream_named, wants_memory}
+use Rattle.etherparse.specs.Pools.{plain_frame_answer, stream_named, is_allocation_failure_in}
 use Rattle.etherparse.specs.Streams.{PacketFragment, name_of, same_stream}
 use Rattle.etherparse.specs.Frame.{IsFrame}
 use Rattle.etherparse.specs.FrameRefusals.{RefusesFrame}
@@ -47,15 +47,15 @@ use Rattle.packet_dump.proofs.OpenLemmas.{among_numbered, dropped_among, entry_n
 use Rattle.packet_dump.proofs.OpenLemmas.{others_same, relisted, swept_listed, taken_behind, taken_fresh}
 use Rattle.packet_dump.proofs.OpenLemmas.{taken_numbered, taken_others}
 
--- ---- one call more
+-- ---- one more call
 
--- what one more call makes of what is kept of each stream, as the library's law says it
+-- the effect of one more call on the table of streams, by the law of the library
 abbrev pub OneMoreCall : Type 0
 OneMoreCall = (limit : ℕ) (keep : Arrival → Arrival → Bool) (calls : List NumberCall) (call : NumberCall)
     (name : IpFragId ℕ) → table_after limit nat_eq keep (calls ++ call ∷ []) name
     ≡ table_with limit nat_eq keep (table_after limit nat_eq keep calls) call name
 
--- a pool of this limit that holds what one more call makes of the table is what the history and the call made
+-- A pool that has the table after one more call has the history with that call.
 pub HoldsHistory-push : OneMoreCall → (pool : IpDefragPool Arrival ℕ) (history : PoolHistory) (call : NumberCall)
     → limit_of pool ≡ history.limit
     → HoldsTable nat_eq pool (table_with history.limit nat_eq is_since (table_behind history) call)
@@ -70,11 +70,11 @@ HoldsHistory-push law pool history call limit held = record {
   };
 }
 
--- a frame that lacked no memory: what the pool then holds, and what it answers
+-- A frame for which no allocation failed leaves the pool with the history after its call.
 pub HoldsHistory-frame : OneMoreCall → (old new : IpDefragPool Arrival ℕ) (carried : Option PacketFragment)
     (timestamp : Arrival) (channel : ℕ)
     (result : Result (Option IpDefragPayloadVec) IpDefragError)
-    → TakesFrame nat_eq old new carried timestamp channel result → IsFalse (wants_memory result)
+    → TakesFrame nat_eq old new carried timestamp channel result → IsFalse (is_allocation_failure_in result)
     → (history : PoolHistory) → HoldsHistory history old
     → HoldsHistory (with_call history (gives_frame carried timestamp channel)) new
 HoldsHistory-frame law old new None timestamp channel result takes enough history held =
@@ -87,7 +87,7 @@ HoldsHistory-frame law old new (Some carried) timestamp channel result takes eno
 pub frame_answered : (old new : IpDefragPool Arrival ℕ) (carried : Option PacketFragment) (timestamp : Arrival)
     (channel : ℕ)
     (result : Result (Option IpDefragPayloadVec) IpDefragError)
-    → TakesFrame nat_eq old new carried timestamp channel result → IsFalse (wants_memory result)
+    → TakesFrame nat_eq old new carried timestamp channel result → IsFalse (is_allocation_failure_in result)
     → (history : PoolHistory) → HoldsHistory history old
     → plain_frame_answer result
     ≡ answer_to {V = Arrival} history.limit (table_behind history) (gives_frame carried timestamp channel)
@@ -95,9 +95,9 @@ frame_answered old new None timestamp channel result takes enough history held =
 frame_answered old new (Some carried) timestamp channel result takes enough history held =
     rw held.limit at (takes.answer enough (table_behind history) held.table)
 
--- ---- what became of fragments
+-- ---- counts of fragments
 
--- one call more adds what it adds
+-- One more call adds its own counts.
 counts_more : (limit : ℕ) (calls earlier : List NumberCall) (call : NumberCall) (old between new : Fates)
     → CountsCalls limit earlier calls old between → CountsCall limit (earlier ++ calls) call between new
     → CountsCalls limit earlier (calls ++ call ∷ []) old new
@@ -115,7 +115,7 @@ counts_more limit (first ∷ calls) earlier call old between new (next, of_first
       (sym (append_assoc earlier (first ∷ []) calls)) is),
 )
 
--- a frame adds its answer
+-- A frame adds its answer to the counts.
 pub frame_became : (before : PoolHistory) (carried : Option PacketFragment) (at : Arrival)
     (result : Result (Option IpDefragPayloadVec) IpDefragError) (old new : Fates) → BecameOf before old
     → plain_frame_answer result
@@ -126,20 +126,20 @@ frame_became before carried at result old new became answered is =
     counts_more before.limit before.calls [] (gives_frame carried at 0) no_fates old new became
     (is ∙ ap (λ (a : Answer). with_answer a old) answered)
 
--- a drop adds the streams that are open before and not behind it
+-- A drop adds the streams that are open before it and not after it.
 drop_became : (before : PoolHistory) (oldest : Arrival) (had has : ℕ) (old new : Fates) → BecameOf before old
     → HasOpen (table_behind before) had → HasOpen (table_behind (with_call before (drops_streams oldest))) has
     → new ≡ with_given_up (had - has) old → BecameOf (with_call before (drops_streams oldest)) new
 drop_became before oldest had has old new became were are is =
     counts_more before.limit before.calls [] (drops_streams oldest) no_fates old new became (had, has, were, are, is)
 
--- ---- how many streams are open
+-- ---- number of open streams
 
 some_value : {X : Type 0} (o : Option X) → is_some o ≡ true → (x : X) × (o ≡ Some x)
 some_value None there = absurd (false≢true there)
 some_value (Some x) there = (x, refl)
 
--- the numbers of the list are those of the open streams
+-- The numbers of the list are those of the open streams.
 pub are_open : (pooling : Pooling) (before : PoolHistory) → HoldsStreams before pooling
     → IsOrdered nat_cmp pooling.names → AreOpen (table_behind before) (keys pooling.names)
 are_open pooling before held ordered = record {
@@ -158,15 +158,15 @@ are_open pooling before held ordered = record {
       );
 }
 
--- so many are listed
+-- The length of the list is the number of open streams.
 pub has_open : (pooling : Pooling) (before : PoolHistory) → HoldsStreams before pooling
     → IsOrdered nat_cmp pooling.names → HasOpen (table_behind before) (btree_map_len pooling.names)
 has_open pooling before held ordered =
     (keys pooling.names, are_open pooling before held ordered, sym (length-keys_of pooling.names.entries))
 
--- ---- drops
+-- ---- expiry
 
--- a drop of what is older than an instant
+-- A drop by timestamp keeps the streams that are not older.
 pub since_answers : (oldest : ℕ) (at : Arrival) → is_since (since_instant oldest) at ≡ nat_le oldest at.instant
 since_answers oldest at =
     ap (λ (b : Bool). b && nat_le oldest at.instant) (le-leb 0 at.number (omega arith))
@@ -175,14 +175,14 @@ abbrev swept_if : Bool → PoolHistory → ℕ → ℕ → PoolHistory
 swept_if later before second oldest =
     if later then with_call (record before { swept = second }) (drops_streams (since_instant oldest)) else before
 
--- a second that is no later than those before drops nothing
+-- In a second that is no later than the last sweep, no stream expires.
 pub sweeps_nothing : (pooling : Pooling) (before : PoolHistory) (second oldest : ℕ) → HoldsPooling before pooling
     → nat_lt pooling.swept second ≡ false → HoldsPooling (with_sweep before second oldest) pooling
 sweeps_nothing pooling before second oldest held not =
     let is : nat_lt before.swept second ≡ false = ap (λ (n : ℕ). nat_lt n second) (sym held.streams.swept) ∙ not in
     subst (λ (h : PoolHistory). HoldsPooling h pooling) (sym (ap (λ b. swept_if b before second oldest) is)) held
 
--- a later one drops what is too old
+-- In a later second, old streams expire.
 sweeps_streams : OneMoreCall → (old new : Pooling) (before : PoolHistory) (second oldest : ℕ) → HoldsStreams before old
     → new.swept ≡ second → limit_of new.pool ≡ limit_of old.pool
     → HoldsTable nat_eq new.pool
@@ -200,7 +200,7 @@ sweeps_streams law old new before second oldest held swept limit table names =
       numbered = λ name number at. held.numbered name number (among_numbered old.pool new.pool among name number at);
     }
 
--- and those that it dropped are counted
+-- In a later second, old streams expire and are counted.
 pub sweeps : OneMoreCall → (old new : Pooling) (before : PoolHistory) (second oldest : ℕ) → HoldsPooling before old
     → nat_lt old.swept second ≡ true → new.swept ≡ second → limit_of new.pool ≡ limit_of old.pool
     → HoldsTable nat_eq new.pool
@@ -222,11 +222,11 @@ sweeps law old new before second oldest held later swept limit table names was_o
 
 -- ---- a fragment
 
--- What becomes of a pool that takes a fragment of the stream of this name, which is then listed as it stands.
+-- The pool after a fragment of the stream of this name, which is then listed by its new number.
 pub frame_pooled : OneMoreCall → (old new : Pooling) (between : BTreeMap ℕ (IpFragId ℕ))
     (carried : Option PacketFragment) (at : Arrival) (result : Result (Option IpDefragPayloadVec) IpDefragError)
     (name : IpFragId ℕ) (stood stands : Option ℕ) → TakesFrame nat_eq old.pool new.pool carried at 0 result
-    → IsFalse (wants_memory result) → option_map (λ c. name_of c 0) carried ≡ Some name → (before : PoolHistory)
+    → IsFalse (is_allocation_failure_in result) → option_map (λ c. name_of c 0) carried ≡ Some name → (before : PoolHistory)
     → HoldsStreams before old → before.number < at.number → new.swept ≡ old.swept
     → stood ≡ number_at name old.pool → stands ≡ number_behind result stood at.number
     → ((number : ℕ) → get nat_cmp between number ≡ without (get nat_cmp old.names) stood number)
@@ -262,7 +262,7 @@ pub no_fragment : (carried : Option PacketFragment) → option_map (λ c. name_o
 no_fragment None is = refl
 no_fragment (Some carried) is = let never : ⊥ = cc in absurd never
 
--- a frame without a fragment changes nothing
+-- A frame without a fragment changes nothing.
 pub frame_passed : OneMoreCall → (pooling : Pooling) (carried : Option PacketFragment) (at : Arrival)
     → TakesFrame nat_eq pooling.pool pooling.pool carried at 0 (Ok None) → (before : PoolHistory)
     → HoldsPooling before pooling → before.number < at.number
@@ -283,7 +283,7 @@ frame_passed law pooling carried at takes before held later =
 
 -- ---- the oldest stream
 
--- so few streams are left
+-- If no more streams are open than allowed, none is evicted.
 pub none_given_up : (most : ℕ) (before : PoolHistory) (numbers : List ℕ) → length numbers ≤ most
     → given_up most before numbers ≡ before
 none_given_up most before [] few = refl
@@ -291,14 +291,14 @@ none_given_up most before (oldest ∷ later) few =
     cond-true (nat_lt (length later) most) before (with_call before (drops_streams (since_packet (oldest + 1))))
     (lt-ltb (length later) most (omega arith))
 
--- of more the first is given up
+-- If more streams are open than allowed, the first of the list is evicted.
 first_given_up : (most : ℕ) (before : PoolHistory) (oldest : ℕ) (later : List ℕ) → most < length (oldest ∷ later)
     → given_up most before (oldest ∷ later) ≡ with_call before (drops_streams (since_packet (oldest + 1)))
 first_given_up most before oldest later many =
     cond-false (nat_lt (length later) most) before (with_call before (drops_streams (since_packet (oldest + 1))))
     (le-ltb (length later) most (omega arith))
 
--- a drop of what came with no later packet than this one
+-- A drop of the streams up to a packet drops a stream of that packet.
 dropped : (oldest : ℕ) (kept : Option (Kept Arrival)) → number_of kept ≡ Some oldest
     → kept_by (is_since (since_packet (oldest + 1))) kept ≡ None
 dropped oldest None is = refl
@@ -308,7 +308,7 @@ dropped oldest (Some kept) is =
     (and_left (nat_le (oldest + 1) kept.timestamp.number) (nat_le 0 kept.timestamp.instant)
     (lt-leb (oldest + 1) kept.timestamp.number (omega arith)))
 
--- keeps what came later
+-- A drop of the streams up to a packet keeps a stream with a later packet.
 stays : (oldest : ℕ) (kept : Option (Kept Arrival)) → ((number : ℕ) → number_of kept ≡ Some number → oldest < number)
     → kept_by (is_since (since_packet (oldest + 1))) kept ≡ kept
 stays oldest None later = refl
@@ -320,7 +320,7 @@ stays oldest (Some kept) later =
 
 module _ (old : Pooling) (before : PoolHistory) (held : HoldsStreams before old) (oldest : ℕ) (name : IpFragId ℕ)
     (here : get nat_cmp old.names oldest ≡ Some name) (least : IsLowerBound nat_cmp old.names oldest) where
-  -- all but the first of the list came later
+  -- Every stream but the first of the list has a later packet.
   later_than : (other : IpFragId ℕ) → same_stream nat_eq name other ≡ false → (number : ℕ)
       → number_of (table_behind before other) ≡ Some number → oldest < number
   later_than other apart number is =
@@ -335,7 +335,7 @@ module _ (old : Pooling) (before : PoolHistory) (held : HoldsStreams before old)
         | inr differ ↦ omega arith
       ]
 
-  -- so that without it is what such a drop leaves
+  -- The table without the oldest stream is the table after such a drop.
   left : (other : IpFragId ℕ)
       → (if same_stream nat_eq name other then None else table_behind before other)
       ≡ kept_by (is_since (since_packet (oldest + 1))) (table_behind before other)
@@ -353,7 +353,7 @@ module _ (old : Pooling) (before : PoolHistory) (held : HoldsStreams before old)
             ∙ sym (stays oldest kept (λ number is. later_than other apart number is))
       ]
 
-  -- it is given up
+  -- The streams after the oldest is evicted.
   gives_up_streams : OneMoreCall → (new : Pooling) → ((number : ℕ) → get nat_cmp new.names number
       ≡ cond (eq_by_cmp nat_cmp oldest number) None (get nat_cmp old.names number)) → new.swept ≡ old.swept
       → HoldsTable nat_eq new.pool
@@ -386,7 +386,7 @@ module _ (old : Pooling) (before : PoolHistory) (held : HoldsStreams before old)
         ];
       }
 
-  -- and counted
+  -- The oldest stream is evicted and counted.
   pub gives_up : OneMoreCall → (new : Pooling) (most : ℕ) → BecameOf before (fates_of old) → IsOrdered nat_cmp old.names
       → most < btree_map_len old.names → old.names.entries ≡ (oldest, name) ∷ new.names.entries
       → ((number : ℕ) → get nat_cmp new.names number
@@ -419,7 +419,7 @@ module _ (old : Pooling) (before : PoolHistory) (held : HoldsStreams before old)
         },
       )
 
--- ---- numbers of packets
+-- ---- packet numbers
 
 number_if : (few : Bool) (before : PoolHistory) (call : NumberCall)
     → (if few then before else with_call before call).number ≡ before.number
@@ -458,7 +458,7 @@ where_number false options start before at opening bytes text after gives later 
 where_number true options start before at opening bytes text after gives later =
     found_number options start before at gives.0 text after gives.2 later
 
--- no frame came with a later packet
+-- No frame in the pool has a later packet.
 pub pooled_number : (options : DumpOptions) (start : List ℕ) (before : PoolHistory) (at : Arrival) (shown : PlainShown)
     (text : List ℕ) (after : PoolHistory) → IsPooled options start before at shown text after
     → before.number < at.number → after.number ≤ at.number
@@ -471,7 +471,7 @@ pooled_number options start before at shown text after pooled later = elim poole
 
 -- ---- packets
 
--- a frame was given behind a drop
+-- A frame is passed to the pool after old streams have expired.
 pub gives : (options : DumpOptions) (start : List ℕ) (before : PoolHistory) (at : Arrival) (layers : Layers)
     (oldest : ℕ) (text : List ℕ) (after : PoolHistory) → oldest ≡ oldest_from options at.instant
     → IsCallText options start (with_sweep before (at.instant / 1000000000) oldest) layers at text
@@ -485,7 +485,7 @@ gives options start before at layers oldest text after same told bounded = (
       bounded,
 )
 
--- where payloads are put together, a frame is given
+-- If payloads are reassembled, a frame is passed to the pool.
 pub given : (wanted : Bool) (options : DumpOptions) (start : List ℕ) (before : PoolHistory) (at : Arrival)
     (opening : Opening) (bytes : List ℕ) (layers : Layers) (text : List ℕ) (after : PoolHistory) → wanted ≡ true
     → IsFrame opening.entry bytes layers → GivesFrame options start before at layers text after
@@ -493,14 +493,14 @@ pub given : (wanted : Bool) (options : DumpOptions) (start : List ℕ) (before :
 given wanted options start before at opening bytes layers text after is frame told =
     subst (λ w. GivesWhere w options start before at opening bytes text after) (sym is) (Some layers, frame, told)
 
--- where they are not, nothing is
+-- If payloads are not reassembled, nothing is passed to the pool.
 pub not_given : (wanted : Bool) (options : DumpOptions) (start : List ℕ) (before : PoolHistory) (at : Arrival)
     (opening : Opening) (bytes : List ℕ) → wanted ≡ false
     → GivesWhere wanted options start before at opening bytes [] before
 not_given wanted options start before at opening bytes is =
     subst (λ w. GivesWhere w options start before at opening bytes [] before) (sym is) (refl, refl)
 
--- what is no frame is not given
+-- Bytes that are no frame are not passed to the pool.
 pub no_frame : (wanted : Bool) (options : DumpOptions) (start : List ℕ) (before : PoolHistory) (at : Arrival)
     (opening : Opening) (bytes : List ℕ) (error : SliceError) → RefusesFrame opening.entry bytes error
     → GivesWhere wanted options start before at opening bytes [] before

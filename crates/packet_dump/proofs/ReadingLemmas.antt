@@ -1,4 +1,4 @@
--- What packets hold that are read laxly.
+-- Contents of packets that are read laxly.
 use Rattle.std.proofs.Common.{◌≡◌, ◌||◌, ◌&&◌, inr, ℕ, nat_lt, length, Bool, true, false, List, [], ◌∷◌, map, Option, Some, None, Result, Ok, Err, refl, sym, ap, subst, ◌∙◌, arith}
 use Rattle.std.proofs.lemmas.Bool.{lt-ltb}
 use Rattle.std.specs.Prelude.{IfOk, IsOkAnd}
@@ -8,14 +8,14 @@ use Rattle.etherparse.specs.Frame.{IsFrame}
 use Rattle.etherparse.specs.Lax.{IsLax}
 use Rattle.etherparse.specs.LaxLayers.{LaxLayers}
 use Rattle.etherparse.specs.LaxPackets.{ShowsLax, lax_layers_of}
-use Rattle.etherparse.specs.LaxPayloads.{LaxEtherPayload, last_behind, lax_ether_payload_behind, lax_ether_payload_in, lax_ether_payload_of}
-use Rattle.etherparse.specs.LaxPayloads.{source_behind, typed_payload, whole_payload}
+use Rattle.etherparse.specs.LaxPayloads.{LaxEtherPayload, last_after, lax_ether_payload_after, lax_ether_payload_in, lax_ether_payload_of}
+use Rattle.etherparse.specs.LaxPayloads.{source_after, typed_payload, whole_payload}
 use Rattle.etherparse.specs.LaxViews.{extension_incomplete, lax_extension_of, lax_extensions_of}
 use Rattle.etherparse.specs.Layers.{Layers}
 use Rattle.etherparse.specs.LinkExtensions.{LinkExtension, vlan, macsec, extension_ether_payload, extension_type}
 use Rattle.etherparse.specs.LinkSlices.{LinkLayer, link_ether_payload}
 use Rattle.etherparse.specs.Macsec.{modified, unmodified}
-use Rattle.etherparse.specs.Payloads.{ether_payload_behind, ether_payload_in, ether_payload_of_parts, extensions_len_source}
+use Rattle.etherparse.specs.Payloads.{ether_payload_after, ether_payload_in, ether_payload_of_parts, extensions_len_source}
 use Rattle.etherparse.specs.StrictFrames.{IsWhole, extension_in, layers_in}
 use Rattle.etherparse.specs.Types.Entry.{Entry}
 use Rattle.etherparse.specs.Types.EtherType.{EtherType}
@@ -35,7 +35,7 @@ use Rattle.packet_dump.specs.declared.openings.Opening.{Opening}
 
 -- ---- contents
 
--- a frame is read with the layers that it is
+-- The content of a frame is its layers.
 pub holds_frame : (strict : Bool) (opening : Opening) (bytes : List ℕ) (layers : Layers) (read : LaxLayers)
     → IsFrame opening.entry bytes layers → IsLax opening.entry bytes read → layers_in read ≡ layers → IsWhole read
     → HoldsBehind strict opening bytes (content_with opening read)
@@ -45,18 +45,18 @@ holds_frame true opening bytes layers read frame lax same whole =
     (subst (λ (l : Layers). IsFrame opening.entry bytes l) (sym same) frame, whole)
 holds_frame false opening bytes layers read frame lax same whole = inr (read, lax, refl)
 
--- what holds where slicing succeeds, where it must
+-- A property of a successful outcome holds if the outcome is a success.
 on_success : (outcome : Result (Unit {0}) SliceError) (P : Type 0) → IsOkAnd outcome (λ _. P) → P
 on_success (Ok done) P is = is
 on_success (Err error) P is = absurd is
 
--- a frame was read laxly as these layers
+-- A frame of these layers was read laxly as `read`.
 pub record FrameRead (entry : Entry) (bytes : List ℕ) (layers : Layers) (read : LaxLayers) : Type 0 where
   pub lax : IsLax entry bytes read
   pub same : layers_in read ≡ layers
   pub whole : IsWhole read
 
--- by the library's law, where slicing answers what is there
+-- By the law of the library, the lax reading of a frame is complete and has its layers.
 pub frame_read : (entry : Entry) (bytes : List ℕ) (layers : Layers) (read : LaxLayers)
     (outcome : Result (Unit {0}) SliceError)
     → ((entry : Entry) (bytes : List ℕ) (layers : Layers) → IsFrame entry bytes layers
@@ -73,7 +73,7 @@ frame_read entry bytes layers read outcome law frame only =
       whole = subst (λ (r : LaxLayers). IsWhole r) (sym is) found.3;
     }
 
--- what holds where slicing succeeded, where it must
+-- A property that holds if slicing succeeds holds, since slicing succeeds.
 pub where_sliced : (outcome : Result (Unit {0}) SliceError) (P Q : Type 0) → IsOkAnd outcome (λ _. Q)
     → IfOk outcome (λ _. P) → P
 where_sliced (Ok done) P Q must is = is
@@ -81,7 +81,7 @@ where_sliced (Err error) P Q must is = absurd must
 
 -- ---- details
 
--- the details of a packet are those of what its bytes hold
+-- The details of a packet are those of the content of its bytes.
 packet_detailed : (told : Bool) (bytes : List ℕ) (slices : LaxSlicedPacket) (text : List ℕ) → ShowsLax bytes slices
     → AreTold told slices text → IsDetailed told bytes (packet (lax_layers_of slices)) text
 packet_detailed true bytes slices text shows are = (slices, shows, refl, are)
@@ -98,25 +98,25 @@ detailed options bytes slices text (Some stop) true shows are =
     packet_detailed (tells_details options (packet (lax_layers_of slices))) bytes slices text shows are
 detailed options bytes slices text (Some stop) false shows are = are
 
--- of a packet that is shown details are told where they are asked for
+-- The details of a packet that is shown are appended if they are wanted.
 pub told_shown : (verbose shows : Bool) (slices : LaxSlicedPacket) (text : List ℕ) → shows ≡ true
     → AreTold verbose slices text → AreTold (verbose && shows) slices text
 told_shown true shows slices text is are = subst (λ b. AreTold b slices text) (sym is) are
 told_shown false shows slices text is are = are
 
--- and of others none are
+-- A packet that is not shown has no details.
 pub not_told : (verbose shows : Bool) (slices : LaxSlicedPacket) → shows ≡ false → AreTold (verbose && shows) slices []
 not_told true shows slices is = subst (λ b. AreTold b slices []) (sym is) refl
 not_told false shows slices is = refl
 
--- neither of two holds
+-- If a disjunction is false, both parts are false.
 pub neither : (a b : Bool) → (a || b) ≡ false → (a ≡ false) × (b ≡ false)
 neither true b is = let never : ⊥ = cc in absurd never
 neither false b is = (refl, is)
 
 -- ---- extensions
 
--- the extensions that slices show, whether or not bytes are missing
+-- The extensions of the slices do not depend on whether bytes are missing.
 pub extensions_in : (outer : Bool) (slices : List LaxLinkExtSlice)
     → map extension_in (lax_extensions_of outer slices) ≡ map lax_extension_of slices
 extensions_in outer [] = refl
@@ -124,13 +124,13 @@ extensions_in outer (slice ∷ others) =
     ap (λ (more : List LinkExtension). lax_extension_of slice ∷ more)
     (extensions_in (extension_incomplete outer slice) others)
 
--- whether there are any
+-- There are extensions exactly if there are slices of them.
 pub any_extensions : (outer : Bool) (slices : List LaxLinkExtSlice)
     → has_extensions (lax_extensions_of outer slices) ≡ nat_lt 0 (length slices)
 any_extensions outer [] = refl
 any_extensions outer (slice ∷ others) = sym (lt-ltb 0 (length (slice ∷ others)) (omega arith))
 
--- the type behind one extension
+-- the ether type of the payload of a link extension
 abbrev type_of : Option EtherPayload → Option EtherType
 type_of payload = option_map (λ (p : EtherPayload). p.ether_type) payload
 
@@ -142,10 +142,10 @@ one_type (vlan tag payload) = refl
 one_type (macsec tag (unmodified type source bytes)) = refl
 one_type (macsec tag (modified bytes)) = refl
 
--- the type behind the last of several
+-- The ether type after several extensions is that of the last one.
 last_type : (first : LinkExtension × Bool) (others : List (LinkExtension × Bool))
-    → type_of (ether_payload_behind (extension_ether_payload first.0) (map extension_in others))
-    ≡ extension_type (last_behind first others).0
+    → type_of (ether_payload_after (extension_ether_payload first.0) (map extension_in others))
+    ≡ extension_type (last_after first others).0
 last_type first [] = one_type first.0
 last_type first (next ∷ others) = last_type next others
 
@@ -158,23 +158,23 @@ whole_type : (payload : Option EtherPayload) → lax_type_of (option_map whole_p
 whole_type None = refl
 whole_type (Some payload) = refl
 
--- what set its end says nothing of its type
+-- The source of the length does not change the ether type.
 type_kept : (end : LenSource) (payload : Option EtherPayload)
     → type_of (option_map (λ (inside : EtherPayload). record inside { len_source = end }) payload) ≡ type_of payload
 type_kept end None = refl
 type_kept end (Some payload) = refl
 
--- the type is the same whether or not bytes are missing
+-- The ether type does not depend on whether bytes are missing.
 type_in : (link : Option LinkLayer) (extensions : List (LinkExtension × Bool))
-    → lax_type_of (lax_ether_payload_behind link extensions)
+    → lax_type_of (lax_ether_payload_after link extensions)
     ≡ type_of (ether_payload_of_parts link (map extension_in extensions))
 type_in link [] = whole_type (option_and_then link_ether_payload link)
 type_in link (first ∷ others) =
-    let end = source_behind source.Slice (map extension_in (first ∷ others)) in
-    same_type (extension_type (last_behind first others).0) (typed_payload end (last_behind first others)) (λ t. refl)
+    let end = source_after source.Slice (map extension_in (first ∷ others)) in
+    same_type (extension_type (last_after first others).0) (typed_payload end (last_after first others)) (λ t. refl)
     ∙ sym (last_type first others)
     ∙ sym (type_kept (extensions_len_source (map extension_in (first ∷ others)))
-    (ether_payload_behind (extension_ether_payload first.0) (map extension_in others)))
+    (ether_payload_after (extension_ether_payload first.0) (map extension_in others)))
 
 slice_type : (found : Option LaxEtherPayloadSlice)
     → option_map (λ (slice : LaxEtherPayloadSlice). slice.ether_type) found
@@ -182,7 +182,7 @@ slice_type : (found : Option LaxEtherPayloadSlice)
 slice_type None = refl
 slice_type (Some slice) = refl
 
--- and so it is the type that a slice of this payload says
+-- The ether type of a payload slice is that of the layers.
 pub type_found : (found : Option LaxEtherPayloadSlice) (read : LaxLayers)
     → option_map lax_ether_payload_of found ≡ lax_ether_payload_in read
     → option_map (λ (slice : LaxEtherPayloadSlice). slice.ether_type) found

@@ -1,4 +1,4 @@
--- A row that is put together in a row of spaces.
+-- A row that is written into a buffer of spaces.
 use Rattle.std.proofs.Common.{◌≡◌, ℕ, suc, ◌+◌, ◌-◌, ◌*◌, ◌/◌, ◌%◌, ◌<◌, ◌≤◌, List, [], ◌∷◌, ◌++◌, get_or, length, map, replicate, set, take}
 use Rattle.std.proofs.Common.{codes, refl, sym, ap, ◌∙◌, arith, append_assoc}
 use Rattle.std.proofs.lemmas.List.{length-append, length-map, length-take-le, map_more, set-append_right, set_at}
@@ -6,7 +6,7 @@ use Rattle.std.proofs.lemmas.List.{take_all, take_at, take_more}
 use Rattle.packet_dump.specs.Addresses.{hex_digit, hex_pair}
 use Rattle.packet_dump.specs.Rows.{character_of, characters_text, spaced_text}
 
--- a number of steps behind a front is so far behind it
+-- A position `k` bytes after the first `n` bytes is at offset `k` of the rest.
 steps_behind : (n k : ℕ) → n + k - n ≡ k
 steps_behind n k = omega arith
 
@@ -18,13 +18,13 @@ length-spaced_text : (row : List ℕ) → length (spaced_text row) ≡ 3 * lengt
 length-spaced_text [] = refl
 length-spaced_text (byte ∷ row) = omega (arith, length-spaced_text row)
 
--- one byte more
+-- One more byte appends a space and its two digits.
 spaced_text-more : (row : List ℕ) (at : ℕ) → at < length row
     → spaced_text (take (at + 1) row) ≡ spaced_text (take at row) ++ 32 ∷ hex_pair (get_or row at 0)
 spaced_text-more row at within =
     ap spaced_text (take_more row at 0 within) ∙ spaced_text-append (take at row) (get_or row at 0 ∷ [])
 
--- two digits behind the space that follows what stands in front
+-- Two digits are written after the space that follows the prefix.
 put_behind_space : (front : List ℕ) (rest n first second : ℕ) → length front ≡ n
     → set (set (front ++ replicate (suc (suc (suc rest))) 32) (n + 1) first) (n + 2) second
     ≡ (front ++ 32 ∷ first ∷ second ∷ []) ++ replicate rest 32
@@ -39,7 +39,7 @@ put_behind_space front rest n first second long =
     ∙ ap (λ k. front ++ set (32 ∷ first ∷ 32 ∷ behind) k second) (steps_behind n 2)
     ∙ sym (append_assoc front (32 ∷ first ∷ second ∷ []) behind)
 
--- the digits of the first bytes, in a row of spaces
+-- The text is the digits of the first bytes, padded with spaces.
 abbrev pub AreDigits : List ℕ → ℕ → List ℕ → Type 0
 AreDigits row at text = text ≡ spaced_text (take at row) ++ replicate (48 - 3 * at) 32
 
@@ -59,11 +59,11 @@ AreDigits-more row text pair at are within short is =
     ∙ put_behind_space front rest (3 * at) (hex_digit (byte / 16)) (hex_digit (byte % 16)) long
     ∙ ap (λ t. t ++ replicate rest 32) (sym (spaced_text-more row at within))
 
--- what stands in front of the next character
+-- the text before the next character
 abbrev pub characters_so_far : List ℕ → ℕ → List ℕ
 characters_so_far row at = codes "  |" ++ map character_of (take at row)
 
--- the first characters, in a row of spaces
+-- The text is the first characters, padded with spaces.
 abbrev pub AreCharacters : List ℕ → ℕ → List ℕ → Type 0
 AreCharacters row at text = text ≡ characters_so_far row at ++ replicate (17 - at) 32
 
@@ -71,7 +71,7 @@ length-characters_so_far : (row : List ℕ) (at : ℕ) → at ≤ length row →
 length-characters_so_far row at within =
     omega (arith, length-map (take at row) character_of, length-take-le at row within)
 
--- one byte in place of the first of the spaces
+-- A byte is written in place of the first of the spaces.
 put_character : (row text : List ℕ) (at byte : ℕ) → AreCharacters row at text → at ≤ length row → length row ≤ 16
     → set text (at + 3) byte ≡ (characters_so_far row at ++ byte ∷ []) ++ replicate (16 - at) 32
 put_character row text at byte are within short =
@@ -90,7 +90,7 @@ AreCharacters-more row text at byte are within short is =
     ∙ ap (λ t. (codes "  |" ++ t) ++ replicate (16 - at) 32) (sym (map_more character_of row at 0 within))
     ∙ ap (λ n. characters_so_far row (at + 1) ++ replicate n 32) room
 
--- all characters, and a bar behind them
+-- All characters and the bar after them are the characters of the row.
 pub AreCharacters-all : (row text : List ℕ) → AreCharacters row (length row) text → length row ≤ 16
     → take (length row + 4) (set text (length row + 3) 124) ≡ characters_text row
 AreCharacters-all row text are short =

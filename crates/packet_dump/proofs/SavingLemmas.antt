@@ -1,4 +1,4 @@
--- What is saved of the packets that are shown.
+-- The bytes that are saved of the shown packets.
 use Rattle.std.proofs.Common.{◌≡◌, ℕ, ◌+◌, ◌^◌, ◌<◌, Bool, true, false, if◌then◌else◌, List, [], ◌∷◌, ◌++◌, Option}
 use Rattle.std.proofs.Common.{Some, None}
 use Rattle.std.proofs.Common.{refl, sym, ap, subst, ◌∙◌, append_assoc}
@@ -21,7 +21,7 @@ use Rattle.packet_dump.specs.declared.saving.SaveState.{SaveState}
 use Rattle.packet_dump.specs.declared.saving.SaveState.TheVariants.{Unasked, Open, Stopped}
 use Rattle.packet_dump.specs.declared.saving.Saving.{Saving}
 
--- ---- what is not so
+-- ---- contradictions
 
 no_true : true ≡ false → ⊥
 no_true is = cc
@@ -35,7 +35,7 @@ no_some x is = cc
 no_byte : (byte : ℕ) (bytes : List ℕ) → byte ∷ bytes ≡ [] → ⊥
 no_byte byte bytes is = cc
 
--- ---- a packet more
+-- ---- one more packet
 
 selected_more : (options : DumpOptions) (items : List Item) (stage : Stage) (item : Item)
     (packets one : List PlainShown)
@@ -56,7 +56,7 @@ written_more : (link : ℕ) (packets : List PlainShown) (shown : PlainShown) →
 written_more link [] shown are is = (is, tt)
 written_more link (first ∷ others) shown are is = (are.0, written_more link others shown are.1 is)
 
--- what capture_writer's law says of one packet more
+-- the law of capture_writer on one more packet
 abbrev pub AllMore : Type 0
 AllMore = (link : ℕ) (packets : List PlainShown) (packet : PlainShown)
     → capture_bytes link (packets ++ packet ∷ []) ≡ capture_bytes link packets ++ packet_bytes packet
@@ -67,7 +67,7 @@ regrouped saved old front behind =
     sym (append_assoc saved (old ++ front) behind)
     ∙ ap (λ (b : List ℕ). b ++ behind) (sym (append_assoc saved old front))
 
--- the bytes with one packet more
+-- The bytes of one more packet, after those of the others, are the bytes of all.
 bytes_more : AllMore → (packets : List PlainShown) (shown : PlainShown) (saved old : List ℕ)
     → saved ++ old ≡ begun_bytes false packets
     → saved ++ ((old ++ front_bytes (first_link packets) shown.link) ++ packet_bytes shown)
@@ -82,7 +82,7 @@ bytes_more more (first ∷ others) shown saved old are =
     ∙ ap (λ (b : List ℕ). b ++ packet_bytes shown) (append-nil (saved ++ old) ∙ are)
     ∙ sym (more first.link (first ∷ others) shown)
 
--- the packets with one more
+-- The packets with one more can be written.
 saved_more : (packets : List PlainShown) (shown : PlainShown) → AreSaved packets → shown.link < 2 ^ 16
     → IsWritten (link_with (first_link packets) shown.link) shown → AreSaved (packets ++ shown ∷ [])
 saved_more [] shown are fits is = (fits, (is, tt))
@@ -93,7 +93,7 @@ same_first : (packets : List PlainShown) (shown : PlainShown)
 same_first [] shown = refl
 same_first (first ∷ others) shown = refl
 
--- a packet that is shown was appended
+-- A shown packet is appended.
 pub saves_written : AllMore → (options : DumpOptions) (wanted : Bool) (link : Option ℕ) (items : List Item)
     (item : Item)
     (shown : PlainShown) (saved old new : List ℕ) → shown_in (stage_behind at_start items) item ≡ Some shown
@@ -114,7 +114,7 @@ saves_written more options true link items item shown saved old new shows select
           ∙ bytes_more more packets shown saved old parts,
     )
 
--- the link type of the capture, where a packet is refused
+-- The link type of the capture, also if the packet cannot be written.
 same_link : (packets : List PlainShown) (shown : PlainShown)
     → link_with (first_link packets) shown.link ≡ link_in (packets ++ shown ∷ [])
 same_link [] shown = refl
@@ -130,7 +130,7 @@ still_written : (packets : List PlainShown) (shown : PlainShown) → AreSaved pa
 still_written [] shown are = tt
 still_written (first ∷ others) shown are = are.1
 
--- the bytes in front of it
+-- The bytes before a packet that cannot be written.
 bytes_front : (packets : List PlainShown) (shown : PlainShown) (saved old : List ℕ)
     → saved ++ old ≡ begun_bytes false packets
     → saved ++ (old ++ front_bytes (first_link packets) shown.link)
@@ -140,7 +140,7 @@ bytes_front [] shown saved old are =
     sym (append_assoc saved old front) ∙ ap (λ (b : List ℕ). b ++ front) are ∙ sym (append-nil front)
 bytes_front (first ∷ others) shown saved old are = ap (λ (b : List ℕ). saved ++ b) (append-nil old) ∙ are
 
--- a packet that is shown was refused
+-- A shown packet cannot be written.
 pub saves_refused : (options : DumpOptions) (wanted : Bool) (link : Option ℕ) (items : List Item) (item : Item)
     (shown : PlainShown) (number : ℕ) (refusal : WriteRefusal) (saved old new : List ℕ)
     → shown_in (stage_behind at_start items) item ≡ Some shown → Selects options (Some shown) (shown ∷ [])
@@ -172,7 +172,7 @@ saves_refused options true link items item shown number refusal saved old new sh
           ∙ bytes_front packets shown saved old parts;
     }
 
--- one or the other
+-- A shown packet is appended, or cannot be written.
 pushed : AllMore → (options : DumpOptions) (wanted : Bool) (link : Option ℕ) (state : SaveState) (items : List Item)
     (item : Item) (shown : PlainShown) (number : ℕ) (saved old new : List ℕ)
     → shown_in (stage_behind at_start items) item ≡ Some shown → Selects options (Some shown) (shown ∷ [])
@@ -208,7 +208,7 @@ goes_pushed more options start next link items item shown number is_open shows s
     counted pushes
     (subst (λ s. Saves options wanted false s items (saved ++ start.bytes.items)) is_open saves)
 
--- what the test of a packet says
+-- The result of the test selects the packet or not.
 pub selects : (options : DumpOptions) (shown : PlainShown) (answer : Bool)
     → (content : Content) × Holds options.strict shown.link shown.bytes content × (answer ≡ is_wanted options
     content)
@@ -216,7 +216,7 @@ pub selects : (options : DumpOptions) (shown : PlainShown) (answer : Bool)
 selects options shown answer (content, holds, is) =
     (content, holds, ap (λ (b : Bool). if b then shown ∷ [] else []) is)
 
--- an item that gives no packet changes nothing, nor one behind which none is saved
+-- An item without a selected packet changes nothing, nor does any item after packets are no longer saved.
 pub saves_stays : (options : DumpOptions) (wanted closed : Bool) (state : SaveState) (items : List Item) (item : Item)
     (bytes : List ℕ)
     → ((link : Option ℕ) → state ≡ Open link → Selects options (shown_in (stage_behind at_start items) item) [])
@@ -262,7 +262,7 @@ saves_stays options true closed (Stopped Failed) items item bytes none saves = r
   whole = saves.whole;
 }
 
--- a packet that is not shown
+-- A packet that is not selected changes nothing.
 pub goes_unselected : (options : DumpOptions) (saving : Saving) (items : List Item) (item : Item) (shown : PlainShown)
     → shown_in (stage_behind at_start items) item ≡ Some shown → Selects options (Some shown) []
     → GoesOn options saving saving items (items ++ item ∷ [])
@@ -270,7 +270,7 @@ goes_unselected options saving items item shown shows selects wanted saved saves
     saves_stays options wanted false saving.state items item (saved ++ saving.bytes.items)
     (λ link is_open. subst (λ s. Selects options s []) (sym shows) selects) saves
 
--- a packet where none is saved
+-- A packet changes nothing if none is saved.
 pub goes_closed : (options : DumpOptions) (saving : Saving) (items : List Item) (item : Item)
     → ((link : Option ℕ) → saving.state ≡ Open link → ⊥) → GoesOn options saving saving items (items ++ item ∷ [])
 goes_closed options saving items item never wanted saved saves =
@@ -284,16 +284,16 @@ pub stopped_closed : (state : SaveState) (fault : SaveFault) → state ≡ Stopp
     → state ≡ Open link → ⊥
 stopped_closed state fault is link is_open = let clash : Stopped fault ≡ Open link = sym is ∙ is_open in cc
 
--- ---- what the file took
+-- ---- what the file accepted
 
--- what is missing where more packets may follow
+-- the bytes of the capture that are not written while more packets may follow
 rest_of : (closed : Bool) (packets : List PlainShown) → (rest : List ℕ) × (copy_bytes packets ≡ begun_bytes closed
     packets ++ rest)
 rest_of true [] = ([], sym (append-nil (copy_bytes [])))
 rest_of false [] = (copy_bytes [], refl)
 rest_of closed (first ∷ others) = ([], sym (append-nil (copy_bytes (first ∷ others))))
 
--- whatever was put together begins a capture
+-- The bytes in any state begin a capture.
 begins : (options : DumpOptions) (closed : Bool) (state : SaveState) (items : List Item) (bytes : List ℕ)
     → Saves options true closed state items bytes → BeginsCopy options items bytes
 begins options closed Unasked items bytes saves = absurd saves
@@ -323,10 +323,10 @@ begins options closed (Stopped (Refused number refusal)) items bytes saves = rec
 }
 begins options closed (Stopped Failed) items bytes saves = saves
 
--- so does a front of it
-front_of : (options : DumpOptions) (items : List Item) (front rest : List ℕ) → BeginsCopy options items (front ++ rest)
+-- A prefix of bytes that begin a capture begins it, too.
+link_start_of : (options : DumpOptions) (items : List Item) (front rest : List ℕ) → BeginsCopy options items (front ++ rest)
     → BeginsCopy options items front
-front_of options items front rest copy = record {
+link_start_of options items front rest copy = record {
   front = copy.front;
   behind = copy.behind;
   packets = copy.packets;
@@ -342,7 +342,7 @@ none_in_front : (front rest : List ℕ) → front ++ rest ≡ [] → front ≡ [
 none_in_front [] rest none = refl
 none_in_front (byte ∷ front) rest none = absurd (no_byte byte (front ++ rest) none)
 
--- the file took a front of it, and failed
+-- If the file accepted a prefix of the bytes and then failed, that prefix begins the capture.
 pub saves_failed : (options : DumpOptions) (wanted closed : Bool) (state : SaveState) (items : List Item)
     (saved bytes front rest : List ℕ) → is_idle state ≡ false → bytes ≡ front ++ rest
     → Saves options wanted closed state items (saved ++ bytes)
@@ -351,11 +351,11 @@ saves_failed options false closed Unasked items saved bytes front rest busy part
 saves_failed options false closed (Open link) items saved bytes front rest busy parts saves = absurd saves
 saves_failed options false closed (Stopped fault) items saved bytes front rest busy parts saves = absurd saves
 saves_failed options true closed state items saved bytes front rest busy parts saves =
-    front_of options items (saved ++ front) rest
+    link_start_of options items (saved ++ front) rest
     (subst (BeginsCopy options items) (ap (λ (b : List ℕ). saved ++ b) parts ∙ sym (append_assoc saved front rest))
     (begins options closed state items (saved ++ bytes) saves))
 
--- nothing is written
+-- In an idle state nothing is written.
 pub saves_idle : (options : DumpOptions) (wanted closed : Bool) (state : SaveState) (items : List Item)
     (saved bytes : List ℕ) → is_idle state ≡ true → Saves options wanted closed state items (saved ++ bytes)
     → Saves options wanted closed state items (saved ++ [])
@@ -367,11 +367,11 @@ saves_idle options true closed Unasked items saved bytes idle saves = absurd sav
 saves_idle options true closed (Open link) items saved bytes idle saves = absurd (no_false idle)
 saves_idle options true closed (Stopped (Refused number refusal)) items saved bytes idle saves = absurd (no_false idle)
 saves_idle options true closed (Stopped Failed) items saved bytes idle saves =
-    subst (BeginsCopy options items) (sym (append-nil saved)) (front_of options items saved bytes saves)
+    subst (BeginsCopy options items) (sym (append-nil saved)) (link_start_of options items saved bytes saves)
 
--- ---- where no more packets follow
+-- ---- no more packets
 
--- the heading was put behind no packet
+-- The file header is appended if there is no packet.
 pub saves_heading : (options : DumpOptions) (wanted : Bool) (state : SaveState) (items : List Item)
     (saved bytes : List ℕ)
     → is_empty state ≡ true → Saves options wanted false state items (saved ++ bytes)
@@ -394,7 +394,7 @@ saves_heading options true (Open None) items saved bytes empty (one ∷ others, 
 saves_heading options true (Open (Some link)) items saved bytes empty saves = absurd (no_false empty)
 saves_heading options true (Stopped fault) items saved bytes empty saves = absurd (no_false empty)
 
--- the heading stands there
+-- The file header is present if there is a packet.
 pub saves_whole : (options : DumpOptions) (wanted : Bool) (state : SaveState) (items : List Item) (bytes : List ℕ)
     → is_empty state ≡ false → Saves options wanted false state items bytes → Saves options wanted true state items
     bytes
@@ -419,4 +419,4 @@ begins_where options false Unasked read items saved bytes begin saves = none_in_
 begins_where options false (Open link) read items saved bytes begin saves = absurd saves
 begins_where options false (Stopped fault) read items saved bytes begin saves = absurd saves
 begins_where options true state read items saved bytes begin saves =
-    (items, begin, front_of options items saved bytes (begins options false state items (saved ++ bytes) saves))
+    (items, begin, link_start_of options items saved bytes (begins options false state items (saved ++ bytes) saves))

@@ -20,13 +20,13 @@ use Rattle.packet_dump.specs.declared.openings.Opening.{Opening}
 
 -- ---- contents
 
--- each frame is read laxly as the layers that it is
+-- Each frame is read laxly as its own layers.
 abbrev AreReadLaxly : Opening → List ℕ → Type 0
 AreReadLaxly opening bytes =
     (layers : Layers) → IsFrame opening.entry bytes layers
     → (read : LaxLayers) × IsLax opening.entry bytes read × (layers_in read ≡ layers) × IsWhole read
 
--- bytes that are a frame, or are refused as one, have a content
+-- Bytes that are a frame, or are rejected as one, have a content.
 strict_content : (opening : Opening) (bytes : List ℕ) → AreReadLaxly opening bytes
     → ((layers : Layers) × IsFrame opening.entry bytes layers)
     ⊎ ((error : SliceError) × RefusesFrame opening.entry bytes error)
@@ -36,7 +36,7 @@ strict_content opening bytes read_laxly (inl frame) =
     (packet read.0, (subst (λ (l : Layers). IsFrame opening.entry bytes l) (sym read.2) frame.1, read.3))
 strict_content opening bytes read_laxly (inr refused) = (refusal refused.0, refused.1)
 
--- bytes that are read laxly, or are refused, have a content
+-- Bytes that are read laxly, or are rejected, have a content.
 lax_content : (opening : Opening) (bytes : List ℕ)
     → ((read : LaxLayers) × IsLax opening.entry bytes read)
     ⊎ ((error : SliceError) × RefusesLax opening.entry bytes error)
@@ -44,7 +44,7 @@ lax_content : (opening : Opening) (bytes : List ℕ)
 lax_content opening bytes (inl read) = (content_with opening read.0, inr (read.0, read.1, refl))
 lax_content opening bytes (inr refused) = (refusal refused.0, inl (refused.0, refused.1, refl))
 
--- any bytes have a content, read strictly or laxly
+-- Any bytes have a content, parsed strictly or laxly.
 pub some_content : (strict : Bool) (opening : Opening) (bytes : List ℕ) → AreReadLaxly opening bytes
     → ((layers : Layers) × IsFrame opening.entry bytes layers)
     ⊎ ((error : SliceError) × RefusesFrame opening.entry bytes error)
@@ -56,21 +56,21 @@ some_content false opening bytes read_laxly frame lax = lax_content opening byte
 
 -- ---- options
 
--- a filter without words holds of any layers
+-- Any layers match an empty filter.
 slots_hold : (words : List (Option Word)) (read : LaxLayers) → asks_nothing words ≡ true
     → list_all (λ slot. slot_holds slot read) words ≡ true
 slots_hold [] read no_word = refl
 slots_hold (None ∷ others) read no_word = slots_hold others read no_word
 slots_hold (Some word ∷ others) read no_word = absurd (true≢false (sym no_word))
 
--- any packet meets a filter without words
+-- Any packet matches an empty filter.
 nothing_meets : (words : List (Option Word)) (content : Content) → asks_nothing words ≡ true
     → meets words content ≡ true
 nothing_meets words (packet read) no_word = slots_hold words read no_word
 nothing_meets words (refusal error) no_word = no_word
 nothing_meets words (other_link number) no_word = no_word
 
--- any packet is wanted where neither a kind nor a word is asked for
+-- Any packet is selected if neither a kind nor a filter primitive is given.
 pub all_wanted : (only : Option Kind) (words : List (Option Word)) (content : Content)
     → (is_none only && asks_nothing words) ≡ true
     → (shows_kind only (content_kind content) && meets words content) ≡ true

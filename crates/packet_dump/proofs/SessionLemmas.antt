@@ -1,4 +1,4 @@
--- The lines of the items of a capture, one behind the other.
+-- The lines of the items of a capture, in order.
 use Rattle.std.proofs.Common.{◌≡◌, ◌≢◌, false, ℕ, ◌+◌, ◌<◌, ◌≤◌, arith, List, [], ◌∷◌, ◌++◌, Option, Some, None, refl}
 use Rattle.std.proofs.Common.{sym, ap, subst, ◌∙◌, append_assoc, length, length-append}
 use Rattle.std.proofs.lemmas.List.{append-nil}
@@ -26,7 +26,7 @@ use Rattle.packet_dump.proofs.SavingLemmas.{saves_stays}
 use Rattle.packet_dump.proofs.SummaryLemmas.{counts_on, counts_other_more, counts_packet_more}
 use Rattle.packet_dump.proofs.PoolLemmas.{pooled_number}
 
--- ---- an item more
+-- ---- one more item
 
 progress_behind-append : (items : List Item) (before : Progress) (item : Item)
     → progress_behind before (items ++ item ∷ []) ≡ progress_after (progress_behind before items) item
@@ -55,7 +55,7 @@ AreTexts-append options (first ∷ items) before pool item text one after next
       AreTexts-append options items (progress_after before first) middle item rest one after next others is,
     )
 
--- ---- what stands in front of an item
+-- ---- progress before an item
 
 progress_with-stage : (before : Progress) (item : Item) (shown : Option PlainShown)
     → (progress_with before item shown).stage ≡ stage_after before.stage item
@@ -69,7 +69,7 @@ progress_stage (item ∷ items) before =
     progress_stage items (progress_after before item)
     ∙ ap (λ s. stage_behind s items) (progress_with-stage before item (shown_in before.stage item))
 
--- what is known behind an item that shows this
+-- The progress after one more item, given its packet, if it is one.
 behind_item : (items : List Item) (item : Item) (shown : Option PlainShown)
     → shown_in (stage_behind at_start items) item ≡ shown
     → progress_behind none_read (items ++ item ∷ []) ≡ progress_with (progress_behind none_read items) item shown
@@ -79,7 +79,7 @@ behind_item items item shown shows =
     ∙ ap (λ (s : Option PlainShown). progress_with before item s)
     (ap (λ (s : Stage). shown_in s item) (progress_stage items none_read) ∙ shows)
 
--- the text of an item more that shows this
+-- The text of one more item, given its packet, if it is one.
 texts_item : (options : DumpOptions) (items : List Item) (item : Item) (shown : Option PlainShown) (text one : List ℕ)
     (pool after : PoolHistory) → shown_in (stage_behind at_start items) item ≡ shown → AreAllTexts options items text pool
     → IsShownText options (progress_behind none_read items) pool shown one after
@@ -92,7 +92,7 @@ texts_item options items item shown text one pool after shows texts is =
 
 -- ---- sessions
 
--- a piece was taken
+-- A session that took a chunk has it after the bytes taken before.
 pub takes : (old new : Session) (piece : List ℕ) → new.options ≡ old.options → new.number ≡ old.number
     → new.first ≡ old.first → new.latest ≡ old.latest → new.pooling ≡ old.pooling
     → ((taken : List ℕ) (items : List Item) → Reads old.capture taken items → Reads new.capture (taken ++ piece) items)
@@ -109,12 +109,12 @@ takes old new piece same number first latest pooling take options read items his
   given = subst (λ n. history.number ≤ n) (sym number) stands.given;
 }
 
--- a number that is not yet the greatest may grow by one
+-- A number that has not reached the maximum can grow by one.
 one_more : (number most wanted next : ℕ) → number ≢ most → number ≤ wanted → most ≡ wanted → next ≡ number + 1
     → next ≤ wanted
 one_more number most wanted next fewer within same more = omega (arith, fewer, within, same, more)
 
--- what is saved goes on over an item more
+-- The bytes that are saved of the items stay right for one more item.
 goes_on : (options : DumpOptions) (start saving next : Saving) (items more : List Item) (item : Item)
     → GoesOn options start saving items (items ++ more)
     → GoesOn options saving next (items ++ more) ((items ++ more) ++ item ∷ [])
@@ -123,7 +123,7 @@ goes_on options start saving next items more item first second wanted saved save
     subst (λ (i : List Item). Saves options wanted false next.state i (saved ++ next.bytes.items))
     (append_assoc items more (item ∷ [])) (second wanted saved (first wanted saved saves))
 
--- an item that shows this was read, and its text put together
+-- A packet was read, and its line appended.
 drains_shown : (options : DumpOptions) (old new : Session) (read : List ℕ) (items : List Item) (text : List ℕ)
     (start was next : Gathered) → (drained : Drained options old read items text start was)
     → (item : Item) (shown : PlainShown)
@@ -184,7 +184,7 @@ drains_shown options old new read items text start was next drained item shown s
           (counts_packet_more options before item shown was.summary next.summary shows counts);
     }
 
--- a packet was read, and its text put together
+-- A packet was read, and its line appended, after the reader advanced.
 pub drains_packet : (options : DumpOptions) (old new : Session) (moved : CaptureReader) (read : List ℕ) (items : List Item)
     (text : List ℕ) (start was next : Gathered) → (drained : Drained options old read items text start was)
     → (found : (item : Item) × ReadsMore moved read (items ++ drained.more) item
@@ -219,7 +219,7 @@ drains_packet options old new moved read items text start was next drained found
     (subst (λ (o : DumpOptions). CountsPacket o.strict (reader_shown moved) was.summary next.summary)
     drained.stands.options_is counts) fewer
 
--- something else was read, and the session knows what it knew
+-- An item that is no packet was read, and the session is unchanged.
 pub drains_other : (options : DumpOptions) (old new : Session) (read : List ℕ) (items : List Item) (text : List ℕ)
     (start was : Gathered) → (drained : Drained options old read items text start was) → (item : Item)
     → IsOther (stage_behind at_start (items ++ drained.more)) item
@@ -261,7 +261,7 @@ drains_other options old new read items text start was drained item shows reads 
           (counts_other_more options before item was.summary shows);
     }
 
--- nothing more was read, and the capture stands so
+-- Nothing more was read, and the capture has this state.
 pub drains_end : (options : DumpOptions) (old new : Session) (standing : Standing) (read : List ℕ) (items : List Item)
     (text : List ℕ) (start was : Gathered) → (drained : Drained options old read items text start was) → Reads
     new.capture read (items ++ drained.more)
@@ -291,7 +291,7 @@ drains_end options old new standing read items text start was drained reads same
       so,
     )
 
--- as many packets were read as are wanted
+-- The wanted number of packets was read.
 pub enough_read : (options : DumpOptions) (session : Session) (read : List ℕ) (items : List Item) (history : PoolHistory)
     → Stands options session read items history → session.number ≡ session.options.most → StandsSo options Enough read items
 enough_read options session read items history stands all = (
@@ -299,7 +299,7 @@ enough_read options session read items history stands all = (
   sym stands.number ∙ all ∙ ap (λ v. v.most) stands.options_is,
 )
 
--- fewer were read
+-- A number that has not reached the maximum is less than it.
 fewer : (number most wanted packets : ℕ) → number ≢ most → number ≤ wanted → most ≡ wanted → number ≡ packets
     → packets < wanted
 fewer number most wanted packets not_all within same count = omega (arith, not_all, within, same, count)
@@ -310,12 +310,12 @@ fewer_read options session read items history stands not_all =
     fewer session.number session.options.most options.most (packets_in items) not_all stands.within
     (ap (λ v. v.most) stands.options_is) stands.number
 
--- a capture that is refused whatever follows is refused where nothing does
+-- A capture that is rejected whatever bytes come after it is rejected if it ends here.
 pub refused_here : (read : List ℕ) (found : List Item × CaptureError)
     → ((more : List ℕ) → RefusesCapture (read ++ more) found) → RefusesCapture read found
 refused_here read found refused = subst (λ (s : List ℕ). RefusesCapture s found) (append-nil read) (refused [])
 
--- no more packets than bytes were read
+-- The number of packets stays at most the number of bytes that were read.
 pub counts_kept : (number offset next : ℕ) → number ≤ offset → offset ≤ next → number ≤ next
 counts_kept number offset next within more = omega arith
 
@@ -326,7 +326,7 @@ counts_packet old new moved number capture total less counts =
     let offset : reader_offset new.capture ≡ reader_offset moved = ap reader_offset capture in
     omega (arith, number, offset, total, less, counts)
 
--- the text of a packet was put together
+-- The line of a packet was appended, and the state of the session updated.
 pub pushes : (old new : Session) (shown one : PlainShown) (this : Option ℕ) (first : Option ℕ) (latest : ℕ)
     (before : PoolHistory) → before.number < old.number + 1 → new.options ≡ old.options → shown ≡ one
     → this ≡ instant_in shown → first ≡ first_after old.first this
@@ -360,7 +360,7 @@ pushes old new shown one this first latest before later same same_one is_this is
       latest = new_latest ∙ latests;
     }
 
--- nothing was read yet
+-- At the start of draining nothing more is read.
 pub drains_start : (options : DumpOptions) (old new : Session) → new.capture ≡ old.capture → new.options ≡ old.options
     → new.number ≡ old.number → new.first ≡ old.first → new.latest ≡ old.latest → new.pooling ≡ old.pooling
     → new.output.items ≡ [] → (read : List ℕ) (items : List Item) (text : List ℕ) (history : PoolHistory)
@@ -391,7 +391,7 @@ drains_start options old new capture same number first latest pooling output rea
       counts = λ first counted. subst (λ (i : List Item). IsCounted options i first start.summary) none counted;
     }
 
--- ---- how many packets are counted
+-- ---- number of counted packets
 
 held_number : (options : DumpOptions) (before : Progress) (item : Item) (shown : Option PlainShown) (one : List Held)
     → IsHeld options shown one → (progress_with before item shown).number ≡ before.number + length one
@@ -399,25 +399,25 @@ held_number options before item None one is = omega (arith, ap (λ (p : List Hel
 held_number options before item (Some shown) one (content, holds, is) =
     omega (arith, ap (λ (p : List Held). length p) is)
 
-held_behind : (options : DumpOptions) (items : List Item) (before : Progress) (packets : List Held)
+held_after : (options : DumpOptions) (items : List Item) (before : Progress) (packets : List Held)
     → AreHeld options before.stage items packets
     → (progress_behind before items).number ≡ before.number + length packets
-held_behind options [] before packets none = omega (arith, ap (λ (p : List Held). length p) none)
-held_behind options (item ∷ items) before packets (one, others, is, parts, behind) =
+held_after options [] before packets none = omega (arith, ap (λ (p : List Held). length p) none)
+held_after options (item ∷ items) before packets (one, others, is, parts, behind) =
     let next = progress_after before item in
     let first : next.number ≡ before.number + length one =
     held_number options before item (shown_in before.stage item) one is in
     let rest : (progress_behind next items).number ≡ next.number + length others =
-    held_behind options items next others
+    held_after options items next others
     (subst (λ (s : Stage). AreHeld options s items others)
     (sym (progress_with-stage before item (shown_in before.stage item))) behind) in
     let all : length packets ≡ length one + length others =
     ap (λ (p : List Held). length p) parts ∙ length-append one others in
     omega (arith, first, rest, all)
 
--- as many as the items are
+-- The number of counted packets is the number of packets in the items.
 pub held_packets : (options : DumpOptions) (items : List Item) (packets : List Held)
     → AreHeld options at_start items packets → length packets ≡ packets_in items
 held_packets options items packets are =
-    let known : packets_in items ≡ 0 + length packets = held_behind options items none_read packets are in
+    let known : packets_in items ≡ 0 + length packets = held_after options items none_read packets are in
     omega (arith, known)

@@ -1,4 +1,4 @@
--- What a summary counts of the packets of some items.
+-- Counts of a summary for the packets of some items.
 use Rattle.std.proofs.Common.{◌≡◌, ◌≤◌, ◌<◌, ℕ, ◌+◌, ◌^◌, Bool, true, false, if◌then◌else◌, List, [], ◌∷◌, ◌++◌, Some, None}
 use Rattle.std.proofs.Common.{Option, Bor, drop, get_or, map, set, take, refl, sym, ap, subst, ◌∙◌, append_assoc, arith, length}
 use Rattle.std.proofs.Common.{nat_eq}
@@ -19,7 +19,7 @@ use Rattle.packet_dump.specs.Summaries.{new_summary, standing, stands_in, total,
 use Rattle.packet_dump.specs.Summaries.{with_one, with_packet, with_read, with_refused, with_stop, with_unread}
 use Rattle.packet_dump.specs.declared.dump_options.DumpOptions.{DumpOptions}
 
--- ---- a packet more
+-- ---- one more packet
 
 held_more : (options : DumpOptions) (items : List Item) (stage : Stage) (item : Item) (packets one : List Held)
     → AreHeld options stage items packets → IsHeld options (shown_in (stage_behind stage items) item) one
@@ -39,7 +39,7 @@ counted_more : (packets : List Held) (one : Held) (start : PlainSummary)
 counted_more [] one start = refl
 counted_more (first ∷ others) one start = counted_more others one (counted_one first start)
 
--- a packet more was counted
+-- One more packet was counted.
 pub counts_packet_more : (options : DumpOptions) (items : List Item) (item : Item) (shown : PlainShown)
     (old new : PlainSummary) → shown_in (stage_behind at_start items) item ≡ Some shown
     → CountsPacket options.strict shown old new → CountsOn options old new items (items ++ item ∷ [])
@@ -50,7 +50,7 @@ counts_packet_more options items item shown old new shows (content, holds, same)
   same ∙ ap (λ (p : PlainSummary). counted_one (shown, content) p) is ∙ sym (counted_more packets (shown, content) start),
 )
 
--- what is no packet is not counted
+-- An item that is no packet is not counted.
 pub counts_other_more : (options : DumpOptions) (items : List Item) (item : Item) (summary : PlainSummary)
     → shown_in (stage_behind at_start items) item ≡ None → CountsOn options summary summary items (items ++ item ∷ [])
 counts_other_more options items item summary shows start (packets, are, is) = (
@@ -61,7 +61,7 @@ counts_other_more options items item summary shows start (packets, are, is) = (
   is,
 )
 
--- what is counted goes on over an item more
+-- The counts of the items are extended by one more item.
 pub counts_on : (options : DumpOptions) (start was next : PlainSummary) (items behind : List Item) (item : Item)
     → CountsOn options start was items (items ++ behind)
     → CountsOn options was next (items ++ behind) ((items ++ behind) ++ item ∷ [])
@@ -70,18 +70,18 @@ counts_on options start was next items behind item first second none counted =
     subst (λ (i : List Item). IsCounted options i none next) (append_assoc items behind (item ∷ []))
     (second none (first none counted))
 
--- ---- counts by a key
+-- ---- counts by key
 
 abbrev refusals_with : ℕ → List (List ℕ × ℕ) → PlainRefusals
 refusals_with all errors = record { all = all; errors = errors }
 
--- the rest of the counts at a place
+-- The entries from a position on are the entry there and the rest.
 rest_at : {X : Type 0} (entries : List X) (i : ℕ) (entry : X) → i < length entries → entry ≡ get_or entries i entry
     → drop i entries ≡ entry ∷ drop (i + 1) entries
 rest_at entries i entry within is =
     drop_more entries i entry within ∙ ap (λ e. e ∷ drop (i + 1) entries) (sym is)
 
--- with one more of the key that stands there
+-- One more is counted for the key at this position.
 pub counted_here : {K : Type 0} (same : K → K → Bool) (key : K) (entries : List (K × ℕ)) (i : ℕ) (entry : K × ℕ)
     → i < length entries → entry ≡ get_or entries i entry → same entry.0 key ≡ true
     → take i entries ++ with_one same key (drop i entries) ≡ set entries i (entry.0, more entry.1 1)
@@ -95,7 +95,7 @@ counted_here {K} same key entries i entry within is found =
     ∙ ap (λ (d : List (K × ℕ)). take i next ++ d) (sym (drop-set entries i changed within))
     ∙ take-append-drop i next
 
--- what stands in front of the key stays
+-- An entry before the key is unchanged.
 pub counted_later : {K : Type 0} (same : K → K → Bool) (key : K) (entries : List (K × ℕ)) (i : ℕ) (entry : K × ℕ)
     → i < length entries → entry ≡ get_or entries i entry → same entry.0 key ≡ false
     → take (i + 1) entries ++ with_one same key (drop (i + 1) entries)
@@ -109,7 +109,7 @@ counted_later {K} same key entries i entry within is found =
     ∙ sym (ap (λ (r : List (K × ℕ)). take i entries ++ with_one same key r) (rest_at entries i entry within is)
     ∙ ap (λ (b : Bool). take i entries ++ (if b then (entry.0, more entry.1 1) ∷ others else entry ∷ rest)) found)
 
--- the same of names
+-- One more is counted for the name at this position.
 pub named_here : (name : List ℕ) (entries : List (Bor (List ℕ) × ℕ)) (i : ℕ) (entry changed : Bor (List ℕ) × ℕ)
     → i < length entries → entry ≡ get_or entries i entry → bytes_eq entry.0.now name ≡ true
     → plain_count changed ≡ (entry.0.now, more entry.1 1)
@@ -134,7 +134,7 @@ named_later name entries i entry within is found =
     ap plain_count is ∙ sym (get_or-map plain_count entries i entry (plain_count entry) within) in
     counted_later bytes_eq name plain i (plain_count entry) inside there found
 
--- one more that is refused for this error
+-- One more error is counted.
 pub one_error : (error : SliceError) (before : PlainRefusals) (all : ℕ) (name : List ℕ)
     (errors : List (List ℕ × ℕ)) → all ≡ more before.all 1 → name ≡ error_name error
     → errors ≡ with_one bytes_eq name before.errors
@@ -144,7 +144,7 @@ one_error error before all name errors one named counted =
     ∙ ap (λ (n : List ℕ). refusals_with all (with_one bytes_eq n before.errors)) named
     ∙ ap (λ (a : ℕ). refusals_with a (with_one bytes_eq (error_name error) before.errors)) one
 
--- ---- where a summary is wanted, and where none is
+-- ---- with and without a summary
 
 pub counted_wanted : (cooked : Bool) (shown : PlainShown) (content : Content) (summary : PlainSummary)
     → summary.wanted ≡ true
@@ -172,7 +172,7 @@ total_one same key (entry ∷ others) fits =
     total_step (same entry.0 key) entry others (with_one same key others) fits
     (total_one same key others (omega (arith, fits)))
 
--- the bytes of a packet were counted, and not yet what it holds
+-- The bytes of a packet were counted, but not yet its content.
 record Awaits (stands : ℕ) (summary : PlainSummary) : Type 0 where
   fits : summary.packets < 2 ^ 64
   packets : summary.packets ≡ stands + summary.refused.all + total summary.unread + 1
@@ -192,7 +192,7 @@ awaits stands shown summary fits up = record {
   causes = up.causes;
 }
 
--- one more that is refused for such an error
+-- One more error adds one to the sum of the errors.
 more_errors : (error : SliceError) (before : PlainRefusals) → before.all ≡ total before.errors → before.all + 1 < 2 ^ 64
     → (with_error error before).all ≡ total (with_error error before).errors
 more_errors error before is fits =
@@ -254,7 +254,7 @@ adds_unread link stands before up =
       causes = up.causes;
     }
 
--- layers say nothing of these sums
+-- The counts of layers do not affect these sums.
 awaits_read : (cooked : Bool) (layers : Layers) (stands : ℕ) (before : PlainSummary) → Awaits stands before
     → Awaits stands (with_read cooked layers before)
 awaits_read cooked layers stands before up = record {
@@ -274,9 +274,9 @@ adds_content cooked shown (packet read) stands before up =
 adds_content cooked shown (refusal error) stands before up = adds_refused (is_cut shown) error stands before up
 adds_content cooked shown (other_link number) stands before up = adds_unread number stands before up
 
--- ---- what no content changes
+-- ---- counts that no content changes
 
--- how many packets were counted, and whether a summary is wanted
+-- The number of packets, and whether a summary is wanted, are unchanged.
 record Keeps (before behind : PlainSummary) : Type 0 where
   packets : behind.packets ≡ before.packets
   wanted : behind.wanted ≡ before.wanted
@@ -300,7 +300,7 @@ keeps cooked shown (refusal error) before =
     record { packets = (keeps_cause (is_cut shown) before).packets; wanted = (keeps_cause (is_cut shown) before).wanted }
 keeps cooked shown (other_link number) before = record { packets = refl; wanted = refl }
 
--- a packet was counted
+-- One packet was counted.
 record AddsOne (stands : ℕ) (before behind : PlainSummary) : Type 0 where
   up : AddsUp stands behind
   packets : behind.packets ≡ before.packets + 1
@@ -338,7 +338,7 @@ adds_all (one ∷ others) stands summary is fits up =
       omega (arith, rest.1, step.packets),
     )
 
--- the rows of a summary add up
+-- The rows of a summary add up.
 pub adds_up : (packets : List Held) (apart : Bool) → length packets < 2 ^ 64
     → AddsUp (standing packets) (counted_all packets (new_summary true apart))
     × ((counted_all packets (new_summary true apart)).packets ≡ length packets)

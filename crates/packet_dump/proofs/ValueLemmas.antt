@@ -1,4 +1,4 @@
--- What a word is, and what it says as the value of an option.
+-- Meanings of arguments, and values of options.
 use Rattle.std.proofs.Common.{◌≡◌, ℕ, ◌^◌, ◌<◌, Bool, true, false, ◌&&◌, ◌||◌, ◌⊎◌, inl, inr, cond, nat_lt, List, []}
 use Rattle.std.proofs.Common.{◌∷◌, length, Option, Some, None, refl, ap, ◌∙◌, sym, subst, arith}
 use Rattle.std.specs.Prelude.{codes, find, map}
@@ -120,7 +120,7 @@ kind_named-name kind.Stopped = refl
 kind_named-some : (name : List ℕ) (sought : Kind) → name ≡ kind_name sought → kind_named name ≡ Some sought
 kind_named-some name sought is = ap kind_named is ∙ kind_named-name sought
 
--- ---- forms of times
+-- ---- time formats
 
 form_named-is : (name : List ℕ) (sought : TimeForm) → form_named name ≡ Some sought → name ≡ form_name sought
 form_named-is name sought is =
@@ -135,20 +135,20 @@ form_named-name Utc = refl
 form_named-some : (name : List ℕ) (sought : TimeForm) → name ≡ form_name sought → form_named name ≡ Some sought
 form_named-some name sought is = ap form_named is ∙ form_named-name sought
 
--- ---- what is read
+-- ---- input
 
 pub input_is : (text : List ℕ) → is_input (input_in text) ≡ true
 input_is text =
     branch (λ item. is_input item ≡ true) (bytes_eq text (codes "-")) standard_input (file text) (λ same. refl) (λ other. refl)
 
--- it is what the word says
+-- The input is the value of its option.
 input_says : (text : List ℕ) → IsValue Input text (input_in text)
 input_says text =
     branch (λ (item : Item). IsValue Input text item) (bytes_eq text (codes "-")) standard_input (file text)
     (λ same. (bytes_eq-Decides text (codes "-")).0 same)
     (λ other. (refl, λ is. not_both_tests (bytes_eq text (codes "-")) ((bytes_eq-Decides text (codes "-")).1 is) other))
 
--- and no option
+-- The input changes no option.
 pub input_keeps : (options : DumpOptions) (text : List ℕ) → options_with options (input_in text) ≡ options
 input_keeps options text =
     branch (λ (item : Item). options_with options item ≡ options) (bytes_eq text (codes "-")) standard_input (file text)
@@ -175,13 +175,13 @@ value_in-some Input text standard_input says =
     ap (λ b. Some (cond b standard_input (file text))) ((bytes_eq-Decides text (codes "-")).1 says)
 value_in-some option text item says = absurd says
 
--- the word of a filter is what its option's word says
+-- The text of a filter primitive is the value of its option.
 pub filter_value : (option : Awaited) (kind : FilterKind) (text : List ℕ) → option ≡ Filter kind
     → IsValue option text (filter kind text)
 filter_value option kind text is =
     subst (λ (o : Awaited). IsValue o text (filter kind text)) (sym is) (refl, refl)
 
--- what is read is what the word of its option says
+-- The input is the value of its option, for an option that is equal to it.
 pub input_value : (option : Awaited) (text : List ℕ) → option ≡ Input → IsValue option text (input_in text)
 input_value option text is = subst (λ (o : Awaited). IsValue o text (input_in text)) (sym is) (input_says text)
 
@@ -227,14 +227,14 @@ pub value_in-none : (option : Awaited) (text : List ℕ) → ((item : Item) → 
 value_in-none option text never =
     none_from (value_in option text) (λ item is. never item (value_in-is option text item is))
 
--- ---- what a word is
+-- ---- meanings of arguments
 
--- what the rows of a table say of the word
+-- The property holds for the meaning in each row whose name is the argument.
 abbrev Rows : List ℕ → (Word → Type 0) → List (List ℕ × Word) → Type 0
 Rows text P [] = Unit {0}
 Rows text P (row ∷ rows) = (text ≡ row.0 → P row.1) × Rows text P rows
 
--- a fact of each word of the table, and of what is in no row, holds of what the word is
+-- A property of every row of the table, and of arguments in no row, holds for the meaning of the argument.
 by_rows : (text : List ℕ) (P : Word → Type 0) (rows : List (List ℕ × Word)) → Rows text P rows
     → (list_any (λ known. bytes_eq text known) (map (λ row. row.0) rows) ≡ false → P (word_in [] text))
     → P (word_in rows text)
@@ -245,7 +245,7 @@ by_rows text P (row ∷ rows) each none =
     (λ other. by_rows text P rows each.1 (λ others.
     none (ap (λ b. b || list_any (λ known. bytes_eq text known) (map (λ row. row.0) rows)) other ∙ others)))
 
--- what is in no row of a table
+-- An argument in no row of the table has the meaning that it has without a table.
 in_no_row : (text : List ℕ) (rows : List (List ℕ × Word))
     → list_any (λ known. bytes_eq text known) (map (λ row. row.0) rows) ≡ false → word_in rows text ≡ word_in [] text
 in_no_row text [] none = refl
@@ -254,7 +254,7 @@ in_no_row text (row ∷ rows) none =
     no_or (bytes_eq text row.0) (list_any (λ known. bytes_eq text known) (map (λ row. row.0) rows)) none in
     ap (λ b. cond b row.1 (word_in rows text)) other ∙ in_no_row text rows others
 
--- a test of a list, from one of its head and its tail
+-- A test of a list is false if it is false for its head and for its tail.
 both_none : (same dashed all any : Bool) → (dashed && all) ≡ true → (same ≡ true → dashed ≡ false)
     → (all ≡ true → any ≡ false) → (same || any) ≡ false
 both_none true true all any both here later = here refl
@@ -262,7 +262,7 @@ both_none true false all any both here later = let never : ⊥ = cc in absurd ne
 both_none false true all any both here later = later both
 both_none false false all any both here later = let never : ⊥ = cc in absurd never
 
--- a word that does not begin with `-` is in no row of a table of words that do
+-- An argument that does not begin with `-` is in no row of a table of names that do.
 not_dashed : (text : List ℕ) (known : List (List ℕ)) → list_all is_dashed known ≡ true → is_dashed text ≡ false
     → list_any (λ one. bytes_eq text one) known ≡ false
 not_dashed text [] all plain = refl
@@ -279,7 +279,7 @@ file_word text plain =
     in_no_row text word_table (not_dashed text (map (λ row. row.0) word_table) refl plain)
     ∙ ap (λ b. cond b word.Unknown word.File) plain
 
--- what it means to be such a word
+-- The argument has this meaning.
 abbrev pub IsWord : List ℕ → Word → Type 0
 IsWord text word.Help = (text ≡ codes "-h") ⊎ (text ≡ codes "--help")
 IsWord text word.Version = (text ≡ codes "-V") ⊎ (text ≡ codes "--version")

@@ -1,4 +1,4 @@
--- What is told of a packet beside the line's layers.
+-- Details of a packet in addition to the layers of its line.
 use Rattle.std.specs.Prelude.{◌≡◌, ◌⊎◌, ℕ, if◌then◌else◌, Bool, true, false, List, [], ◌++◌, Option, Some, None, codes}
 use Rattle.std.specs.Fmt.{decimal}
 use Rattle.std.specs.Option.{option_and_then, option_map}
@@ -18,50 +18,50 @@ use Rattle.etherparse.specs.Types.SliceError.{SliceError}
 use Rattle.packet_dump.specs.LayerTexts.{incomplete_text, inner_in, outer_text, refused_front_text}
 use Rattle.packet_dump.specs.PacketContents.{Content, packet}
 
--- what stands in the outer layers of a quoted packet, which is mostly cut: where a layer is refused, what is told of its
--- front
+-- the payload of the outer layers of a quoted packet, which is mostly truncated: if a layer is rejected, the known
+-- fields of its header
 abbrev pub quoted_rest : Bool → Layers → Option (SliceError × Layer) → List ℕ
 quoted_rest incomplete layers None = inner_in incomplete layers
 quoted_rest incomplete layers (Some stop) = refused_front_text layers.net
 
--- a quoted packet: its layers, as of any other
+-- a quoted packet: its layers as in a line of its own, but without the error at which they end
 abbrev pub quoted_text : LaxLayers → List ℕ
 quoted_text read =
     codes " quotes" ++ outer_text (layers_in read)
     ++ quoted_rest read.net.inside.incomplete (layers_in read) read.net.inside.stop
     ++ incomplete_text read.net.inside.incomplete
 
--- the text of the packet at the front of bytes that are quoted: none where they are no packet of IP
+-- The text is that of the packet at the start of quoted bytes, or empty if they are no IP packet.
 abbrev pub IsQuote : List ℕ → List ℕ → Type 0
 IsQuote bytes text =
     ((error : SliceError) × RefusesLax Ip bytes error × (text ≡ []))
     ⊎ ((read : LaxLayers) × IsLax Ip bytes read × (text ≡ quoted_text read))
 
--- the same of bytes that are quoted or not
+-- The text is that of the quoted packet, or empty without quoted bytes.
 abbrev pub IsQuoteOf : Option (List ℕ) → List ℕ → Type 0
 IsQuoteOf None text = text ≡ []
 IsQuoteOf (Some bytes) text = IsQuote bytes text
 
--- the bytes that a packet quotes
+-- the bytes of the packet that an ICMP error quotes
 abbrev pub quoted_by : LaxSlicedPacket → Option (List ℕ)
 quoted_by slices = option_and_then quoted_in (option_map transport_layer_of slices.transport)
 
--- the number of a packet's interface, where that is wanted and known
+-- the number of a packet's interface, if details are wanted and the number is known
 abbrev pub interface_text : Bool → Option ℕ → List ℕ
 interface_text wanted (Some number) = if wanted then codes " interface " ++ decimal number else []
 interface_text wanted None = []
 
--- the details of a packet: those of its layers, and the packet that it quotes
+-- The text is the details of a packet: those of its layers, and the packet that it quotes.
 abbrev pub AreDetails : LaxSlicedPacket → List ℕ → Type 0
 AreDetails slices text =
     (own quote : List ℕ) × IsPacketDetails slices own × IsQuoteOf (quoted_by slices) quote × (text ≡ own ++ quote)
 
--- the same, where details are told
+-- The text is the details of a packet if they are shown, else empty.
 abbrev pub AreTold : Bool → LaxSlicedPacket → List ℕ → Type 0
 AreTold true slices text = AreDetails slices text
 AreTold false slices text = text ≡ []
 
--- the details of what bytes hold, where they are told: of the packet that is read from them
+-- The text is the details of the packet that is read from the bytes if they are shown, else empty.
 abbrev pub IsDetailed : Bool → List ℕ → Content → List ℕ → Type 0
 IsDetailed true bytes content text =
     (slices : LaxSlicedPacket) × ShowsLax bytes slices × (content ≡ packet (lax_layers_of slices)) × AreDetails slices text

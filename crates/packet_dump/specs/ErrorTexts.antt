@@ -1,4 +1,4 @@
--- The texts of errors, and the exit status.
+-- Texts of errors, and the exit status.
 use Rattle.std.specs.Prelude.{ℕ, ◌==◌, ◌/◌, if◌then◌else◌, List, Option, Some, None, Result, Ok, Err, codes}
 use Rattle.capture_reader.specs.declared.refusal.Refusal.{Refusal}
 use Rattle.capture_reader.specs.declared.refusal.Refusal.TheVariants.{UnknownMagic}
@@ -15,26 +15,27 @@ run_error_text Read = codes "packet_dump: read failed"
 run_error_text Write = codes "packet_dump: write failed"
 run_error_text OutOfMemory = codes "packet_dump: out of memory"
 
--- the exit status behind a run: 0 where a whole capture was read, or as many packets as are wanted
+-- the exit status after a run: 0 if the complete capture or the wanted number of packets was read
 abbrev pub status_of : Result Ending RunError → ℕ
 status_of (Ok Whole) = 0
 status_of (Ok Enough) = 0
 status_of (Ok (Broken packets error)) = 1
 status_of (Err error) = 1
 
--- the same, where packets may have been saved: 1 where not all were that are shown
+-- the exit status after a run that may have saved packets: 1 if not all selected packets were saved, else that of the
+-- run
 abbrev pub status_with : Result Ending RunError → SaveState → ℕ
 status_with outcome Unasked = status_of outcome
 status_with outcome (Open link) = status_of outcome
 status_with outcome (Stopped fault) = 1
 
--- what can be done about a file that begins so: with the first bytes of gzip (RFC 1952, 2.3.1) or of zstd (RFC 8878, 3.1.1)
+-- a hint about a file that begins with the magic number of gzip (RFC 1952, 2.3.1) or of zstd (RFC 8878, 3.1.1)
 abbrev pub magic_hint : ℕ → Option (List ℕ)
 magic_hint magic =
     if magic / 65536 == 0x1f8b then Some (codes "packet_dump: it is compressed: gzip -dc FILE | packet_dump") else
     (if magic == 0x28b52ffd then Some (codes "packet_dump: it is compressed: zstd -dc FILE | packet_dump") else None)
 
--- what can be done about a capture that is refused so
+-- a hint about a capture that is rejected
 abbrev pub hint_text : Refusal → Option (List ℕ)
 hint_text (UnknownMagic magic) = magic_hint magic
 hint_text other = None

@@ -1,5 +1,5 @@
--- The names of the types and codes of ICMP (RFC 792, 950, 1108, 1122, 1256, 1812, 2521, 8335) and of ICMPv6 (RFC 2710,
--- 3122, 3810, 3971, 4286, 4443, 4861, 6275, 6550, 7112, 8335), and what messages hold.
+-- Names of the types and codes of ICMPv4 (RFC 792, 950, 1108, 1122, 1256, 1812, 2521, 8335) and of ICMPv6 (RFC 2710,
+-- 3122, 3810, 3971, 4286, 4443, 4861, 6275, 6550, 7112, 8335), and the fields of messages.
 use Rattle.std.specs.Prelude.{ℕ, ◌==◌, nat_lt, if◌then◌else◌, List, [], ◌++◌, Option, Some, None, codes}
 use Rattle.std.specs.Fmt.{decimal}
 use Rattle.etherparse.specs.Types.IcmpEchoHeader.{IcmpEchoHeader}
@@ -11,7 +11,7 @@ use Rattle.etherparse.specs.Icmpv4.{icmpv4_code_u8, icmpv4_type_u8}
 use Rattle.etherparse.specs.Icmpv6.{icmpv6_code_u8, icmpv6_type_u8}
 use Rattle.packet_dump.specs.Addresses.{ipv4_text}
 
--- the name of a type of ICMP
+-- the name of an ICMPv4 type
 abbrev pub icmpv4_type_name : ℕ → Option (List ℕ)
 icmpv4_type_name type =
     if type == 0 then Some (codes "echo-reply") else
@@ -31,7 +31,7 @@ icmpv4_type_name type =
     (if type == 42 then Some (codes "extended-echo-request") else
     (if type == 43 then Some (codes "extended-echo-reply") else None)))))))))))))))
 
--- the name of a code of an ICMP message about a destination that cannot be reached
+-- the name of a code of Destination Unreachable (ICMPv4 type 3)
 abbrev pub icmpv4_unreachable_name : ℕ → Option (List ℕ)
 icmpv4_unreachable_name code =
     if code == 0 then Some (codes "network") else
@@ -51,7 +51,7 @@ icmpv4_unreachable_name code =
     (if code == 14 then Some (codes "precedence-violation") else
     (if code == 15 then Some (codes "precedence-cutoff") else None)))))))))))))))
 
--- the name of a code of a redirection
+-- the name of a code of Redirect (ICMPv4 type 5)
 abbrev pub icmpv4_redirect_name : ℕ → Option (List ℕ)
 icmpv4_redirect_name code =
     if code == 0 then Some (codes "network") else
@@ -59,19 +59,19 @@ icmpv4_redirect_name code =
     (if code == 2 then Some (codes "network-service") else
     (if code == 3 then Some (codes "host-service") else None)))
 
--- the name of a code of a time that is exceeded, which is of ICMPv6 too
+-- the name of a code of Time Exceeded, of ICMPv4 and ICMPv6
 abbrev pub exceeded_name : ℕ → Option (List ℕ)
 exceeded_name code =
     if code == 0 then Some (codes "in-transit") else (if code == 1 then Some (codes "reassembly") else None)
 
--- the name of a code of a parameter problem
+-- the name of a code of Parameter Problem (ICMPv4 type 12)
 abbrev pub icmpv4_problem_name : ℕ → Option (List ℕ)
 icmpv4_problem_name code =
     if code == 0 then Some (codes "pointer") else
     (if code == 1 then Some (codes "missing-option") else
     (if code == 2 then Some (codes "bad-length") else None))
 
--- the name of a code of ICMP
+-- the name of an ICMPv4 code
 abbrev pub icmpv4_code_name : ℕ → ℕ → Option (List ℕ)
 icmpv4_code_name type code =
     if type == 3 then icmpv4_unreachable_name code else
@@ -79,7 +79,7 @@ icmpv4_code_name type code =
     (if type == 11 then exceeded_name code else
     (if type == 12 then icmpv4_problem_name code else None)))
 
--- the name of a type of an error of ICMPv6
+-- the name of an ICMPv6 error type
 abbrev pub icmpv6_error_name : ℕ → Option (List ℕ)
 icmpv6_error_name type =
     if type == 1 then Some (codes "destination-unreachable") else
@@ -87,7 +87,7 @@ icmpv6_error_name type =
     (if type == 3 then Some (codes "time-exceeded") else
     (if type == 4 then Some (codes "parameter-problem") else None)))
 
--- the name of a type of ICMPv6 that tells something, below 144
+-- the name of an ICMPv6 informational type below 144
 abbrev pub icmpv6_neighbor_name : ℕ → Option (List ℕ)
 icmpv6_neighbor_name type =
     if type == 128 then Some (codes "echo-request") else
@@ -104,7 +104,7 @@ icmpv6_neighbor_name type =
     (if type == 142 then Some (codes "inverse-neighbor-advertisement") else
     (if type == 143 then Some (codes "listener-report-v2") else None))))))))))))
 
--- the same from 144 on
+-- the name of an ICMPv6 informational type from 144 on
 abbrev pub icmpv6_further_name : ℕ → Option (List ℕ)
 icmpv6_further_name type =
     if type == 144 then Some (codes "home-agent-address-request") else
@@ -119,13 +119,13 @@ icmpv6_further_name type =
     (if type == 160 then Some (codes "extended-echo-request") else
     (if type == 161 then Some (codes "extended-echo-reply") else None))))))))))
 
--- the name of a type of ICMPv6
+-- the name of an ICMPv6 type
 abbrev pub icmpv6_type_name : ℕ → Option (List ℕ)
 icmpv6_type_name type =
     if nat_lt type 128 then icmpv6_error_name type else
     (if nat_lt type 144 then icmpv6_neighbor_name type else icmpv6_further_name type)
 
--- the name of a code of an ICMPv6 message about a destination that cannot be reached
+-- the name of a code of Destination Unreachable (ICMPv6 type 1)
 abbrev pub icmpv6_unreachable_name : ℕ → Option (List ℕ)
 icmpv6_unreachable_name code =
     if code == 0 then Some (codes "no-route") else
@@ -137,7 +137,7 @@ icmpv6_unreachable_name code =
     (if code == 6 then Some (codes "reject-route") else
     (if code == 7 then Some (codes "source-routing-header") else None)))))))
 
--- the name of a code of a parameter problem of ICMPv6
+-- the name of a code of Parameter Problem (ICMPv6 type 4)
 abbrev pub icmpv6_problem_name : ℕ → Option (List ℕ)
 icmpv6_problem_name code =
     if code == 0 then Some (codes "erroneous-header") else
@@ -145,29 +145,29 @@ icmpv6_problem_name code =
     (if code == 2 then Some (codes "unrecognized-option") else
     (if code == 3 then Some (codes "incomplete-header-chain") else None)))
 
--- the name of a code of ICMPv6
+-- the name of an ICMPv6 code
 abbrev pub icmpv6_code_name : ℕ → ℕ → Option (List ℕ)
 icmpv6_code_name type code =
     if type == 1 then icmpv6_unreachable_name code else
     (if type == 3 then exceeded_name code else
     (if type == 4 then icmpv6_problem_name code else None))
 
--- a type, by its name or else by its number
+-- the name of a type, or its number if it has no name
 abbrev pub type_text : Option (List ℕ) → ℕ → List ℕ
 type_text (Some name) type = codes " " ++ name
 type_text None type = codes " type " ++ decimal type
 
--- a code, by its name or else by its number; the code 0 without a name says nothing
+-- the name of a code, or its number if it has no name; code 0 without a name is left out
 abbrev pub code_text : Option (List ℕ) → ℕ → List ℕ
 code_text (Some name) code = codes " " ++ name
 code_text None code = if code == 0 then [] else codes " code " ++ decimal code
 
--- what belongs to an echo
+-- the identifier and the sequence number of an echo
 abbrev pub echo_text : IcmpEchoHeader → List ℕ
 echo_text echo = codes " id " ++ decimal echo.id ++ codes " seq " ++ decimal echo.seq
 
--- what a message of ICMP says beside its type and code: an echo's numbers, how much the next network takes, a gateway,
--- where the byte stands that is wrong
+-- the fields of an ICMPv4 message after its type and code: the identifier and the sequence number of an echo or
+-- timestamp message, the MTU of the next hop, a gateway address, the pointer to the wrong byte
 abbrev pub icmpv4_content_text : Icmpv4Type → List ℕ
 icmpv4_content_text (message4.Unknown type code bytes5to8) = []
 icmpv4_content_text (message4.EchoReply echo) = echo_text echo
@@ -181,7 +181,7 @@ icmpv4_content_text (message4.ParameterProblem code pointer) =
 icmpv4_content_text (message4.TimestampRequest times) = codes " id " ++ decimal times.id ++ codes " seq " ++ decimal times.seq
 icmpv4_content_text (message4.TimestampReply times) = codes " id " ++ decimal times.id ++ codes " seq " ++ decimal times.seq
 
--- a message of ICMP: its type, its code, and what it says beside them
+-- an ICMPv4 message: its type, its code and its further fields
 abbrev pub icmpv4_text : Icmpv4Type → List ℕ
 icmpv4_text message =
     let type = icmpv4_type_u8 message in
@@ -189,7 +189,8 @@ icmpv4_text message =
     codes " icmpv4" ++ type_text (icmpv4_type_name type) type ++ code_text (icmpv4_code_name type code) code
     ++ icmpv4_content_text message
 
--- what a message of ICMPv6 says beside its type and code: an echo's numbers, how much a network takes
+-- the fields of an ICMPv6 message after its type and code: the identifier and the sequence number of an echo, the MTU,
+-- the pointer to the wrong byte
 abbrev pub icmpv6_content_text : Icmpv6Type → List ℕ
 icmpv6_content_text (message6.Unknown type code bytes5to8) = []
 icmpv6_content_text (message6.DestinationUnreachable code) = []
@@ -199,7 +200,7 @@ icmpv6_content_text (message6.ParameterProblem code pointer) = codes " pointer "
 icmpv6_content_text (message6.EchoRequest echo) = echo_text echo
 icmpv6_content_text (message6.EchoReply echo) = echo_text echo
 
--- a message of ICMPv6: its type, its code, and what it says beside them
+-- an ICMPv6 message: its type, its code and its further fields
 abbrev pub icmpv6_text : Icmpv6Type → List ℕ
 icmpv6_text message =
     let type = icmpv6_type_u8 message in

@@ -1,4 +1,4 @@
--- The text of a frame's layers, a space before each.
+-- Text of the layers of a packet, each after a space.
 use Rattle.std.specs.Prelude.{ℕ, Bool, true, false, ◌&&◌, if◌then◌else◌, nat_le, List, [], ◌++◌, Option, Some, None, codes}
 use Rattle.std.specs.Fmt.{decimal}
 use Rattle.std.specs.Int.{w16, to_be_bytes}
@@ -21,7 +21,7 @@ use Rattle.packet_dump.specs.Nets.{begins_payload, net_text}
 use Rattle.packet_dump.specs.SliceErrorTexts.{stop_text}
 use Rattle.packet_dump.specs.Transports.{header_front_text, len_text, transport_text}
 
--- the name of a number, where it has one
+-- the name of a number, if it has one
 abbrev pub name_text : Option (List ℕ) → List ℕ
 name_text (Some name) = codes " " ++ name
 name_text None = []
@@ -30,22 +30,22 @@ name_text None = []
 abbrev pub protocol_text : ℕ → List ℕ
 protocol_text number = codes " protocol " ++ decimal number ++ name_text (ip_number_name number)
 
--- the payload of an IP packet in which no transport layer is read: its protocol and its length
+-- an IP payload without a parsed transport layer: its protocol and its length
 abbrev pub ip_payload_text : Option IpPayload → List ℕ
 ip_payload_text (Some payload) = protocol_text payload.number ++ len_text payload.bytes
 ip_payload_text None = []
 
--- what is told of the front of a payload of IP, which begins with a transport header or not
+-- the known fields at the start of an IP payload, if it begins with a transport header
 abbrev pub payload_front_text : Bool → Option IpPayload → List ℕ
 payload_front_text begins (Some payload) = if begins then header_front_text payload.number payload.bytes else []
 payload_front_text begins None = []
 
--- What is told of a transport header that is not read, since it is cut, or stands in a first fragment.
+-- the known fields of a transport header that is not parsed since it is truncated, invalid or in a first fragment
 abbrev pub transport_front_text : Option NetLayer → List ℕ
 transport_front_text (Some net) = payload_front_text (begins_payload net) (net_payload net)
 transport_front_text None = []
 
--- whether a link layer is Ethernet, whose type is a length up to 1500 (IEEE 802.3, 3.2.6)
+-- True if a link layer is Ethernet, whose type field is a length up to 1500 (IEEE 802.3, 3.2.6).
 abbrev pub has_lengths : Option LinkLayer → Bool
 has_lengths (Some (ethernet2 header payload)) = true
 has_lengths (Some (linux_sll header payload)) = false
@@ -53,7 +53,7 @@ has_lengths (Some (ether_payload type source payload)) = false
 has_lengths (Some (linux_sll_payload protocol payload)) = false
 has_lengths None = false
 
--- whether an ether type is a length, where it may be one
+-- True if an ether type is a length, given whether the link layer has lengths.
 abbrev pub is_length : Bool → ℕ → Bool
 is_length lengths type = lengths && nat_le type 1500
 
@@ -61,53 +61,54 @@ is_length lengths type = lengths && nat_le type 1500
 abbrev pub named_type_text : ℕ → List ℕ
 named_type_text type = codes " type 0x" ++ hex_text (to_be_bytes w16 type) ++ name_text (ether_type_name type)
 
--- the same, or a length
+-- an ether type and its name, or a length
 abbrev pub type_text : Bool → ℕ → List ℕ
 type_text lengths type =
     if is_length lengths type then codes " length " ++ decimal type else named_type_text type
 
--- an ether type, where it is known
+-- an ether type, if it is known
 abbrev pub ether_type_text : Bool → Option EtherType → List ℕ
 ether_type_text lengths (Some type) = type_text lengths type.0
 ether_type_text lengths None = []
 
--- what no layer was read in: the payload of an IP packet, or else that of the link layer and its extensions
+-- the payload that no layer was read from: that of the IP packet, or else that of the link layer and its extensions
 abbrev pub unread_text : Option NetLayer → Bool → Option EtherType → List ℕ → List ℕ
 unread_text (Some net) lengths type payload = transport_front_text (Some net) ++ ip_payload_text (net_payload net)
 unread_text None lengths type payload = ether_type_text lengths type ++ len_text payload
 
--- the same of some layers
+-- the payload that no layer was read from, given the layers
 abbrev pub unread_in : Layers → List ℕ
 unread_in layers =
     unread_text layers.net (has_lengths layers.link) (payload_ether_type_in layers) (last_payload layers)
 
--- the transport layer, or else what no layer was read in
+-- the transport layer, or the payload that no layer was read from
 abbrev pub inner_text : Option TransportLayer → List ℕ → List ℕ
 inner_text (Some layer) unread = transport_text layer
 inner_text None unread = unread
 
--- the same of some layers, and how many bytes the last payload has, where some are missing
+-- the transport layer, or the payload that no layer was read from, given the layers, and the full length of the last
+-- payload if bytes of it are missing
 abbrev pub inner_in : Bool → Layers → List ℕ
 inner_in incomplete layers = inner_text layers.transport (unread_in layers) ++ whole_text incomplete layers
 
--- what is told of a transport header that is refused, and of the length of what lies behind it
+-- the known fields of a rejected transport header, and the length of its payload
 abbrev pub refused_front_text : Option NetLayer → List ℕ
 refused_front_text net = transport_front_text net ++ cut_payload_text net
 
--- the layers outside the payload of the net layer, from the outside in
+-- the layers outside the payload of the network layer, from the outermost inwards
 abbrev pub outer_text : Layers → List ℕ
 outer_text layers = link_text layers.link ++ extensions_text layers.link_exts ++ net_text layers.net
 
--- what stands in them, or why the layer that does is refused
+-- the payload of the outer layers, or why the next layer is rejected
 abbrev pub rest_text : Bool → Layers → Option (SliceError × Layer) → List ℕ
 rest_text incomplete layers None = inner_in incomplete layers
 rest_text incomplete layers (Some stop) = refused_front_text layers.net ++ stop_text stop.0
 
--- that bytes of the last payload are missing which a length field says are there
+-- a word if bytes of the last payload are missing, by a length field
 abbrev pub incomplete_text : Bool → List ℕ
 incomplete_text incomplete = if incomplete then codes " incomplete" else []
 
--- all layers that stand, from the outside in, and what is wrong behind them
+-- all valid layers, from the outermost inwards, and then the error, if any
 abbrev pub packet_text : LaxLayers → List ℕ
 packet_text read =
     outer_text (layers_in read) ++ rest_text read.net.inside.incomplete (layers_in read) read.net.inside.stop

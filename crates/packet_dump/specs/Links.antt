@@ -1,4 +1,4 @@
--- The text of link layers and link extensions, a space before each.
+-- Text of link layers and link extensions, each after a space.
 use Rattle.std.specs.Prelude.{ℕ, ◌==◌, min, if◌then◌else◌, List, [], ◌∷◌, ◌++◌, take, Option, Some, None, codes}
 use Rattle.std.specs.Fmt.{decimal}
 use Rattle.std.specs.Int.{w64, to_be_bytes}
@@ -10,7 +10,7 @@ use Rattle.etherparse.specs.Types.MacsecPType.{MacsecPType}
 use Rattle.etherparse.specs.Types.MacsecPType.TheVariants.{Unmodified, Modified, Encrypted, EncryptedUnmodified}
 use Rattle.packet_dump.specs.Addresses.{hex_text, mac_text, octets_text}
 
--- which way a packet of a Linux cooked capture went
+-- the direction of a packet of a Linux cooked capture, by its packet type
 abbrev pub way_name : ℕ → List ℕ
 way_name type =
     if type == 0 then codes "host" else
@@ -21,20 +21,20 @@ way_name type =
     (if type == 5 then codes "loopback" else
     (if type == 6 then codes "user" else codes "kernel"))))))
 
--- the sender's address, of which up to 8 bytes are there
+-- the address of the sender, up to 8 bytes
 abbrev pub sll_sender : LinuxSllHeader → List ℕ
 sll_sender header = take (min header.sender_address_valid_length 8) header.sender_address
 
--- an address, where it has bytes
+-- an address, if it is not empty
 abbrev pub sender_text : List ℕ → List ℕ
 sender_text [] = []
 sender_text (byte ∷ bytes) = codes " from " ++ octets_text (byte ∷ bytes)
 
--- a Linux cooked capture: which way the packet went, and the sender's address
+-- a Linux cooked capture: the direction of the packet, and the address of the sender
 abbrev pub sll_text : LinuxSllHeader → List ℕ
 sll_text header = codes " sll " ++ way_name header.packet_type.0 ++ sender_text (sll_sender header)
 
--- a link layer: Ethernet with its addresses; without a header there is no text
+-- a link layer: Ethernet with its addresses, or a Linux cooked capture; empty without a header
 abbrev pub link_text : Option LinkLayer → List ℕ
 link_text (Some (ethernet2 ethernet payload)) =
     codes " eth " ++ mac_text ethernet.source ++ codes " > " ++ mac_text ethernet.destination
@@ -43,29 +43,29 @@ link_text (Some (ether_payload type source payload)) = []
 link_text (Some (linux_sll_payload protocol payload)) = []
 link_text None = []
 
--- what was done to the payload of a MACsec packet, where anything was
+-- the change to the payload of a MACsec packet, if there is one
 abbrev pub change_text : MacsecPType → List ℕ
 change_text (Unmodified type) = []
 change_text Modified = codes " modified"
 change_text Encrypted = codes " encrypted"
 change_text EncryptedUnmodified = codes " encrypted-unmodified"
 
--- a secure channel identifier, where there is one
+-- a secure channel identifier (SCI), if present
 abbrev pub channel_text : Option ℕ → List ℕ
 channel_text (Some sci) = codes " sci " ++ hex_text (to_be_bytes w64 sci)
 channel_text None = []
 
--- a MACsec tag: its packet number, the channel, and what was done to the payload
+-- a MACsec tag: its packet number, its channel and the change to its payload
 abbrev pub macsec_text : MacsecHeader → List ℕ
 macsec_text tag =
     codes " macsec pn " ++ decimal tag.packet_nr ++ channel_text tag.sci ++ change_text tag.ptype
 
--- a link extension: a VLAN with its identifier
+-- a link extension: a VLAN tag with its identifier, or a MACsec tag
 abbrev pub extension_text : LinkExtension → List ℕ
 extension_text (vlan tag payload) = codes " vlan:" ++ decimal tag.vlan_id
 extension_text (macsec tag payload) = macsec_text tag
 
--- link extensions, from the outside in
+-- link extensions, from the outermost inwards
 abbrev pub extensions_text : List LinkExtension → List ℕ
 extensions_text [] = []
 extensions_text (extension ∷ others) = extension_text extension ++ extensions_text others

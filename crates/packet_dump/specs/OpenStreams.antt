@@ -1,4 +1,4 @@
--- The open streams of the program's pool, and the list of their names.
+-- Open streams of the pool, and the list of their names.
 use Rattle.std.specs.Prelude.{◌≡◌, ◌↔◌, ℕ, nat_eq, if◌then◌else◌, is_some, Option, Some, None, Result, Ok, Err}
 use Rattle.std.specs.BTreeMap.{BTreeMap, get}
 use Rattle.std.specs.Option.{option_map}
@@ -10,37 +10,36 @@ use Rattle.etherparse.specs.Types.IpFragId.{IpFragId}
 use Rattle.etherparse.specs.Pools.{stream_named}
 use Rattle.packet_dump.specs.declared.pooling.Arrival.{Arrival}
 
--- when the last accepted fragment of an open stream came
+-- the arrival of the last accepted fragment of an open stream
 abbrev pub arrival_at : IpFragId ℕ → IpDefragPool Arrival ℕ → Option Arrival
 arrival_at name pool = option_map (λ stream. stream.timestamp) (stream_named nat_eq name pool)
 
--- with the packet of which number
+-- the number of the packet with the last accepted fragment of an open stream
 abbrev pub number_at : IpFragId ℕ → IpDefragPool Arrival ℕ → Option ℕ
 number_at name pool = option_map (λ at. at.number) (arrival_at name pool)
 
--- the same behind the answer to a fragment of the stream that came with the packet of this number, where it was another
+-- the number of a stream after the answer to its fragment in packet `number`, given the number before
 abbrev pub number_behind : Result (Option IpDefragPayloadVec) IpDefragError → Option ℕ → ℕ → Option ℕ
 number_behind (Ok None) stood number = Some number
 number_behind (Ok (Some payload)) stood number = None
 number_behind (Err error) stood number = stood
 
--- what stands under each number, without what stands under this one
+-- a list without the entry `gone`, if there is one
 abbrev pub without : {X : Type 0} → (ℕ → Option X) → Option ℕ → ℕ → Option X
 without stands None number = stands number
 without stands (Some gone) number = if nat_eq gone number then None else stands number
 
--- the same, with this under this number
+-- a list with the entry `one` by the number `under`, if there is one
 abbrev pub with_one : {X : Type 0} → (ℕ → Option X) → X → Option ℕ → ℕ → Option X
 with_one stands one None number = stands number
 with_one stands one (Some under) number = if nat_eq under number then Some one else stands number
 
--- a name, where its stream is open
+-- the name of a stream, if the stream is open
 abbrev pub open_at : IpDefragPool Arrival ℕ → Option (IpFragId ℕ) → Option (IpFragId ℕ)
 open_at pool None = None
 open_at pool (Some name) = if is_some (arrival_at name pool) then Some name else None
 
--- Each open stream is listed under the number of the packet with which its last accepted fragment came, and no other
--- name is listed.
+-- Each open stream is listed by the number of the packet with its last accepted fragment, and no other name is listed.
 abbrev pub IsListed : BTreeMap ℕ (IpFragId ℕ) → IpDefragPool Arrival ℕ → Type 0
 IsListed names pool = (number : ℕ) (name : IpFragId ℕ)
     → (get nat_cmp names number ≡ Some name) ↔ (number_at name pool ≡ Some number)

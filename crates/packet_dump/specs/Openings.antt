@@ -1,4 +1,5 @@
--- What packets of a link type begin with. Of some the program reads the header itself, and the library what is behind it.
+-- Start of packets by link type. For some link types the program parses the header itself, and the library the bytes
+-- after it.
 use Rattle.std.specs.Prelude.{ℕ, ◌+◌, ◌*◌, ◌==◌, ◌&&◌, ◌||◌, not, nat_le, if◌then◌else◌, Bool, List, [], ◌++◌, Option, Some}
 use Rattle.std.specs.Prelude.{None, codes, drop, length, min, slice_index, slice_range, take}
 use Rattle.std.specs.Fmt.{decimal}
@@ -9,35 +10,35 @@ use Rattle.etherparse.specs.Types.Entry.TheVariants.{Ethernet, LinuxSll, EtherTy
 use Rattle.packet_dump.specs.Links.{sender_text, way_name}
 use Rattle.packet_dump.specs.declared.openings.Opening.{Opening}
 
--- all bytes are the library's, which begin so
+-- the opening of a packet whose bytes are all parsed by the library
 abbrev pub whole_of : Entry → Opening
 whole_of entry = record { entry = entry; skipped = 0 }
 
--- so many bytes are read here, and say this ether type of what is behind them
+-- the opening of a packet whose payload of the given ether type starts after `skipped` bytes
 abbrev pub behind_front : ℕ → ℕ → Opening
 behind_front skipped type = record { entry = EtherType (record { 0 = type }); skipped = skipped }
 
--- whether the header of a Linux cooked capture is read here
+-- True if the header of a Linux cooked capture is parsed by the program.
 abbrev pub is_cooked : Opening → Bool
 is_cooked opening = nat_le 16 opening.skipped
 
--- IP alone: of either version (12 and 14 on BSD, 101), IPv4 (228) or IPv6 (229)
+-- True for link types of IP without a link header: of either version (12 and 14 on BSD, 101), IPv4 (228) or IPv6 (229).
 abbrev pub is_bare_ip : ℕ → Bool
 is_bare_ip link = (link == 12) || (link == 14) || (link == 101) || (link == 228) || (link == 229)
 
--- ---- loopback of BSD (0, and 108 of OpenBSD): four bytes, which say the family of addresses
+-- ---- BSD loopback (0, and 108 of OpenBSD): four bytes with the address family
 
--- the family, whose number stands in the last byte or in the first, by the byte order of the machine
+-- the address family, in the last or in the first byte, by the byte order of the machine
 abbrev pub family_in : List ℕ → ℕ
 family_in bytes =
     if (word_at bytes 0 == 0) && (slice_index bytes 2 == 0) then slice_index bytes 3 else
     (if (slice_index bytes 1 == 0) && (word_at bytes 2 == 0) then slice_index bytes 0 else 0)
 
--- the family of IPv6, whose number differs by the system: Linux, NetBSD and OpenBSD, FreeBSD, macOS
+-- True for the address family of IPv6, whose number differs by system: Linux, NetBSD and OpenBSD, FreeBSD, macOS.
 abbrev pub is_ipv6_family : ℕ → Bool
 is_ipv6_family family = (family == 10) || (family == 24) || (family == 28) || (family == 30)
 
--- what stands behind the number of a family: of 2 IPv4
+-- the opening of a packet after its address family: IPv4 for 2, or IPv6
 abbrev pub family_opening : ℕ → Option Opening
 family_opening family =
     if family == 2 then Some (behind_front 4 ipv4_type) else
@@ -48,31 +49,33 @@ loopback_opening bytes = if nat_le 4 (length bytes) then family_opening (family_
 
 -- ---- Linux cooked captures
 
--- the hardware types whose protocol is no ether type: Frame Relay, IEEE 802.11 with a radiotap header, netlink
+-- True for the hardware types whose protocol field is no ether type: Frame Relay, IEEE 802.11 with a radiotap header,
+-- netlink.
 abbrev pub has_no_type : ℕ → Bool
 has_no_type hardware = (hardware == 770) || (hardware == 803) || (hardware == 824)
 
--- Those whose protocol is read here as an ether type, as that of a GRE tunnel is one (778; RFC 2784, 2.4). By that of
--- Ethernet (1) and the loopback device (772) the library reads what is behind them.
+-- True for the hardware types whose protocol field the program parses as an ether type, as that of a GRE tunnel is one
+-- (778; RFC 2784, 2.4). Ethernet (1), the loopback device (772) and the types without ether types are left to the
+-- library.
 abbrev pub reads_hardware : ℕ → Bool
 reads_hardware hardware = not ((hardware == 1) || (hardware == 772) || has_no_type hardware)
 
--- whether the header of a capture of version 1 is read here
+-- True if the program parses the header of a capture of version 1.
 abbrev pub reads_sll : List ℕ → Bool
 reads_sll bytes = nat_le 16 (length bytes) && (nat_le (word_at bytes 0) 7 && reads_hardware (word_at bytes 2))
 
 abbrev pub sll_opening : List ℕ → Opening
 sll_opening bytes = if reads_sll bytes then behind_front 16 (word_at bytes 14) else whole_of LinuxSll
 
--- Whether the header of a capture of version 2 (276) is read: 20 bytes, of the protocol (2), nothing (2), the number of
--- the interface (4), the hardware type (2), which way the packet went (1), and the length (1) and bytes (8) of an address.
+-- True if the header of a capture of version 2 (276) is supported. It has 20 bytes: protocol (2), reserved (2),
+-- interface index (4), hardware type (2), packet type (1), and the length (1) and bytes (8) of an address.
 abbrev pub reads_sll2 : List ℕ → Bool
 reads_sll2 bytes = nat_le 20 (length bytes) && not (has_no_type (word_at bytes 8))
 
 abbrev pub sll2_opening : List ℕ → Option Opening
 sll2_opening bytes = if reads_sll2 bytes then Some (behind_front 20 (word_at bytes 0)) else None
 
--- ---- all of them
+-- ---- all link types
 
 abbrev pub opening_of : ℕ → List ℕ → Option Opening
 opening_of link bytes =
@@ -82,25 +85,25 @@ opening_of link bytes =
     (if (link == 0) || (link == 108) then loopback_opening bytes else
     (if link == 276 then sll2_opening bytes else None))))
 
--- the bytes that the library reads, where they begin so; all where they are not read
+-- the bytes that the library parses after an opening; all bytes without one
 abbrev pub bytes_behind : Option Opening → List ℕ → List ℕ
 bytes_behind (Some opening) bytes = drop opening.skipped bytes
 bytes_behind None bytes = bytes
 
--- the same of bytes of this link type
+-- the bytes of a packet of a link type that the library parses
 abbrev pub read_bytes : ℕ → List ℕ → List ℕ
 read_bytes link bytes = bytes_behind (opening_of link bytes) bytes
 
--- what is told of a header that is read here: which way the packet went, and the sender's address
+-- the fields of a header that the program parses: the direction of the packet, and the address of the sender
 unfoldable pub sll_front : List ℕ → List ℕ
 sll_front bytes =
     codes " sll " ++ way_name (word_at bytes 0) ++ sender_text (take (min (word_at bytes 4) 8) (slice_range bytes 6 14))
 
--- the number of the interface
+-- the interface index
 abbrev pub sll2_interface : List ℕ → ℕ
 sll2_interface bytes = 65536 * word_at bytes 4 + word_at bytes 6
 
--- which way the packet went
+-- the direction of the packet
 abbrev pub way_text : ℕ → List ℕ
 way_text way = codes " " ++ way_name way
 

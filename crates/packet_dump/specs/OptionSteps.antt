@@ -1,4 +1,4 @@
--- How the words of the command line are read, one at a time. Only private calls cite this.
+-- Parsing of the command line, one argument at a time. Only private functions refer to these definitions.
 use Rattle.std.specs.Prelude.{◌≡◌, ℕ, ◌^◌, Bool, true, false, ◌&&◌, if◌then◌else◌, nat_eq, nat_lt, List, [], ◌∷◌, length}
 use Rattle.std.specs.Prelude.{Option, Some, None, Result, Ok, Err, codes, find}
 use Rattle.std.specs.Option.{option_map}
@@ -26,7 +26,7 @@ use Rattle.packet_dump.specs.declared.dump_options.Kind.TheVariants as kind
 use Rattle.packet_dump.specs.declared.dump_options.TimeForm.{TimeForm}
 use Rattle.packet_dump.specs.declared.dump_options.TimeForm.TheVariants.{Relative, Epoch, Utc}
 
--- the words that begin with `-`, with what they are
+-- the arguments that begin with `-`, with their meaning
 abbrev pub word_table : List (List ℕ × Word)
 word_table =
     (codes "-h", word.Help) ∷ (codes "--help", word.Help) ∷ (codes "-V", word.Version)
@@ -42,7 +42,7 @@ word_table =
     ∷ (codes "--vlan", word.Option (Filter Vlan)) ∷ (codes "--net", word.Option (Filter Net))
     ∷ (codes "-c", word.Option Count) ∷ (codes "-r", word.Option Input) ∷ (codes "-", word.StandardInput) ∷ []
 
--- what a word is that is no option's value, by such a table
+-- the meaning of an argument that is no value of an option, by a table
 abbrev pub word_in : List (List ℕ × Word) → List ℕ → Word
 word_in [] text = if is_dashed text then word.Unknown else word.File
 word_in (row ∷ rows) text = if bytes_eq text row.0 then row.1 else word_in rows text
@@ -50,7 +50,7 @@ word_in (row ∷ rows) text = if bytes_eq text row.0 then row.1 else word_in row
 abbrev pub word_named : List ℕ → Word
 word_named text = word_in word_table text
 
--- what stands in front of the first `=` and behind it, where there is one
+-- the text before the first `=` and the text after it, if there is one
 abbrev pub parts_at_equals : List ℕ → Option (List ℕ × List ℕ)
 parts_at_equals [] = None
 parts_at_equals (byte ∷ bytes) =
@@ -58,12 +58,12 @@ parts_at_equals (byte ∷ bytes) =
     then Some ([], bytes)
     else option_map (λ parts. (byte ∷ parts.0, parts.1)) (parts_at_equals bytes)
 
--- the option that such a word is, with this value
+-- the option with the given value, if the word is an option that has one
 abbrev pub option_with : Word → List ℕ → Option (Awaited × List ℕ)
 option_with (word.Option option) value = Some (option, value)
 option_with other value = None
 
--- an option and its value, which stand in one word with `=` between
+-- an option and its value in one argument, separated by `=`
 abbrev pub joined_from : Option (List ℕ × List ℕ) → Option (Awaited × List ℕ)
 joined_from (Some parts) = option_with (word_named parts.0) parts.1
 joined_from None = None
@@ -71,7 +71,7 @@ joined_from None = None
 abbrev pub joined_in : List ℕ → Option (Awaited × List ℕ)
 joined_in text = joined_from (parts_at_equals text)
 
--- the number that a word says, of so many bits
+-- the number of an argument, if it fits in this number of bits
 abbrev pub number_in : ℕ → List ℕ → Option ℕ
 number_in bits word =
     let digits = without_leading_plus word in
@@ -80,20 +80,20 @@ number_in bits word =
     then Some (digits_value 10 digits)
     else None
 
--- the kind of packets of this name
+-- the kind of packets with the given name
 abbrev pub kind_named : List ℕ → Option Kind
 kind_named name =
     find (λ kind. bytes_eq name (kind_name kind)) (kind.Udp ∷ kind.Tcp ∷ kind.Icmp ∷ kind.Arp ∷ kind.Refused ∷ kind.Stopped ∷ [])
 
--- the form of times of this name
+-- the time format with the given name
 abbrev pub form_named : List ℕ → Option TimeForm
 form_named name = find (λ form. bytes_eq name (form_name form)) (Relative ∷ Epoch ∷ Utc ∷ [])
 
--- the input that a word names
+-- the input that an argument names
 abbrev pub input_in : List ℕ → Item
 input_in word = if bytes_eq word (codes "-") then standard_input else file word
 
--- what a word says of an option
+-- the value of an option, if the argument is one
 abbrev pub value_in : Awaited → List ℕ → Option Item
 value_in Count word = option_map count (number_in 64 word)
 value_in Only word = option_map only (kind_named word)
@@ -105,7 +105,7 @@ value_in Streams word = option_map streams (number_in 64 word)
 value_in (Filter kind) word = Some (filter kind word)
 value_in Input word = Some (input_in word)
 
--- how far the words are read
+-- the state of the parser
 pub record State : Type 0 where
   pub settings : Settings
   pub named : Bool
@@ -128,45 +128,45 @@ reading_state reading = record {
   awaited = reading.awaited;
 }
 
--- behind the value of an option that adds a word to a filter, or names the file that is written, or of another
+-- the state after a value that is kept as text: a filter primitive, or the name of the file to write
 abbrev pub filtered : State → Awaited → List ℕ → State
 filtered state Write text = record state { settings = with_item state.settings (write text) }
 filtered state (Filter kind) text = record state { settings = with_item state.settings (filter kind text) }
 filtered state option text = state
 
--- what a word comes to: more words are read, or this is the answer
+-- the result of an argument: the state for more arguments, or the answer
 pub data Step : Type 0 where
   more : State → Step
   done : Result Asked Fault → Step
 
--- behind an item
+-- the step of an item
 abbrev pub behind : State → Item → Step
 behind state item =
     more (record { settings = with_item state.settings item; named = state.named; awaited = None })
 
--- behind a word that says what is read
+-- the step of an argument that names the input
 abbrev pub named_by : State → List ℕ → Item → Step
 named_by state text item =
     if state.named
     then done (Err (second_file text))
     else more (record { settings = with_item state.settings item; named = true; awaited = None })
 
--- behind an item that a word says, which is what is read or is not
+-- the step of an item, given whether it names the input
 abbrev pub behind_item : State → List ℕ → Item → Bool → Step
 behind_item state text item true = named_by state text item
 behind_item state text item false = behind state item
 
--- behind the value of an option
+-- the step of the value of an option
 abbrev pub behind_value : State → Awaited → List ℕ → Option Item → Step
 behind_value state option text (Some item) = behind_item state text item (is_input item)
 behind_value state option text None = done (Err (bad_value option text))
 
--- behind a word that begins with `-` and is in no row, which is an option and its value, or means nothing
+-- the step of an argument that begins with `-` and is in no row of the table: an option joined to its value, or unknown
 abbrev pub behind_joined : State → List ℕ → Option (Awaited × List ℕ) → Step
 behind_joined state text (Some said) = behind_value state said.0 said.1 (value_in said.0 said.1)
 behind_joined state text None = done (Err (unknown_option text))
 
--- behind a word that is no value
+-- the step of an argument that is no value
 abbrev pub behind_word : State → List ℕ → Word → Step
 behind_word state text word.Help = done (Ok help)
 behind_word state text word.Version = done (Ok version)
@@ -183,7 +183,7 @@ behind_word state text word.StandardInput = named_by state text standard_input
 behind_word state text word.File = named_by state text (file text)
 behind_word state text word.Unknown = behind_joined state text (joined_in text)
 
--- what a word comes to
+-- the step of an argument
 abbrev pub step_from : State → List ℕ → Option Awaited → Step
 step_from state text (Some option) = behind_value state option text (value_in option text)
 step_from state text None = behind_word state text (word_named text)
@@ -191,7 +191,7 @@ step_from state text None = behind_word state text (word_named text)
 abbrev pub step : State → List ℕ → Step
 step state text = step_from state text state.awaited
 
--- the answer where no word follows
+-- the answer after the last argument
 abbrev pub finished_from : State → Option Awaited → Result Asked Fault
 finished_from state (Some option) = Err (no_value (option_word option))
 finished_from state None = if state.settings.crowded then Err crowded_filter else Ok (dump state.settings)
@@ -199,11 +199,11 @@ finished_from state None = if state.settings.crowded then Err crowded_filter els
 abbrev pub finished : State → Result Asked Fault
 finished state = finished_from state state.awaited
 
--- an option and its value that stood in one word
+-- an option and its value that were in one argument
 abbrev pub joined_parts : Joined → Awaited × List ℕ
 joined_parts said = (said.option, said.value.now)
 
--- a step gives this, and leaves this state
+-- The step has this answer and leaves this state.
 abbrev pub StepGives : Step → State → Result (Option Request) UsageError → Type 0
 StepGives step state (Ok None) = step ≡ more state
 StepGives step state (Ok (Some request)) = step ≡ done (Ok (asked_of request))

@@ -1,4 +1,4 @@
--- What the words of the command line ask, and what is wrong with them. A word is the list of its bytes.
+-- Requests and errors of a command line. An argument is the list of its bytes.
 use Rattle.std.specs.Prelude.{◌≡◌, ◌≢◌, ℕ, ◌^◌, ◌<◌, ◌≤◌, ◌⊎◌, ◌||◌, Bool, true, false, nat_eq, List, [], ◌∷◌, ◌++◌, Option}
 use Rattle.std.specs.Prelude.{Some, None, Result, Ok, Err, codes, count_by, drop, fold, is_some, map, replicate, take, String, string_bytes}
 use Rattle.std.specs.List.{list_any, starts_with}
@@ -21,7 +21,7 @@ use Rattle.packet_dump.specs.declared.dump_options.DumpOptions.{DumpOptions}
 use Rattle.packet_dump.specs.declared.dump_options.TimeForm.{TimeForm}
 use Rattle.packet_dump.specs.declared.dump_options.TimeForm.TheVariants.{Relative, Epoch, Utc}
 
--- the word of a kind of packets
+-- the name of a kind of packets on the command line
 abbrev pub kind_name : Kind → List ℕ
 kind_name kind.Udp = codes "udp"
 kind_name kind.Tcp = codes "tcp"
@@ -30,20 +30,20 @@ kind_name kind.Arp = codes "arp"
 kind_name kind.Refused = codes "refused"
 kind_name kind.Stopped = codes "stopped"
 
--- the word of a form of times
+-- the name of a time format on the command line
 abbrev pub form_name : TimeForm → List ℕ
 form_name Relative = codes "relative"
 form_name Epoch = codes "epoch"
 form_name Utc = codes "utc"
 
--- the word of an option that adds a word to a filter
+-- the option that adds a filter primitive
 abbrev pub filter_option : FilterKind → List ℕ
 filter_option Host = codes "--host"
 filter_option Port = codes "--port"
 filter_option Vlan = codes "--vlan"
 filter_option Net = codes "--net"
 
--- the word of an option that has a value, by which it is told
+-- the name of an option with a value, as it is in error messages
 abbrev pub option_word : Awaited → List ℕ
 option_word Count = codes "--count"
 option_word Only = codes "--only"
@@ -55,26 +55,26 @@ option_word Streams = codes "--streams"
 option_word (Filter kind) = filter_option kind
 option_word Input = codes "-r"
 
--- the word is one of the option
+-- The argument is a name of the option.
 abbrev pub IsOptionWord : Awaited → List ℕ → Type 0
 IsOptionWord Count word = (word ≡ codes "--count") ⊎ (word ≡ codes "-c")
 IsOptionWord option word = word ≡ option_word option
 
--- the word is the option and this value, with `=` between
+-- The argument is the option and this value, separated by `=`.
 abbrev pub IsJoined : Awaited → List ℕ → List ℕ → Type 0
 IsJoined option value word = (name : List ℕ) × IsOptionWord option name × (word ≡ name ++ codes "=" ++ value)
 
--- the words are the option and this value, in two words or in one
+-- The arguments are the option and this value, in two arguments or in one.
 abbrev pub AreSpelled : Awaited → List ℕ → List (List ℕ) → Type 0
 AreSpelled option value words =
     ((name : List ℕ) × IsOptionWord option name × (words ≡ name ∷ value ∷ []))
     ⊎ ((word : List ℕ) × IsJoined option value word × (words ≡ word ∷ []))
 
--- the word begins with `-`
+-- True if an argument begins with `-`.
 abbrev pub is_dashed : List ℕ → Bool
 is_dashed word = starts_with nat_eq word (codes "-")
 
--- the words that begin with `-` and mean something
+-- the known arguments that begin with `-`
 abbrev pub known_words : List (List ℕ)
 known_words =
     codes "-h" ∷ codes "--help" ∷ codes "-V" ∷ codes "--version" ∷ codes "--hex" ∷ codes "--hex=frame"
@@ -83,17 +83,17 @@ known_words =
     ∷ codes "--limit" ∷ codes "--write" ∷ codes "--streams" ∷ codes "--host" ∷ codes "--port" ∷ codes "--vlan"
     ∷ codes "--net" ∷ codes "-c" ∷ codes "-r" ∷ codes "-" ∷ []
 
--- the word is one of those
+-- True if an argument is one of the known ones.
 abbrev pub is_known : List ℕ → Bool
 is_known word = list_any (λ known. bytes_eq word known) known_words
 
--- the word says this number, of so many bits: digits, which a plus may lead
+-- The argument is this number, less than 2^bits: decimal digits, with an optional plus sign before them.
 abbrev pub IsNumber : ℕ → List ℕ → ℕ → Type 0
 IsNumber bits word number =
     IsNumeral 10 (without_leading_plus word) × (digits_value 10 (without_leading_plus word) ≡ number)
     × (number < 2 ^ bits)
 
--- One thing that words ask for.
+-- One item of a request.
 pub data Item : Type 0 where
   hex : Item
   hex_frame : Item
@@ -114,7 +114,7 @@ pub data Item : Type 0 where
   file : List ℕ → Item
   standard_input : Item
 
--- the word says this of the option
+-- The argument is this value of the option.
 abbrev pub IsValue : Awaited → List ℕ → Item → Type 0
 IsValue Count word (count number) = IsNumber 64 word number
 IsValue Only word (only kind) = word ≡ kind_name kind
@@ -128,12 +128,12 @@ IsValue Input word (file name) = (word ≡ name) × (word ≢ codes "-")
 IsValue Input word standard_input = word ≡ codes "-"
 IsValue option word item = ⊥
 
--- the words are an option and its value, which say this
+-- The arguments are an option and its value, which is this item.
 abbrev pub IsOption : List (List ℕ) → Item → Type 0
 IsOption words item =
     (option : Awaited) × (value : List ℕ) × AreSpelled option value words × IsValue option value item
 
--- the words ask for this one thing
+-- The arguments request this item.
 abbrev pub IsItem : List (List ℕ) → Item → Type 0
 IsItem words hex = words ≡ codes "--hex" ∷ []
 IsItem words hex_frame = words ≡ codes "--hex=frame" ∷ []
@@ -147,27 +147,27 @@ IsItem words (file name) = ((words ≡ name ∷ []) × (is_dashed name ≡ false
 IsItem words standard_input = (words ≡ codes "-" ∷ []) ⊎ IsOption words standard_input
 IsItem words item = IsOption words item
 
--- whether it says what is read
+-- True if an item names the input.
 abbrev pub is_input : Item → Bool
 is_input (file name) = true
 is_input standard_input = true
 is_input item = false
 
--- how many of the items say what is read
+-- the number of items that name the input
 abbrev pub inputs : List Item → ℕ
 inputs items = count_by is_input items
 
--- the words are those of these items, one behind the other, and then these
+-- The arguments are those of these items in order, and then `rest`.
 abbrev pub Begin : List (List ℕ) → List Item → List (List ℕ) → Type 0
 Begin words [] rest = words ≡ rest
 Begin words (item ∷ items) rest =
     (own more : List (List ℕ)) × (words ≡ own ++ more) × IsItem own item × Begin more items rest
 
--- A word of a filter, or none, in each of six places. What it says is read behind the command line.
+-- Six slots for filter primitives as text. They are parsed after the command line.
 abbrev pub Filters : Type 0
 Filters = List (Option (FilterKind × List ℕ))
 
--- the words of a filter as they stand in the command line
+-- the filter primitives as text of the command line
 abbrev pub filter_places : FilterTexts → List (Option FilterText)
 filter_places words =
     words.first ∷ words.second ∷ words.third ∷ words.fourth ∷ words.fifth ∷ words.sixth ∷ []
@@ -175,12 +175,12 @@ filter_places words =
 abbrev pub filter_texts : FilterTexts → Filters
 filter_texts words = map (λ place. option_map (λ word. (word.kind, word.text.now)) place) (filter_places words)
 
--- whether the last place is taken
+-- True if the last slot is taken.
 abbrev pub is_full : Filters → Bool
 is_full filters = list_any (λ slot. is_some slot) (drop 5 filters)
 
--- What is shown of a capture: the words of a filter, the last one first, and whether they are more than have a place;
--- of which file, if of one; into which file its packets are written, if into one; and whether a summary follows.
+-- The settings of a run: the options, the filter primitives, the last one first, and whether there are more than slots;
+-- the name of the input file and of the file to write, if any; and whether a summary follows.
 pub record Settings : Type 0 where
   pub options : DumpOptions
   pub filters : Filters
@@ -189,7 +189,7 @@ pub record Settings : Type 0 where
   pub target : Option (List ℕ)
   pub summary : Bool
 
--- where nothing is asked for
+-- the settings without any item
 abbrev pub default_settings : Settings
 default_settings = record {
   options = record {
@@ -214,7 +214,7 @@ default_settings = record {
   summary = false;
 }
 
--- the options, with what the item says of it
+-- the options after an item
 abbrev pub options_with : DumpOptions → Item → DumpOptions
 options_with options hex = record options { hex = true; whole = false }
 options_with options hex_frame = record options { hex = true; whole = true }
@@ -230,7 +230,7 @@ options_with options (limit bytes) = record options { limit = bytes }
 options_with options (streams number) = record options { streams = number }
 options_with options item = options
 
--- the settings, with what the item says of them
+-- the settings after an item
 abbrev pub with_item : Settings → Item → Settings
 with_item settings summary = record settings { summary = true }
 with_item settings (filter kind text) = record settings {
@@ -242,17 +242,17 @@ with_item settings (write name) = record settings { target = Some name }
 with_item settings standard_input = settings
 with_item settings item = record settings { options = options_with settings.options item }
 
--- what the items ask for: of several that say the same thing, the last decides, but the words of a filter are all kept
+-- the settings of the items: the last one of several of an option decides, but the last six filter primitives are kept
 abbrev pub settings_of : List Item → Settings
 settings_of items = fold with_item default_settings items
 
--- what a command line asks for
+-- a request of a command line
 pub data Asked : Type 0 where
   help : Asked
   version : Asked
   dump : Settings → Asked
 
--- what is wrong with one
+-- an error of a command line
 pub data Fault : Type 0 where
   unknown_option : List ℕ → Fault
   no_value : List ℕ → Fault
@@ -260,7 +260,7 @@ pub data Fault : Type 0 where
   second_file : List ℕ → Fault
   crowded_filter : Fault
 
--- the request asks for this
+-- the request as a definition
 abbrev pub asked_of : Request → Asked
 asked_of request.Help = help
 asked_of request.Version = version
@@ -273,7 +273,7 @@ asked_of (request.Dump options slots path target summarized) = dump (record {
   summary = summarized;
 })
 
--- the error says this
+-- the error as a definition
 abbrev pub fault_of : UsageError → Fault
 fault_of (usage.UnknownOption word) = unknown_option word.now
 fault_of (usage.NoValue option) = no_value option.now
@@ -286,32 +286,31 @@ fault_of (usage.NotAStreamCount word) = bad_value Streams word.now
 fault_of (usage.SecondFile word) = second_file word.now
 fault_of usage.CrowdedFilter = crowded_filter
 
--- the answer says this
+-- the answer of the parser as a definition
 abbrev pub answer_of : Result Request UsageError → Result Asked Fault
 answer_of (Ok request) = Ok (asked_of request)
 answer_of (Err error) = Err (fault_of error)
 
--- a word, and then any others
+-- The arguments begin with this one.
 abbrev pub Leads : List ℕ → List (List ℕ) → Type 0
 Leads word words = (others : List (List ℕ)) × (words ≡ word ∷ others)
 
--- these words begin with what says what is read, by this word
+-- The arguments begin with those that name the input, by this argument.
 abbrev pub LeadsInput : List ℕ → List (List ℕ) → Type 0
 LeadsInput word words =
     (Leads word words × ((is_dashed word ≡ false) ⊎ (word ≡ codes "-")))
     ⊎ ((own others : List (List ℕ)) × AreSpelled Input word own × (words ≡ own ++ others))
 
--- These words, behind items that ask for these settings, ask for this: what is to be dumped where they are none, and
--- else a text that the first of them asks for.
+-- The rest of the arguments, after items with these settings, completes this request: the text that the first argument
+-- asks for, or a dump if there is no argument left and the filter has no more primitives than slots.
 abbrev pub Asks : Settings → List (List ℕ) → Asked → Type 0
 Asks settings rest help = Leads (codes "-h") rest ⊎ Leads (codes "--help") rest
 Asks settings rest version = Leads (codes "-V") rest ⊎ Leads (codes "--version") rest
 Asks settings rest (dump asked) = (rest ≡ []) × (asked ≡ settings) × (settings.crowded ≡ false)
 
--- The first of these words is wrong so, or the one behind it, where so many items before them say what is read, and all
--- ask for these settings: it begins with `-` and means nothing, it is an option at the end, what it or the one behind it
--- says is no value of the option, or it says a second time what is read. Or there are none, and a filter has more words
--- than places.
+-- The rest of the arguments, after items with these settings (`before` of them name the input), has this error: the
+-- first argument begins with `-` and is unknown, it is an option at the end, the value of the option is invalid, or it
+-- names a second input. If there is no argument left, the error is a filter with more primitives than slots.
 abbrev pub IsFault : Settings → ℕ → List (List ℕ) → Fault → Type 0
 IsFault settings before rest crowded_filter = (rest ≡ []) × (settings.crowded ≡ true)
 IsFault settings before rest (unknown_option word) =
@@ -324,22 +323,22 @@ IsFault settings before rest (bad_value option word) =
     × ((item : Item) → IsValue option word item → ⊥)
 IsFault settings before rest (second_file word) = LeadsInput word rest × (before ≡ 1)
 
--- the words are those of these items, of which at most one says what is read, and then these
+-- The arguments are those of these items, with at most one input, and then `rest`.
 pub record Begins (words : List (List ℕ)) (items : List Item) (rest : List (List ℕ)) : Type 0 where
   pub items_first : Begin words items rest
   pub one_input : inputs items ≤ 1
 
--- the words ask for this
+-- The arguments make this request.
 abbrev pub IsRequest : List (List ℕ) → Asked → Type 0
 IsRequest words asked =
     (items : List Item) × (rest : List (List ℕ)) × Begins words items rest × Asks (settings_of items) rest asked
 
--- the words are wrong so: the first wrong one decides
+-- The arguments have this error: that of the first wrong one, or too many filter primitives if no argument is wrong.
 abbrev pub RefusesWords : List (List ℕ) → Fault → Type 0
 RefusesWords words fault =
     (items : List Item) × (rest : List (List ℕ)) × Begins words items rest
     × IsFault (settings_of items) (inputs items) rest fault
 
--- the bytes of each word
+-- the bytes of each argument
 abbrev pub texts : {A : Type 0} → List (String A) → List (List ℕ)
 texts words = map string_bytes words

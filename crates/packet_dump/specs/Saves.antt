@@ -1,4 +1,4 @@
--- The packets that are shown, as a capture in a file.
+-- Capture file of the selected packets.
 use Rattle.std.specs.Prelude.{◌≡◌, ℕ, ◌+◌, ◌^◌, ◌<◌, if◌then◌else◌, Bool, true, false, List, [], ◌∷◌, ◌++◌, Option}
 use Rattle.std.specs.Prelude.{Some, None, ◌&&◌}
 use Rattle.std.specs.Io.KnownBytes.{Appends}
@@ -19,20 +19,20 @@ use Rattle.packet_dump.specs.declared.saving.SaveState.{SaveState}
 use Rattle.packet_dump.specs.declared.saving.SaveState.TheVariants.{Unasked, Open, Stopped}
 use Rattle.packet_dump.specs.declared.saving.Saving.{Saving}
 
--- ---- which packets
+-- ---- selected packets
 
--- whether a packet that holds this is wanted: its kind is, and the words of the filter hold
+-- True if a packet of this content is selected: its kind is, and it matches the filter.
 abbrev pub is_wanted : DumpOptions → Content → Bool
 is_wanted options content = shows_kind options.only (content_kind content) && meets options.words content
 
--- of an item that shows this they are its packet, where that is wanted, and else none
+-- The packets are that of an item, if it is one and is selected, else none.
 abbrev pub Selects : DumpOptions → Option PlainShown → List PlainShown → Type 0
 Selects options None packets = packets ≡ []
 Selects options (Some shown) packets =
     (content : Content) × Holds options.strict shown.link shown.bytes content
     × (packets ≡ (if is_wanted options content then shown ∷ [] else []))
 
--- the packets of these items that are shown, one behind the other
+-- The packets are the selected ones of these items, in order.
 abbrev pub AreSelected : DumpOptions → Stage → List Item → List PlainShown → Type 0
 AreSelected options stage [] packets = packets ≡ []
 AreSelected options stage (item ∷ items) packets =
@@ -41,22 +41,21 @@ AreSelected options stage (item ∷ items) packets =
 
 -- ---- their capture
 
--- its link type: that of the first packet, and Ethernet's where there is none
+-- the link type of the capture: that of the first packet, or Ethernet without packets
 abbrev pub link_in : List PlainShown → ℕ
 link_in [] = 1
 link_in (first ∷ others) = first.link
 
--- its bytes
+-- the bytes of the capture
 abbrev pub copy_bytes : List PlainShown → List ℕ
 copy_bytes packets = capture_bytes (link_in packets) packets
 
--- each packet can be written, so that the law `read_back` of capture_writer says of the bytes that they are read as
--- these packets
+-- Each packet can be written, so the law `read_back` of capture_writer applies: the bytes are read as these packets.
 abbrev pub AreSaved : List PlainShown → Type 0
 AreSaved packets = (link_in packets < 2 ^ 16) × AreWritten (link_in packets) packets
 
--- A packet of these items that is shown is refused, and this is its number; the bytes are a capture of those in front
--- of it that are shown.
+-- A selected packet of these items cannot be written, and this is its number; the bytes are a capture of the selected
+-- packets before it.
 pub record IsUnsaved (options : DumpOptions) (items : List Item) (bytes : List ℕ) (number : ℕ) (refusal : WriteRefusal)
     : Type 0 where
   pub front : List Item
@@ -74,7 +73,7 @@ pub record IsUnsaved (options : DumpOptions) (items : List Item) (bytes : List �
   pub written : AreWritten (link_in (packets ++ shown ∷ [])) packets
   pub bytes_are : bytes ≡ capture_bytes (link_in (packets ++ shown ∷ [])) packets
 
--- the bytes begin a capture of packets that are shown, of items at the front of these
+-- The bytes begin a capture of selected packets of the first items.
 pub record BeginsCopy (options : DumpOptions) (items : List Item) (bytes : List ℕ) : Type 0 where
   pub front : List Item
   pub behind : List Item
@@ -86,34 +85,34 @@ pub record BeginsCopy (options : DumpOptions) (items : List Item) (bytes : List 
   pub written : AreWritten link packets
   pub whole : capture_bytes link packets ≡ bytes ++ rest
 
--- ---- how saving stands
+-- ---- states
 
--- a file is wanted
+-- True if a file is wanted.
 abbrev pub asks : SaveState → Bool
 asks Unasked = false
 asks (Open link) = true
 asks (Stopped fault) = true
 
--- where no packet was read, and a file is wanted or is not
+-- the state before any packet, with or without a file
 abbrev pub new_state : Bool → SaveState
 new_state true = Open None
 new_state false = Unasked
 
--- the file failed
+-- True if writing to the file failed.
 abbrev pub is_failed : SaveState → Bool
 is_failed Unasked = false
 is_failed (Open link) = false
 is_failed (Stopped (Refused number refusal)) = false
 is_failed (Stopped Failed) = true
 
--- nothing is written
+-- True if nothing is written: no file is wanted, or it failed.
 abbrev pub is_idle : SaveState → Bool
 is_idle Unasked = true
 is_idle (Open link) = false
 is_idle (Stopped (Refused number refusal)) = false
 is_idle (Stopped Failed) = true
 
--- packets are saved, of which there was none
+-- True if packets are saved, but there was none.
 abbrev pub is_empty : SaveState → Bool
 is_empty Unasked = false
 is_empty (Open None) = true
@@ -125,13 +124,13 @@ abbrev pub first_link : List PlainShown → Option ℕ
 first_link [] = None
 first_link (first ∷ others) = Some first.link
 
--- the bytes of these packets: the heading stands in front of the first, or behind the last of none
+-- the bytes of these packets: the file header comes before the first, or when the file is closed without packets
 abbrev pub begun_bytes : Bool → List PlainShown → List ℕ
 begun_bytes closed [] = if closed then copy_bytes [] else []
 begun_bytes closed (first ∷ others) = copy_bytes (first ∷ others)
 
--- Where a file is wanted or is not, and no more packets follow or may, these are the bytes for these items: the capture
--- of the packets that are shown, or of those in front of one that is refused; or they begin it, where the file failed.
+-- The bytes for these items, given whether a file is wanted and whether it is closed: the capture of the selected
+-- packets, or of those before a packet that cannot be written; or a prefix of it, if the file failed.
 abbrev pub Saves : DumpOptions → Bool → Bool → SaveState → List Item → List ℕ → Type 0
 Saves options false closed Unasked items bytes = bytes ≡ []
 Saves options true closed (Open link) items bytes =
@@ -141,28 +140,28 @@ Saves options true closed (Stopped (Refused number refusal)) items bytes = IsUns
 Saves options true closed (Stopped Failed) items bytes = BeginsCopy options items bytes
 Saves options wanted closed state items bytes = ⊥
 
--- ---- whole runs
+-- ---- complete runs
 
--- what was read ends with these items, so that a run ends there
+-- The input ends with these items, so that a run ends there.
 abbrev pub EndsAt : DumpOptions → Bool → Ending → List ℕ → List Item → Type 0
 EndsAt options ended Whole read items = (ended ≡ true) × IsCapture read items × AreFewer options items
 EndsAt options ended Enough read items = Begin read items × (packets_in items ≡ options.most)
 EndsAt options ended (Broken packets error) read items =
     IsRefused ended read (items, error) × AreFewer options items × (packets ≡ packets_in items)
 
--- what was written into a file, if one is wanted, is what is saved of the packets of what was read
+-- The file, if one is wanted, has the bytes that are saved of the input.
 abbrev pub IsCopy : DumpOptions → Bool → Bool → Ending → SaveState → List ℕ → List ℕ → Type 0
 IsCopy options wanted ended ending state read saved =
     (items : List Item) × EndsAt options ended ending read items × Saves options wanted true state items saved
 
--- it begins that
+-- The file, if one is wanted, begins the bytes that are saved of the input.
 abbrev pub BeginsSaved : DumpOptions → Bool → List ℕ → List ℕ → Type 0
 BeginsSaved options false read saved = saved ≡ []
 BeginsSaved options true read saved = (items : List Item) × Begin read items × BeginsCopy options items saved
 
 -- ---- steps
 
--- the heading in front of a packet, where it is the first
+-- the file header before a packet, if it is the first
 abbrev pub front_bytes : Option ℕ → ℕ → List ℕ
 front_bytes None link = heading_bytes (written_heading link)
 front_bytes (Some first) link = []
@@ -172,7 +171,7 @@ abbrev pub link_with : Option ℕ → ℕ → ℕ
 link_with None link = link
 link_with (Some first) link = first
 
--- a packet of this number was appended, behind a first one of such a link type if there was one, or is refused
+-- The packet of this number was appended to a capture of this link type, or as its first packet, or cannot be written.
 abbrev pub Pushes : Option ℕ → SaveState → ℕ → PlainShown → (old new : List ℕ) → Type 0
 Pushes link (Open next) number shown old new =
     (shown.link < 2 ^ 16) × (next ≡ Some (link_with link shown.link)) × IsWritten (link_with link shown.link) shown
@@ -183,27 +182,27 @@ Pushes link (Stopped (Refused place refusal)) number shown old new =
     × (new ≡ old ++ front_bytes link shown.link)
 Pushes link state number shown old new = ⊥
 
--- what was saved of these items, behind what the file has, goes on to what is saved of all those
+-- Bytes that are right for these items, after those in the file, become right for all items.
 abbrev pub GoesOn : DumpOptions → Saving → Saving → (items all : List Item) → Type 0
 GoesOn options old new items all =
     (wanted : Bool) (saved : List ℕ) → Saves options wanted false old.state items (saved ++ old.bytes.items)
     → Saves options wanted false new.state all (saved ++ new.bytes.items)
 
--- what was put together was written, as far as the file took it
+-- The pending bytes were written, as far as the file accepted them.
 abbrev pub Flushes : Saving → Saving → (held holds : Option (List ℕ)) → Type 0
 Flushes old new held holds =
     (options : DumpOptions) (wanted closed : Bool) (items : List Item) (saved : List ℕ)
     → Saves options wanted closed old.state items (saved ++ old.bytes.items)
     → (more : List ℕ) × Appends held holds more × Saves options wanted closed new.state items (saved ++ more)
 
--- no more packets follow
+-- No more packets follow.
 abbrev pub Finishes : Saving → Saving → Type 0
 Finishes old new =
     (options : DumpOptions) (wanted : Bool) (items : List Item) (saved : List ℕ)
     → Saves options wanted false old.state items (saved ++ old.bytes.items)
     → Saves options wanted true new.state items (saved ++ new.bytes.items)
 
--- the same, and all was written
+-- No more packets follow, and the pending bytes were written.
 abbrev pub Closes : Saving → Saving → (held holds : Option (List ℕ)) → Type 0
 Closes old new held holds =
     (options : DumpOptions) (wanted : Bool) (items : List Item) (saved : List ℕ)

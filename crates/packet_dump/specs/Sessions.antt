@@ -1,4 +1,4 @@
--- What is known between two pieces of a capture.
+-- State between two chunks of a capture.
 use Rattle.std.specs.Prelude.{◌≡◌, ℕ, ◌+◌, ◌<◌, ◌≤◌, Bool, true, List, ◌++◌, Some}
 use Rattle.capture_reader.specs.Captures.{Item, IsCapture, PlainShown, RefusesCapture}
 use Rattle.capture_reader.specs.Readers.{Reads, reader_left, reader_offset}
@@ -19,14 +19,14 @@ use Rattle.packet_dump.specs.declared.session.Standing.TheVariants.{MayEnd, Enou
 use Rattle.packet_dump.specs.declared.summary.Summary.{Summary}
 use Rattle.packet_dump.specs.declared.dump_options.DumpOptions.{DumpOptions}
 
--- This became of the pool. Its open streams are listed, and no fragment of one came with a later packet than the last.
+-- The pool has this history, its open streams are listed, and none has a fragment of a packet later than the last one.
 pub record HoldsStreams (history : PoolHistory) (pooling : Pooling) : Type 0 where
   pub swept : pooling.swept ≡ history.swept
   pub held : HoldsHistory history pooling.pool
   pub listed : IsListed pooling.names pooling.pool
   pub numbered : (name : IpFragId ℕ) (number : ℕ) → number_at name pooling.pool ≡ Some number → number ≤ history.number
 
--- what was counted of fragments
+-- the counts of fragments
 abbrev pub fates_of : Pooling → Fates
 fates_of pooling = record {
   reassembled = pooling.reassembled;
@@ -34,18 +34,18 @@ fates_of pooling = record {
   given_up = pooling.given_up;
 }
 
--- The same, and what became of fragments was counted.
+-- The pool has this history, and its fragments were counted.
 pub record HoldsPooling (history : PoolHistory) (pooling : Pooling) : Type 0 where
   pub streams : HoldsStreams history pooling
   pub became : BecameOf history (fates_of pooling)
 
--- The same, and all packets that it was given came before that of this number.
+-- The pool has this history, and all packets passed to it came before this number.
 pub record AwaitsPacket (history : PoolHistory) (number : ℕ) (pooling : Pooling) : Type 0 where
   pub holds : HoldsPooling history pooling
   pub later : history.number < number
 
--- The session shows so much, took these bytes, read these items at their front, and knows how many packets, which are
--- no more than are wanted, and when the first and the last came. This became of the pool.
+-- The session has these options, took these bytes, and read these items from them. It has their number of packets,
+-- which is no more than wanted, and their first and latest timestamp. The pool has this history.
 pub record Stands (options : DumpOptions) (session : Session) (read : List ℕ) (items : List Item) (history : PoolHistory)
     : Type 0 where
   pub options_is : session.options ≡ options
@@ -57,15 +57,15 @@ pub record Stands (options : DumpOptions) (session : Session) (read : List ℕ) 
   pub pooled : HoldsPooling history session.pooling
   pub given : history.number ≤ session.number
 
--- how many bytes were taken
+-- the number of bytes that were taken
 abbrev pub taken_by : Session → ℕ
 taken_by session = reader_offset session.capture + reader_left session.capture
 
--- no more packets than bytes were read
+-- The number of packets is not greater than the number of bytes that were read.
 abbrev pub Counts : Session → Type 0
 Counts session = session.number ≤ reader_offset session.capture
 
--- how a capture stands behind these bytes, of which these items were read
+-- The capture has this state after these bytes, given the items read from them.
 abbrev pub StandsSo : DumpOptions → Standing → List ℕ → List Item → Type 0
 StandsSo options MayEnd read items = AreFewer options items × IsCapture read items
 StandsSo options Enough read items = Begin read items × (packets_in items ≡ options.most)
@@ -73,7 +73,7 @@ StandsSo options (Cut error) read items = AreFewer options items × RefusesCaptu
 StandsSo options (Refused error) read items =
     AreFewer options items × ((more : List ℕ) → RefusesCapture (read ++ more) (items, error))
 
--- what is kept of packets beside their lines: what is saved of them, and what is counted
+-- the data that is gathered of packets in addition to their lines: the capture file and the summary
 pub record Gathered : Type 0 where
   pub saving : Saving
   pub summary : PlainSummary
@@ -81,7 +81,7 @@ pub record Gathered : Type 0 where
 abbrev pub gathered : Saving → Summary → Gathered
 gathered saving summary = record { saving = saving; summary = plain_of summary }
 
--- more items were read, and their text was put together, what is saved of them, and they were counted
+-- More items were read, their lines were built, and their packets were saved and counted.
 pub record Drained (options : DumpOptions) (session : Session) (read : List ℕ) (items : List Item) (text : List ℕ)
     (before behind : Gathered) : Type 0 where
   pub more : List Item
@@ -91,13 +91,13 @@ pub record Drained (options : DumpOptions) (session : Session) (read : List ℕ)
   pub saves : GoesOn options before.saving behind.saving items (items ++ more)
   pub counts : CountsOn options before.summary behind.summary items (items ++ more)
 
--- the same, and the capture stands so
+-- More items were read, with their lines, packets and counts, and the capture has this state.
 abbrev pub Drains : DumpOptions → Session → Standing → List ℕ → List Item → List ℕ → Gathered → Gathered → Type 0
 Drains options session standing read items text before behind =
     (drained : Drained options session read items text before behind) × StandsSo options standing read (items ++
     drained.more)
 
--- a packet was counted, and its text put together behind what became of the pool
+-- A packet was counted, and its line appended; the pool has the history after it.
 pub record PushesLine (old new : Session) (before : PoolHistory) (shown : PlainShown) : Type 0 where
   pub options : new.options ≡ old.options
   pub line : List ℕ
@@ -111,14 +111,14 @@ pub record PushesLine (old new : Session) (before : PoolHistory) (shown : PlainS
   pub first : new.first ≡ first_after old.first (instant_in shown)
   pub latest : new.latest ≡ latest_after old.latest (instant_in shown)
 
--- whether a run ends where the capture stands so, and its reader has ended or has not
+-- True if a run ends in this state of the capture, given whether its reader has ended.
 abbrev pub ends_run : Standing → Bool → Bool
 ends_run MayEnd ended = ended
 ends_run Enough ended = true
 ends_run (Cut error) ended = ended
 ends_run (Refused error) ended = true
 
--- how a run ends where the capture stands so and so many packets were read
+-- the ending of a run in this state of the capture, given the number of packets
 abbrev pub ending_of : Standing → ℕ → Ending
 ending_of MayEnd packets = ending.Whole
 ending_of Enough packets = ending.Enough

@@ -1,4 +1,4 @@
--- Which layer of a packet is refused, and why, in the words of the errors themselves.
+-- The layer of a packet that is rejected, and why, in the text of the errors themselves.
 use Rattle.std.specs.Prelude.{ℕ, List, [], ◌++◌, codes}
 use Rattle.etherparse.specs.Names.{layer_name}
 use Rattle.etherparse.specs.Types.IpAuthHeaderError.TheVariants as auth_error
@@ -13,7 +13,7 @@ use Rattle.etherparse.specs.Types.SliceError.{SliceError}
 use Rattle.etherparse.specs.Types.SliceError.TheVariants.{Len, LinuxSll, Macsec, Ip, Ipv4, Ipv6, Ipv4Exts, Ipv6Exts, Tcp}
 use Rattle.refusal_texts.specs.ReasonTexts.{reason_text}
 
--- the layer that is refused, which the words of an error do not name but where bytes are missing
+-- the name of the rejected layer; empty if bytes are missing, since the text of that error names the layer itself
 abbrev pub refused_layer : SliceError → List ℕ
 refused_layer (Len error) = []
 refused_layer (LinuxSll error) = codes "LinuxSll "
@@ -25,15 +25,15 @@ refused_layer (Ipv4Exts error) = codes "Ipv4Exts "
 refused_layer (Ipv6Exts error) = codes "Ipv6Exts "
 refused_layer (Tcp error) = codes "Tcp "
 
--- that bytes are refused, a space before it
+-- the text of a rejected packet, after a space
 abbrev pub refusal_text : SliceError → List ℕ
 refusal_text error = codes " refused " ++ refused_layer error ++ reason_text error
 
--- that the layers of a packet end in front of one that is refused
+-- the text of a packet whose layers end before a rejected layer
 abbrev pub stop_text : SliceError → List ℕ
 stop_text error = codes " stopped " ++ refused_layer error ++ reason_text error
 
--- what an error is counted as: of too few bytes the layer, and of others what is wrong
+-- the name of an error in the counts: the layer if bytes are missing, else the layer and the error
 abbrev pub error_name : SliceError → List ℕ
 error_name (Len error) = layer_name error.layer
 error_name (LinuxSll (linux_sll_error.UnsupportedPacketTypeField number)) = codes "LinuxSll UnsupportedPacketTypeField"

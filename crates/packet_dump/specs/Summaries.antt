@@ -1,11 +1,11 @@
--- What a summary counts: of the packets that were read, each as what its bytes hold.
+-- Counts of a summary: the packets that were read, each by its content.
 use Rattle.std.specs.Prelude.{◌≡◌, ℕ, ◌≤◌, ◌+◌, ◌-◌, ◌^◌, min, nat_eq, nat_lt, if◌then◌else◌, Bool, true, false, List, [], ◌∷◌, ◌++◌}
 use Rattle.std.specs.Prelude.{Option, Some, None, length, map}
 use Rattle.std.specs.Borrow.{Bor}
 use Rattle.std.specs.Str.{bytes_eq}
 use Rattle.capture_reader.specs.Captures.{Item, PlainShown, Stage, at_start, shown_in, stage_after}
 use Rattle.etherparse.specs.Calls.{Answer, Kept, answer_to, buffer_returned, drops_streams, fragment_refused}
-use Rattle.etherparse.specs.Calls.{gives_frame, nothing_handed_out, payload_handed_out, returns_buffer, streams_dropped}
+use Rattle.etherparse.specs.Calls.{gives_frame, no_payload, payload_returned, returns_buffer, streams_dropped}
 use Rattle.etherparse.specs.Calls.{table_after}
 use Rattle.etherparse.specs.Layers.{Layers, NetLayer, arp, carries_fragment, ipv4, ipv6}
 use Rattle.etherparse.specs.LinkExtensions.{LinkExtension, macsec, vlan}
@@ -32,9 +32,9 @@ use Rattle.packet_dump.specs.declared.summary.LayerCounts.{LayerCounts}
 use Rattle.packet_dump.specs.declared.summary.Refusals.{Refusals}
 use Rattle.packet_dump.specs.declared.summary.Summary.{Summary}
 
--- ---- what a contract sees of a summary
+-- ---- summary values
 
--- how many packets were refused, and how often each error was the reason, by its name
+-- the number of refused or of stopped packets, and the count of each error by its name
 pub record PlainRefusals : Type 0 where
   pub all : ℕ
   pub errors : List (List ℕ × ℕ)
@@ -53,7 +53,7 @@ pub record PlainSummary : Type 0 where
   pub unread : List (ℕ × ℕ)
   pub fragments : Option Fragments
 
--- a name, and how often it came
+-- a name with its count
 abbrev pub plain_count : Bor (List ℕ) × ℕ → List ℕ × ℕ
 plain_count entry = (entry.0.now, entry.1)
 
@@ -95,7 +95,7 @@ no_layers = record {
   icmpv6 = 0;
 }
 
--- where no packet was read
+-- the summary before any packet
 abbrev pub new_summary : Bool → Bool → PlainSummary
 new_summary wanted apart = record {
   wanted = wanted;
@@ -114,24 +114,24 @@ new_summary wanted apart = record {
 
 -- ---- counts
 
--- so many more; the greatest number of 64 bits stays
+-- the sum, saturating at the maximum of 64 bits
 abbrev pub more : ℕ → ℕ → ℕ
 more count by = min (count + by) (2 ^ 64 - 1)
 
--- counts by a key, with one more of this: where it stands, or behind the others
+-- counts by key with one more for this key, which is added at the end if it is new
 abbrev pub with_one : {K : Type 0} → (K → K → Bool) → K → List (K × ℕ) → List (K × ℕ)
 with_one same key [] = (key, 1) ∷ []
 with_one same key (entry ∷ others) =
     if same entry.0 key then (entry.0, more entry.1 1) ∷ others else entry ∷ with_one same key others
 
--- one more that is refused for this error
+-- the counts with one more for this error
 abbrev pub with_error : SliceError → PlainRefusals → PlainRefusals
 with_error error before =
     record { all = more before.all 1; errors = with_one bytes_eq (error_name error) before.errors }
 
 -- ---- layers
 
--- the header of a Linux cooked capture, which the program reads itself or not
+-- the counts with a Linux cooked capture header, if the program parsed one itself
 abbrev pub with_cooked : Bool → LayerCounts → LayerCounts
 with_cooked true before = record before { linux_sll = more before.linux_sll 1 }
 with_cooked false before = before
@@ -147,7 +147,7 @@ abbrev pub with_extension : LinkExtension → LayerCounts → LayerCounts
 with_extension (vlan tag payload) before = record before { vlan = more before.vlan 1 }
 with_extension (macsec tag payload) before = record before { macsec = more before.macsec 1 }
 
--- each link extension, as often as it stands
+-- the counts with each link extension
 abbrev pub with_extensions : List LinkExtension → LayerCounts → LayerCounts
 with_extensions [] before = before
 with_extensions (extension ∷ others) before = with_extensions others (with_extension extension before)
@@ -158,7 +158,7 @@ with_net (Some (ipv6 ip extensions payload)) before = record before { ipv6 = mor
 with_net (Some (arp found)) before = record before { arp = more before.arp 1 }
 with_net None before = before
 
--- the payload of IP is a fragment, or is none
+-- the counts with a fragment, if the IP payload is one
 abbrev pub with_fragment : Bool → LayerCounts → LayerCounts
 with_fragment true before = record before { fragment = more before.fragment 1 }
 with_fragment false before = before
@@ -173,7 +173,7 @@ abbrev pub with_transport : Option TransportLayer → LayerCounts → LayerCount
 with_transport (Some layer) before = with_header layer.header before
 with_transport None before = before
 
--- all layers of a packet, in front of which such a cooked header stands or not
+-- the counts with all layers of a packet, and the cooked header before them, if the program parsed one
 abbrev pub with_layers : Bool → Layers → LayerCounts → LayerCounts
 with_layers cooked layers before =
     with_transport layers.transport (with_fragment (carries_fragment layers) (with_net layers.net
@@ -181,7 +181,7 @@ with_layers cooked layers before =
 
 -- ---- a packet
 
--- its bytes: those that were kept, and as many as it had
+-- the summary with the captured and the original length of a packet
 abbrev pub with_packet : PlainShown → PlainSummary → PlainSummary
 with_packet shown before = record before {
   packets = more before.packets 1;
@@ -189,20 +189,20 @@ with_packet shown before = record before {
   original = more before.original shown.original_len;
 }
 
--- whether the capture cut it
+-- True if the capture truncated a packet.
 abbrev pub is_cut : PlainShown → Bool
 is_cut shown = nat_lt (length shown.bytes) shown.original_len
 
--- of one that is refused or stops: the capture cut it, or it is malformed
+-- the summary with a refused or stopped packet: truncated by the capture, or malformed
 abbrev pub with_cause : Bool → PlainSummary → PlainSummary
 with_cause true before = record before { cut = more before.cut 1 }
 with_cause false before = record before { malformed = more before.malformed 1 }
 
--- its layers
+-- the summary with the layers of a packet
 abbrev pub with_read : Bool → Layers → PlainSummary → PlainSummary
 with_read cooked layers before = record before { layers = with_layers cooked layers before.layers }
 
--- why they end, where a further one is refused
+-- the summary with the error at which the layers of a packet end
 abbrev pub with_stopped : SliceError → PlainSummary → PlainSummary
 with_stopped error before = record before { stopped = with_error error before.stopped }
 
@@ -210,57 +210,57 @@ abbrev pub with_stop : Bool → Option (SliceError × Layer) → PlainSummary �
 with_stop cut (Some stop) before = with_stopped stop.0 (with_cause cut before)
 with_stop cut None before = before
 
--- why not one stands
+-- the summary with the error of a rejected packet
 abbrev pub with_refused : SliceError → PlainSummary → PlainSummary
 with_refused error before = record before { refused = with_error error before.refused }
 
--- its link type, which is not read
+-- the summary with a link type that is not supported
 abbrev pub with_unread : ℕ → PlainSummary → PlainSummary
 with_unread link before = record before { unread = with_one nat_eq link before.unread }
 
--- what it holds
+-- the summary with the content of a packet
 abbrev pub with_content : Bool → PlainShown → Content → PlainSummary → PlainSummary
 with_content cooked shown (packet read) before =
     with_stop (is_cut shown) read.net.inside.stop (with_read cooked (layers_in read) before)
 with_content cooked shown (refusal error) before = with_refused error (with_cause (is_cut shown) before)
 with_content cooked shown (other_link number) before = with_unread number before
 
--- A packet that holds this, in front of whose layers such a cooked header stands or not: nothing changes where no summary
--- is wanted.
+-- The summary with a packet of this content, and the cooked header before its layers, if the program parsed one. It is
+-- unchanged if no summary is wanted.
 abbrev pub counted : Bool → PlainShown → Content → PlainSummary → PlainSummary
 counted cooked shown content before =
     if before.wanted then with_content cooked shown content (with_packet shown before) else before
 
--- a packet was counted whose bytes begin so
+-- The packet of these bytes after an opening was counted.
 abbrev pub CountsBehind : Bool → Opening → List ℕ → PlainShown → PlainSummary → PlainSummary → Type 0
 CountsBehind strict opening bytes shown old new =
     (content : Content) × HoldsBehind strict opening bytes content
     × (new ≡ counted (is_cooked opening) shown content old)
 
--- whether the program reads a cooked header at the front of what begins so
+-- True if the program parses a cooked header of the opening.
 abbrev pub has_cooked : Option Opening → Bool
 has_cooked (Some opening) = is_cooked opening
 has_cooked None = false
 
--- a packet was counted, as what its bytes hold
+-- The packet was counted by its content.
 abbrev pub CountsPacket : Bool → PlainShown → PlainSummary → PlainSummary → Type 0
 CountsPacket strict shown old new =
     (content : Content) × Holds strict shown.link shown.bytes content
     × (new ≡ counted (has_cooked (opening_of shown.link shown.bytes)) shown content old)
 
--- ---- many packets
+-- ---- several packets
 
--- a packet, and what it holds
+-- a packet and its content
 abbrev pub Held : Type 0
 Held = PlainShown × Content
 
--- of an item that shows this they are its packet, or none
+-- The packets are that of an item with its content, if it is one, else none.
 abbrev pub IsHeld : DumpOptions → Option PlainShown → List Held → Type 0
 IsHeld options (Some shown) packets =
     (content : Content) × Holds options.strict shown.link shown.bytes content × (packets ≡ (shown, content) ∷ [])
 IsHeld options None packets = packets ≡ []
 
--- the packets of these items, one behind the other
+-- The packets are those of these items with their contents, in order.
 abbrev pub AreHeld : DumpOptions → Stage → List Item → List Held → Type 0
 AreHeld options stage [] packets = packets ≡ []
 AreHeld options stage (item ∷ items) packets =
@@ -271,28 +271,28 @@ abbrev pub counted_one : Held → PlainSummary → PlainSummary
 counted_one held before =
     counted (has_cooked (opening_of held.0.link held.0.bytes)) held.0 held.1 before
 
--- behind these packets
+-- the summary after these packets
 abbrev pub counted_all : List Held → PlainSummary → PlainSummary
 counted_all [] before = before
 counted_all (one ∷ others) before = counted_all others (counted_one one before)
 
--- the packets of these items were counted, whatever is shown of them
+-- The packets of these items were counted, whether or not they are shown.
 abbrev pub IsCounted : DumpOptions → List Item → PlainSummary → PlainSummary → Type 0
 IsCounted options items old new =
     (packets : List Held) × AreHeld options at_start items packets × (new ≡ counted_all packets old)
 
--- what counts the packets of these items goes on to what counts those of all
+-- A summary of the packets of these items becomes one of those of all items.
 abbrev pub CountsOn : DumpOptions → PlainSummary → PlainSummary → (items all : List Item) → Type 0
 CountsOn options old new items all =
     (start : PlainSummary) → IsCounted options items start old → IsCounted options all start new
 
 -- ---- fragments
 
--- so many streams are open
+-- The number of open streams is `count`.
 abbrev pub HasOpen : (IpFragId ℕ → Option (Kept Arrival)) → ℕ → Type 0
 HasOpen table count = (numbers : List ℕ) × AreOpen table numbers × (count ≡ length numbers)
 
--- so many payloads were handed out, so many fragments refused, and so many streams given up
+-- the numbers of returned payloads, of rejected fragments, and of streams that were expired or evicted
 pub record Fates : Type 0 where
   pub reassembled : ℕ
   pub refused : ℕ
@@ -301,20 +301,20 @@ pub record Fates : Type 0 where
 abbrev pub no_fates : Fates
 no_fates = record { reassembled = 0; refused = 0; given_up = 0 }
 
--- with what the pool answers a frame
+-- the counts with the pool's answer to a frame
 abbrev pub with_answer : Answer → Fates → Fates
-with_answer (payload_handed_out payload) before = record before { reassembled = more before.reassembled 1 }
+with_answer (payload_returned payload) before = record before { reassembled = more before.reassembled 1 }
 with_answer (fragment_refused error) before = record before { refused = more before.refused 1 }
-with_answer nothing_handed_out before = before
+with_answer no_payload before = before
 with_answer streams_dropped before = before
 with_answer buffer_returned before = before
 
--- with so many streams that are given up
+-- the counts with a number of streams that were expired or evicted
 abbrev pub with_given_up : ℕ → Fates → Fates
 with_given_up count before = record before { given_up = more before.given_up count }
 
--- What a call adds, behind earlier ones on a pool of this limit: a frame what it is answered, and a drop the streams
--- that are open before and not after it.
+-- The counts after a call on a pool of this limit, given the calls before it: a frame adds its answer, and a drop adds
+-- the streams that are open before it and not after it.
 abbrev pub CountsCall : ℕ → List NumberCall → NumberCall → Fates → Fates → Type 0
 CountsCall limit earlier (gives_frame carried at channel) old new =
     new ≡ with_answer (answer_to {V = Arrival} limit (table_after limit nat_eq is_since earlier)
@@ -325,18 +325,18 @@ CountsCall limit earlier (drops_streams oldest) old new =
     × (new ≡ with_given_up (had - has) old)
 CountsCall limit earlier returns_buffer old new = new ≡ old
 
--- what these calls add, one behind the other
+-- The counts after these calls in order.
 abbrev pub CountsCalls : ℕ → List NumberCall → List NumberCall → Fates → Fates → Type 0
 CountsCalls limit earlier [] old new = new ≡ old
 CountsCalls limit earlier (call ∷ calls) old new =
     (next : Fates) × CountsCall limit earlier call old next
     × CountsCalls limit (earlier ++ call ∷ []) calls next new
 
--- what became of fragments by all calls on a pool
+-- The counts are those of all calls on a pool.
 abbrev pub BecameOf : PoolHistory → Fates → Type 0
 BecameOf history fates = CountsCalls history.limit [] history.calls no_fates fates
 
--- the same as a summary tells it, with how many streams are then open
+-- The counts of the summary are those of all calls on the pool, with the number of streams that are then open.
 pub record AreFragments (history : PoolHistory) (fragments : Fragments) : Type 0 where
   pub became : BecameOf history (record {
     reassembled = fragments.reassembled;
@@ -345,19 +345,19 @@ pub record AreFragments (history : PoolHistory) (fragments : Fragments) : Type 0
   })
   pub stay : HasOpen (table_behind history) fragments.open
 
--- ---- whole runs
+-- ---- complete runs
 
 abbrev pub with_fragments : Fragments → PlainSummary → PlainSummary
 with_fragments fragments before = if before.wanted then record before { fragments = Some fragments } else before
 
--- it is told what became of fragments in this pool, where payloads are put together
+-- The counts of fragments of this pool are in the summary, if payloads are reassembled.
 abbrev pub CountsFragments : Bool → PoolHistory → PlainSummary → PlainSummary → Type 0
 CountsFragments true pool old new =
     (fragments : Fragments) × AreFragments pool fragments × (new ≡ with_fragments fragments old)
 CountsFragments false pool old new = new ≡ old
 
--- What was read ends with these items, so that a run ends there: what was written is their lines, and their packets were
--- counted, and what became of the fragments that they carry.
+-- The input ends with these items, so that a run ends there; the output is their lines, their packets were counted, and
+-- so were their fragments.
 abbrev pub IsCountedDump : DumpOptions → Bool → Ending → PlainSummary → PlainSummary → List ℕ → List ℕ → Type 0
 IsCountedDump options ended ending old new read written =
     (items : List Item) × EndsAt options ended ending read items × (packets_in items ≤ options.most)
@@ -366,24 +366,24 @@ IsCountedDump options ended ending old new read written =
 
 -- ---- sums
 
--- 1 where a layer of a packet stands
+-- 1 if a packet has a valid layer, else 0
 abbrev pub stands_in : Content → ℕ
 stands_in (packet read) = 1
 stands_in (refusal error) = 0
 stands_in (other_link number) = 0
 
--- of how many packets one stands
+-- the number of packets with a valid layer
 abbrev pub standing : List Held → ℕ
 standing [] = 0
 standing (one ∷ others) = stands_in one.1 + standing others
 
--- all that were counted by a key
+-- the total of counts by key
 abbrev pub total : {K : Type 0} → List (K × ℕ) → ℕ
 total [] = 0
 total (entry ∷ others) = entry.1 + total others
 
--- The rows of a summary add up to its packets, of which a layer of so many stands, and those of each error to all that are
--- refused or stop, which the capture cut or did not.
+-- The rows of a summary add up to its packets, given the number of packets with a valid layer. The counts of each error
+-- add up to all refused or stopped packets, and so do truncated and malformed ones.
 pub record AddsUp (stands : ℕ) (summary : PlainSummary) : Type 0 where
   pub packets : summary.packets ≡ stands + summary.refused.all + total summary.unread
   pub refused : summary.refused.all ≡ total summary.refused.errors

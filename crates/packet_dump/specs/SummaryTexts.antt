@@ -11,31 +11,31 @@ use Rattle.packet_dump.specs.declared.summary.LayerCounts.{LayerCounts}
 abbrev pub count_text : List ℕ → ℕ → List ℕ
 count_text name times = name ++ codes ": " ++ decimal times ++ codes "\n"
 
--- the same of what was there
+-- a count in a line of its own, unless it is 0
 abbrev pub some_text : List ℕ → ℕ → List ℕ
 some_text name times = if nat_lt 0 times then count_text name times else []
 
--- packets, and how many of their bytes were kept
+-- the number of packets, and of their captured and original bytes
 abbrev pub packets_text : PlainSummary → List ℕ
 packets_text summary =
     codes "packets: " ++ decimal summary.packets ++ codes "\nbytes: " ++ decimal summary.kept ++ codes " of "
     ++ decimal summary.original ++ codes "\n"
 
--- layers up to IP
+-- the counts of layers up to IP
 abbrev pub outer_counts_text : LayerCounts → List ℕ
 outer_counts_text layers =
     some_text (codes "eth") layers.ethernet ++ some_text (codes "sll") layers.linux_sll
     ++ some_text (codes "vlan") layers.vlan ++ some_text (codes "macsec") layers.macsec
     ++ some_text (codes "ipv4") layers.ipv4 ++ some_text (codes "ipv6") layers.ipv6
 
--- the others
+-- the counts of the other layers
 abbrev pub inner_counts_text : LayerCounts → List ℕ
 inner_counts_text layers =
     some_text (codes "arp") layers.arp ++ some_text (codes "fragment") layers.fragment
     ++ some_text (codes "udp") layers.udp ++ some_text (codes "tcp") layers.tcp
     ++ some_text (codes "icmpv4") layers.icmpv4 ++ some_text (codes "icmpv6") layers.icmpv6
 
--- how often each error was the reason
+-- the count of each error
 abbrev pub errors_text : List (List ℕ × ℕ) → List ℕ
 errors_text [] = []
 errors_text (entry ∷ others) = (codes "  " ++ count_text entry.0 entry.1) ++ errors_text others
@@ -43,20 +43,20 @@ errors_text (entry ∷ others) = (codes "  " ++ count_text entry.0 entry.1) ++ e
 abbrev pub refusals_text : List ℕ → PlainRefusals → List ℕ
 refusals_text row refusals = count_text row refusals.all ++ errors_text refusals.errors
 
--- what the capture cut and what is malformed, apart where that is wanted
+-- the numbers of truncated and of malformed packets, if they are printed separately
 abbrev pub causes_text : PlainSummary → List ℕ
 causes_text summary =
     if summary.apart
     then count_text (codes "cut by the capture") summary.cut ++ count_text (codes "malformed") summary.malformed
     else []
 
--- how many packets of each link type are not read
+-- the number of packets of each link type that is not supported
 abbrev pub links_text : List (ℕ × ℕ) → List ℕ
 links_text [] = []
 links_text (entry ∷ others) =
     (codes "  link " ++ decimal entry.0 ++ codes ": " ++ decimal entry.1 ++ codes "\n") ++ links_text others
 
--- what comes to so many with these
+-- the sum of a number and the counts, saturating
 abbrev pub added : ℕ → List (ℕ × ℕ) → ℕ
 added all [] = all
 added all (entry ∷ others) = added (more all entry.1) others
@@ -64,14 +64,14 @@ added all (entry ∷ others) = added (more all entry.1) others
 abbrev pub unread_text : List (ℕ × ℕ) → List ℕ
 unread_text unread = some_text (codes "not read") (added 0 unread) ++ links_text unread
 
--- what became of fragments
+-- the counts of fragments
 abbrev pub pieces_text : Fragments → List ℕ
 pieces_text fragments =
     count_text (codes "reassembled") fragments.reassembled
     ++ count_text (codes "not reassembled") fragments.not_reassembled
-    ++ count_text (codes "given up") fragments.given_up ++ count_text (codes "open at the end") fragments.open
+    ++ count_text (codes "expired or evicted") fragments.given_up ++ count_text (codes "incomplete at the end") fragments.open
 
--- the same where payloads are put together
+-- the counts of fragments, if payloads are reassembled
 abbrev pub fragments_text : Option Fragments → List ℕ
 fragments_text (Some fragments) = pieces_text fragments
 fragments_text None = []
@@ -82,8 +82,8 @@ summary_text summary =
     ++ refusals_text (codes "refused") summary.refused ++ refusals_text (codes "stopped") summary.stopped
     ++ causes_text summary ++ unread_text summary.unread ++ fragments_text summary.fragments
 
--- What was written is the lines of a dump, and where a summary is wanted, its text behind them, which counts their packets
--- and those that are read and not shown.
+-- The output is the lines of a dump, then the text of the summary if one is wanted. The summary counts all packets that
+-- were read, shown or not.
 abbrev pub IsSummedDump : Bool → DumpOptions → Bool → Ending → List ℕ → List ℕ → Type 0
 IsSummedDump wanted options ended ending read written =
     (lines : List ℕ) × (summary : PlainSummary)

@@ -1,4 +1,4 @@
--- The text of transport layers, a space before each.
+-- Text of transport layers, each after a space.
 use Rattle.std.specs.Prelude.{ℕ, ◌==◌, ◌&&◌, nat_le, nat_lt, Bool, if◌then◌else◌, List, [], ◌∷◌, ◌++◌, length, codes}
 use Rattle.std.specs.Fmt.{decimal}
 use Rattle.etherparse.specs.Bytes.{word_at}
@@ -15,21 +15,21 @@ use Rattle.packet_dump.specs.IcmpTexts.{icmpv4_text, icmpv6_text}
 abbrev pub len_text : List ℕ → List ℕ
 len_text payload = codes " len " ++ decimal (length payload)
 
--- two ports
+-- the source and the destination port
 abbrev pub ports_text : ℕ → ℕ → List ℕ
 ports_text source destination = decimal source ++ codes " > " ++ decimal destination
 
--- a letter, where its flag is set
+-- the letter of a flag, if it is set
 abbrev pub flag_text : Bool → ℕ → List ℕ
 flag_text set letter = if set then letter ∷ [] else []
 
--- the letters of those flags of TCP that are set: SYN, FIN, RST, PSH, ACK, URG, ECE, CWR, NS
+-- the letters of the TCP flags that are set: SYN, FIN, RST, PSH, ACK, URG, ECE, CWR, NS
 unfoldable pub flags_text : TcpHeader → List ℕ
 flags_text tcp =
     flag_text tcp.syn 83 ++ flag_text tcp.fin 70 ++ flag_text tcp.rst 82 ++ flag_text tcp.psh 80 ++ flag_text tcp.ack 65
     ++ flag_text tcp.urg 85 ++ flag_text tcp.ece 69 ++ flag_text tcp.cwr 67 ++ flag_text tcp.ns 78
 
--- the acknowledgment number, where it counts
+-- the acknowledgment number, if the ACK flag is set
 abbrev pub acknowledgment_text : TcpHeader → List ℕ
 acknowledgment_text tcp = if tcp.ack then codes " ack " ++ decimal tcp.acknowledgment_number else []
 
@@ -53,7 +53,7 @@ transport_header_text (header.Tcp tcp) = tcp_text tcp
 transport_header_text (header.Icmpv4 icmp) = icmpv4_text icmp.icmp_type
 transport_header_text (header.Icmpv6 icmp) = icmpv6_text icmp.icmp_type
 
--- that the length field of UDP is 0, where bytes stand behind the header
+-- a word if the length field of UDP is 0 and bytes are after the header
 abbrev pub no_length_text : TransportHeader → List ℕ → List ℕ
 no_length_text (header.Udp udp) payload =
     if (udp.length == 0) && nat_lt 0 (length payload) then codes " length 0" else []
@@ -66,25 +66,25 @@ abbrev pub transport_text : TransportLayer → List ℕ
 transport_text layer =
     transport_header_text layer.header ++ no_length_text layer.header layer.payload ++ len_text layer.payload
 
--- ---- headers that are not read
+-- ---- headers that are not parsed
 
--- the ports that stand at the front of bytes
+-- the ports at the start of a UDP or TCP header, bytes 0 to 3
 abbrev pub ports_at : List ℕ → List ℕ
 ports_at bytes = ports_text (word_at bytes 0) (word_at bytes 2)
 
--- the flags and the sequence numbers of TCP, where their 14 bytes are there
+-- the flags and the sequence numbers of TCP, if the first 14 bytes are captured
 abbrev pub state_at : List ℕ → List ℕ
 state_at bytes = if nat_le 14 (length bytes) then state_text (tcp_header_of bytes) else []
 
--- the front of a UDP header
+-- the known fields of a UDP header
 abbrev pub udp_front_text : List ℕ → List ℕ
 udp_front_text bytes = codes " udp " ++ ports_at bytes
 
--- the front of a TCP header
+-- the known fields of a TCP header
 abbrev pub tcp_front_text : List ℕ → List ℕ
 tcp_front_text bytes = codes " tcp " ++ ports_at bytes ++ state_at bytes
 
--- the front of a header of this protocol number: of UDP and TCP, where their 4 bytes of ports are there
+-- the known fields of a header of this protocol: UDP or TCP, if the 4 bytes of the ports are captured
 abbrev pub header_front_text : ℕ → List ℕ → List ℕ
 header_front_text number bytes =
     if nat_lt (length bytes) 4 then [] else

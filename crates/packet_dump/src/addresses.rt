@@ -1,4 +1,4 @@
-//! Bytes and addresses as text.
+//! Formatting of bytes, MAC addresses and IP addresses as text.
 
 ghost use Rattle.std.specs.Prelude.{[], ◌∷◌, ◌≡◌, ◌<◌, ◌≤◌, ◌+◌, ◌*◌, ◌++◌, OnOk, codes, if◌then◌else◌, length, take};
 ghost use Rattle.std.specs.Fmt.{decimal};
@@ -9,7 +9,7 @@ ghost use Rattle.packet_dump.specs.Addresses.{mac_text, octets_text};
 use std::alloc::AllocError;
 use std::net::Ipv6Addr;
 
-/// The hexadecimal digits of each byte, two for each.
+/// Table of the two hexadecimal digits of each byte value, from `00` to `ff`, one after the other.
 static HEX_PAIRS: [u8; 512] = *b"\
     000102030405060708090a0b0c0d0e0f101112131415161718191a1b1c1d1e1f\
     202122232425262728292a2b2c2d2e2f303132333435363738393a3b3c3d3e3f\
@@ -20,7 +20,7 @@ static HEX_PAIRS: [u8; 512] = *b"\
     c0c1c2c3c4c5c6c7c8c9cacbcccdcecfd0d1d2d3d4d5d6d7d8d9dadbdcdddedf\
     e0e1e2e3e4e5e6e7e8e9eaebecedeeeff0f1f2f3f4f5f6f7f8f9fafbfcfdfeff";
 
-/// Appends a hardware address of six bytes: two digits for each, a colon between two.
+/// Appends a MAC address as text: two hexadecimal digits for each byte, separated by colons.
 #[tactic(auto, unfolding(crate::specs::Addresses::mac_text))]
 pub fn push_mac(output: &mut Vec<u8>, address: [u8; 6]) -> Result<(), AllocError>
     ensures { OnOk result (output.new.items ≡ output.old.items ++ mac_text address) }
@@ -37,7 +37,8 @@ pub fn push_mac(output: &mut Vec<u8>, address: [u8; 6]) -> Result<(), AllocError
     ])
 }
 
-/// Appends an address of any length: two digits for each byte, a colon between two.
+/// Appends a hardware or protocol address of any length as text: two hexadecimal digits for each byte, separated by
+/// colons.
 pub fn push_octets(output: &mut Vec<u8>, address: &[u8]) -> Result<(), AllocError>
     ensures { OnOk result (output.new.items ≡ output.old.items ++ octets_text address.now) }
 {
@@ -48,7 +49,7 @@ pub fn push_octets(output: &mut Vec<u8>, address: &[u8]) -> Result<(), AllocErro
     push_further_octets(output, rest)
 }
 
-/// Appends two digits for each byte, a colon before each.
+/// Appends the bytes of an address after its first one as text: a colon and two hexadecimal digits for each byte.
 fn push_further_octets(output: &mut Vec<u8>, bytes: &[u8]) -> Result<(), AllocError>
     ensures { OnOk result (output.new.items ≡ output.old.items ++ further_octets_text bytes.now) }
 {
@@ -59,7 +60,7 @@ fn push_further_octets(output: &mut Vec<u8>, bytes: &[u8]) -> Result<(), AllocEr
     Ok(())
 }
 
-/// Appends two digits for each byte.
+/// Appends bytes as hexadecimal text: two digits for each byte, without separators.
 pub fn push_hex(output: &mut Vec<u8>, bytes: &[u8]) -> Result<(), AllocError>
     ensures { OnOk result (output.new.items ≡ output.old.items ++ hex_text bytes.now) }
 {
@@ -69,14 +70,14 @@ pub fn push_hex(output: &mut Vec<u8>, bytes: &[u8]) -> Result<(), AllocError>
     Ok(())
 }
 
-/// Appends two digits for a byte.
+/// Appends the two hexadecimal digits of a byte.
 pub fn push_pair(output: &mut Vec<u8>, byte: u8) -> Result<(), AllocError>
     ensures { OnOk result (output.new.items ≡ output.old.items ++ hex_pair byte) }
 {
     output.extend_from_slice(&hex_pair(byte))
 }
 
-/// The two hexadecimal digits of a byte.
+/// Returns the two hexadecimal digits of a byte.
 #[inline]
 pub fn hex_pair(byte: u8) -> [u8; 2]
     ensures { result ≡ hex_pair byte }
@@ -85,10 +86,12 @@ pub fn hex_pair(byte: u8) -> [u8; 2]
     [HEX_PAIRS[at], HEX_PAIRS[at + 1]]
 }
 
-/// How many bytes the four numbers of an address of IPv4 take at most, with a dot before each.
+/// Length of the buffer for the text of an IPv4 address, in bytes: four numbers of up to three digits, with a dot
+/// before each.
 const DOTTED_LEN: usize = 16;
 
-/// Appends an address of IPv4: its four numbers, a dot between two. All are appended at once, which takes less time.
+/// Appends an IPv4 address in dotted decimal notation. Its text is built in a local buffer and appended in one call,
+/// which is faster than several.
 #[tactic(auto, unfolding(crate::specs::Addresses::ipv4_text))]
 pub fn push_ipv4(output: &mut Vec<u8>, address: [u8; 4]) -> Result<(), AllocError>
     ensures { OnOk result (output.new.items ≡ output.old.items ++ ipv4_text address) }
@@ -102,7 +105,8 @@ pub fn push_ipv4(output: &mut Vec<u8>, address: [u8; 4]) -> Result<(), AllocErro
     output.extend_from_slice(&text[1..end])
 }
 
-/// Puts a dot and a number below 256 at this place, and answers where they end.
+/// Writes a dot and the decimal number of an octet of an IPv4 address at position `at` of the text, and returns the
+/// position after it.
 #[inline]
 fn put_octet(text: &mut [u8; DOTTED_LEN], at: usize, octet: u8) -> usize
     requires { at ≤ 12 }
@@ -117,8 +121,8 @@ fn put_octet(text: &mut [u8; DOTTED_LEN], at: usize, octet: u8) -> usize
     put_digit(text, behind_second, b'0' + octet % 10, true)
 }
 
-/// Puts a digit at this place, and answers where the next one stands: at this place too, where the digit is not kept.
-/// So no branch is taken by what the digits are.
+/// Writes a digit at position `at` of the text, and returns the position for the next digit: `at` itself if this digit
+/// is a leading zero (`is_kept` is false), which the next digit then overwrites. There is no branch on the digits.
 #[inline]
 fn put_digit(text: &mut [u8], at: usize, digit: u8, is_kept: bool) -> usize
     requires { at < length text.old }
@@ -130,10 +134,12 @@ fn put_digit(text: &mut [u8], at: usize, digit: u8, is_kept: bool) -> usize
     at + usize::from(is_kept)
 }
 
-/// How many bytes the eight groups of an address of IPv6 take at most, with a colon behind each, and two more.
+/// Length of the buffer for the text of an IPv6 address, in bytes: eight groups of up to four digits with a colon after
+/// each, and two more colons.
 const GROUPS_LEN: usize = 42;
 
-/// Appends an address of IPv6 in its shortest form (RFC 5952). One that stands for an address of IPv4 ends in that.
+/// Appends an IPv6 address in its recommended text form (RFC 5952). An IPv4-mapped address is `::ffff:` and the IPv4
+/// address in dotted decimal notation.
 pub fn push_ipv6(output: &mut Vec<u8>, address: [u8; 16]) -> Result<(), AllocError>
     ensures { OnOk result (output.new.items ≡ output.old.items ++ ipv6_text address) }
 {
@@ -147,7 +153,8 @@ pub fn push_ipv6(output: &mut Vec<u8>, address: [u8; 16]) -> Result<(), AllocErr
     }
 }
 
-/// Appends eight groups, with `::` in place of the first of the longest runs of zeros, where it has two or more.
+/// Appends the eight 16-bit groups of an IPv6 address in hexadecimal, with `::` in place of the first longest run of
+/// two or more zero groups.
 fn push_groups(output: &mut Vec<u8>, groups: &[u16; 8]) -> Result<(), AllocError>
     ensures { OnOk result (output.new.items ≡ output.old.items ++ hex_groups_text groups.now) }
 {
@@ -164,8 +171,9 @@ fn push_groups(output: &mut Vec<u8>, groups: &[u16; 8]) -> Result<(), AllocError
     output.extend_from_slice(&text[..end])
 }
 
-/// Where the first of the longest runs of zeros begins, and how many it has. From the last group to the first, a run
-/// that is no shorter than the longest one so far takes its place.
+/// Returns the index and the length of the first longest run of zero groups of an IPv6 address; the length is 0 if no
+/// group is 0. The groups are visited from the last to the first, so a run of equal length replaces the longest one
+/// found so far.
 fn longest_run(groups: &[u16; 8]) -> (usize, usize)
     ensures value { result ≡ longest_zero_run groups.now }
     ensures bound { result.0 + result.1 ≤ 8 }
@@ -181,7 +189,8 @@ fn longest_run(groups: &[u16; 8]) -> (usize, usize)
     longest
 }
 
-/// Puts groups at this place, a colon between two, and answers where they end.
+/// Writes 16-bit groups of an IPv6 address in hexadecimal at position `at` of the text, separated by colons, and
+/// returns the position after them.
 fn put_groups(text: &mut [u8; GROUPS_LEN], at: usize, groups: &[u16]) -> usize
     requires { at + 5 * length groups.now ≤ 42 }
     ensures text { take result text.new ≡ take at text.old ++ groups_text groups.now }
@@ -198,7 +207,8 @@ fn put_groups(text: &mut [u8; GROUPS_LEN], at: usize, groups: &[u16]) -> usize
     end
 }
 
-/// Puts the hexadecimal digits of a group at this place, without zeros in front, and answers where they end.
+/// Writes a 16-bit group of an IPv6 address in hexadecimal at position `at` of the text, without leading zeros, and
+/// returns the position after it.
 #[inline]
 fn put_group(text: &mut [u8; GROUPS_LEN], at: usize, group: u16) -> usize
     requires { at + 4 ≤ 42 }

@@ -1,17 +1,17 @@
-//! Numbers that stand in bytes, most significant byte first. A byte that is not there counts as 0.
+//! Reading of big-endian numbers at an offset of a byte slice. Bytes after the end of the slice count as 0.
 
 ghost use Rattle.std.specs.Prelude.{◌≡◌, ◌+◌, ◌<◌, ◌^◌, slice_index};
 ghost use Rattle.etherparse.specs.Bytes.{word_at};
 ghost use Rattle.etherparse.specs.Tcp.{long_at};
 
-/// The byte at a place.
+/// Returns the byte at offset `at`, or 0 if the slice ends before it.
 pub fn byte_at(bytes: &[u8], at: usize) -> u8
     ensures { result ≡ slice_index bytes.now at }
 {
     if at < bytes.len() { bytes[at] } else { 0 }
 }
 
-/// The number of the two bytes from a place on.
+/// Returns the 16-bit big-endian number at offset `at`. Bytes after the end of the slice count as 0.
 pub fn word_at(bytes: &[u8], at: usize) -> u16
     requires { at < 2 ^ 16 }
     ensures { result ≡ word_at bytes.now at }
@@ -19,7 +19,7 @@ pub fn word_at(bytes: &[u8], at: usize) -> u16
     256 * u16::from(byte_at(bytes, at)) + u16::from(byte_at(bytes, at + 1))
 }
 
-/// The number of the four bytes from a place on.
+/// Returns the 32-bit big-endian number at offset `at`. Bytes after the end of the slice count as 0.
 pub fn long_at(bytes: &[u8], at: usize) -> u32
     requires { at + 2 < 2 ^ 16 }
     ensures { result ≡ long_at bytes.now at }

@@ -1,4 +1,5 @@
-//! What is told of a packet beside the line's layers.
+//! Additional text of `--verbose` in the line of a packet: details of its layers, and the packet that an ICMP error
+//! quotes.
 
 ghost use Rattle.std.specs.Prelude.{◌≡◌, ◌++◌, ℕ, List, OnOk};
 ghost use Rattle.std.specs.Option.{option_copied};
@@ -13,7 +14,8 @@ use etherparse::{Entry, LaxSlicedPacket};
 use line_io::decimals;
 use std::alloc::AllocError;
 
-/// Appends the number of a packet's interface, where that is wanted and known.
+/// Appends ` interface N`, the number of the packet's capture interface (pcapng), with `--verbose` and if the number is
+/// known.
 pub fn push_interface(
     output: &mut Vec<u8>,
     wanted: bool,
@@ -25,13 +27,14 @@ pub fn push_interface(
         return Ok(());
     };
     if wanted {
-        decimals::push_behind(output, b" interface ", u64::from(number))
+        decimals::push_with_text(output, b" interface ", u64::from(number))
     } else {
         Ok(())
     }
 }
 
-/// Appends the details of a packet, where they are wanted.
+/// Appends the details of a packet's layers (TTL, TCP window ..), and the packet that an ICMP error quotes, with
+/// `--verbose`.
 pub fn push_told(
     output: &mut Vec<u8>,
     wanted: bool,
@@ -47,7 +50,8 @@ pub fn push_told(
     }
 }
 
-/// Appends the details of a packet: those of its layers, and the packet that it quotes.
+/// Appends the details of a packet's layers (TTL, TCP window ..), and then the layers of the packet that an ICMP error
+/// quotes, if it is one.
 fn push_all(output: &mut Vec<u8>, read: &LaxSlicedPacket<'_>) -> Result<(), AllocError>
     ensures { OnOk result ((text : List ℕ) × AreDetails read.now text
         × (output.new.items ≡ output.old.items ++ text)) }
@@ -56,7 +60,7 @@ fn push_all(output: &mut Vec<u8>, read: &LaxSlicedPacket<'_>) -> Result<(), Allo
     push_quote_of(output, quoted_by(read))
 }
 
-/// The bytes that a packet quotes.
+/// Returns the bytes of the packet that an ICMP error quotes, or `None` if the packet is no ICMP error.
 fn quoted_by<'a>(read: &LaxSlicedPacket<'a>) -> Option<&'a [u8]>
     ensures { option_copied result ≡ quoted_by read.now }
 {
@@ -66,7 +70,7 @@ fn quoted_by<'a>(read: &LaxSlicedPacket<'a>) -> Option<&'a [u8]>
     }
 }
 
-/// Appends the text of the packet that is quoted, where one is.
+/// Appends the layers of the packet that an ICMP error quotes, or nothing if `bytes` is `None`.
 fn push_quote_of(output: &mut Vec<u8>, bytes: Option<&[u8]>) -> Result<(), AllocError>
     ensures { OnOk result ((text : List ℕ) × IsQuoteOf (option_copied bytes.entry) text
         × (output.new.items ≡ output.old.items ++ text)) }
@@ -77,7 +81,8 @@ fn push_quote_of(output: &mut Vec<u8>, bytes: Option<&[u8]>) -> Result<(), Alloc
     }
 }
 
-/// Appends the text of the packet at the front of bytes that are quoted: none where they are no packet of IP.
+/// Appends the layers of the IP packet that an ICMP error quotes, which starts at the first byte, or nothing if the
+/// bytes are no IP packet.
 fn push_quote(output: &mut Vec<u8>, bytes: &[u8]) -> Result<(), AllocError>
     ensures { OnOk result ((text : List ℕ) × IsQuote bytes.now text
         × (output.new.items ≡ output.old.items ++ text)) }
@@ -89,7 +94,7 @@ fn push_quote(output: &mut Vec<u8>, bytes: &[u8]) -> Result<(), AllocError>
     }
 }
 
-/// Appends the layers of a quoted packet.
+/// Appends ` quotes` and the layers of the packet that an ICMP error quotes.
 fn push_quoted(output: &mut Vec<u8>, read: &LaxSlicedPacket<'_>) -> Result<(), AllocError>
     ensures { OnOk result (output.new.items ≡ output.old.items ++ quoted_text (lax_layers_of read.now)) }
 {
@@ -99,7 +104,8 @@ fn push_quoted(output: &mut Vec<u8>, read: &LaxSlicedPacket<'_>) -> Result<(), A
     push_incomplete(output, read.is_incomplete())
 }
 
-/// Appends what stands in the outer layers of a quoted packet.
+/// Appends the transport layer, or else the IP payload, of a packet that an ICMP error quotes. If the transport header
+/// is truncated, appends the fields at its start that are known.
 fn push_quoted_rest(output: &mut Vec<u8>, read: &LaxSlicedPacket<'_>) -> Result<(), AllocError>
     ensures { OnOk result (output.new.items ≡ output.old.items ++ (let layers = lax_layers_of read.now in
         quoted_rest layers.net.inside.incomplete (layers_in layers) layers.net.inside.stop)) }

@@ -1,4 +1,4 @@
-//! What is shown of a capture.
+//! Options of a `packet_dump` run: which packets are shown, and how.
 
 ghost use Rattle.std.specs.Prelude.{◌≡◌, ◌||◌, ◌&&◌, Some};
 ghost use Rattle.std.specs.Option.{is_none, option_map};
@@ -13,25 +13,27 @@ ghost use Rattle.packet_dump.specs.PoolLines.{inner_kind, part};
 use etherparse::{LaxNetSlice, LaxSlicedPacket, TransportSlice};
 use packet_filter::{Word, passes};
 
-/// A kind of packet.
+/// Kind of a packet for the option `--only`: its transport layer, ARP, or how its parsing failed.
 #[derive(Clone, Copy)]
 pub enum Kind {
-    /// A datagram of UDP.
+    /// Packet with a UDP datagram (`--only udp`).
     Udp,
-    /// A segment of TCP.
+    /// Packet with a TCP segment (`--only tcp`).
     Tcp,
-    /// A message of ICMP or ICMPv6.
+    /// Packet with an ICMPv4 or ICMPv6 message (`--only icmp`).
     Icmp,
-    /// An ARP packet.
+    /// ARP packet (`--only arp`).
     Arp,
-    /// A packet of which not one layer stands, or a fragment that is refused.
+    /// Packet without any valid layer, fragment that is rejected, or reassembled payload with an invalid transport
+    /// header (`--only refused`). With `--strict` also each packet that is not a complete, valid frame.
     Refused,
-    /// A packet whose layers end in front of one that is refused.
+    /// Packet with valid layers up to a truncated or invalid one (`--only stopped`).
     Stopped,
 }
 
 impl Kind {
-    /// The kind of a packet, where it is of one.
+    /// Returns the kind of a laxly sliced packet for `--only`, or `None` if it has none, such as IP with another
+    /// protocol.
     pub fn of(read: &LaxSlicedPacket<'_>) -> Option<Kind>
         ensures { result ≡ content_kind (packet (lax_layers_of read.now)) }
     {
@@ -41,7 +43,8 @@ impl Kind {
         }
     }
 
-    /// The same of one whose layers do not end in front of a refused one.
+    /// Returns the kind of a packet in which no layer is invalid, by its transport layer or ARP, or `None` if it has
+    /// neither.
     fn of_layers(read: &LaxSlicedPacket<'_>) -> Option<Kind>
         ensures { result ≡ frame_kind (option_map lax_net_layer_of read.now.net)
             (option_map transport_layer_of read.now.transport) }
@@ -55,7 +58,8 @@ impl Kind {
         }
     }
 
-    /// The kind of the payload of an IP packet, where it is of one.
+    /// Returns the kind of a reassembled IP payload by its transport layer (UDP, TCP or ICMP), or `None` if it has
+    /// none.
     pub fn of_part(transport: &Option<TransportSlice<'_>>) -> Option<Kind>
         ensures { result ≡ inner_kind (part (option_map transport_layer_of transport.now)) }
     {
@@ -67,7 +71,7 @@ impl Kind {
         }
     }
 
-    /// Whether two kinds are one.
+    /// Returns whether two kinds of packets are equal.
     fn is(self, other: Kind) -> bool
         ensures { result ≡ same_kind self other }
     {
@@ -83,64 +87,68 @@ impl Kind {
     }
 }
 
-/// How times are told.
+/// Format of the timestamps of packet lines (`--time`).
 #[derive(Clone, Copy)]
 pub enum TimeForm {
-    /// Since the first packet, in seconds.
+    /// Timestamps are seconds since the first packet of the capture.
     Relative,
-    /// Since 1970, in seconds.
+    /// Timestamps are seconds since 1970-01-01 00:00 UTC.
     Epoch,
-    /// The date and the time of day in UTC.
+    /// Timestamps are dates and times of day in UTC.
     Utc,
 }
 
-/// What is shown of a capture.
+/// Options of a `packet_dump` run: which packets are shown, and how.
 #[derive(Clone, Copy)]
 pub struct DumpOptions {
-    /// The kind of packets that are shown; all are where there is none.
+    /// Only packets of this kind are shown (`--only`); `None` shows all.
     pub only: Option<Kind>,
-    /// The words of a filter: packets are shown of which all hold.
+    /// Parsed filter options (`--host`, `--port`, `--net`, `--vlan`), each in a slot; only packets that match all of
+    /// them are shown.
     pub words: [Option<Word>; 6],
-    /// How times are told.
+    /// Format of the timestamps of packet lines (`--time`).
     pub time: TimeForm,
-    /// How many packets are read, at most.
+    /// Maximum number of packets that are read, shown or not (`--count`).
     pub most: u64,
-    /// Whether no lines are written.
+    /// True if no packet lines are printed (`--quiet`).
     pub quiet: bool,
-    /// Whether the bytes of payloads are shown, and all bytes of what is refused.
+    /// True if a hex dump follows each packet (`--hex`): of its payload, or of all its bytes if it is rejected or its
+    /// link type or link header is not supported.
     pub hex: bool,
-    /// Whether all bytes of packets are shown where those of their payloads were.
+    /// True if the hex dump of a packet has all its bytes, headers included, instead of its payload (`--hex=frame`).
     pub whole: bool,
-    /// Whether only frames are read, and no layers of what is none.
+    /// True if each packet that is not a complete, valid frame is printed as rejected, without its layers (`--strict`).
     pub strict: bool,
-    /// Whether details are told of packets whose layers stand.
+    /// True if further header fields are printed of each packet with a valid layer (`--verbose`).
     pub verbose: bool,
-    /// Whether payloads are put together from fragments.
+    /// True if IP payloads are reassembled from their fragments (`--reassemble`).
     pub reassemble: bool,
-    /// How many seconds a stream of fragments is kept of which none is accepted.
+    /// Seconds without an accepted fragment after which an incomplete IP payload expires (`--timeout`).
     pub timeout: u32,
-    /// The greatest length of a payload that is put together, in bytes.
+    /// Maximum length of a reassembled IP payload, in bytes (`--limit`).
     pub limit: u16,
-    /// How many streams of fragments are open at a time, at most.
+    /// Maximum number of incomplete IP payloads that are kept for reassembly (`--streams`); one more evicts the oldest.
     pub streams: u64,
 }
 
 impl DumpOptions {
-    /// Whether it matters which packets are frames.
+    /// Returns whether each packet is also sliced strictly, to check that it is a complete, valid frame: for `--strict`
+    /// and for `--reassemble`.
     pub fn asks_frames(&self) -> bool
         ensures { result ≡ (self.now.strict || self.now.reassemble) }
     {
         self.strict || self.reassemble
     }
 
-    /// Whether packets of a kind are shown.
+    /// Returns whether `--quiet` and `--only` let the lines of packets of this kind be printed: without `--quiet`, if
+    /// `--only` names the kind or is missing. The filter options (`--host`, `--port` ..) are not considered here.
     pub fn shows(&self, kind: Option<Kind>) -> bool
         ensures { result ≡ shows_line self.now kind }
     {
         !self.quiet && self.wants(kind)
     }
 
-    /// Whether a kind is the one that is wanted, or all are.
+    /// Returns whether `--only` selects packets of this kind; without `--only` it selects all.
     pub fn wants(&self, kind: Option<Kind>) -> bool
         ensures { result ≡ shows_kind self.now.only kind }
     {
@@ -151,35 +159,37 @@ impl DumpOptions {
         }
     }
 
-    /// Returns whether every packet is selected: all kinds are, by a filter without primitives.
+    /// Returns whether every packet is selected: there is neither `--only` nor a filter option.
     pub fn wants_all(&self) -> bool
         ensures { result ≡ (is_none self.now.only && asks_nothing self.now.words) }
     {
         self.only.is_none() && self.asks_nothing()
     }
 
-    /// Whether a packet is shown.
+    /// Returns whether the line of a packet with layers is printed: not with `--quiet`, and else if `--only` and all
+    /// filter options select it.
     pub fn shows_read(&self, read: &LaxSlicedPacket<'_>) -> bool
         ensures { result ≡ shows_content self.now (packet (lax_layers_of read.now)) }
     {
         self.shows(Kind::of(read)) && self.meets(read)
     }
 
-    /// Whether what has no layers is shown, of such a kind if of one.
+    /// Returns whether the line of a packet that is printed without layers (rejected, or with an unsupported link type)
+    /// is printed, given its kind: not with `--quiet` or with any filter option, and else if `--only` selects it.
     pub fn shows_unread(&self, kind: Option<Kind>) -> bool
         ensures { result ≡ (shows_line self.now kind && asks_nothing self.now.words) }
     {
         self.shows(kind) && self.asks_nothing()
     }
 
-    /// Whether all words of the filter hold of a packet.
+    /// Returns whether a packet matches all filter options (`--host`, `--port`, `--net`, `--vlan`).
     pub fn meets(&self, read: &LaxSlicedPacket<'_>) -> bool
         ensures { result ≡ meets self.now.words (packet (lax_layers_of read.now)) }
     {
         self.words.iter().all(|slot| slot_holds(slot, read))
     }
 
-    /// Whether the filter has no word.
+    /// Returns whether there is no filter option (`--host`, `--port`, `--net`, `--vlan`).
     pub fn asks_nothing(&self) -> bool
         ensures { result ≡ asks_nothing self.now.words }
     {
@@ -190,7 +200,8 @@ impl DumpOptions {
     }
 }
 
-/// Whether a word holds of a packet, where there is one.
+/// Returns whether a packet matches the filter primitive in a slot (such as `port 53`); an empty slot matches every
+/// packet.
 fn slot_holds(slot: &Option<Word>, read: &LaxSlicedPacket<'_>) -> bool
     ensures { result ≡ slot_holds slot.now (lax_layers_of read.now) }
 {

@@ -1,4 +1,4 @@
-//! How a run ends.
+//! How a `packet_dump` run ends.
 
 ghost use Rattle.std.specs.Prelude.{◌≡◌};
 ghost use Rattle.packet_dump.specs.ErrorTexts.{run_error_text};
@@ -6,23 +6,23 @@ ghost use Rattle.packet_dump.specs.ErrorTexts.{run_error_text};
 use capture_reader::CaptureError;
 use line_io::RunError;
 
-/// How a run ends that wrote all it had to write.
+/// Why a run that wrote all of its output stopped reading the capture.
 #[derive(Clone, Copy)]
 pub enum Ending {
-    /// The capture was read to its end.
+    /// The capture is complete and was read to its end.
     Whole,
-    /// As many packets were read as are wanted.
+    /// The number of packets given by `--count` was read.
     Enough,
-    /// What was read is no whole capture.
+    /// The capture is invalid, or it ends within a packet or block.
     Broken {
-        /// How many packets stand in front of what is wrong.
+        /// Number of packets that were read before the error in the capture.
         packets: u64,
-        /// What is wrong, and where.
+        /// Error in the capture, with its byte offset.
         error: CaptureError,
     },
 }
 
-/// The line for standard error after an error, without its line feed.
+/// Returns the message for standard error if reading or writing failed or memory is exhausted, without its line feed.
 pub fn error_text(error: &RunError) -> &'static str
     ensures { result.now ≡ run_error_text error.now }
 {

@@ -1,4 +1,4 @@
-//! From a capture in a reader to lines in a writer.
+//! Main loop: reads a capture from a reader and writes the lines of its packets to a writer.
 
 ghost use Rattle.std.specs.Prelude.{◌≡◌, ◌≤◌, ◌<◌, ◌*◌, ◌+◌, ◌^◌, ◌⊎◌, ◌↔◌, [], false, true, IfOk, OnErr, OnOk};
 ghost use Rattle.std.specs.Io.KnownBytes.{IsAtEnd};
@@ -17,17 +17,19 @@ use line_io::{RunError, Watched, zeros};
 use std::alloc::Global;
 use std::io::{Read, Write};
 
-/// How many bytes are read at a time, at most.
+/// Length of the buffer that the capture is read into, in bytes: the maximum length of one read.
 const PIECE_LEN: usize = 65_536;
 
-/// How many reads are made at most: of 64 KiB each, so that the number of bytes fits in 64 bits.
+/// Maximum number of reads of a capture: 2^47 reads of 64 KiB each, so that the number of bytes fits in 64 bits.
 pub const MOST_READS: u64 = 0x8000_0000_0000;
 
-/// Writes the lines of the packets of the capture that the reader gives, until it has ended, as many packets were read
-/// as are wanted, or what it gave is refused, and says which. Neither may have failed before, nor the reader have ended.
+/// Reads a capture from `reader` and writes a line for each shown packet to `writer`, until the capture ends, the
+/// wanted number of packets is read, or the capture is invalid; returns which of them. The caller passes a reader and a
+/// writer that have not failed before, and a reader that has not ended.
 ///
-/// The reader is read in pieces of 64 KiB, and what was read of them is written before the next is read. What was read
-/// is counted in the summary, as far as that is wanted.
+/// The capture is read in chunks of 64 KiB, and the lines of a chunk are written before the next chunk is read. The
+/// packets are counted in `summary`, if a summary is wanted. The packets that `--only` and the filter options select,
+/// even if `--quiet` hides their lines, are written to `file`, if a capture file is wanted.
 pub fn run<R: Read, W: Write, F: Write>(
     alloc: Global,
     options: DumpOptions,
@@ -45,18 +47,18 @@ pub fn run<R: Read, W: Write, F: Write>(
     requires fresh { saving.old.state ≡ new_state (asks saving.old.state) }
     requires empty { saving.old.bytes.items ≡ [] }
 
-    // What was written is the lines of what was read, and at an error begins them.
+    // At Ok the output is the lines of the input; at an error it begins them.
     ensures ok { IfOk result (λ ending. Transfers (IsDump options (has_ended reader.new) ending)
         R.remaining reader.old reader.new W.contents writer.old writer.new) }
     ensures err { OnErr result (Transfers (BeginsDump options) R.remaining reader.old reader.new
         W.contents writer.old writer.new) }
 
-    // The packets of these lines, and those that are read and not shown, were counted, where a summary is wanted.
+    // The packets of these lines, and those that are read but not shown, are counted, if a summary is wanted.
     ensures counts { IfOk result (λ ending. Transfers (IsCountedDump options (has_ended reader.new) ending
         (plain_of summary.old) (plain_of summary.new)) R.remaining reader.old reader.new W.contents writer.old writer.new) }
 
-    // What was written into the file is the capture of the packets that are shown of what was read, and at an error
-    // begins it. Where none is wanted, it is nothing.
+    // At Ok the file is the capture of the selected packets of the input, up to one that cannot be written; if a write
+    // to it failed, or at an error, it begins that capture. It is empty if none is wanted.
     ensures saved { IfOk result (λ ending. Transfers
         (IsCopy options (asks saving.old.state) (has_ended reader.new) ending saving.new.state)
         R.remaining reader.old reader.new F.contents file.old file.new) }
@@ -64,11 +66,11 @@ pub fn run<R: Read, W: Write, F: Write>(
         reader.new F.contents file.old file.new) }
     ensures failed { has_failed file.new ≡ is_failed saving.new.state }
 
-    // A reader that has ended was read to its end, but where it still gives bytes after that many reads.
+    // A reader that has ended was read to its end, unless it still returns bytes after the maximum number of reads.
     ensures whole { OnOk result (has_ended reader.new ≡ true →
         IsAtEnd (R.remaining (inner_of reader.new)) ⊎ (reads_left reader.new ≡ 0)) }
 
-    // The error says which of the two failed.
+    // The error names the side that failed.
     ensures read { (result ≡ Err RunError.Read) ↔ (has_failed reader.new ≡ true) }
     ensures write { (result ≡ Err RunError.Write) ↔ (has_failed writer.new ≡ true) }
 {

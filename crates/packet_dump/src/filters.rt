@@ -1,4 +1,4 @@
-//! What the words of a filter say.
+//! Parsing of the filter options `--host`, `--port`, `--net` and `--vlan`.
 
 ghost use Rattle.std.specs.Prelude.{◌≡◌, IfOk, List, Ok, OnErr, Option, Some};
 ghost use Rattle.packet_filter.specs.declared.word.Word.{Word};
@@ -8,15 +8,16 @@ ghost use Rattle.packet_dump.specs.Options.{filter_places};
 use crate::options::{FilterKind, FilterText, FilterTexts};
 use packet_filter::{Word, WordError};
 
-/// A word of a filter that says nothing of its kind, and why.
+/// Value of a filter option (`--host`, `--port`, `--net`, `--vlan`) that cannot be parsed, with the error.
 #[derive(Clone, Copy)]
 pub struct FilterError<'a> {
     pub text: &'a str,
     pub error: WordError,
 }
 
-/// The words that texts say, each in its place. Of several that say none the first of the command line is told, which is
-/// the last one here.
+/// Parses up to six filter options (such as `--port 53`), each into its slot; unused slots are `None`. They are passed
+/// in reverse order of the command line, so they are parsed from the last: if several are invalid, the error is that of
+/// the first on the command line.
 pub fn words_of<'a>(texts: FilterTexts<'a>) -> Result<[Option<Word>; 6], FilterError<'a>>
     ensures ok { IfOk result (AreWords (filter_places texts.entry)) }
     ensures err { OnErr result ((words : List (Option Word)) → AreWords (filter_places texts.entry) words → ⊥) }
@@ -30,7 +31,7 @@ pub fn words_of<'a>(texts: FilterTexts<'a>) -> Result<[Option<Word>; 6], FilterE
     Ok([first, second, third, fourth, fifth, sixth])
 }
 
-/// The word that a text says, where there is one.
+/// Parses a filter option (such as `--port 53`), if there is one; `None` if there is not.
 fn slot_of<'a>(text: Option<FilterText<'a>>) -> Result<Option<Word>, FilterError<'a>>
     ensures ok { IfOk result (IsSlot text.entry) }
     ensures err { OnErr result ((slot : Option Word) → IsSlot text.entry slot → ⊥) }
@@ -41,7 +42,7 @@ fn slot_of<'a>(text: Option<FilterText<'a>>) -> Result<Option<Word>, FilterError
     }
 }
 
-/// The word that a text says.
+/// Parses a filter option, such as `--port 53`. On an error, returns its text with the error.
 fn word_of<'a>(text: FilterText<'a>) -> Result<Option<Word>, FilterError<'a>>
     ensures ok { IfOk result (IsSlot (Some text.entry)) }
     ensures err { OnErr result ((slot : Option Word) → IsSlot (Some text.entry) slot → ⊥) }
@@ -55,7 +56,7 @@ fn word_of<'a>(text: FilterText<'a>) -> Result<Option<Word>, FilterError<'a>>
     }
 }
 
-/// The word of a kind that a text says.
+/// Parses the value of a filter option: an address, a port, a network or a VLAN identifier, by its kind.
 fn read(kind: FilterKind, text: &str) -> Result<Word, WordError>
     ensures ok { IfOk result (IsWordOf kind text.now) }
     ensures only { (word : Word) → IsWordOf kind text.now word → result ≡ Ok word }

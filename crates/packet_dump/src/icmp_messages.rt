@@ -1,4 +1,4 @@
-//! The text of ICMP messages of both versions.
+//! Formatting of ICMPv4 and ICMPv6 messages as text of a packet's line.
 
 ghost use Rattle.std.specs.Prelude.{◌≡◌, ◌++◌, OnOk};
 ghost use Rattle.std.specs.Option.{option_copied};
@@ -13,7 +13,8 @@ use etherparse::{IcmpEchoHeader, Icmpv4Type, Icmpv6Type};
 use line_io::decimals;
 use std::alloc::AllocError;
 
-/// Appends the text of a message of ICMP: its type, its code, and what it says beside them.
+/// Appends an ICMPv4 message to a packet's line: its type, its code, and further fields such as the identifier of an
+/// echo.
 pub fn push_icmpv4(output: &mut Vec<u8>, message: &Icmpv4Type) -> Result<(), AllocError>
     ensures { OnOk result (output.new.items ≡ output.old.items ++ icmpv4_text message.now) }
 {
@@ -25,7 +26,8 @@ pub fn push_icmpv4(output: &mut Vec<u8>, message: &Icmpv4Type) -> Result<(), All
     push_icmpv4_content(output, message)
 }
 
-/// Appends the text of a message of ICMPv6: its type, its code, and what it says beside them.
+/// Appends an ICMPv6 message to a packet's line: its type, its code, and further fields such as the identifier of an
+/// echo.
 pub fn push_icmpv6(output: &mut Vec<u8>, message: &Icmpv6Type) -> Result<(), AllocError>
     ensures { OnOk result (output.new.items ≡ output.old.items ++ icmpv6_text message.now) }
 {
@@ -37,7 +39,7 @@ pub fn push_icmpv6(output: &mut Vec<u8>, message: &Icmpv6Type) -> Result<(), All
     push_icmpv6_content(output, message)
 }
 
-/// Appends a type, by its name or else by its number.
+/// Appends the name of an ICMP message type, or ` type N` if the type has no name.
 fn push_type(
     output: &mut Vec<u8>,
     name: Option<&'static str>,
@@ -50,11 +52,11 @@ fn push_type(
             output.push(b' ')?;
             output.extend_from_slice(name.as_bytes())
         }
-        None => decimals::push_behind(output, b" type ", u64::from(type_u8)),
+        None => decimals::push_with_text(output, b" type ", u64::from(type_u8)),
     }
 }
 
-/// Appends a code, by its name or else by its number; the code 0 without a name says nothing.
+/// Appends the name of an ICMP message code, or ` code N` if the code has no name; code 0 without a name is left out.
 fn push_code(
     output: &mut Vec<u8>,
     name: Option<&'static str>,
@@ -68,11 +70,11 @@ fn push_code(
             output.extend_from_slice(name.as_bytes())
         }
         None if code_u8 == 0 => Ok(()),
-        None => decimals::push_behind(output, b" code ", u64::from(code_u8)),
+        None => decimals::push_with_text(output, b" code ", u64::from(code_u8)),
     }
 }
 
-/// The name of a type of ICMP.
+/// Returns the name of an ICMPv4 message type, such as `echo-request`, or `None` if it has none.
 fn icmpv4_type_name(type_u8: u8) -> Option<&'static str>
     ensures { option_copied result ≡ icmpv4_type_name type_u8 }
 {
@@ -97,7 +99,7 @@ fn icmpv4_type_name(type_u8: u8) -> Option<&'static str>
     }
 }
 
-/// The name of a code of ICMP.
+/// Returns the name of a code of an ICMPv4 message type, or `None` if it has none.
 fn icmpv4_code_name(type_u8: u8, code_u8: u8) -> Option<&'static str>
     ensures { option_copied result ≡ icmpv4_code_name type_u8 code_u8 }
 {
@@ -110,7 +112,7 @@ fn icmpv4_code_name(type_u8: u8, code_u8: u8) -> Option<&'static str>
     }
 }
 
-/// The name of a code of an ICMP message about a destination that cannot be reached.
+/// Returns the name of a code of Destination Unreachable (ICMPv4 type 3), or `None` for an unknown code.
 fn icmpv4_unreachable_name(code_u8: u8) -> Option<&'static str>
     ensures { option_copied result ≡ icmpv4_unreachable_name code_u8 }
 {
@@ -135,7 +137,7 @@ fn icmpv4_unreachable_name(code_u8: u8) -> Option<&'static str>
     }
 }
 
-/// The name of a code of a redirection.
+/// Returns the name of a code of Redirect (ICMPv4 type 5), or `None` for an unknown code.
 fn icmpv4_redirect_name(code_u8: u8) -> Option<&'static str>
     ensures { option_copied result ≡ icmpv4_redirect_name code_u8 }
 {
@@ -148,7 +150,7 @@ fn icmpv4_redirect_name(code_u8: u8) -> Option<&'static str>
     }
 }
 
-/// The name of a code of a parameter problem.
+/// Returns the name of a code of Parameter Problem (ICMPv4 type 12), or `None` for an unknown code.
 fn icmpv4_problem_name(code_u8: u8) -> Option<&'static str>
     ensures { option_copied result ≡ icmpv4_problem_name code_u8 }
 {
@@ -160,7 +162,7 @@ fn icmpv4_problem_name(code_u8: u8) -> Option<&'static str>
     }
 }
 
-/// The name of a code of a time that is exceeded, which is of ICMPv6 too.
+/// Returns the name of a code of Time Exceeded (ICMPv4 type 11, ICMPv6 type 3), or `None` for an unknown code.
 fn exceeded_name(code_u8: u8) -> Option<&'static str>
     ensures { option_copied result ≡ exceeded_name code_u8 }
 {
@@ -171,7 +173,7 @@ fn exceeded_name(code_u8: u8) -> Option<&'static str>
     }
 }
 
-/// The name of a type of ICMPv6.
+/// Returns the name of an ICMPv6 message type, such as `echo-request`, or `None` if it has none.
 fn icmpv6_type_name(type_u8: u8) -> Option<&'static str>
     ensures { option_copied result ≡ icmpv6_type_name type_u8 }
 {
@@ -184,7 +186,7 @@ fn icmpv6_type_name(type_u8: u8) -> Option<&'static str>
     }
 }
 
-/// The name of a type of an error of ICMPv6.
+/// Returns the name of an ICMPv6 error message type (below 128), or `None` if it has none.
 fn icmpv6_error_name(type_u8: u8) -> Option<&'static str>
     ensures { option_copied result ≡ icmpv6_error_name type_u8 }
 {
@@ -197,7 +199,7 @@ fn icmpv6_error_name(type_u8: u8) -> Option<&'static str>
     }
 }
 
-/// The name of a type of ICMPv6 that tells something, below 144.
+/// Returns the name of an ICMPv6 informational message type from 128 to 143, or `None` if it has none.
 fn icmpv6_neighbor_name(type_u8: u8) -> Option<&'static str>
     ensures { option_copied result ≡ icmpv6_neighbor_name type_u8 }
 {
@@ -219,7 +221,7 @@ fn icmpv6_neighbor_name(type_u8: u8) -> Option<&'static str>
     }
 }
 
-/// The same from 144 on.
+/// Returns the name of an ICMPv6 informational message type from 144 on, or `None` if it has none.
 fn icmpv6_further_name(type_u8: u8) -> Option<&'static str>
     ensures { option_copied result ≡ icmpv6_further_name type_u8 }
 {
@@ -239,7 +241,7 @@ fn icmpv6_further_name(type_u8: u8) -> Option<&'static str>
     }
 }
 
-/// The name of a code of ICMPv6.
+/// Returns the name of a code of an ICMPv6 message type, or `None` if it has none.
 fn icmpv6_code_name(type_u8: u8, code_u8: u8) -> Option<&'static str>
     ensures { option_copied result ≡ icmpv6_code_name type_u8 code_u8 }
 {
@@ -251,7 +253,7 @@ fn icmpv6_code_name(type_u8: u8, code_u8: u8) -> Option<&'static str>
     }
 }
 
-/// The name of a code of an ICMPv6 message about a destination that cannot be reached.
+/// Returns the name of a code of Destination Unreachable (ICMPv6 type 1), or `None` for an unknown code.
 fn icmpv6_unreachable_name(code_u8: u8) -> Option<&'static str>
     ensures { option_copied result ≡ icmpv6_unreachable_name code_u8 }
 {
@@ -268,7 +270,7 @@ fn icmpv6_unreachable_name(code_u8: u8) -> Option<&'static str>
     }
 }
 
-/// The name of a code of a parameter problem of ICMPv6.
+/// Returns the name of a code of Parameter Problem (ICMPv6 type 4), or `None` for an unknown code.
 fn icmpv6_problem_name(code_u8: u8) -> Option<&'static str>
     ensures { option_copied result ≡ icmpv6_problem_name code_u8 }
 {
@@ -281,8 +283,8 @@ fn icmpv6_problem_name(code_u8: u8) -> Option<&'static str>
     }
 }
 
-/// Appends what a message of ICMP says beside its type and code: an echo's numbers, how much the next network takes, a
-/// gateway, where the byte stands that is wrong.
+/// Appends the further fields of an ICMPv4 message: identifier and sequence number of an echo or timestamp message, MTU
+/// of the next hop, gateway address of a redirect, or pointer to the byte with a parameter problem.
 fn push_icmpv4_content(output: &mut Vec<u8>, message: &Icmpv4Type) -> Result<(), AllocError>
     ensures { OnOk result (output.new.items ≡ output.old.items ++ icmpv4_content_text message.now) }
 {
@@ -291,17 +293,17 @@ fn push_icmpv4_content(output: &mut Vec<u8>, message: &Icmpv4Type) -> Result<(),
         Icmpv4Type::DestinationUnreachable {
             code: 4,
             next_hop_mtu,
-        } => decimals::push_behind(output, b" mtu ", u64::from(*next_hop_mtu)),
+        } => decimals::push_with_text(output, b" mtu ", u64::from(*next_hop_mtu)),
         Icmpv4Type::Redirect { gateway, .. } => {
             output.extend_from_slice(b" to ")?;
             push_ipv4(output, *gateway)
         }
         Icmpv4Type::ParameterProblem { code: 0, pointer } => {
-            decimals::push_behind(output, b" ", u64::from(*pointer))
+            decimals::push_with_text(output, b" ", u64::from(*pointer))
         }
         Icmpv4Type::TimestampRequest(times) | Icmpv4Type::TimestampReply(times) => {
-            decimals::push_behind(output, b" id ", u64::from(times.id))?;
-            decimals::push_behind(output, b" seq ", u64::from(times.seq))
+            decimals::push_with_text(output, b" id ", u64::from(times.id))?;
+            decimals::push_with_text(output, b" seq ", u64::from(times.seq))
         }
         Icmpv4Type::Unknown { .. }
         | Icmpv4Type::DestinationUnreachable { .. }
@@ -310,17 +312,18 @@ fn push_icmpv4_content(output: &mut Vec<u8>, message: &Icmpv4Type) -> Result<(),
     }
 }
 
-/// Appends what a message of ICMPv6 says beside its type and code: an echo's numbers, how much a network takes.
+/// Appends the further fields of an ICMPv6 message: identifier and sequence number of an echo, MTU of Packet Too Big,
+/// or pointer to the byte with a parameter problem.
 fn push_icmpv6_content(output: &mut Vec<u8>, message: &Icmpv6Type) -> Result<(), AllocError>
     ensures { OnOk result (output.new.items ≡ output.old.items ++ icmpv6_content_text message.now) }
 {
     match message {
         Icmpv6Type::EchoRequest(echo) | Icmpv6Type::EchoReply(echo) => push_echo(output, echo),
         Icmpv6Type::PacketTooBig { mtu } => {
-            decimals::push_behind(output, b" mtu ", u64::from(*mtu))
+            decimals::push_with_text(output, b" mtu ", u64::from(*mtu))
         }
         Icmpv6Type::ParameterProblem { pointer, .. } => {
-            decimals::push_behind(output, b" pointer ", u64::from(*pointer))
+            decimals::push_with_text(output, b" pointer ", u64::from(*pointer))
         }
         Icmpv6Type::Unknown { .. }
         | Icmpv6Type::DestinationUnreachable { .. }
@@ -328,10 +331,10 @@ fn push_icmpv6_content(output: &mut Vec<u8>, message: &Icmpv6Type) -> Result<(),
     }
 }
 
-/// Appends what belongs to an echo.
+/// Appends the identifier and the sequence number of an ICMP echo message.
 fn push_echo(output: &mut Vec<u8>, echo: &IcmpEchoHeader) -> Result<(), AllocError>
     ensures { OnOk result (output.new.items ≡ output.old.items ++ echo_text echo.now) }
 {
-    decimals::push_behind(output, b" id ", u64::from(echo.id))?;
-    decimals::push_behind(output, b" seq ", u64::from(echo.seq))
+    decimals::push_with_text(output, b" id ", u64::from(echo.id))?;
+    decimals::push_with_text(output, b" seq ", u64::from(echo.seq))
 }

@@ -1,4 +1,4 @@
-//! What holds of all summaries, each law the contract of a function that does nothing.
+//! Laws of the summary that `--summary` prints, each stated as the contract of a function with an empty body.
 
 ghost use Rattle.std.specs.Prelude.{◌≡◌, ◌<◌, ◌^◌, true, Bool, List, length};
 ghost use Rattle.capture_reader.specs.Captures.{Item, at_start};
@@ -6,7 +6,9 @@ ghost use Rattle.packet_dump.specs.Dumps.{packets_in};
 ghost use Rattle.packet_dump.specs.Summaries.{AddsUp, AreHeld, Held, counted_all, new_summary, standing};
 ghost use Rattle.packet_dump.specs.declared.dump_options.DumpOptions.{DumpOptions};
 
-/// As many packets are counted as were read, and the rows of a summary add up to them.
+/// States that a summary counts every packet that was read, and that its rows agree. The packets are those with valid
+/// layers, the refused ones, and those of unsupported link types; the counts of errors add up to the refused and
+/// stopped packets.
 pub fn sums()
     ensures packets { (options : DumpOptions) (items : List Item) (packets : List Held) →
         AreHeld options at_start items packets → length packets ≡ packets_in items }

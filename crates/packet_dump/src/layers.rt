@@ -1,4 +1,4 @@
-//! The text of a packet's layers.
+//! Formatting of the layers of a packet as text of its line.
 
 ghost use Rattle.std.specs.Prelude.{◌≡◌, ◌++◌, OnOk, false, map};
 ghost use Rattle.std.specs.Option.{option_copied, option_map};
@@ -28,7 +28,8 @@ use etherparse::{
 use line_io::decimals;
 use std::alloc::AllocError;
 
-/// Appends the text of each layer that stands, from the outside in, a space before each, and what is wrong behind them.
+/// Appends the text of each valid layer of a packet, from the outermost to the innermost, each after a space, and then
+/// the error at which parsing stopped, if any.
 pub fn push_packet(output: &mut Vec<u8>, read: &LaxSlicedPacket<'_>) -> Result<(), AllocError>
     ensures { OnOk result (output.new.items ≡ output.old.items ++ packet_text (lax_layers_of read.now)) }
 {
@@ -37,7 +38,7 @@ pub fn push_packet(output: &mut Vec<u8>, read: &LaxSlicedPacket<'_>) -> Result<(
     push_incomplete(output, read.is_incomplete())
 }
 
-/// Appends the text of each layer outside the payload of the net layer.
+/// Appends the text of a packet's link header, VLAN and MACsec tags, and network layer.
 pub fn push_outer(output: &mut Vec<u8>, read: &LaxSlicedPacket<'_>) -> Result<(), AllocError>
     ensures { OnOk result (output.new.items ≡ output.old.items ++ outer_text (layers_in (lax_layers_of read.now))) }
 {
@@ -46,7 +47,7 @@ pub fn push_outer(output: &mut Vec<u8>, read: &LaxSlicedPacket<'_>) -> Result<()
     push_net(output, &read.net)
 }
 
-/// Appends the text of each link extension.
+/// Appends the text of each VLAN and MACsec tag of a packet.
 fn push_tags(output: &mut Vec<u8>, extensions: &[LaxLinkExtSlice<'_>]) -> Result<(), AllocError>
     ensures { OnOk result (output.new.items ≡ output.old.items
         ++ extensions_text (map extension_in (lax_extensions_of false extensions.now))) }
@@ -54,7 +55,7 @@ fn push_tags(output: &mut Vec<u8>, extensions: &[LaxLinkExtSlice<'_>]) -> Result
     push_extensions(output, extensions)
 }
 
-/// Appends what stands in them, or why the layer that does is refused.
+/// Appends the transport layer or the payload of a packet, or why its next layer is invalid.
 fn push_rest(output: &mut Vec<u8>, read: &LaxSlicedPacket<'_>) -> Result<(), AllocError>
     ensures { OnOk result (output.new.items ≡ output.old.items ++ (let layers = lax_layers_of read.now in
         rest_text layers.net.inside.incomplete (layers_in layers) layers.net.inside.stop)) }
@@ -65,7 +66,8 @@ fn push_rest(output: &mut Vec<u8>, read: &LaxSlicedPacket<'_>) -> Result<(), All
     }
 }
 
-/// Appends what is told of a transport header that is refused, and why a layer is.
+/// Appends why a layer is truncated or invalid. If it is a transport header, appends first the fields at its start that
+/// are known.
 fn push_stopped(
     output: &mut Vec<u8>,
     net: &Option<LaxNetSlice<'_>>,
@@ -78,7 +80,8 @@ fn push_stopped(
     push_stop(output, error)
 }
 
-/// Appends what is told of a transport header that is refused, and of the length of what lies behind it.
+/// Appends the known fields at the start of a transport header that is truncated or invalid (the ports, for example),
+/// and the length of its payload, if it is known.
 pub fn push_refused_front(
     output: &mut Vec<u8>,
     net: &Option<LaxNetSlice<'_>>,
@@ -90,8 +93,8 @@ pub fn push_refused_front(
     push_cut_payload(output, net)
 }
 
-/// Appends the text of the transport layer, or else of what no layer was read in, and how many bytes the last payload
-/// has, where some are missing.
+/// Appends the transport layer of a packet, or else the protocol and length of its payload, and the payload's full
+/// length if the capture lacks bytes of it.
 pub fn push_inner(output: &mut Vec<u8>, read: &LaxSlicedPacket<'_>) -> Result<(), AllocError>
     ensures { OnOk result (output.new.items ≡ output.old.items ++ (let layers = lax_layers_of read.now in
         inner_in layers.net.inside.incomplete (layers_in layers))) }
@@ -100,7 +103,7 @@ pub fn push_inner(output: &mut Vec<u8>, read: &LaxSlicedPacket<'_>) -> Result<()
     push_whole(output, read)
 }
 
-/// Appends the text of the transport layer, or else of what no layer was read in.
+/// Appends the transport layer of a packet, or else the protocol and length of its payload.
 fn push_there(output: &mut Vec<u8>, read: &LaxSlicedPacket<'_>) -> Result<(), AllocError>
     ensures { OnOk result (output.new.items ≡ output.old.items ++ (let layers = layers_in (lax_layers_of read.now) in
         inner_text layers.transport (unread_in layers))) }
@@ -111,7 +114,7 @@ fn push_there(output: &mut Vec<u8>, read: &LaxSlicedPacket<'_>) -> Result<(), Al
     }
 }
 
-/// Appends that bytes of the last payload are missing, where some are.
+/// Appends ` incomplete` if the capture lacks bytes of a packet's last payload.
 pub fn push_incomplete(output: &mut Vec<u8>, incomplete: bool) -> Result<(), AllocError>
     ensures { OnOk result (output.new.items ≡ output.old.items ++ incomplete_text incomplete) }
 {
@@ -121,7 +124,8 @@ pub fn push_incomplete(output: &mut Vec<u8>, incomplete: bool) -> Result<(), All
     Ok(())
 }
 
-/// Appends what is told of a transport header that is not read, since it is cut, or stands in a first fragment.
+/// Appends the ports and, for TCP, further fields at the start of a transport header that is not parsed, since it is
+/// truncated or invalid, or in a first fragment.
 fn push_transport_front(
     output: &mut Vec<u8>,
     net: &Option<LaxNetSlice<'_>>,
@@ -135,7 +139,8 @@ fn push_transport_front(
     }
 }
 
-/// Appends what is told of the front of a payload of IP, which begins with a transport header or not.
+/// Appends the ports and, for TCP, further fields at the start of an IP payload that is not parsed. Appends nothing for
+/// a later fragment (offset above 0), whose payload does not begin with a transport header.
 fn push_payload_front(
     output: &mut Vec<u8>,
     begins: bool,
@@ -154,7 +159,8 @@ fn push_payload_front(
     }
 }
 
-/// Appends what no layer was read in: the payload of an IP packet, or else that of the link layer and its extensions.
+/// Appends the protocol and length of a payload in which no further layer is parsed: the IP payload, or else the
+/// payload after the link header and tags.
 fn push_unread(output: &mut Vec<u8>, read: &LaxSlicedPacket<'_>) -> Result<(), AllocError>
     ensures { OnOk result (output.new.items ≡ output.old.items ++ unread_in (layers_in (lax_layers_of read.now))) }
 {
@@ -170,7 +176,7 @@ fn push_unread(output: &mut Vec<u8>, read: &LaxSlicedPacket<'_>) -> Result<(), A
     }
 }
 
-/// Appends the protocol and the length of the payload of an IP packet.
+/// Appends the protocol number, its name and the length of an IP payload, or nothing if there is none (ARP).
 fn push_ip_payload(
     output: &mut Vec<u8>,
     payload: Option<&LaxIpPayloadSlice<'_>>,
@@ -185,15 +191,16 @@ fn push_ip_payload(
     push_len(output, payload.payload)
 }
 
-/// Appends a protocol number, and its name where it has one.
+/// Appends ` protocol N` for an IP protocol number, and its name if it has one.
 pub fn push_protocol(output: &mut Vec<u8>, number: IpNumber) -> Result<(), AllocError>
     ensures { OnOk result (output.new.items ≡ output.old.items ++ protocol_text number.0) }
 {
-    decimals::push_behind(output, b" protocol ", u64::from(number.0))?;
+    decimals::push_with_text(output, b" protocol ", u64::from(number.0))?;
     push_name(output, number.name())
 }
 
-/// The type of what lies behind the link layer and its extensions, where no layer in it is read and it is known.
+/// Returns the ether type of the payload after the link header and tags, if no network layer is parsed in that payload.
+/// `None` if one is, or if the ether type is unknown.
 fn open_type(read: &LaxSlicedPacket<'_>) -> Option<EtherType>
     ensures { result ≡ payload_ether_type_in (layers_in (lax_layers_of read.now)) }
 {
@@ -203,7 +210,8 @@ fn open_type(read: &LaxSlicedPacket<'_>) -> Option<EtherType>
     }
 }
 
-/// The same, whether or not a layer in it is read.
+/// Returns the ether type of the payload after the link header and tags, whether or not a network layer is parsed in
+/// it; `None` if it is unknown.
 fn type_behind(read: &LaxSlicedPacket<'_>) -> Option<EtherType>
     ensures { result ≡ option_map (λ payload. payload.ether_type)
         (ether_payload_in (layers_in (lax_layers_of read.now))) }
@@ -214,7 +222,7 @@ fn type_behind(read: &LaxSlicedPacket<'_>) -> Option<EtherType>
     }
 }
 
-/// Whether a link layer is Ethernet, whose type is a length up to 1500.
+/// Returns whether the link header is Ethernet, in which a type field up to 1500 is a length (IEEE 802.3).
 fn has_lengths(link: &Option<LinkSlice<'_>>) -> bool
     ensures { result ≡ has_lengths (option_map link_layer_of link.now) }
 {
@@ -225,7 +233,8 @@ fn has_lengths(link: &Option<LinkSlice<'_>>) -> bool
     }
 }
 
-/// Appends an ether type, where it is known.
+/// Appends an ether type, or nothing if it is unknown. After an Ethernet header, a value up to 1500 is printed as a
+/// length.
 fn push_ether_type(
     output: &mut Vec<u8>,
     lengths: bool,
@@ -239,18 +248,19 @@ fn push_ether_type(
     }
 }
 
-/// Appends an ether type and its name where it has one, or a length where it may be one.
+/// Appends an ether type, with its name if it has one. After an Ethernet header (`lengths` is true), a value up to 1500
+/// is printed as a length.
 fn push_type(output: &mut Vec<u8>, lengths: bool, ether_type: EtherType) -> Result<(), AllocError>
     ensures { OnOk result (output.new.items ≡ output.old.items ++ type_text lengths ether_type.0) }
 {
     if is_length(lengths, ether_type) {
-        decimals::push_behind(output, b" length ", u64::from(ether_type.0))
+        decimals::push_with_text(output, b" length ", u64::from(ether_type.0))
     } else {
         push_named_type(output, ether_type)
     }
 }
 
-/// Appends an ether type and its name, where it has one.
+/// Appends an ether type in hexadecimal, and its name if it has one.
 fn push_named_type(output: &mut Vec<u8>, ether_type: EtherType) -> Result<(), AllocError>
     ensures { OnOk result (output.new.items ≡ output.old.items ++ named_type_text ether_type.0) }
 {
@@ -259,14 +269,15 @@ fn push_named_type(output: &mut Vec<u8>, ether_type: EtherType) -> Result<(), Al
     push_name(output, ether_type.name())
 }
 
-/// Whether an ether type is a length, where it may be one.
+/// Returns whether an ether type field contains a length: the link header is Ethernet (`lengths` is true) and the value
+/// is at most 1500.
 fn is_length(lengths: bool, ether_type: EtherType) -> bool
     ensures { result ≡ is_length lengths ether_type.0 }
 {
     lengths && ether_type.0 <= 1500
 }
 
-/// Appends the name of a number, where it has one.
+/// Appends a space and the name of an IP protocol or ether type, or nothing if it has no name.
 fn push_name(output: &mut Vec<u8>, name: Option<&str>) -> Result<(), AllocError>
     ensures { OnOk result (output.new.items ≡ output.old.items ++ name_text (option_copied name.entry)) }
 {

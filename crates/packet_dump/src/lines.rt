@@ -1,4 +1,4 @@
-//! The line of a packet.
+//! Formatting of the line that is printed for a packet.
 
 ghost use Rattle.std.specs.Prelude.{◌≡◌, ◌++◌, [], false, is_some, ℕ, List, OnOk};
 ghost use Rattle.std.specs.Option.{option_map};
@@ -39,21 +39,21 @@ use line_io::decimals;
 use packet_times::{instant_of, is_fine, push_epoch, push_since, push_utc};
 use std::alloc::AllocError;
 
-/// What the line of a packet is made from.
+/// A packet with what its line needs besides the bytes: packet number and timestamps.
 #[derive(Clone, Copy)]
 pub struct LineParts<'a> {
-    /// How many packets were read, this one among them.
+    /// Number of this packet in the capture, counted from 1.
     pub number: u64,
-    /// When the first packet came of which that is known, from which times are counted.
+    /// Timestamp of the first packet of the capture that has one, in nanoseconds; relative times count from it.
     pub first: Option<u128>,
-    /// When the last one came of which that is known.
+    /// Timestamp of this packet, or of the last packet before it that has one, in nanoseconds.
     pub latest: u128,
-    /// The packet.
+    /// The packet: its bytes, link type, timestamp and original length.
     pub shown: Shown<'a>,
 }
 
-/// Appends the line of a packet, where it is of a kind that is shown, and then what the pool says of the fragment that
-/// it carries.
+/// Appends the line of a packet, if it is shown, and a further line if its IP fragment completes a reassembled payload
+/// or is rejected. Counts the packet in the summary.
 pub fn push_line(
     output: &mut Vec<u8>,
     pooling: &mut Pooling,
@@ -77,7 +77,8 @@ pub fn push_line(
     push_behind(output, pooling, summary, options, parts, opening, behind)
 }
 
-/// Appends the line of a packet whose bytes begin so, and then what the pool says of the fragment that it carries.
+/// Appends the line of a packet whose link type is supported, and the further line of a reassembled payload or rejected
+/// fragment. A link header that the program parses itself is already skipped.
 fn push_behind(
     output: &mut Vec<u8>,
     pooling: &mut Pooling,
@@ -100,7 +101,8 @@ fn push_behind(
     }
 }
 
-/// The same where it matters whether they are a frame.
+/// Slices a packet strictly (for `--strict` or `--reassemble`) and appends its line, and the further line of a
+/// reassembled payload or rejected fragment.
 fn push_checked(
     output: &mut Vec<u8>,
     pooling: &mut Pooling,
@@ -127,7 +129,8 @@ fn push_checked(
     }
 }
 
-/// The same of those that are one. It is read laxly as the layers that it is.
+/// Appends the line of a packet that strict slicing accepts, and the further line of a reassembled payload or rejected
+/// fragment. The line is printed from lax slicing, which yields equal layers.
 fn push_frame(
     output: &mut Vec<u8>,
     pooling: &mut Pooling,
@@ -154,7 +157,8 @@ fn push_frame(
     )
 }
 
-/// Gives a frame, which was read laxly too, to the pool where payloads are put together, and appends what it answers.
+/// Passes a valid frame to the reassembly pool, with `--reassemble`, and appends the line of a reassembled payload or
+/// rejected fragment, if there is one.
 fn give_where(
     output: &mut Vec<u8>,
     pooling: &mut Pooling,
@@ -180,7 +184,8 @@ fn give_where(
     }
 }
 
-/// Appends the line of a packet whose bytes are no frame.
+/// Appends the line of a packet that strict slicing rejects: with `--strict` the error, and else the layers that lax
+/// slicing finds.
 fn push_no_frame(
     output: &mut Vec<u8>,
     summary: &mut Summary,
@@ -204,7 +209,7 @@ fn push_no_frame(
     }
 }
 
-/// Appends the line of a packet of which what is there is read.
+/// Slices a packet laxly and appends its line: its valid layers, or the error if the first layer is invalid.
 fn push_lax(
     output: &mut Vec<u8>,
     summary: &mut Summary,
@@ -226,7 +231,7 @@ fn push_lax(
     }
 }
 
-/// Appends the line of a packet of which a layer stands, or why the first does not.
+/// Appends the line of a laxly sliced packet: its valid layers, or only the error if it has none.
 fn push_read(
     output: &mut Vec<u8>,
     summary: &mut Summary,
@@ -252,7 +257,8 @@ fn push_read(
     }
 }
 
-/// Whether a layer of a packet stands.
+/// Returns whether a laxly sliced packet has a valid layer: a link header (parsed by the library or by the program
+/// itself), a tag or a network layer.
 pub fn has_layer(opening: Opening, read: &LaxSlicedPacket<'_>) -> bool
     ensures { result ≡ has_layer opening (lax_layers_of read.now) }
 {
@@ -262,7 +268,7 @@ pub fn has_layer(opening: Opening, read: &LaxSlicedPacket<'_>) -> bool
         || has_net(&read.net)
 }
 
-/// Whether there is a net layer.
+/// Returns whether a packet has a valid network layer (IP or ARP).
 fn has_net(net: &Option<LaxNetSlice<'_>>) -> bool
     ensures { result ≡ is_some (option_map lax_net_layer_of net.now) }
 {
@@ -272,7 +278,7 @@ fn has_net(net: &Option<LaxNetSlice<'_>>) -> bool
     }
 }
 
-/// Whether a link layer has a header.
+/// Returns whether a packet has a link header (Ethernet II or Linux cooked capture).
 fn has_header(link: &Option<LinkSlice<'_>>) -> bool
     ensures { result ≡ has_header (option_map link_layer_of link.now) }
 {
@@ -282,14 +288,14 @@ fn has_header(link: &Option<LinkSlice<'_>>) -> bool
     }
 }
 
-/// Whether there are link extensions.
+/// Returns whether a packet has any VLAN or MACsec tag.
 fn has_extensions(extensions: &[LaxLinkExtSlice<'_>]) -> bool
     ensures { result ≡ has_extensions (lax_extensions_of false extensions.now) }
 {
     extensions.len() > 0
 }
 
-/// Appends the line of a packet of which a layer stands, where it is shown.
+/// Appends the line of a packet that has a valid layer, if it is shown, and counts the packet in the summary.
 fn push_layers(
     output: &mut Vec<u8>,
     summary: &mut Summary,
@@ -318,14 +324,16 @@ fn push_layers(
     )
 }
 
-/// The bytes of a packet that are shown: all of these, or its payload.
+/// Returns the bytes of a packet for its hex dump: all of `bytes` if `whole` (`--hex=frame`), else the payload of its
+/// last layer.
 fn bytes_of<'a>(whole: bool, bytes: &'a [u8], read: &LaxSlicedPacket<'a>) -> &'a [u8]
     ensures { result.now ≡ shown_bytes whole (packet (lax_layers_of read.now)) bytes.now }
 {
     if whole { bytes } else { read.payload() }
 }
 
-/// Appends the line of a packet that is refused, where such packets are shown.
+/// Appends the line of a rejected packet (without a valid layer or, with `--strict`, not a complete, valid frame), with
+/// the error, if such packets are shown. Counts the packet in the summary.
 fn push_refused(
     output: &mut Vec<u8>,
     summary: &mut Summary,
@@ -347,7 +355,8 @@ fn push_refused(
     push_end(output, &parts.shown, options, parts.shown.bytes)
 }
 
-/// Appends the line of a packet whose link type is not read, where all packets are shown.
+/// Appends the line of a packet whose link type or link header is not supported, unless `--only`, a filter option or
+/// `--quiet` hides it.
 fn push_other(
     output: &mut Vec<u8>,
     options: &DumpOptions,
@@ -364,17 +373,18 @@ fn push_other(
     push_end(output, &parts.shown, options, parts.shown.bytes)
 }
 
-/// Appends the link type of a packet that is not read, and the number of its bytes.
+/// Appends the link type number of a packet whose link type or link header is not supported, and its captured length in
+/// bytes.
 fn push_unread_link(output: &mut Vec<u8>, shown: &Shown<'_>) -> Result<(), AllocError>
     ensures { OnOk result (output.new.items
         ≡ output.old.items ++ content_text shown.now.bytes.now (other_link shown.now.link_type)) }
 {
-    decimals::push_behind(output, b" link ", u64::from(shown.link_type))?;
+    decimals::push_with_text(output, b" link ", u64::from(shown.link_type))?;
     push_len(output, shown.bytes)
 }
 
-/// Appends what the line of a packet begins with: its number, its time in this form, and what is told of a header that
-/// the program reads itself.
+/// Appends the start of a packet's line: the packet's number, its timestamp, and the fields of a link header that the
+/// program parses itself (Linux cooked captures).
 pub fn push_start(
     output: &mut Vec<u8>,
     form: TimeForm,
@@ -386,7 +396,7 @@ pub fn push_start(
     push_front(output, parts.shown.link_type, parts.shown.bytes)
 }
 
-/// Appends the number of a packet, and its time.
+/// Appends the number of a packet, a space and its timestamp.
 fn push_moment(
     output: &mut Vec<u8>,
     form: TimeForm,
@@ -400,8 +410,8 @@ fn push_moment(
     push_time(output, form, parts.first, parts.shown.time)
 }
 
-/// Appends what the line of a packet ends with: its interface where details are wanted, how much was kept where that is
-/// not all, bytes where they are wanted, and the line feed.
+/// Appends the end of a packet's line: the interface number (`--verbose`), the captured and original length if the
+/// packet is truncated, a hex dump (`--hex`), and a line feed.
 fn push_end(
     output: &mut Vec<u8>,
     shown: &Shown<'_>,
@@ -424,7 +434,7 @@ fn push_end(
     Ok(())
 }
 
-/// Appends the time of a packet in this form, where it is known.
+/// Appends the timestamp of a packet in the format of `--time`, or `-` if it has none.
 fn push_time(
     output: &mut Vec<u8>,
     form: TimeForm,
@@ -441,7 +451,7 @@ fn push_time(
     }
 }
 
-/// Appends the time since the first packet, where it is known.
+/// Appends the time of a packet since the first packet of the capture, or `-` if it has no timestamp.
 fn push_relative(
     output: &mut Vec<u8>,
     first: Option<u128>,
@@ -455,13 +465,13 @@ fn push_relative(
     }
 }
 
-/// Appends how much of a packet was kept, where that is not all.
+/// Appends ` cut N of M`, the captured and the original length of a packet, if the capture truncates it.
 fn push_cut(output: &mut Vec<u8>, kept: u64, original_len: u64) -> Result<(), AllocError>
     ensures { OnOk result (output.new.items ≡ output.old.items ++ cut_text kept original_len) }
 {
     if kept < original_len {
-        decimals::push_behind(output, b" cut ", kept)?;
-        decimals::push_behind(output, b" of ", original_len)?;
+        decimals::push_with_text(output, b" cut ", kept)?;
+        decimals::push_with_text(output, b" of ", original_len)?;
     }
     Ok(())
 }

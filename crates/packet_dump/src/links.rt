@@ -1,4 +1,4 @@
-//! The text of link layers and link extensions.
+//! Formatting of link headers, VLAN tags and MACsec tags as text of a packet's line.
 
 ghost use Rattle.std.specs.Prelude.{◌≡◌, ◌++◌, OnOk, map};
 ghost use Rattle.std.specs.Option.{option_map};
@@ -14,7 +14,8 @@ use etherparse::{LaxLinkExtSlice, LaxMacsecSlice, LinkSlice, LinuxSllSlice, Macs
 use line_io::decimals;
 use std::alloc::AllocError;
 
-/// Appends the text of a link layer: of Ethernet with its addresses, of a Linux cooked capture with the sender's.
+/// Appends the text of a link header: both MAC addresses of Ethernet, or the direction and the sender's address of a
+/// Linux cooked capture.
 pub fn push_link(output: &mut Vec<u8>, link: &Option<LinkSlice<'_>>) -> Result<(), AllocError>
     ensures { OnOk result (output.new.items ≡ output.old.items ++ link_text (option_map link_layer_of link.now)) }
 {
@@ -30,7 +31,7 @@ pub fn push_link(output: &mut Vec<u8>, link: &Option<LinkSlice<'_>>) -> Result<(
     }
 }
 
-/// Appends the text of the header of a Linux cooked capture.
+/// Appends the text of a Linux cooked capture header: the direction of the packet and the sender's address.
 fn push_sll(output: &mut Vec<u8>, frame: &LinuxSllSlice<'_>) -> Result<(), AllocError>
     ensures { OnOk result (output.new.items ≡ output.old.items ++ sll_text (linux_sll_slice_header frame.now)) }
 {
@@ -41,7 +42,7 @@ fn push_sll(output: &mut Vec<u8>, frame: &LinuxSllSlice<'_>) -> Result<(), Alloc
     push_sender(output, &address[..len])
 }
 
-/// Which way a packet of a Linux cooked capture went.
+/// Returns the name of a packet type of a Linux cooked capture header: the direction of the packet, such as `outgoing`.
 pub fn way_name(packet_type: u16) -> &'static str
     ensures { result.now ≡ way_name packet_type }
 {
@@ -57,7 +58,7 @@ pub fn way_name(packet_type: u16) -> &'static str
     }
 }
 
-/// Appends a sender's address, where it has bytes.
+/// Appends ` from` and the sender's link-layer address of a Linux cooked capture, or nothing if the address is empty.
 pub fn push_sender(output: &mut Vec<u8>, address: &[u8]) -> Result<(), AllocError>
     ensures { OnOk result (output.new.items ≡ output.old.items ++ sender_text address.now) }
 {
@@ -68,7 +69,7 @@ pub fn push_sender(output: &mut Vec<u8>, address: &[u8]) -> Result<(), AllocErro
     push_octets(output, address)
 }
 
-/// Appends the text of each link extension.
+/// Appends the text of each VLAN and MACsec tag.
 pub fn push_extensions(
     output: &mut Vec<u8>,
     extensions: &[LaxLinkExtSlice<'_>],
@@ -82,30 +83,31 @@ pub fn push_extensions(
     Ok(())
 }
 
-/// Appends the text of a link extension: of a VLAN with its identifier.
+/// Appends the text of a VLAN tag (its identifier) or a MACsec tag.
 fn push_extension(output: &mut Vec<u8>, extension: &LaxLinkExtSlice<'_>) -> Result<(), AllocError>
     ensures { OnOk result (output.new.items ≡ output.old.items ++ extension_text (lax_extension_of extension.now)) }
 {
     match extension {
         LaxLinkExtSlice::Vlan(tag) => {
             let vlan_id = tag.vlan_identifier().value();
-            decimals::push_behind(output, b" vlan:", u64::from(vlan_id))
+            decimals::push_with_text(output, b" vlan:", u64::from(vlan_id))
         }
         LaxLinkExtSlice::Macsec(packet) => push_macsec(output, packet),
     }
 }
 
-/// Appends the text of a MACsec tag: its packet number, the channel, and what was done to the payload.
+/// Appends the text of a MACsec tag: its packet number, its secure channel identifier, and whether the payload is
+/// encrypted or modified.
 fn push_macsec(output: &mut Vec<u8>, packet: &LaxMacsecSlice<'_>) -> Result<(), AllocError>
     ensures { OnOk result (output.new.items ≡ output.old.items ++ macsec_text (lax_macsec_slice_header packet.now)) }
 {
     let tag = packet.to_header();
-    decimals::push_behind(output, b" macsec pn ", u64::from(tag.packet_nr))?;
+    decimals::push_with_text(output, b" macsec pn ", u64::from(tag.packet_nr))?;
     push_channel(output, tag.sci)?;
     push_change(output, &tag.ptype)
 }
 
-/// Appends a secure channel identifier, where there is one.
+/// Appends the secure channel identifier (SCI) of a MACsec tag in hexadecimal, if present.
 fn push_channel(output: &mut Vec<u8>, sci: Option<u64>) -> Result<(), AllocError>
     ensures { OnOk result (output.new.items ≡ output.old.items ++ channel_text sci) }
 {
@@ -116,7 +118,7 @@ fn push_channel(output: &mut Vec<u8>, sci: Option<u64>) -> Result<(), AllocError
     push_hex(output, &sci.to_be_bytes())
 }
 
-/// Appends what was done to the payload of a MACsec packet, where anything was.
+/// Appends whether the payload of a MACsec packet is encrypted or modified; nothing if it is neither.
 fn push_change(output: &mut Vec<u8>, ptype: &MacsecPType) -> Result<(), AllocError>
     ensures { OnOk result (output.new.items ≡ output.old.items ++ change_text ptype.now) }
 {

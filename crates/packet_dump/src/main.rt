@@ -1,8 +1,8 @@
 //! Prints a line for each packet of a capture.
 //!
-//! `packet_dump FILE` reads a file, and `packet_dump` or `packet_dump -` standard input. A line has the packet's
-//! number, its time since the first one in seconds, its layers from the outside in, or why it is refused, and how much
-//! of it was kept where that is not all. `packet_dump --help` lists the options.
+//! `packet_dump FILE` reads a file, and `packet_dump` or `packet_dump -` reads standard input. A line has the packet's
+//! number, its time since the first packet in seconds, its layers from the outermost inwards, or why it is rejected,
+//! and the captured length if the packet is truncated. `packet_dump --help` lists the options.
 #![tactic(auto)]
 
 ghost use Rattle.std.specs.Prelude.{◌≡◌, ◌≢◌, ◌^◌, ◌↔◌, if◌then◌else◌, [], false, true, Err, IfOk, List, OnErr};
@@ -65,77 +65,80 @@ use std::process::ExitCode;
 use std::rt::{Env, Files};
 use std::{env, fs};
 
-/// The text of `--help`.
+/// Text that `--help` prints.
 const HELP: &str = "usage: packet_dump [OPTION..] [FILE]
 
-Prints a line for each packet of a capture (pcap or pcapng): the packet's
-number, its time since the first one, its layers from the outside in, and how
-much of it was kept. Without FILE, or where it is -, standard input is read.
+Prints a line for each packet of a capture (pcap or pcapng): its number, the
+time since the first packet, its layers from the outside in, and how many of its
+bytes were captured. Without FILE, or if FILE is -, standard input is read.
 
-What is there of a packet is read. Where a layer is cut or wrong, the line says
-'stopped' and why behind those in front of it, and only 'refused' where it is
-the first. 'len 22 of 1448 incomplete': of 1448 bytes, by a length field, 22 are
-there.
+Layers are read as far as possible. If a layer is truncated or malformed, the
+line has the layers before it, then 'stopped' and the error; if it is the first
+layer, the line has only 'refused' and the error. 'len 22 of 1448 incomplete':
+a length field counts 1448 bytes, of which 22 were captured.
 
-  -c, --count N      stop behind the Nth packet that is read, shown or not; as
-                     all values, also --count=N
-  --only KIND        only packets of a kind, the last that is named: udp, tcp,
-                     icmp, arp, refused or stopped; a fragment is of none
-  --host A           only packets from or to an address (IP, or ARP for IPv4),
-  --port N           a port of UDP or TCP,
-  --net A/N          an address of a network, or
-  --vlan N           with a VLAN's tag; up to six of these in all, each of which
-                     has to hold: there are no other expressions
-  --time FORM        times since the first packet (relative), in seconds since
-                     1970 (epoch) or as dates and times of day in UTC (utc)
-  --strict           read only whole frames, and refuse others
-  --verbose          behind its layers what else a packet says: TTL,
-                     identification, DF, priorities of VLANs, window and
-                     options of TCP, the packet that an ICMP error quotes, the
-                     interface's number in pcapng; and whether checksums are
-                     right (or left to the card that sends, where the capture
-                     was made before)
-  --hex              the bytes of payloads too, 16 in a row, and as characters
-  --hex=frame        those of whole packets, headers and all
-  --reassemble       put IP payloads together from their fragments: a line more
-                     behind the packet that completes one, or is refused for it;
-                     a summary counts those that never are ('open at the end')
-  --timeout SECONDS  with --reassemble: give a payload up whose last accepted
-                     fragment came longer ago (30)
-  --limit BYTES      with --reassemble: put no payload together that is longer
-                     (65535)
-  --streams N        with --reassemble: of more than N payloads at a time give
-                     the one up whose last accepted fragment is oldest (256)
-  --write FILE       write the packets that are shown into a file of a new name
-                     (pcap, in nanoseconds), up to the first that has no time
-                     or another link type
-  --summary          behind the lines how much was read of what, and the errors:
-                     of all packets, also of those that --only leaves out
-  --quiet            no lines; a summary says too how many refused and stopped
-                     packets were cut by the capture, and how many are malformed
-  -r FILE            what is read, as FILE alone; its name may begin with -
-  -n, -nn            taken, and says nothing: names are never looked up
-  --help             this text
-  --version          the version
+  -c, --count N      stop after N packets are read, shown or not; each value can
+                     also be written as in --count=N
+  --only KIND        only packets of this kind: udp, tcp, icmp, arp, refused or
+                     stopped (the last --only applies; fragments are of no kind)
+  --host A           only packets from or to this address (IP, or ARP for IPv4)
+  --port N           only packets from or to this UDP or TCP port
+  --net A/N          only packets from or to an address of this network
+  --vlan N           only packets with this VLAN ID; up to six of these four
+                     options can be given, and packets have to match all of them
+  --time FORMAT      times since the first packet (relative), in seconds since
+                     1970 (epoch), or as dates and times of day in UTC (utc)
+  --strict           report each packet that is not one complete, valid frame as
+                     refused
+  --verbose          after the layers, further fields: TTL, identification, DF,
+                     VLAN priorities, TCP window and options, the packet that an
+                     ICMP error quotes, the interface number of pcapng; and
+                     whether checksums are right (or left to the sending network
+                     card, if the packet was captured before it was sent)
+  --hex              payload bytes too, 16 a row, also as characters
+  --hex=frame        all bytes of each packet, headers included
+  --reassemble       reassemble IP payloads from their fragments: one more line
+                     after the packet that completes a payload, or whose
+                     fragment is rejected; the summary counts the payloads that
+                     are never complete ('incomplete at the end')
+  --timeout SECONDS  with --reassemble: drop a payload whose last accepted
+                     fragment is older than this (30)
+  --limit BYTES      with --reassemble: reject payloads longer than this (65535)
+  --streams N        with --reassemble: keep at most N incomplete payloads; one
+                     more evicts the one whose last accepted fragment is oldest
+                     (256)
+  --write FILE       write the packets that are shown to a new file (pcap, with
+                     nanoseconds), up to the first packet that has no time or
+                     another link type
+  --summary          after the lines, counts of packets, layers and errors, over
+                     all packets that are read, shown or not
+  --quiet            no lines; the summary then also counts how many refused and
+                     stopped packets were truncated by the capture, and how many
+                     are malformed
+  -r FILE            the capture to read; FILE may begin with -
+  -n, -nn            accepted for compatibility, and ignored: names are never
+                     looked up
+  --help             print this text
+  --version          print the version
 
-Read are Ethernet (link type 1), IP alone (12, 14, 101, 228, 229), the loopback
-of BSD (0, 108) and Linux cooked captures (113, 276). A packet of another link
-type has a line with its number, as: 7 1.500000 link 105 len 40
+Supported link types: Ethernet (1), raw IP (12, 14, 101, 228, 229), BSD loopback
+(0, 108) and Linux cooked captures (113, 276). A packet of another link type is
+printed with the number of the type, as in: 7 1.500000 link 105 len 40
 
-A summary follows a live run where only tcpdump is interrupted:
+For the summary of a live capture, interrupt tcpdump alone:
 tcpdump -U -w - | (trap '' INT; packet_dump --summary)
 
-It ends with 0, with 1 where the capture is none or is cut, a file cannot be
-read, or a line or packet not written, and with 2 for a wrong command line.
+Exit status: 0 on success; 1 if the input is no capture or is truncated, a file
+cannot be read, or a line or packet cannot be written; 2 for a wrong command
+line.
 ";
 
-/// The text of `--version`.
+/// Text that `--version` prints.
 const VERSION: &str = "packet_dump 0.1.0\n";
 
 fn main(rt: HostRuntime) -> ExitCode {
     let Ok(args) = env::args(&rt) else {
-        let line =
-            "packet_dump: the arguments cannot be read; a file whose name is not UTF-8 is read as \
+        let line = "packet_dump: an argument is not UTF-8; a file with such a name is read by \
             packet_dump < FILE";
         return said(&rt, line, 1);
     };
@@ -173,7 +176,7 @@ fn main(rt: HostRuntime) -> ExitCode {
     }
 }
 
-/// Prints a text, and ends.
+/// Writes the text of `--help` or `--version`, and returns the exit status: 0, or 1 if writing failed.
 fn printed<W: Write>(writer: &mut Watched<W>, text: &str) -> ExitCode
     requires { has_failed writer.old ≡ false }
     ensures text { has_failed writer.new ≡ false →
@@ -186,7 +189,7 @@ fn printed<W: Write>(writer: &mut Watched<W>, text: &str) -> ExitCode
     }
 }
 
-/// Says a line on standard error, and ends with a status.
+/// Prints an error message to standard error, and returns the given exit status.
 fn said(rt: &impl Eprint, line: &str, status: u8) -> ExitCode
     ensures { exit_status result ≡ status }
 {
@@ -194,59 +197,76 @@ fn said(rt: &impl Eprint, line: &str, status: u8) -> ExitCode
     ExitCode::from(status)
 }
 
-/// Says what is wrong with the command line, and ends.
+/// Prints the error of an invalid command line to standard error, and returns exit status 2.
 fn refused(rt: &impl Eprint, error: &UsageError<'_>) -> ExitCode
     ensures { exit_status result ≡ 2 }
 {
     let _ = match error {
-        UsageError::UnknownOption(word) => eprintln!(rt; "packet_dump: no option {word}"),
+        UsageError::UnknownOption(word) => eprintln!(rt; "packet_dump: unknown option '{word}'"),
         UsageError::NoValue(option) => eprintln!(rt; "packet_dump: {option} needs a value"),
-        UsageError::NotACount(word) => eprintln!(rt; "packet_dump: no number of packets: {word}"),
+        UsageError::NotACount(word) => {
+            eprintln!(rt; "packet_dump: invalid packet count '{word}'; a whole number from 0")
+        }
         UsageError::NotAKind(word) => {
             eprintln!(rt;
-                "packet_dump: no kind of packets: {word} (udp, tcp, icmp, arp, refused, stopped)"
+                "packet_dump: unknown packet kind '{word}'; one of udp, tcp, icmp, arp, refused, stopped"
             )
         }
         UsageError::NotATimeForm(word) => {
-            eprintln!(rt; "packet_dump: no form of times: {word} (relative, epoch, utc)")
+            eprintln!(rt; "packet_dump: unknown time format '{word}'; one of relative, epoch, utc")
         }
         UsageError::NotATimeout(word) => {
-            eprintln!(rt; "packet_dump: no number of seconds up to 4294967295: {word}")
+            eprintln!(rt; "packet_dump: invalid timeout '{word}'; seconds from 0 to 4294967295")
         }
         UsageError::NotALimit(word) => {
-            eprintln!(rt; "packet_dump: no number of bytes up to 65535: {word}")
+            eprintln!(rt; "packet_dump: invalid payload limit '{word}'; bytes from 0 to 65535")
         }
         UsageError::NotAStreamCount(word) => {
-            eprintln!(rt; "packet_dump: no number of payloads: {word}")
+            eprintln!(rt; "packet_dump: invalid number of streams '{word}'; a whole number from 0")
         }
         UsageError::CrowdedFilter => {
-            eprintln!(rt; "packet_dump: a filter of more than six words")
+            eprintln!(rt;
+                "packet_dump: too many filters; at most six of --host, --port, --net and --vlan"
+            )
         }
-        UsageError::SecondFile(word) => eprintln!(rt; "packet_dump: a second file: {word}"),
+        UsageError::SecondFile(word) => {
+            eprintln!(rt;
+                "packet_dump: unexpected argument '{word}'; only one file is read, and a filter is an option (--port 53)"
+            )
+        }
     };
     said(rt, "packet_dump --help lists the options", 2)
 }
 
-/// Says which word of a filter says nothing of its kind, and ends.
+/// Prints the error of an invalid filter option (such as `--port x`) to standard error, and returns exit status 2.
 fn refused_filter(rt: &impl Eprint, error: &FilterError<'_>) -> ExitCode
     ensures { exit_status result ≡ 2 }
 {
     let word = error.text;
     let _ = match error.error {
-        WordError::NotAnAddress => eprintln!(rt; "packet_dump: no address: {word}"),
-        WordError::NotAPort => eprintln!(rt; "packet_dump: no port up to 65535: {word}"),
-        WordError::NotAVlan => eprintln!(rt; "packet_dump: no VLAN up to 4095: {word}"),
+        WordError::NotAnAddress => {
+            eprintln!(rt; "packet_dump: invalid address '{word}'; an IPv4 or IPv6 address")
+        }
+        WordError::NotAPort => {
+            eprintln!(rt; "packet_dump: invalid port '{word}'; a number from 0 to 65535")
+        }
+        WordError::NotAVlan => {
+            eprintln!(rt; "packet_dump: invalid VLAN ID '{word}'; a number from 0 to 4095")
+        }
         WordError::NotANetwork => {
-            eprintln!(rt; "packet_dump: no network as 192.0.2.0/24: {word}")
+            eprintln!(rt;
+                "packet_dump: invalid network '{word}'; an address and its prefix length (192.0.2.0/24)"
+            )
         }
         WordError::HostBits => {
-            eprintln!(rt; "packet_dump: a network with bits behind the first ones: {word}")
+            eprintln!(rt; "packet_dump: invalid network '{word}'; it has bits set after the prefix")
         }
     };
     said(rt, "packet_dump --help lists the options", 2)
 }
 
-/// Writes the lines of a file or of standard input, the summary where it is wanted, and a file where one is.
+/// Runs `packet_dump` on a capture file or on standard input, with a summary (`--summary`) and a new capture file of
+/// the selected packets (`--write`), if wanted. Returns the exit status.
 fn dump(
     rt: &HostRuntime,
     options: DumpOptions,
@@ -271,8 +291,9 @@ fn dump(
     }
 }
 
-/// The same of what was opened. Only then is the file made that is written, and only where none of its name is there:
-/// so it is never what is read.
+/// Runs `packet_dump` on an opened input, with a summary and a new capture file of the selected packets (`--write`), if
+/// wanted, and returns the exit status. The new file is created after the input was opened, and only if no file has its
+/// name, so it is never the input.
 fn dump_input<R: Read + Drop>(
     rt: &HostRuntime,
     options: DumpOptions,
@@ -300,7 +321,8 @@ fn dump_input<R: Read + Drop>(
     }
 }
 
-/// The same from an input to standard output, and into a file or none.
+/// Writes the lines of a capture's packets to standard output, then the summary, if wanted. Writes the selected packets
+/// to a new capture file, if wanted (`--write`).
 fn dump_into<R: Read + Drop, F: Write>(
     rt: &HostRuntime,
     options: DumpOptions,
@@ -326,8 +348,8 @@ fn dump_into<R: Read + Drop, F: Write>(
     )
 }
 
-/// How many bytes a file has, where it is told how far it was read: it takes long, nobody sees the lines come, and
-/// standard error is a terminal.
+/// Returns the length of the input file if progress is printed for it, or else `None`. Progress is printed if the file
+/// has 100 MB or more, standard output is no terminal, and standard error is one.
 fn shown_len(rt: &HostRuntime, file: &fs::File) -> Option<u64> {
     match file.metadata() {
         Ok(metadata) if metadata.len() >= LONG && rt.stderr().is_terminal() => {
@@ -341,8 +363,8 @@ fn shown_len(rt: &HostRuntime, file: &fs::File) -> Option<u64> {
     }
 }
 
-/// Writes the lines of what a reader gives, which is read as often as may be, the summary where it is wanted, and a
-/// file where one is.
+/// Writes the lines of a capture's packets to a writer, then the summary, if wanted, and the selected packets to a new
+/// capture file, if wanted. The contract requires that the reader was not read before.
 fn dump_reader<R: Read, W: Write, F: Write>(
     alloc: Global,
     options: DumpOptions,
@@ -380,7 +402,7 @@ fn dump_reader<R: Read, W: Write, F: Write>(
     Ok(ending)
 }
 
-/// Prints the summary.
+/// Writes the text of a run's summary (`--summary`), with the counts of packets, layers and errors.
 fn summarized<W: Write>(
     alloc: Global,
     summary: &Summary,
@@ -396,7 +418,8 @@ fn summarized<W: Write>(
     writer.write_all(text.as_bytes())
 }
 
-/// How the program ends after a run over the file of this name, or over standard input. Why a read failed was said then.
+/// Prints to standard error why a run on the capture file `path`, or on standard input, failed, if it did, and returns
+/// the exit status: 0 or 1. A failed read was already reported by the reader.
 fn ended(rt: &impl Eprint, path: Option<&str>, outcome: Result<Ending, RunError>) -> ExitCode
     ensures { exit_status result ≡ status_of outcome }
 {
@@ -419,7 +442,8 @@ fn ended(rt: &impl Eprint, path: Option<&str>, outcome: Result<Ending, RunError>
     }
 }
 
-/// How it ends behind a run that saved packets into the file of this name. Why a write failed was said then.
+/// Prints to standard error why a run with `--write` failed, or why packets are missing in the new capture file, if so,
+/// and returns the exit status: 0 or 1. A failed write to that file was already reported by the writer.
 fn saved(
     rt: &impl Eprint,
     path: Option<&str>,
@@ -435,14 +459,14 @@ fn saved(
         SaveState::Stopped(SaveFault::Failed) => ExitCode::from(1),
         SaveState::Stopped(SaveFault::Refused { number, refusal }) => {
             let _ = eprintln!(rt;
-                "packet_dump: {name}: packet {number} and those behind it are not written: {refusal}"
+                "packet_dump: {name}: packet {number} and later packets are not written: {refusal}"
             );
             ExitCode::from(1)
         }
     }
 }
 
-/// What can be done about a capture that is refused.
+/// Returns a hint for the user about an input that is rejected as a capture, such as that it is compressed, or `None`.
 fn hint(refusal: Refusal) -> Option<&'static str>
     ensures { option_copied result ≡ hint_text refusal }
 {
@@ -452,7 +476,8 @@ fn hint(refusal: Refusal) -> Option<&'static str>
     }
 }
 
-/// What can be done about a file that begins so.
+/// Returns how to decompress an input whose first four bytes are `magic`, if they are those of gzip or zstd, or else
+/// `None`.
 fn magic_hint(magic: u32) -> Option<&'static str>
     ensures { option_copied result ≡ magic_hint magic }
 {

@@ -1,4 +1,4 @@
-//! How many bytes of a payload are missing, by the lengths that the headers in front of it say.
+//! Number of payload bytes that the capture lacks, by the length fields of the headers before the payload.
 
 ghost use Rattle.std.specs.Prelude.{◌≡◌, ◌≤◌, ◌<◌, ◌+◌, ◌^◌, ◌++◌, OnOk, length};
 ghost use Rattle.std.specs.Option.{option_copied, option_map};
@@ -16,7 +16,8 @@ use etherparse::{LaxIpPayloadSlice, LaxNetSlice, LaxSlicedPacket, TransportSlice
 use line_io::decimals;
 use std::alloc::AllocError;
 
-/// How many bytes of a payload are missing behind headers of so many bytes, of a layer that has so many by its header.
+/// Returns the number of payload bytes that the capture lacks: `says`, the length that a length field states, less the
+/// length of the headers and of the captured payload. 0 if none is missing.
 fn missing_behind(says: usize, headers: usize, payload: &[u8]) -> usize
     ensures value { result ≡ missing_behind says headers payload.now }
     ensures bound { result ≤ says }
@@ -24,7 +25,8 @@ fn missing_behind(says: usize, headers: usize, payload: &[u8]) -> usize
     says.saturating_sub(headers).saturating_sub(payload.len())
 }
 
-/// How many bytes a packet of IP has by its header.
+/// Returns the length of an IP packet, with its headers, that the length field of the IP header states, in bytes; 0 for
+/// ARP.
 fn said_len(net: &LaxNetSlice<'_>) -> usize
     ensures value { result ≡ said_len (lax_net_layer_of net.now) }
     ensures bound { result < 2 ^ 17 }
@@ -36,7 +38,8 @@ fn said_len(net: &LaxNetSlice<'_>) -> usize
     }
 }
 
-/// How many bytes of a payload of IP are missing behind such headers, where there is one.
+/// Returns the number of bytes of an IP payload that the capture lacks, given the packet's length by the IP header
+/// (`says`) and the length of its headers; 0 without a payload (ARP).
 fn payload_missing(says: usize, headers: usize, payload: Option<&LaxIpPayloadSlice<'_>>) -> usize
     ensures value { result ≡ payload_missing says headers (option_map lax_ip_payload_of (option_copied payload.entry)) }
     ensures bound { result ≤ says }
@@ -47,7 +50,7 @@ fn payload_missing(says: usize, headers: usize, payload: Option<&LaxIpPayloadSli
     }
 }
 
-/// The same of a packet.
+/// Returns the number of payload bytes of an IP packet that the capture lacks, by the IP length field; 0 for ARP.
 fn net_missing(net: &LaxNetSlice<'_>) -> usize
     ensures value { result ≡ net_missing (lax_net_layer_of net.now) }
     ensures bound { result < 2 ^ 17 }
@@ -55,7 +58,8 @@ fn net_missing(net: &LaxNetSlice<'_>) -> usize
     payload_missing(said_len(net), net.header_len(), net.ip_payload_ref())
 }
 
-/// The same of a net layer, where there is one.
+/// Returns the number of payload bytes of an IP packet that the capture lacks, by the IP length field; 0 for ARP or
+/// without a network layer.
 fn missing_in(net: &Option<LaxNetSlice<'_>>) -> usize
     ensures value { result ≡ missing_in (option_map lax_net_layer_of net.now) }
     ensures bound { result < 2 ^ 17 }
@@ -66,7 +70,8 @@ fn missing_in(net: &Option<LaxNetSlice<'_>>) -> usize
     }
 }
 
-/// The same of a transport layer, where there is one, in a payload of which so many bytes are missing.
+/// Returns the number of bytes that the capture lacks of the last payload: by the UDP length field, if it is 8 or more,
+/// or else `outer`, the number that the IP payload lacks.
 fn missing_within(outer: usize, transport: &Option<TransportSlice<'_>>) -> usize
     requires { outer < 2 ^ 17 }
     ensures value { result ≡ missing_within outer (option_map transport_layer_of transport.now) }
@@ -86,18 +91,20 @@ fn missing_within(outer: usize, transport: &Option<TransportSlice<'_>>) -> usize
     }
 }
 
-/// Appends how many bytes a payload has of which so many are there and so many are missing, where any are.
+/// Appends ` of N`, the full length of a payload, given the numbers of its captured and missing bytes; nothing if none
+/// is missing.
 fn push_of(output: &mut Vec<u8>, there: usize, missing: usize) -> Result<(), AllocError>
     requires { there + missing < 2 ^ 64 }
     ensures { OnOk result (output.new.items ≡ output.old.items ++ of_text there missing) }
 {
     if missing > 0 {
-        decimals::push_behind(output, b" of ", (there + missing) as u64)?;
+        decimals::push_with_text(output, b" of ", (there + missing) as u64)?;
     }
     Ok(())
 }
 
-/// Appends how many bytes the last payload has, where some are missing, as they are only where it is incomplete.
+/// Appends ` of N`, the full length of a packet's last payload by the UDP or IP length field, if the capture lacks
+/// bytes of it.
 pub fn push_whole(output: &mut Vec<u8>, read: &LaxSlicedPacket<'_>) -> Result<(), AllocError>
     ensures { OnOk result (output.new.items ≡ output.old.items ++ (let layers = lax_layers_of read.now in
         whole_text layers.net.inside.incomplete (layers_in layers))) }
@@ -109,8 +116,8 @@ pub fn push_whole(output: &mut Vec<u8>, read: &LaxSlicedPacket<'_>) -> Result<()
     push_of(output, read.payload().len(), missing)
 }
 
-/// Appends that no byte of a payload is there, and how many there are, behind a header of TCP that is refused, of which
-/// the length is told.
+/// Appends ` len 0 of N` after a truncated TCP header of known length: no byte of the TCP payload is captured, and N is
+/// its length. Appends only ` len 0` if N is 0, and nothing for other packets.
 pub fn push_cut_payload(
     output: &mut Vec<u8>,
     net: &Option<LaxNetSlice<'_>>,
@@ -128,7 +135,8 @@ pub fn push_cut_payload(
     }
 }
 
-/// The same of a payload of IP, of which so many bytes are missing.
+/// Appends ` len 0 of N`, or ` len 0` if N is 0, with the length N of the TCP payload after a truncated TCP header of
+/// known length, if the IP payload is TCP.
 fn push_behind(
     output: &mut Vec<u8>,
     missing: usize,
@@ -148,7 +156,8 @@ fn push_behind(
     }
 }
 
-/// The same of so many bytes of TCP, of which these are there.
+/// Appends ` len 0 of N`, or ` len 0` if N is 0, with the length N of the TCP payload after a truncated TCP header of
+/// known length. `whole` is the full length of the segment, and `bytes` are its captured bytes.
 fn push_behind_tcp(output: &mut Vec<u8>, whole: usize, bytes: &[u8]) -> Result<(), AllocError>
     ensures { OnOk result (output.new.items ≡ output.old.items ++ behind_tcp_text whole bytes.now) }
 {
@@ -159,14 +168,16 @@ fn push_behind_tcp(output: &mut Vec<u8>, whole: usize, bytes: &[u8]) -> Result<(
     Ok(())
 }
 
-/// Whether 14 bytes of it are there, it has the least that it may have, and so many bytes of TCP have as many.
+/// Returns whether the length of a truncated TCP header is known and valid: 14 of its bytes are captured, and its
+/// length is at least 20 bytes and at most `whole`, the segment's length.
 fn tells_header(whole: usize, bytes: &[u8]) -> bool
     ensures { result ≡ tells_header whole bytes.now }
 {
     bytes.len() >= 14 && header_len_at(bytes) >= 20 && header_len_at(bytes) <= whole
 }
 
-/// How many bytes the header of TCP has at the front of bytes, by the upper 4 bits of byte 12.
+/// Returns the length of the TCP header at the start of `bytes`, in bytes, from the upper 4 bits of byte 12 (Data
+/// Offset).
 fn header_len_at(bytes: &[u8]) -> usize
     ensures { result ≡ header_len_at bytes.now }
 {

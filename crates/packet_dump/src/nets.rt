@@ -1,4 +1,4 @@
-//! The text of net layers.
+//! Formatting of network layers (IPv4, IPv6 and ARP) as text of a packet's line.
 
 ghost use Rattle.std.specs.Prelude.{◌≡◌, ◌++◌, OnOk, Some, ◌==◌};
 ghost use Rattle.std.specs.Option.{option_map};
@@ -21,7 +21,8 @@ use etherparse::{
 use line_io::decimals;
 use std::alloc::AllocError;
 
-/// Appends the text of a net layer: of IP with its addresses, what it says of fragments, and its extension headers.
+/// Appends the text of a network layer: IP with its addresses, fragment fields and extension headers, or ARP; nothing
+/// if there is none.
 pub fn push_net(output: &mut Vec<u8>, net: &Option<LaxNetSlice<'_>>) -> Result<(), AllocError>
     ensures { OnOk result (output.new.items ≡ output.old.items ++ net_text (option_map lax_net_layer_of net.now)) }
 {
@@ -33,7 +34,7 @@ pub fn push_net(output: &mut Vec<u8>, net: &Option<LaxNetSlice<'_>>) -> Result<(
     }
 }
 
-/// Appends the text of the headers of an IPv4 packet.
+/// Appends the text of an IPv4 header and its authentication header: addresses, fragment fields and `authentication`.
 fn push_ipv4_layer(output: &mut Vec<u8>, packet: &LaxIpv4Slice<'_>) -> Result<(), AllocError>
     ensures { OnOk result (output.new.items
         ≡ output.old.items ++ net_text (Some (lax_net_layer_of (slice.Ipv4 packet.now)))) }
@@ -42,7 +43,7 @@ fn push_ipv4_layer(output: &mut Vec<u8>, packet: &LaxIpv4Slice<'_>) -> Result<()
     push_ipv4_extensions(output, &packet.extensions())
 }
 
-/// Appends the text of an IPv4 header: its addresses, and what it says of fragments.
+/// Appends the text of an IPv4 header: its addresses and its fragment fields.
 fn push_ipv4_header(output: &mut Vec<u8>, header: &Ipv4HeaderSlice<'_>) -> Result<(), AllocError>
     ensures { OnOk result (output.new.items
         ≡ output.old.items ++ ipv4_header_text (ipv4_header_slice_header header.now)) }
@@ -54,7 +55,7 @@ fn push_ipv4_header(output: &mut Vec<u8>, header: &Ipv4HeaderSlice<'_>) -> Resul
     push_ipv4_fragment(output, header)
 }
 
-/// Appends what the header of an IPv4 packet says of fragments, where the packet carries one.
+/// Appends the identification, offset and "more fragments" flag of an IPv4 header, if the packet is a fragment.
 fn push_ipv4_fragment(output: &mut Vec<u8>, header: &Ipv4HeaderSlice<'_>) -> Result<(), AllocError>
     ensures { OnOk result (output.new.items
         ≡ output.old.items ++ ipv4_fragment_text (ipv4_header_slice_header header.now)) }
@@ -70,7 +71,8 @@ fn push_ipv4_fragment(output: &mut Vec<u8>, header: &Ipv4HeaderSlice<'_>) -> Res
     )
 }
 
-/// Appends what a fragment is a fragment of, the place of its first byte, and whether more follow.
+/// Appends the text of a fragment's fields: its identification, its offset in bytes (passed in units of 8 bytes), and
+/// whether more fragments follow.
 fn push_fragment(
     output: &mut Vec<u8>,
     identification: u32,
@@ -79,12 +81,12 @@ fn push_fragment(
 ) -> Result<(), AllocError>
     ensures { OnOk result (output.new.items ≡ output.old.items ++ fragment_text identification offset more) }
 {
-    decimals::push_behind(output, b" fragment id ", u64::from(identification))?;
-    decimals::push_behind(output, b" offset ", 8 * u64::from(offset))?;
+    decimals::push_with_text(output, b" fragment id ", u64::from(identification))?;
+    decimals::push_with_text(output, b" offset ", 8 * u64::from(offset))?;
     push_more(output, more)
 }
 
-/// Appends that more fragments follow, where they do.
+/// Appends ` more` if the flag "more fragments" of a fragment is set.
 fn push_more(output: &mut Vec<u8>, more: bool) -> Result<(), AllocError>
     ensures { OnOk result (output.new.items ≡ output.old.items ++ more_text more) }
 {
@@ -94,7 +96,7 @@ fn push_more(output: &mut Vec<u8>, more: bool) -> Result<(), AllocError>
     Ok(())
 }
 
-/// Appends the name of the authentication header of IPv4, where there is one.
+/// Appends ` authentication` if an authentication header follows the IPv4 header.
 fn push_ipv4_extensions(
     output: &mut Vec<u8>,
     extensions: &Ipv4ExtensionsSlice<'_>,
@@ -107,7 +109,8 @@ fn push_ipv4_extensions(
     }
 }
 
-/// Appends the text of the headers of an IPv6 packet.
+/// Appends the text of an IPv6 header and its extension headers: addresses, fragment fields and the names of the
+/// others.
 fn push_ipv6_layer(output: &mut Vec<u8>, packet: &LaxIpv6Slice<'_>) -> Result<(), AllocError>
     ensures { OnOk result (output.new.items
         ≡ output.old.items ++ net_text (Some (lax_net_layer_of (slice.Ipv6 packet.now)))) }
@@ -116,7 +119,7 @@ fn push_ipv6_layer(output: &mut Vec<u8>, packet: &LaxIpv6Slice<'_>) -> Result<()
     push_ipv6_extensions(output, packet.extensions())
 }
 
-/// Appends the text of an IPv6 header: its addresses.
+/// Appends the text of an IPv6 header: its source and destination address.
 fn push_ipv6_header(output: &mut Vec<u8>, header: &Ipv6HeaderSlice<'_>) -> Result<(), AllocError>
     ensures { OnOk result (output.new.items
         ≡ output.old.items ++ ipv6_header_text (ipv6_header_slice_header header.now)) }
@@ -127,7 +130,7 @@ fn push_ipv6_header(output: &mut Vec<u8>, header: &Ipv6HeaderSlice<'_>) -> Resul
     push_ipv6(output, header.destination())
 }
 
-/// Appends the text of each extension header of IPv6.
+/// Appends the text of each IPv6 extension header: its name, or the fields of a fragment header.
 fn push_ipv6_extensions(
     output: &mut Vec<u8>,
     extensions: Ipv6ExtensionsSlice<'_>,
@@ -140,7 +143,7 @@ fn push_ipv6_extensions(
     Ok(())
 }
 
-/// Appends the text of an extension header of IPv6: of a fragment header with what it says.
+/// Appends the text of an IPv6 extension header: its name, or the fields of a fragment header.
 fn push_ipv6_extension(
     output: &mut Vec<u8>,
     extension: &Ipv6ExtensionSlice<'_>,
@@ -163,7 +166,8 @@ fn push_ipv6_extension(
     }
 }
 
-/// Whether a packet of IP carries no later fragment.
+/// Returns whether an IP packet has the start of its payload: it is no fragment, or the first one (offset 0). False for
+/// ARP.
 pub fn begins_payload(net: &LaxNetSlice<'_>) -> bool
     ensures { result ≡ begins_payload (lax_net_layer_of net.now) }
 {
@@ -174,14 +178,14 @@ pub fn begins_payload(net: &LaxNetSlice<'_>) -> bool
     }
 }
 
-/// Whether the payload of an IPv4 packet is no later fragment.
+/// Returns whether the fragment offset of an IPv4 header is 0: the packet is no fragment, or the first one.
 fn is_at_start(header: &Ipv4HeaderSlice<'_>) -> bool
     ensures { result ≡ ((ipv4_header_slice_header header.now).fragment_offset == 0) }
 {
     header.fragment_offset().value() == 0
 }
 
-/// Whether no extension header of IPv6 says that its packet carries a later fragment.
+/// Returns whether the fragment offset of every IPv6 fragment header is 0: the packet is no fragment, or the first one.
 fn are_first(extensions: Ipv6ExtensionsSlice<'_>) -> bool
     ensures { result ≡ are_first (ipv6_slice_parts extensions.entry) }
 {
@@ -193,7 +197,7 @@ fn are_first(extensions: Ipv6ExtensionsSlice<'_>) -> bool
     true
 }
 
-/// Whether an extension header of IPv6 does not say that its packet carries a later fragment.
+/// Returns whether an IPv6 extension header is no fragment header, or one with fragment offset 0.
 fn is_first(extension: &Ipv6ExtensionSlice<'_>) -> bool
     ensures { result ≡ is_first (extension_slice_part extension.now) }
 {
@@ -203,14 +207,15 @@ fn is_first(extension: &Ipv6ExtensionSlice<'_>) -> bool
     }
 }
 
-/// Appends the text of an ARP packet: who is looked for and who asks, or who answers with which hardware address.
+/// Appends the text of an ARP packet: target and sender protocol address of a request, sender addresses of a reply, or
+/// the number of another operation.
 fn push_arp(output: &mut Vec<u8>, packet: &ArpPacketSlice<'_>) -> Result<(), AllocError>
     ensures { OnOk result (output.new.items ≡ output.old.items ++ arp_text (arp_slice_packet packet.now)) }
 {
     push_operation(output, packet.operation().0, packet)
 }
 
-/// Appends a question, an answer, or others by the number of the operation.
+/// Appends the text of an ARP request (operation 1) or reply (2), or the number of another operation.
 fn push_operation(
     output: &mut Vec<u8>,
     operation: u16,
@@ -225,10 +230,10 @@ fn push_operation(
     if operation == 2 {
         return push_reply(output, packet);
     }
-    decimals::push_behind(output, b" arp operation ", u64::from(operation))
+    decimals::push_with_text(output, b" arp operation ", u64::from(operation))
 }
 
-/// Appends who is looked for, and who asks.
+/// Appends the text of an ARP request: the target protocol address, and the sender protocol address.
 fn push_who_has(output: &mut Vec<u8>, packet: &ArpPacketSlice<'_>) -> Result<(), AllocError>
     ensures { OnOk result (output.new.items ≡ output.old.items ++ who_has_text (arp_slice_packet packet.now)) }
 {
@@ -239,7 +244,7 @@ fn push_who_has(output: &mut Vec<u8>, packet: &ArpPacketSlice<'_>) -> Result<(),
     push_protocol_address(output, ether_type, packet.sender_protocol_addr())
 }
 
-/// Appends who answers, and with which hardware address.
+/// Appends the text of an ARP reply: the sender protocol address, and the sender hardware address.
 #[tactic(auto, unfolding(crate::specs::Nets::reply_text))]
 fn push_reply(output: &mut Vec<u8>, packet: &ArpPacketSlice<'_>) -> Result<(), AllocError>
     ensures { OnOk result (output.new.items ≡ output.old.items ++ reply_text (arp_slice_packet packet.now)) }
@@ -251,7 +256,8 @@ fn push_reply(output: &mut Vec<u8>, packet: &ArpPacketSlice<'_>) -> Result<(), A
     push_octets(output, packet.sender_hw_addr())
 }
 
-/// Appends an address in an ARP packet: of IPv4 where the type and the length are its, others by their bytes.
+/// Appends a protocol address of an ARP packet: in dotted decimal if it is IPv4 (ether type 0x0800, 4 bytes), else its
+/// bytes in hexadecimal.
 fn push_protocol_address(
     output: &mut Vec<u8>,
     ether_type: u16,

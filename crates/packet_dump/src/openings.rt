@@ -1,4 +1,5 @@
-//! What packets of a link type begin with. Of some the program reads the header itself, and the library what is behind it.
+//! First layer of a packet, by the link type of the capture. For some link types the program parses the link header
+//! itself, and the library parses the bytes after it.
 
 ghost use Rattle.std.specs.Prelude.{◌≡◌, ◌≤◌, ◌++◌, true, IfSome, OnOk, length};
 ghost use Rattle.packet_dump.specs.Openings.{behind_front, family_in, family_opening, front_text, has_no_type};
@@ -12,17 +13,20 @@ use etherparse::{Entry, EtherType};
 use line_io::decimals;
 use std::alloc::AllocError;
 
-/// What the bytes of a packet begin with.
+/// Where the library starts to parse a packet: the number of bytes to skip (a link header that the program parses
+/// itself), and the layer after them.
 #[derive(Clone, Copy)]
 pub struct Opening {
-    /// What stands at the front of the bytes that the library reads.
+    /// Layer of a packet at which the library starts to parse, such as Ethernet or IP.
     pub entry: Entry,
-    /// How many bytes stand in front of these.
+    /// Number of bytes at the start of a packet that the library does not parse: a link header that the program parses
+    /// itself, or 0.
     pub skipped: usize,
 }
 
 impl Opening {
-    /// Whether the header of a Linux cooked capture was read here.
+    /// Returns whether the packet starts with a Linux cooked capture header (version 1 or 2) that the program parses
+    /// itself.
     pub fn is_cooked(&self) -> bool
         ensures { result ≡ is_cooked self.now }
     {
@@ -30,7 +34,8 @@ impl Opening {
     }
 }
 
-/// What a packet of a link type begins with, where that is read.
+/// Returns where the library starts to parse a packet of this link type, or `None` if the link type or its header is
+/// not supported.
 pub fn opening_of(link_type: u16, bytes: &[u8]) -> Option<Opening>
     ensures value { result ≡ opening_of link_type bytes.now }
     ensures within { IfSome result (λ opening. opening.skipped ≤ length bytes.now) }
@@ -50,14 +55,15 @@ pub fn opening_of(link_type: u16, bytes: &[u8]) -> Option<Opening>
     }
 }
 
-/// All bytes are the library's.
+/// Returns the start of a packet that the library parses from the first byte on, where the layer `entry` (Ethernet, for
+/// example) begins.
 fn whole_of(entry: Entry) -> Opening
     ensures { result ≡ whole_of entry }
 {
     Opening { entry, skipped: 0 }
 }
 
-/// What stands behind so many bytes is of this ether type.
+/// Returns where the library starts to parse a packet: after `skipped` bytes, at the layer of this ether type.
 fn behind_front(skipped: usize, ether_type: u16) -> Opening
     ensures { result ≡ behind_front skipped ether_type }
 {
@@ -67,14 +73,15 @@ fn behind_front(skipped: usize, ether_type: u16) -> Opening
     }
 }
 
-/// Whether packets of a link type are IP alone.
+/// Returns whether packets of this link type start with an IP header, without a link header (raw IP): 12, 14, 101, 228
+/// or 229.
 fn is_bare_ip(link_type: u16) -> bool
     ensures { result ≡ is_bare_ip link_type }
 {
     link_type == 12 || link_type == 14 || link_type == 101 || link_type == 228 || link_type == 229
 }
 
-/// The family of addresses that a packet of a loopback of BSD begins with.
+/// Returns the address family, the first 4 bytes of a BSD loopback packet, in either byte order; 0 if it is above 255.
 fn family_in(bytes: &[u8]) -> u8
     requires { 4 ≤ length bytes.now }
     ensures { result ≡ family_in bytes.now }
@@ -88,14 +95,15 @@ fn family_in(bytes: &[u8]) -> u8
     }
 }
 
-/// Whether a family of addresses is that of IPv6.
+/// Returns whether the address family of a BSD loopback packet is IPv6: 10, 24, 28 or 30, by operating system.
 fn is_ipv6_family(family: u8) -> bool
     ensures { result ≡ is_ipv6_family family }
 {
     family == 10 || family == 24 || family == 28 || family == 30
 }
 
-/// What stands behind the number of a family.
+/// Returns where the library starts to parse a BSD loopback packet of this address family, after 4 bytes, or `None` if
+/// the family is neither IPv4 nor IPv6.
 fn family_opening(family: u8) -> Option<Opening>
     ensures value { result ≡ family_opening family }
     ensures within { IfSome result (λ opening. opening.skipped ≤ 4) }
@@ -109,7 +117,8 @@ fn family_opening(family: u8) -> Option<Opening>
     }
 }
 
-/// What a packet of a loopback of BSD begins with.
+/// Returns where the library starts to parse a BSD loopback packet, or `None` if it has fewer than 4 bytes or its
+/// address family is neither IPv4 nor IPv6.
 fn loopback_opening(bytes: &[u8]) -> Option<Opening>
     ensures value { result ≡ loopback_opening bytes.now }
     ensures within { IfSome result (λ opening. opening.skipped ≤ length bytes.now) }
@@ -121,22 +130,25 @@ fn loopback_opening(bytes: &[u8]) -> Option<Opening>
     }
 }
 
-/// Whether the protocol of a hardware type is no ether type.
+/// Returns whether the protocol field of a Linux cooked capture header is no ether type for this hardware type
+/// (ARPHRD): 770 (Frame Relay), 803 (radiotap) or 824 (netlink).
 fn has_no_type(hardware: u16) -> bool
     ensures { result ≡ has_no_type hardware }
 {
     hardware == 770 || hardware == 803 || hardware == 824
 }
 
-/// Whether the protocol of a hardware type is read here as an ether type: by that of Ethernet and of the loopback device
-/// the library reads what is behind them.
+/// Returns whether the program parses a Linux cooked capture header with this hardware type (ARPHRD) itself and takes
+/// its protocol field as an ether type. The library does so for Ethernet (1) and loopback (772), and parses the
+/// hardware types whose protocol field is no ether type.
 fn reads_hardware(hardware: u16) -> bool
     ensures { result ≡ reads_hardware hardware }
 {
     !(hardware == 1 || hardware == 772 || has_no_type(hardware))
 }
 
-/// Whether the header of a Linux cooked capture is read here.
+/// Returns whether the program parses the header of a Linux cooked capture packet itself: it is complete, its packet
+/// type is valid, and its hardware type is not left to the library (`reads_hardware`).
 fn reads_sll(bytes: &[u8]) -> bool
     ensures value { result ≡ reads_sll bytes.now }
     ensures long { result ≡ true → 16 ≤ length bytes.now }
@@ -144,7 +156,8 @@ fn reads_sll(bytes: &[u8]) -> bool
     bytes.len() >= 16 && word_at(bytes, 0) <= 7 && reads_hardware(word_at(bytes, 2))
 }
 
-/// What a packet of a Linux cooked capture begins with.
+/// Returns where the library starts to parse a Linux cooked capture packet (version 1): at its header, or after the 16
+/// bytes of a header that the program parses itself.
 fn sll_opening(bytes: &[u8]) -> Opening
     ensures value { result ≡ sll_opening bytes.now }
     ensures within { result.skipped ≤ length bytes.now }
@@ -156,7 +169,8 @@ fn sll_opening(bytes: &[u8]) -> Opening
     }
 }
 
-/// Whether the header of a Linux cooked capture of version 2 is read.
+/// Returns whether the header of a Linux cooked capture packet of version 2 is supported: it is complete (20 bytes),
+/// and its protocol field is an ether type.
 fn reads_sll2(bytes: &[u8]) -> bool
     ensures value { result ≡ reads_sll2 bytes.now }
     ensures long { result ≡ true → 20 ≤ length bytes.now }
@@ -164,7 +178,8 @@ fn reads_sll2(bytes: &[u8]) -> bool
     bytes.len() >= 20 && !has_no_type(word_at(bytes, 8))
 }
 
-/// What a packet of a Linux cooked capture of version 2 begins with.
+/// Returns where the library starts to parse a Linux cooked capture packet of version 2, after the 20 bytes of its
+/// header, or `None` if the header is not supported.
 fn sll2_opening(bytes: &[u8]) -> Option<Opening>
     ensures value { result ≡ sll2_opening bytes.now }
     ensures within { IfSome result (λ opening. opening.skipped ≤ length bytes.now) }
@@ -176,7 +191,8 @@ fn sll2_opening(bytes: &[u8]) -> Option<Opening>
     }
 }
 
-/// Appends what is told of the header of a packet that is read here.
+/// Appends the fields of a Linux cooked capture header (version 1 or 2) that the program parses itself; nothing for
+/// other packets.
 pub fn push_front(output: &mut Vec<u8>, link_type: u16, bytes: &[u8]) -> Result<(), AllocError>
     ensures { OnOk result (output.new.items ≡ output.old.items ++ front_text link_type bytes.now) }
 {
@@ -189,7 +205,8 @@ pub fn push_front(output: &mut Vec<u8>, link_type: u16, bytes: &[u8]) -> Result<
     }
 }
 
-/// Appends which way a packet of a Linux cooked capture went, and the sender's address.
+/// Appends the fields of a Linux cooked capture header (version 1) that the program parses itself: the direction of the
+/// packet, and the sender's address.
 #[tactic(auto, unfolding(crate::specs::Openings::sll_front))]
 fn push_sll_front(output: &mut Vec<u8>, bytes: &[u8]) -> Result<(), AllocError>
     requires { 16 ≤ length bytes.now }
@@ -202,7 +219,8 @@ fn push_sll_front(output: &mut Vec<u8>, bytes: &[u8]) -> Result<(), AllocError>
     push_sender(output, &address[..len])
 }
 
-/// The same of version 2, with the number of the interface.
+/// Appends the fields of a Linux cooked capture header of version 2: the interface index, the direction of the packet,
+/// and the sender's address.
 #[tactic(auto, unfolding(crate::specs::Openings::sll2_front))]
 fn push_sll2_front(output: &mut Vec<u8>, bytes: &[u8]) -> Result<(), AllocError>
     requires { 20 ≤ length bytes.now }
@@ -210,12 +228,12 @@ fn push_sll2_front(output: &mut Vec<u8>, bytes: &[u8]) -> Result<(), AllocError>
 {
     let len = usize::from(bytes[11]).min(8);
     let address = &bytes[12..20];
-    decimals::push_behind(output, b" sll2 interface ", sll2_interface(bytes))?;
+    decimals::push_with_text(output, b" sll2 interface ", sll2_interface(bytes))?;
     push_way(output, bytes[10])?;
     push_sender(output, &address[..len])
 }
 
-/// The number of the interface in the header of a Linux cooked capture of version 2.
+/// Returns the interface index of a Linux cooked capture header of version 2, bytes 4 to 7.
 fn sll2_interface(bytes: &[u8]) -> u64
     requires { 20 ≤ length bytes.now }
     ensures { result ≡ sll2_interface bytes.now }
@@ -223,7 +241,7 @@ fn sll2_interface(bytes: &[u8]) -> u64
     65_536 * u64::from(word_at(bytes, 4)) + u64::from(word_at(bytes, 6))
 }
 
-/// Appends which way a packet went.
+/// Appends the direction of a packet, given the packet type (byte 10) of a Linux cooked capture header of version 2.
 fn push_way(output: &mut Vec<u8>, way: u8) -> Result<(), AllocError>
     ensures { OnOk result (output.new.items ≡ output.old.items ++ way_text way) }
 {

@@ -1,4 +1,4 @@
-//! The words of the command line.
+//! Parsing of the command line of `packet_dump`.
 
 ghost use Rattle.std.specs.Prelude.{◌≡◌, IfOk, IfErr, IfSome, IfNone, OnOk};
 ghost use Rattle.std.specs.Option.{option_map};
@@ -12,27 +12,27 @@ ghost use Rattle.packet_dump.specs.declared.dump_options.TimeForm.{TimeForm};
 
 use crate::dump_options::{DumpOptions, Kind, TimeForm};
 
-/// What a command line asks for.
+/// Request of a command line: print the help text or the version, or dump a capture.
 #[derive(Drop)]
 pub enum Request<'a> {
-    /// The text of `--help`.
+    /// Request to print the help text (`--help`).
     Help,
-    /// The text of `--version`.
+    /// Request to print the version of the program (`--version`).
     Version,
-    /// The lines of a capture: of the file of this name, or of standard input where there is none.
+    /// Request to print the lines of a capture: of a file, or of standard input if `path` is `None`.
     Dump {
         options: DumpOptions,
-        /// The words of a filter.
+        /// Filter options (`--host`, `--port`, `--net`, `--vlan`) as text.
         filter: FilterTexts<'a>,
         path: Option<&'a str>,
-        /// The file that the packets which are shown are written into.
+        /// Name of the capture file that the selected packets are written to (`--write`).
         target: Option<&'a str>,
-        /// Whether a summary follows.
+        /// True if a summary is printed after the packet lines (`--summary`).
         summary: bool,
     },
 }
 
-/// What a word of a filter asks for.
+/// Kind of a filter option: `--host`, `--port`, `--vlan` or `--net`.
 #[derive(Clone, Copy)]
 pub enum FilterKind {
     Host,
@@ -41,14 +41,14 @@ pub enum FilterKind {
     Net,
 }
 
-/// A word of a filter, as it stands in the command line.
+/// Filter option of the command line, such as `--port 53`: its kind, and its value as text.
 #[derive(Clone, Copy)]
 pub struct FilterText<'a> {
     pub kind: FilterKind,
     pub text: &'a str,
 }
 
-/// The words of a filter, the last one first.
+/// Up to six filter options (such as `--port 53`) as text. `first` is the last one of the command line.
 #[derive(Clone, Copy)]
 pub struct FilterTexts<'a> {
     pub first: Option<FilterText<'a>>,
@@ -59,32 +59,32 @@ pub struct FilterTexts<'a> {
     pub sixth: Option<FilterText<'a>>,
 }
 
-/// What is wrong with a command line.
+/// Error of a command line, with the wrong argument.
 #[derive(Drop)]
 pub enum UsageError<'a> {
-    /// A word begins with `-` and is no option.
+    /// Argument that begins with `-` and is no known option.
     UnknownOption(&'a str),
-    /// An option has no word behind it.
+    /// Option that needs a value and is the last argument.
     NoValue(&'static str),
-    /// The value of `--count` is no number.
+    /// Value of `--count` that is no number (of packets).
     NotACount(&'a str),
-    /// The value of `--only` is no kind of packet.
+    /// Value of `--only` that is no known kind of packet (`udp`, `tcp`, `icmp`, `arp`, `refused` or `stopped`).
     NotAKind(&'a str),
-    /// The value of `--time` is no form of times.
+    /// Value of `--time` that is no known format of timestamps (`relative`, `epoch` or `utc`).
     NotATimeForm(&'a str),
-    /// The value of `--timeout` is no number of seconds, of at most 4294967295.
+    /// Value of `--timeout` that is no number of seconds up to 4294967295.
     NotATimeout(&'a str),
-    /// The value of `--limit` is no number of bytes, of at most 65535.
+    /// Value of `--limit` that is no number of bytes up to 65535.
     NotALimit(&'a str),
-    /// The word behind `--streams` is no number.
+    /// Value of `--streams` that is no number (of incomplete payloads).
     NotAStreamCount(&'a str),
-    /// A second file is named, or standard input beside one.
+    /// Second input on the command line, where only one is read: a file, or `-` for standard input.
     SecondFile(&'a str),
-    /// A filter has more than six words.
+    /// More than six filter options (`--host`, `--port`, `--net`, `--vlan`).
     CrowdedFilter,
 }
 
-/// An option that has a value: the next word, or what stands in its own behind `=`.
+/// Option that needs a value, given as the next argument or after `=`, such as `--count 5`.
 #[derive(Clone, Copy)]
 pub enum Awaited {
     Count,
@@ -95,12 +95,12 @@ pub enum Awaited {
     Write,
     Streams,
     Filter(FilterKind),
-    /// What is read.
+    /// `-r`: the value is the name of the input file.
     Input,
 }
 
 impl Awaited {
-    /// The option's word.
+    /// Returns the name of an option that needs a value, as on the command line, such as `--count`.
     fn word(self) -> &'static str
         ensures { result.now ≡ option_word self }
     {
@@ -121,7 +121,7 @@ impl Awaited {
     }
 }
 
-/// What a word is that is no option's value.
+/// Meaning of an argument that is not the value of the option before it.
 #[derive(Clone, Copy)]
 pub enum Word {
     Help,
@@ -133,18 +133,18 @@ pub enum Word {
     Summary,
     Quiet,
     Reassemble,
-    /// Names are not looked up: none ever are.
+    /// `-n` or `-nn`: accepted for compatibility, and ignored, since names are never looked up.
     NoNames,
-    /// An option whose value is the next word.
+    /// Option whose value is the next argument, such as `--count`.
     Option(Awaited),
     StandardInput,
     File,
-    /// It begins with `-` and is no option.
+    /// Argument that begins with `-` and is no option by itself; it may still be an option with its value after `=`.
     Unknown,
 }
 
 impl Word {
-    /// What this word is.
+    /// Returns the meaning of an argument that is not the value of the option before it.
     fn of(text: &str) -> Word
         ensures { result ≡ word_named text.now }
     {
@@ -178,14 +178,15 @@ impl Word {
     }
 }
 
-/// An option and its value, which stand in one word with `=` between.
+/// Option and its value in one argument, separated by `=`, such as `--count=5`.
 #[derive(Clone, Copy)]
 pub struct Joined<'a> {
     option: Awaited,
     value: &'a str,
 }
 
-/// The option and its value that a word says, with `=` between.
+/// Returns the option and the value of an argument such as `--count=5`, or `None` if it is not an option, `=` and a
+/// value.
 fn joined_in<'a>(text: &'a str) -> Option<Joined<'a>>
     ensures { option_map joined_parts result ≡ joined_in text.now }
 {
@@ -195,7 +196,7 @@ fn joined_in<'a>(text: &'a str) -> Option<Joined<'a>>
     }
 }
 
-/// The option that such a word is, with this value.
+/// Returns an option with its value, or `None` if `word` is not an option that needs a value.
 fn option_with<'a>(word: Word, value: &'a str) -> Option<Joined<'a>>
     ensures { option_map joined_parts result ≡ option_with word value.now }
 {
@@ -205,33 +206,33 @@ fn option_with<'a>(word: Word, value: &'a str) -> Option<Joined<'a>>
     }
 }
 
-/// Whether a word begins with `-`.
+/// Returns whether a command line argument begins with `-`.
 fn begins_with_dash(text: &str) -> bool
     ensures { result ≡ is_dashed text.now }
 {
     text.as_bytes().starts_with(b"-")
 }
 
-/// What the words so far ask.
+/// State of the command line parser after the arguments parsed so far.
 #[derive(Drop)]
 pub struct Reading<'a> {
     options: DumpOptions,
-    /// The words of a filter.
+    /// Filter options (`--host`, `--port`, `--net`, `--vlan`) parsed so far, as text.
     filter: FilterTexts<'a>,
-    /// Whether it has more than have a place.
+    /// True if there were more than six filter options, which is an error at the end.
     crowded: bool,
     path: Option<&'a str>,
-    /// The file that is written.
+    /// Name of the capture file that the selected packets are written to (`--write`).
     target: Option<&'a str>,
     summary: bool,
-    /// Whether a file is named, or standard input.
+    /// True if the input was named already: a file, or `-` for standard input.
     is_named: bool,
-    /// The option whose value is the next word, where there is one.
+    /// Option whose value is the next argument; `None` if the next argument is no value.
     awaited: Option<Awaited>,
 }
 
 impl<'a> Reading<'a> {
-    /// What no words ask.
+    /// Returns the state of the command line parser before any argument, with the default options.
     fn new() -> Reading<'a>
         ensures { reading_state result ≡ first_state }
     {
@@ -268,7 +269,8 @@ impl<'a> Reading<'a> {
         }
     }
 
-    /// Reads a word. The answer is the request, where no word behind this one matters.
+    /// Parses one argument of the command line. Returns the request if it is `--help` or `--version`, after which other
+    /// arguments do not matter; `None` to go on.
     fn push(&mut self, text: &'a str) -> Result<Option<Request<'a>>, UsageError<'a>>
         ensures { StepGives (step (reading_state self.old) text.now) (reading_state self.new) result }
     {
@@ -306,7 +308,7 @@ impl<'a> Reading<'a> {
         Ok(None)
     }
 
-    /// Reads the value of an option.
+    /// Parses the value of an option, such as the `5` of `--count 5`. Returns `None` to go on with the next argument.
     fn push_value(
         &mut self,
         option: Awaited,
@@ -324,7 +326,8 @@ impl<'a> Reading<'a> {
         Ok(None)
     }
 
-    /// Reads what names a file, whatever it begins with, or standard input.
+    /// Parses the value of `-r`, the name of the input: a file, even if its name begins with `-`, or `-` for standard
+    /// input. Fails if an input was named already.
     fn push_input(&mut self, text: &'a str) -> Result<Option<Request<'a>>, UsageError<'a>>
         ensures { StepGives (named_by (reading_state self.old) text.now (input_in text.now)) (reading_state self.new)
             result }
@@ -340,7 +343,8 @@ impl<'a> Reading<'a> {
         Ok(None)
     }
 
-    /// Reads a word that begins with `-` and is no other: an option and its value, or nothing that is known.
+    /// Parses an argument that begins with `-` and is no option by itself: an option with its value after `=`, such as
+    /// `--count=5`; else it is an unknown option.
     fn push_joined(&mut self, text: &'a str) -> Result<Option<Request<'a>>, UsageError<'a>>
         ensures { StepGives (behind_joined (reading_state self.old) text.now (joined_in text.now))
             (reading_state self.new) result }
@@ -351,7 +355,8 @@ impl<'a> Reading<'a> {
         }
     }
 
-    /// Keeps the text behind an option that is told as it stands: the file that is written, or a word of a filter.
+    /// Stores the value of an option that is kept as text: the file of `--write`, or a filter option such as `--port`.
+    /// Does nothing for other options.
     fn add_filter(&mut self, option: Awaited, text: &'a str)
         ensures { reading_state self.new ≡ filtered (reading_state self.old) option text.now }
     {
@@ -379,7 +384,8 @@ impl<'a> Reading<'a> {
         }
     }
 
-    /// The request, where there is no word behind those that were read.
+    /// Returns the request of a command line after its last argument, or an error if an option has no value or there
+    /// are more than six filter options.
     fn finish(self) -> Result<Request<'a>, UsageError<'a>>
         ensures { answer_of result ≡ finished (reading_state self.entry) }
     {
@@ -397,7 +403,8 @@ impl<'a> Reading<'a> {
     }
 }
 
-/// Reads the words behind the program's name.
+/// Parses the arguments of the command line after the program name. The error is that of the first wrong argument; more
+/// than six filter options are an error only if no argument is wrong.
 pub fn parse(words: &[String]) -> Result<Request<'_>, UsageError<'_>>
     ensures ok { IfOk result (λ request. IsRequest (texts words.now) (asked_of request)) }
     ensures err { IfErr result (λ error. RefusesWords (texts words.now) (fault_of error)) }
@@ -415,7 +422,8 @@ pub fn parse(words: &[String]) -> Result<Request<'_>, UsageError<'_>>
     reading.finish()
 }
 
-/// Sets an option to the value that a word says.
+/// Parses the value of an option and stores it in `options`. Does nothing for options whose value is kept as text
+/// (`--write`, filter options, `-r`).
 fn set<'a>(options: &mut DumpOptions, option: Awaited, text: &'a str) -> Result<(), UsageError<'a>>
     ensures ok { OnOk result ((item : Item) × IsValue option text.now item × (options.new ≡ options_with options.old item)) }
     ensures err { IfErr result (λ error. fault_of error ≡ bad_value option text.now) }
@@ -455,7 +463,7 @@ fn set<'a>(options: &mut DumpOptions, option: Awaited, text: &'a str) -> Result<
     Ok(())
 }
 
-/// The kind of packets of this name.
+/// Returns the kind of packets that `--only` selects by this name (`udp`, `tcp` ..), or `None` for an unknown name.
 fn kind_of(name: &str) -> Option<Kind>
     ensures some { IfSome result (λ kind. name.now ≡ kind_name kind) }
     ensures none { IfNone result ((kind : Kind) → name.now ≡ kind_name kind → ⊥) }
@@ -471,7 +479,8 @@ fn kind_of(name: &str) -> Option<Kind>
     }
 }
 
-/// The form of times of this name.
+/// Returns the timestamp format that `--time` selects by this name (`relative`, `epoch` or `utc`), or `None` for an
+/// unknown name.
 fn form_of(name: &str) -> Option<TimeForm>
     ensures some { IfSome result (λ form. name.now ≡ form_name form) }
     ensures none { IfNone result ((form : TimeForm) → name.now ≡ form_name form → ⊥) }

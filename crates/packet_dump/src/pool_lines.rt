@@ -1,9 +1,10 @@
-//! The lines of payloads that were put together, and of fragments that the pool refuses.
+//! Further lines of `--reassemble`, after the line of a packet: for a reassembled payload, or for an IP fragment that
+//! the reassembly pool rejects.
 
 ghost use Rattle.std.specs.Prelude.{◌≡◌, ◌++◌, ℕ, IfOk, IsFalse, List, OnOk};
 ghost use Rattle.std.specs.Option.{option_map};
-ghost use Rattle.etherparse.specs.Pools.{plain_frame_answer, wants_memory};
-ghost use Rattle.etherparse.specs.FragmentRefusals.{is_want_of_memory};
+ghost use Rattle.etherparse.specs.Pools.{plain_frame_answer, is_allocation_failure_in};
+ghost use Rattle.etherparse.specs.FragmentRefusals.{is_allocation_failure};
 ghost use Rattle.etherparse.specs.IpDefragErrorTexts.{error_text};
 ghost use Rattle.etherparse.specs.LaxPackets.{lax_layers_of};
 ghost use Rattle.etherparse.specs.StrictFrames.{layers_in};
@@ -23,21 +24,24 @@ use etherparse::defrag::{IpDefragError, IpDefragPayloadVec};
 use etherparse::err::packet::SliceError;
 use etherparse::err::tcp::HeaderSliceError;
 use etherparse::{IpNumber, LaxSlicedPacket, TransportSlice};
-use packet_filter::{Word, holds_of_payload};
+use packet_filter::{Word, matches_reassembled};
 use std::alloc::{AllocError, Global};
 
-/// What lines behind that of a packet are made from.
+/// Parts of the further line of `--reassemble`, for a reassembled payload or a rejected fragment, after the line of the
+/// packet.
 #[derive(Clone, Copy)]
 struct Further<'a, 'b> {
     options: DumpOptions,
-    /// What they begin with.
+    /// Start of the line: number and timestamp of the packet with the fragment, and the fields of a link header that
+    /// the program parses itself.
     start: &'a [u8],
-    /// The packet's layers.
+    /// Layers of the packet with the fragment.
     read: &'a LaxSlicedPacket<'b>,
 }
 
 impl Further<'_, '_> {
-    /// Whether a line of this kind is shown, of a payload of this transport layer.
+    /// Returns whether the line of a reassembled payload or rejected fragment is printed: not with `--quiet`, and else
+    /// if `--only` selects its kind and all filter options match.
     fn shows(&self, kind: Option<Kind>, transport: &Option<TransportSlice<'_>>) -> bool
         ensures { result ≡ shows_payload self.now.options (layers_in (lax_layers_of self.now.read.now)) kind
             (option_map transport_layer_of transport.now) }
@@ -46,7 +50,8 @@ impl Further<'_, '_> {
     }
 }
 
-/// Whether all words of a filter hold of a packet whose payload has this transport layer.
+/// Returns whether a reassembled payload matches all filter options (`--host`, `--port` ..). Its ports are those of its
+/// own transport layer; its addresses and VLAN tags are those of the packet that completed it.
 fn meets_payload(
     words: &[Option<Word>],
     read: &LaxSlicedPacket<'_>,
@@ -60,7 +65,8 @@ fn meets_payload(
         .all(|slot| slot_holds_of(slot, read, transport))
 }
 
-/// Whether a word holds of a packet whose payload has this transport layer, where there is one.
+/// Returns whether a reassembled payload matches the filter primitive in a slot (such as `port 53`); an empty slot
+/// matches everything. Its ports are its own; its addresses and VLAN tags are those of the packet that completed it.
 fn slot_holds_of(
     slot: &Option<Word>,
     read: &LaxSlicedPacket<'_>,
@@ -70,13 +76,13 @@ fn slot_holds_of(
         (option_map transport_layer_of transport.now) }
 {
     match slot {
-        Some(word) => holds_of_payload(word, read, transport),
+        Some(word) => matches_reassembled(word, read, transport),
         None => true,
     }
 }
 
-/// Appends what the pool answered to a frame: the line of a payload that was put together, or of a fragment that is
-/// refused. Want of memory has none, and is an error here.
+/// Appends the further line for the reassembly pool's result of a fragment: the reassembled payload, or why the
+/// fragment is rejected; no line if the payload is still incomplete. If the pool could not allocate, returns an error.
 pub fn push_answer(
     output: &mut Vec<u8>,
     options: &DumpOptions,
@@ -84,7 +90,7 @@ pub fn push_answer(
     read: &LaxSlicedPacket<'_>,
     answer: &Result<Option<IpDefragPayloadVec>, IpDefragError>,
 ) -> Result<(), AllocError>
-    ensures memory { OnOk result (IsFalse (wants_memory answer.now)) }
+    ensures memory { OnOk result (IsFalse (is_allocation_failure_in answer.now)) }
     ensures text { OnOk result ((text : List ℕ)
         × IsAnswerText options.now (parts_start options.now.time parts.now) (layers_in (lax_layers_of read.now))
         (plain_frame_answer answer.now) text
@@ -102,7 +108,8 @@ pub fn push_answer(
     push_answer_line(output, &further, answer)
 }
 
-/// What the line of a packet begins with.
+/// Returns the start of a packet's line, which the line of its reassembled payload repeats: number, timestamp, and the
+/// link header that the program parses itself.
 fn start_of(alloc: Global, form: TimeForm, parts: &LineParts<'_>) -> Result<Vec<u8>, AllocError>
     ensures { IfOk result (λ start. start.items ≡ parts_start form parts.now) }
 {
@@ -111,13 +118,14 @@ fn start_of(alloc: Global, form: TimeForm, parts: &LineParts<'_>) -> Result<Vec<
     Ok(start)
 }
 
-/// Appends the line of an answer, if it has one.
+/// Appends the further line for the reassembly pool's result of a fragment: the reassembled payload, or why the
+/// fragment is rejected; nothing if the payload is still incomplete.
 fn push_answer_line(
     output: &mut Vec<u8>,
     further: &Further<'_, '_>,
     answer: &Result<Option<IpDefragPayloadVec>, IpDefragError>,
 ) -> Result<(), AllocError>
-    ensures memory { OnOk result (IsFalse (wants_memory answer.now)) }
+    ensures memory { OnOk result (IsFalse (is_allocation_failure_in answer.now)) }
     ensures text { OnOk result ((text : List ℕ)
         × IsAnswerText further.now.options further.now.start.now (layers_in (lax_layers_of further.now.read.now))
         (plain_frame_answer answer.now) text × (output.new.items ≡ output.old.items ++ text)) }
@@ -128,7 +136,7 @@ fn push_answer_line(
     }
 }
 
-/// Appends the line of a payload, where one was put together.
+/// Appends the line of a reassembled payload, or nothing if the fragment completed none.
 fn push_found(
     output: &mut Vec<u8>,
     further: &Further<'_, '_>,
@@ -144,7 +152,7 @@ fn push_found(
     }
 }
 
-/// Appends the line of a payload that was put together.
+/// Appends the line of a reassembled payload, with its transport layer or why that is invalid, if the line is shown.
 fn push_payload(
     output: &mut Vec<u8>,
     further: &Further<'_, '_>,
@@ -161,7 +169,8 @@ fn push_payload(
     }
 }
 
-/// Appends the line of a payload that has a transport layer, or need have none.
+/// Appends the line of a reassembled payload with a valid transport layer, or with a protocol that is not parsed, if
+/// the line is shown.
 fn push_part(
     output: &mut Vec<u8>,
     further: &Further<'_, '_>,
@@ -181,8 +190,7 @@ fn push_part(
     push_closing(output, further.options.hex, bytes_of_part(bytes, transport))
 }
 
-/// Appends what is told of a payload that has a transport layer, or need have none: that layer, or else the protocol and
-/// the length of the payload.
+/// Appends ` reassembled` and the transport layer of a reassembled payload, or else its protocol and length.
 fn push_reassembled(
     output: &mut Vec<u8>,
     number: IpNumber,
@@ -202,7 +210,8 @@ fn push_reassembled(
     }
 }
 
-/// The payload of a transport layer, or else all bytes.
+/// Returns the payload of a reassembled payload's transport layer, for the hex dump, or all of `bytes` if there is no
+/// transport layer.
 fn bytes_of_part<'a>(bytes: &'a [u8], transport: &Option<TransportSlice<'a>>) -> &'a [u8]
     ensures { result.now ≡ payload_in bytes.now (option_map transport_layer_of transport.now) }
 {
@@ -212,7 +221,7 @@ fn bytes_of_part<'a>(bytes: &'a [u8], transport: &Option<TransportSlice<'a>>) ->
     }
 }
 
-/// Appends the line of a payload that has no transport layer where it must have one.
+/// Appends the line of a reassembled payload whose transport header is truncated or invalid, if the line is shown.
 fn push_unread(
     output: &mut Vec<u8>,
     further: &Further<'_, '_>,
@@ -231,7 +240,7 @@ fn push_unread(
     push_closing(output, further.options.hex, bytes)
 }
 
-/// Appends why a payload has no transport layer where it must have one.
+/// Appends ` reassembled` and why the transport header of a reassembled payload is rejected.
 fn push_reassembled_refusal(output: &mut Vec<u8>, error: HeaderSliceError) -> Result<(), AllocError>
     ensures { OnOk result (output.new.items ≡ output.old.items ++ unread_text error) }
 {
@@ -239,7 +248,7 @@ fn push_reassembled_refusal(output: &mut Vec<u8>, error: HeaderSliceError) -> Re
     push_refusal(output, &frame_error(error))
 }
 
-/// Why a payload has no transport layer, as the error of a frame.
+/// Converts the error of a transport header to the error type of a whole frame, which has a text.
 fn frame_error(error: HeaderSliceError) -> SliceError
     ensures { result ≡ frame_error error }
 {
@@ -249,13 +258,14 @@ fn frame_error(error: HeaderSliceError) -> SliceError
     }
 }
 
-/// Appends the line of a fragment that the pool refuses. Want of memory has none, and is an error here.
+/// Appends the line of a fragment that the reassembly pool rejects, if it is shown. If the pool could not allocate,
+/// appends no line and returns an error.
 fn push_pool_error(
     output: &mut Vec<u8>,
     further: &Further<'_, '_>,
     error: &IpDefragError,
 ) -> Result<(), AllocError>
-    ensures memory { OnOk result (IsFalse (is_want_of_memory error.now)) }
+    ensures memory { OnOk result (IsFalse (is_allocation_failure error.now)) }
     ensures text { OnOk result (output.new.items ≡ output.old.items ++ refused_line further.now.options
         further.now.start.now (layers_in (lax_layers_of further.now.read.now)) error.now) }
 {
@@ -270,7 +280,7 @@ fn push_pool_error(
     push_closing(output, further.options.hex, b"")
 }
 
-/// Appends why a fragment is refused, in the words of the error.
+/// Appends ` not reassembled: ` and why the reassembly pool rejects a fragment.
 fn push_pool_refusal(output: &mut Vec<u8>, error: &IpDefragError) -> Result<(), AllocError>
     ensures { OnOk result (output.new.items ≡ output.old.items ++ pool_refusal_text error.now) }
 {
@@ -278,7 +288,7 @@ fn push_pool_refusal(output: &mut Vec<u8>, error: &IpDefragError) -> Result<(), 
     push_pool_reason(output, error)
 }
 
-/// Appends the words of an error.
+/// Appends the text of the reassembly pool's error for a rejected fragment.
 fn push_pool_reason(output: &mut Vec<u8>, error: &IpDefragError) -> Result<(), AllocError>
     ensures { OnOk result (output.new.items ≡ output.old.items ++ error_text error.now) }
 {
@@ -286,7 +296,8 @@ fn push_pool_reason(output: &mut Vec<u8>, error: &IpDefragError) -> Result<(), A
     output.extend_from_slice(text.as_bytes())
 }
 
-/// Appends what a line begins with that stands behind that of a packet, and the packet's layers outside its IP payload.
+/// Appends the start of a line for a reassembled payload or rejected fragment: packet number, timestamp, and the
+/// packet's link header, tags and IP header.
 fn push_opening(output: &mut Vec<u8>, further: &Further<'_, '_>) -> Result<(), AllocError>
     ensures { OnOk result (output.new.items
         ≡ output.old.items ++ opening_text further.now.start.now (layers_in (lax_layers_of further.now.read.now))) }
@@ -295,7 +306,8 @@ fn push_opening(output: &mut Vec<u8>, further: &Further<'_, '_>) -> Result<(), A
     push_outer(output, further.read)
 }
 
-/// Appends what it ends with: bytes where they are wanted, and the line feed.
+/// Appends the end of a line for a reassembled payload or rejected fragment: the hex dump of `bytes` if `hex`, and a
+/// line feed.
 fn push_closing(output: &mut Vec<u8>, hex: bool, bytes: &[u8]) -> Result<(), AllocError>
     ensures { OnOk result (output.new.items ≡ output.old.items ++ closing_text hex bytes.now) }
 {

@@ -1,4 +1,4 @@
-//! The pool in which fragments are put together.
+//! Reassembly of IP fragments (`--reassemble`): the reassembly pool, and when its incomplete payloads expire.
 
 ghost use Rattle.std.specs.Prelude.{◌≡◌, ◌++◌, ◌/◌, is_some, ℕ, List, OnOk, Some};
 ghost use Rattle.std.specs.BTreeMap.{get};
@@ -28,34 +28,38 @@ use packet_times::{EPOCH, SECOND};
 use std::alloc::{AllocError, Global};
 use std::collections::BTreeMap;
 
-/// When a fragment came.
+/// Number and timestamp of the packet with the last accepted fragment of a stream (an incomplete payload). Streams are
+/// evicted by the number and expire by the timestamp.
 #[derive(Clone, Copy)]
 pub struct Arrival {
-    /// With the packet of this number.
+    /// Number of the packet in the capture, counted from 1.
     pub number: u64,
-    /// At this instant, in nanoseconds.
+    /// Timestamp of the packet in nanoseconds, or the last known one if the packet has none.
     pub instant: u128,
 }
 
-/// The pool, and when streams were dropped from it.
+/// Reassembly pool of IP fragments, with the state to expire or evict its streams (a stream is the fragments of one
+/// datagram), and counts for the summary.
 #[derive(Drop)]
 pub struct Pooling {
-    /// A stream's timestamp is when its last accepted fragment came, and all packets come by one channel.
+    /// Reassembly pool. The timestamp of a stream is the packet number and time of its last accepted fragment; all
+    /// packets use channel 0.
     pool: IpDefragPool<Arrival, u64>,
-    /// The open streams, each under the number of the packet with which its last accepted fragment came.
+    /// Streams (incomplete payloads) of the reassembly pool, by the number of the packet with their last accepted
+    /// fragment: the first one is the oldest.
     names: BTreeMap<u64, IpFragId<u64>>,
-    /// The second of the capture in which streams were dropped last.
+    /// Second of the capture, by packet timestamps, in which streams were last checked for expiry.
     swept: u128,
-    /// How many payloads were handed out.
+    /// Number of IP payloads that were reassembled so far.
     reassembled: u64,
-    /// How many fragments were refused.
+    /// Number of IP fragments that the reassembly pool rejected so far.
     refused: u64,
-    /// How many streams were dropped that were not complete.
+    /// Number of streams (incomplete payloads) that expired or were evicted.
     given_up: u64,
 }
 
 impl Pooling {
-    /// A pool that was given nothing.
+    /// Returns an empty reassembly pool for payloads of at most `limit` bytes.
     pub fn new(alloc: Global, limit: u16) -> Pooling
         ensures { HoldsPooling (new_pool limit) result }
     {
@@ -69,9 +73,10 @@ impl Pooling {
         }
     }
 
-    /// Gives the frame of a packet, which was read laxly too, to the pool at the latest instant, behind a drop of what is
-    /// too old where a second began, and appends what it answers. A payload that is handed out goes back to the pool.
-    /// Of more open streams than may be the oldest is then given up.
+    /// Passes a packet to the reassembly pool, and appends the line of a reassembled payload or rejected fragment, if
+    /// there is one. Before that, old streams (incomplete payloads) expire if a new second of the capture has begun.
+    /// Afterwards the oldest stream is evicted if there are more than `--streams` allows. The buffer of a reassembled
+    /// payload is returned to the pool.
     pub fn give(
         &mut self,
         output: &mut Vec<u8>,
@@ -94,7 +99,8 @@ impl Pooling {
         Ok(())
     }
 
-    /// Gives the frame of a packet to the pool, where it carries a fragment, and appends what it answers.
+    /// Passes a packet to the reassembly pool if it carries an IP fragment, and appends the line of a reassembled
+    /// payload or rejected fragment, if there is one.
     fn give_frame(
         &mut self,
         output: &mut Vec<u8>,
@@ -117,8 +123,8 @@ impl Pooling {
         }
     }
 
-    /// Gives the frame of a packet to the pool, which carries a fragment of the stream of this name, and appends what
-    /// it answers.
+    /// Passes a packet that carries an IP fragment to the reassembly pool, and appends the line of a reassembled
+    /// payload or rejected fragment, if there is one. Updates the list of streams (incomplete payloads).
     fn give_at(
         &mut self,
         output: &mut Vec<u8>,
@@ -151,8 +157,8 @@ impl Pooling {
         Ok(())
     }
 
-    /// Drops the streams of which no fragment was accepted since an instant, where this second is later than those
-    /// before.
+    /// Expires the streams (incomplete payloads) without an accepted fragment since `oldest` (nanoseconds). Does
+    /// nothing unless `second` is later than the second in which streams were last checked for expiry.
     fn sweep(&mut self, second: u128, oldest: u128)
         ensures { (before : PoolHistory) → HoldsPooling before self.old →
             HoldsPooling (with_sweep before second oldest) self.new }
@@ -174,7 +180,8 @@ impl Pooling {
         self.given_up = self.given_up.saturating_add(gone as u64);
     }
 
-    /// Gives the stream up whose last accepted fragment is oldest, where more than so many are open.
+    /// Evicts the stream (incomplete payload) whose last accepted fragment is oldest, if the reassembly pool has more
+    /// than `most`.
     fn bound(&mut self, most: u64)
         ensures { (before : PoolHistory) → HoldsPooling before self.old →
             (after : PoolHistory) × IsBounded most before after × HoldsPooling after self.new }
@@ -189,7 +196,8 @@ impl Pooling {
         }
     }
 
-    /// Counts an answer, and gives its payload back to the pool, if it has one.
+    /// Counts the reassembly pool's result of a fragment (payload or error), and returns the buffer of a reassembled
+    /// payload to the pool for reuse.
     fn give_back(&mut self, answer: Result<Option<IpDefragPayloadVec>, IpDefragError>)
         ensures streams { (before : PoolHistory) → HoldsStreams before self.old → HoldsStreams before self.new }
         ensures counted { fates_of self.new ≡ with_answer (plain_frame_answer answer) (fates_of self.old) }
@@ -204,7 +212,8 @@ impl Pooling {
         }
     }
 
-    /// What became of fragments.
+    /// Returns the counts of `--reassemble` for the summary: reassembled payloads, rejected fragments, streams that
+    /// expired or were evicted, and streams that are still incomplete.
     pub fn fragments(&self) -> Fragments
         ensures { (history : PoolHistory) → HoldsPooling history self.now → AreFragments history result }
     {
@@ -217,7 +226,8 @@ impl Pooling {
     }
 }
 
-/// The number of the packet with which the last accepted fragment of a stream came, if the stream is open.
+/// Returns the number of the packet with the last accepted fragment of stream `name`, or `None` if the reassembly pool
+/// has no such stream.
 fn number_at(pool: &IpDefragPool<Arrival, u64>, name: &IpFragId<u64>) -> Option<u64>
     ensures { result ≡ number_at name.now pool.now }
 {
@@ -227,8 +237,9 @@ fn number_at(pool: &IpDefragPool<Arrival, u64>, name: &IpFragId<u64>) -> Option<
     }
 }
 
-/// The number under which a stream is listed behind the pool's answer to a fragment of it that came with the packet of
-/// this number, where it stood under another, if under any. The pool is not asked once more, which would take time.
+/// Returns the packet number of a stream's last accepted fragment, after the reassembly pool processed one more
+/// fragment: that fragment's packet if it was accepted, the number before if it was rejected, `None` if the payload is
+/// complete. Saves a second lookup in the pool.
 fn number_behind(
     answer: &Result<Option<IpDefragPayloadVec>, IpDefragError>,
     stood: Option<u64>,
@@ -243,7 +254,8 @@ fn number_behind(
     }
 }
 
-/// Takes the name under a number out, if there is a number.
+/// Removes the entry of packet number `gone` from the list of streams (incomplete payloads), which is ordered by packet
+/// number; does nothing for `None`.
 fn unlist(names: &mut BTreeMap<u64, IpFragId<u64>>, gone: Option<u64>)
     ensures { (number : ℕ) → get nat_cmp names.new number ≡ without (get nat_cmp names.old) gone number }
 {
@@ -252,7 +264,8 @@ fn unlist(names: &mut BTreeMap<u64, IpFragId<u64>>, gone: Option<u64>)
     }
 }
 
-/// Lists a name under a number, if there is one.
+/// Adds a stream (incomplete payload) to the list of streams, which is ordered by the packet number of the last
+/// accepted fragment. Does nothing without a packet number.
 fn list(
     names: &mut BTreeMap<u64, IpFragId<u64>>,
     name: IpFragId<u64>,
@@ -267,7 +280,7 @@ fn list(
     Ok(())
 }
 
-/// Keeps the names of streams that are open.
+/// Removes the streams that are no longer in the reassembly pool from the list of incomplete streams.
 fn keep_open(names: &mut BTreeMap<u64, IpFragId<u64>>, pool: &IpDefragPool<Arrival, u64>)
     ensures { (number : ℕ) → get nat_cmp names.new number ≡ open_at pool.now (get nat_cmp names.old number) }
 {
@@ -279,8 +292,8 @@ fn keep_open(names: &mut BTreeMap<u64, IpFragId<u64>>, pool: &IpDefragPool<Arriv
     );
 }
 
-/// Returns the second of an instant in nanoseconds. Where the nanoseconds since 1970 fit 64 bits, it divides 64 bits in
-/// place of 128.
+/// Converts a timestamp from nanoseconds to whole seconds. A 64-bit division is used where the nanoseconds since 1970
+/// fit in 64 bits, since it is faster.
 fn second_of(instant: u128) -> u128
     ensures { result ≡ instant / 1000000000 }
 {
@@ -291,7 +304,8 @@ fn second_of(instant: u128) -> u128
     }
 }
 
-/// The instant before which a stream is too old, at a packet of this one.
+/// Returns the timestamp (nanoseconds) before which a stream's last accepted fragment is too old, at a packet of time
+/// `this`: `--timeout` seconds earlier.
 fn oldest_from(options: &DumpOptions, this: u128) -> u128
     ensures { result ≡ oldest_from options.now this }
 {

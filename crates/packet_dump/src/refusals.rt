@@ -1,4 +1,4 @@
-//! The text of a refusal.
+//! Formatting of parsing errors as text of a packet's line.
 
 ghost use Rattle.std.specs.Prelude.{◌≡◌, ◌++◌, OnOk};
 ghost use Rattle.packet_dump.specs.SliceErrorTexts.{refusal_text, refused_layer, stop_text};
@@ -7,7 +7,8 @@ use etherparse::err::packet::SliceError;
 use refusal_texts::push_reason;
 use std::alloc::AllocError;
 
-/// Appends that bytes are refused, a space before it, with the layer's name and the words of the error.
+/// Appends ` refused` and why a packet, or the transport header of a reassembled payload, is rejected: the name of the
+/// invalid layer and the text of the error.
 pub fn push_refusal(output: &mut Vec<u8>, error: &SliceError) -> Result<(), AllocError>
     ensures { OnOk result (output.new.items ≡ output.old.items ++ refusal_text error.now) }
 {
@@ -16,7 +17,8 @@ pub fn push_refusal(output: &mut Vec<u8>, error: &SliceError) -> Result<(), Allo
     push_reason(output, error)
 }
 
-/// Appends that the layers of a packet end in front of one that is refused, with the same words.
+/// Appends ` stopped` and why the layers of a packet end early: the name of the next, invalid layer and the text of the
+/// error.
 pub fn push_stop(output: &mut Vec<u8>, error: &SliceError) -> Result<(), AllocError>
     ensures { OnOk result (output.new.items ≡ output.old.items ++ stop_text error.now) }
 {
@@ -25,7 +27,8 @@ pub fn push_stop(output: &mut Vec<u8>, error: &SliceError) -> Result<(), AllocEr
     push_reason(output, error)
 }
 
-/// The layer that is refused, which the words of an error do not name but where bytes are missing.
+/// Returns the name of the layer that an error is about, with a space after it. It is empty for a length error, whose
+/// text names the layer itself.
 fn refused_layer(error: &SliceError) -> &'static str
     ensures { result.now ≡ refused_layer error.now }
 {

@@ -1,4 +1,4 @@
-//! Bytes in rows of sixteen, with the characters that they are.
+//! Hex dump of packet bytes: rows of 16 bytes, in hexadecimal and as characters.
 
 ghost use Rattle.std.specs.Prelude.{◌≡◌, ◌≤◌, ◌*◌, ◌++◌, length, OnOk};
 ghost use Rattle.packet_dump.specs.Rows.{character_of, characters_text, digits_text, row_at, row_start, row_text};
@@ -7,7 +7,7 @@ ghost use Rattle.packet_dump.specs.Rows.{rows_text};
 use crate::addresses::hex_pair;
 use std::alloc::AllocError;
 
-/// Appends bytes, sixteen in a row.
+/// Appends a hex dump: bytes in rows of 16, each with its offset, in hexadecimal and as characters.
 pub fn push_rows(output: &mut Vec<u8>, bytes: &[u8]) -> Result<(), AllocError>
     ensures { OnOk result (output.new.items ≡ output.old.items ++ rows_text bytes.now) }
 {
@@ -17,7 +17,7 @@ pub fn push_rows(output: &mut Vec<u8>, bytes: &[u8]) -> Result<(), AllocError>
     Ok(())
 }
 
-/// Appends the row that begins at this place.
+/// Appends the row of a hex dump whose first byte is `bytes[index]`: up to 16 bytes.
 fn push_row_at(output: &mut Vec<u8>, bytes: &[u8], index: usize) -> Result<(), AllocError>
     requires { index ≤ length bytes.now }
     ensures { OnOk result (output.new.items ≡ output.old.items ++ row_text index (row_at bytes.now index)) }
@@ -26,7 +26,8 @@ fn push_row_at(output: &mut Vec<u8>, bytes: &[u8], index: usize) -> Result<(), A
     push_row(output, index, &bytes[index..end])
 }
 
-/// Appends a row whose first byte stands at this place.
+/// Appends a row of a hex dump: a line feed, the offset `index` of its first byte, and its bytes in hexadecimal and as
+/// characters.
 fn push_row(output: &mut Vec<u8>, index: usize, row: &[u8]) -> Result<(), AllocError>
     requires { length row.now ≤ 16 }
     ensures { OnOk result (output.new.items ≡ output.old.items ++ row_text index row.now) }
@@ -36,7 +37,8 @@ fn push_row(output: &mut Vec<u8>, index: usize, row: &[u8]) -> Result<(), AllocE
     push_characters(output, row)
 }
 
-/// Appends a line feed and the place of the first byte of a row, by its lower 24 bits.
+/// Appends the start of a row of a hex dump: a line feed, and the offset of its first byte in hexadecimal (the lower 24
+/// bits).
 fn push_row_start(output: &mut Vec<u8>, index: usize) -> Result<(), AllocError>
     ensures { OnOk result (output.new.items ≡ output.old.items ++ row_start index) }
 {
@@ -46,8 +48,8 @@ fn push_row_start(output: &mut Vec<u8>, index: usize) -> Result<(), AllocError>
     output.extend_from_slice(&[b'\n', b' ', b' ', b' ', b' ', a, b, c, d, e, f])
 }
 
-/// Appends the bytes of a row by two digits each, a space before each, and spaces in place of those that it lacks of
-/// sixteen. All are appended at once, which takes less time.
+/// Appends the bytes of a hex dump row in hexadecimal, each after a space, padded with spaces to the width of 16 bytes.
+/// The text is appended in one call, which is faster.
 fn push_digits(output: &mut Vec<u8>, row: &[u8]) -> Result<(), AllocError>
     requires { length row.now ≤ 16 }
     ensures { OnOk result (output.new.items ≡ output.old.items ++ digits_text row.now) }
@@ -61,7 +63,7 @@ fn push_digits(output: &mut Vec<u8>, row: &[u8]) -> Result<(), AllocError>
     output.extend_from_slice(&text)
 }
 
-/// Appends the bytes of a row as characters.
+/// Appends the bytes of a hex dump row as characters between vertical bars, with `.` for bytes that are not printable.
 fn push_characters(output: &mut Vec<u8>, row: &[u8]) -> Result<(), AllocError>
     requires { length row.now ≤ 16 }
     ensures { OnOk result (output.new.items ≡ output.old.items ++ characters_text row.now) }
@@ -74,7 +76,7 @@ fn push_characters(output: &mut Vec<u8>, row: &[u8]) -> Result<(), AllocError>
     output.extend_from_slice(&text[..row.len() + 4])
 }
 
-/// A byte as a character of ASCII, and as `.` where that is none that is seen.
+/// Returns a byte if it is a printable ASCII character, or else `.`.
 fn character_of(byte: u8) -> u8
     ensures { result ≡ character_of byte }
 {

@@ -1,4 +1,4 @@
-//! The packets that are shown, as a capture that is written into a file.
+//! Writing of the selected packets to a new capture file (`--write`).
 
 ghost use Rattle.std.specs.Prelude.{◌≡◌, ◌<◌, ◌^◌, ◌++◌, [], false, IfOk, OnErr, OnOk};
 ghost use Rattle.capture_reader.specs.Readers.{shown_of};
@@ -12,44 +12,46 @@ use line_io::Watched;
 use std::alloc::{AllocError, Global};
 use std::io::Write;
 
-/// The link type of a capture without packets: Ethernet.
+/// Link type in the header of a capture file if no packet is selected for it: Ethernet.
 const ETHERNET: u16 = 1;
 
-/// Why packets that are shown were not saved.
+/// Reason why the remaining selected packets are not written to the capture file.
 #[derive(Clone, Copy)]
 pub enum SaveFault {
-    /// One cannot be written, and those behind it were left out.
+    /// A packet cannot be written to the capture file, since it has no timestamp, for example; it and all later packets
+    /// are left out.
     Refused {
-        /// How many packets were read, this one among them.
+        /// Number of the packet that cannot be written, counted from 1.
         number: u64,
-        /// Why.
+        /// Reason why the packet cannot be written to the capture file.
         refusal: WriteRefusal,
     },
-    /// The file failed.
+    /// Writing to the capture file failed.
     Failed,
 }
 
-/// How saving stands.
+/// State of the capture file that `--write` creates.
 #[derive(Clone, Copy)]
 pub enum SaveState {
-    /// No file is wanted.
+    /// No capture file is written: there is no option `--write`.
     Unasked,
-    /// Packets are saved, of the link type of the first, where there was one.
+    /// Packets are written to the capture file. The number is the link type of its first packet, or `None` if there was
+    /// none yet.
     Open(Option<u16>),
-    /// No more are.
+    /// No more packets are written to the capture file, for this reason.
     Stopped(SaveFault),
 }
 
-/// What is saved of the packets that are shown.
+/// Writer of the selected packets to a capture file (`--write`).
 #[derive(Drop)]
 pub struct Saving {
     pub state: SaveState,
-    /// Bytes that are not yet written.
+    /// Bytes of the capture file that are built and not yet written.
     pub bytes: Vec<u8>,
 }
 
 impl Saving {
-    /// No packet was read.
+    /// Returns the writer of a capture file before any packet; if `wanted` is false, it writes nothing.
     pub fn new(alloc: Global, wanted: bool) -> Saving
         ensures state { result.state ≡ new_state wanted }
         ensures fresh { result.state ≡ new_state (asks result.state) }
@@ -65,7 +67,8 @@ impl Saving {
         }
     }
 
-    /// Appends a packet of this number, behind a first one of such a link type if there was one, unless it is refused.
+    /// Adds a packet to the pending bytes of the capture file, with the file header if it is the first one. If the
+    /// packet cannot be written (such as without a timestamp), no later packet is written.
     pub fn push(
         &mut self,
         link: Option<u16>,
@@ -91,8 +94,8 @@ impl Saving {
         }
     }
 
-    /// Appends the heading in front of a packet of this link type, where it is the first. The answer is the link type
-    /// of the capture.
+    /// Adds the file header to the pending bytes if the packet is the first of the capture file (`link` is `None`).
+    /// Returns the link type of the file.
     fn begin(&mut self, link: Option<u16>, link_type: u16) -> Result<u16, AllocError>
         ensures fits { link_type < 2 ^ 16 }
         ensures link { IfOk result (λ found. found ≡ link_with link link_type) }
@@ -108,7 +111,7 @@ impl Saving {
         }
     }
 
-    /// Writes what was put together. Where the file fails, no more packets are saved.
+    /// Writes the pending bytes to the capture file. If writing fails, no more packets are written.
     pub fn flush<F: Write>(&mut self, file: &mut Watched<F>)
         requires sound { has_failed file.old ≡ is_failed self.old.state }
         ensures flushes { Flushes self.old self.new (F.contents (inner_of file.old)) (F.contents (inner_of file.new)) }
@@ -123,7 +126,8 @@ impl Saving {
         self.bytes.clear();
     }
 
-    /// The same where something is written, and what was put together stays.
+    /// Writes the pending bytes to the capture file without clearing them. If writing fails, no more packets are
+    /// written.
     fn write<F: Write>(&mut self, file: &mut Watched<F>)
         requires busy { is_idle self.old.state ≡ false }
         requires sound { has_failed file.old ≡ false }
@@ -137,7 +141,8 @@ impl Saving {
         }
     }
 
-    /// Writes what was put together, and the heading where no packet was saved. No more follow.
+    /// Writes the pending bytes to the capture file at the end of a run, with a file header if no packet was selected.
+    /// No packet may be added afterwards.
     pub fn close<F: Write>(&mut self, file: &mut Watched<F>) -> Result<(), AllocError>
         requires sound { has_failed file.old ≡ is_failed self.old.state }
         ensures closes { OnOk result (Closes self.old self.new (F.contents (inner_of file.old))
@@ -150,7 +155,7 @@ impl Saving {
         Ok(())
     }
 
-    /// Appends the heading where no packet was saved.
+    /// Adds the file header (link type Ethernet) to the pending bytes if no packet was selected for the capture file.
     fn finish(&mut self) -> Result<(), AllocError>
         ensures finishes { OnOk result (Finishes self.old self.new) }
         ensures state { self.new.state ≡ self.old.state }
@@ -162,7 +167,7 @@ impl Saving {
         }
     }
 
-    /// Whether nothing is written.
+    /// Returns whether nothing can be written to the capture file: there is none, or a write to it failed.
     fn is_idle(&self) -> bool
         ensures value { result ≡ is_idle self.now.state }
         ensures sound { result ≡ false → is_failed self.now.state ≡ false }
@@ -173,7 +178,7 @@ impl Saving {
         }
     }
 
-    /// Whether packets are saved, of which there was none.
+    /// Returns whether there is a capture file, and neither its header nor a packet was added to it so far.
     fn is_empty(&self) -> bool
         ensures { result ≡ is_empty self.now.state }
     {

@@ -1,4 +1,5 @@
-//! Which packets are wanted, whatever is told of them.
+//! Selection of the packets that `--write` writes, by `--only` and the filter options, even if `--quiet` hides their
+//! lines.
 
 ghost use Rattle.std.specs.Prelude.{◌≡◌, ◌&&◌};
 ghost use Rattle.etherparse.specs.LaxPackets.{lax_layers_of};
@@ -14,7 +15,7 @@ use etherparse::laws::lax::{lax, strict_frames};
 use etherparse::laws::packet::frames;
 use etherparse::{LaxSlicedPacket, SlicedPacket};
 
-/// Whether a packet is wanted.
+/// Returns whether `--only` and the filter options select a packet; without them, every packet is selected.
 pub fn is_selected(options: &DumpOptions, shown: &Shown<'_>) -> bool
     ensures { (content : Content) × Holds options.now.strict shown.now.link_type shown.now.bytes.now content
         × (result ≡ is_wanted options.now content) }
@@ -26,13 +27,14 @@ pub fn is_selected(options: &DumpOptions, shown: &Shown<'_>) -> bool
     selects_behind(options, opening, &bytes[opening.skipped..])
 }
 
-/// The same of a packet whose bytes begin so, of what stands behind that.
+/// Returns whether `--only` and the filter options select a packet. `bytes` are the bytes that the library parses, from
+/// the layer that `opening` names.
 fn selects_behind(options: &DumpOptions, opening: Opening, bytes: &[u8]) -> bool
     ensures { (content : Content) × HoldsBehind options.now.strict opening bytes.now content
         × (result ≡ is_wanted options.now content) }
 {
     if options.wants_all() {
-        // Any content is selected, and by the laws the bytes have one, which need not be read.
+        // If all packets are selected, the bytes need not be read; by these laws they have a content.
         frames();
         lax();
         strict_frames();
@@ -44,7 +46,8 @@ fn selects_behind(options: &DumpOptions, opening: Opening, bytes: &[u8]) -> bool
     }
 }
 
-/// The same where only frames are read.
+/// Returns whether `--only` and the filter options select a packet with `--strict`, where only complete, valid frames
+/// have layers.
 fn selects_frame(options: &DumpOptions, opening: Opening, bytes: &[u8]) -> bool
     ensures { (content : Content) × HoldsStrictly opening bytes.now content
         × (result ≡ is_wanted options.now content) }
@@ -61,7 +64,7 @@ fn selects_frame(options: &DumpOptions, opening: Opening, bytes: &[u8]) -> bool
     }
 }
 
-/// The same where what is there is read.
+/// Slices a packet laxly and returns whether `--only` and the filter options select it.
 fn selects_lax(options: &DumpOptions, opening: Opening, bytes: &[u8]) -> bool
     ensures { (content : Content) × HoldsLaxly opening bytes.now content
         × (result ≡ is_wanted options.now content) }
@@ -73,7 +76,8 @@ fn selects_lax(options: &DumpOptions, opening: Opening, bytes: &[u8]) -> bool
     }
 }
 
-/// The same of a packet of which a layer stands, or the first does not.
+/// Returns whether `--only` and the filter options select a laxly sliced packet; without a valid layer its kind is
+/// `refused`.
 fn selects_read(options: &DumpOptions, opening: Opening, read: &LaxSlicedPacket<'_>) -> bool
     ensures { result ≡ is_wanted options.now (content_with opening (lax_layers_of read.now)) }
 {
@@ -83,14 +87,15 @@ fn selects_read(options: &DumpOptions, opening: Opening, read: &LaxSlicedPacket<
     }
 }
 
-/// Whether a packet with layers is wanted.
+/// Returns whether `--only` and all filter options select a packet with valid layers.
 fn wants_read(options: &DumpOptions, read: &LaxSlicedPacket<'_>) -> bool
     ensures { result ≡ is_wanted options.now (packet (lax_layers_of read.now)) }
 {
     options.wants(Kind::of(read)) && options.meets(read)
 }
 
-/// Whether one without layers is, of such a kind if of one.
+/// Returns whether a packet that is printed without layers (rejected, or with an unsupported link type) is selected,
+/// given its kind: `--only` must select the kind, and there must be no filter option.
 fn wants_unread(options: &DumpOptions, kind: Option<Kind>) -> bool
     ensures { result ≡ (shows_kind options.now.only kind && asks_nothing options.now.words) }
 {

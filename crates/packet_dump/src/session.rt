@@ -1,4 +1,4 @@
-//! What is known between two pieces of a capture.
+//! State of a `packet_dump` run between two chunks of the capture that are read.
 
 ghost use Rattle.std.specs.Prelude.{◌≡◌, ◌<◌, ◌≤◌, ◌+◌, ◌^◌, ◌++◌, [], ◌∷◌, ℕ, List, Some, IfOk, OnOk, length};
 ghost use Rattle.capture_reader.specs.Captures.{Item, at_start, shown_in, stage_behind};
@@ -23,21 +23,22 @@ use capture_reader::{Advance, CaptureError, CaptureReader};
 use capture_writer::laws::read_back;
 use std::alloc::{AllocError, Global};
 
-/// How a capture stands behind the bytes that were taken.
+/// State of a run after all packets in the bytes read so far: whether and how the capture may end here.
 #[derive(Clone, Copy)]
 pub enum Standing {
-    /// It may end there.
+    /// The bytes read so far are a complete capture, which may end here or go on.
     MayEnd,
-    /// As many packets were read as are wanted.
+    /// The number of packets given by `--count` was read.
     Enough,
-    /// It may go on, and has this error if it ends there.
+    /// The bytes read so far end within a packet or block. If the capture ends here, this is its error.
     Cut(CaptureError),
-    /// It is refused, whatever follows.
+    /// The capture is invalid with this error, whatever bytes follow.
     Refused(CaptureError),
 }
 
 impl Standing {
-    /// Whether a run ends there, whose reader has ended or has not.
+    /// Returns whether the run ends in this state; `ended` is whether the reader is at its end or no more reads are
+    /// allowed.
     pub fn ends_run(self, ended: bool) -> bool
         ensures { result ≡ ends_run self ended }
     {
@@ -48,23 +49,24 @@ impl Standing {
     }
 }
 
-/// The reader of a capture, how many packets it read, when the first and the last came, and the pool of fragments.
+/// State of a run: the parser of the capture, the number of packets read, the first and the last timestamp, the
+/// reassembly pool, and lines to write.
 #[derive(Drop)]
 pub struct Session {
     options: DumpOptions,
     capture: CaptureReader,
     number: u64,
-    /// When the first packet came of which that is known, in nanoseconds.
+    /// Timestamp of the first packet of the capture that has one, in nanoseconds.
     first: Option<u128>,
-    /// When the last one came.
+    /// Timestamp of the last packet read that has one, in nanoseconds; 0 if none has.
     latest: u128,
     pooling: Pooling,
-    /// Lines that are not yet written.
+    /// Lines of packets that are built and not yet written.
     pub(crate) output: Vec<u8>,
 }
 
 impl Session {
-    /// Nothing was read.
+    /// Returns the state of a run before any byte of the capture is read.
     pub fn new(alloc: Global, options: DumpOptions) -> Session
         ensures stands { Stands options result [] [] (new_pool options.limit) }
         ensures taken { taken_by result ≡ 0 }
@@ -81,7 +83,7 @@ impl Session {
         }
     }
 
-    /// Takes the next bytes.
+    /// Passes the next chunk of bytes of the capture to its parser. Packets in it are not processed yet.
     pub fn take(&mut self, piece: &[u8]) -> Result<(), AllocError>
         requires room { taken_by self.old + length piece.now < 2 ^ 64 }
         ensures stands { OnOk result ((options : DumpOptions) (read : List ℕ) (items : List Item) (history : PoolHistory) →
@@ -92,7 +94,9 @@ impl Session {
         self.capture.take(piece)
     }
 
-    /// Puts together the lines of the packets that were taken whole, and what is saved of them.
+    /// Processes the complete packets in the bytes read so far, until `--count` packets are read: builds their lines,
+    /// counts them in the summary, and adds the selected ones to the capture file (`--write`). Returns the state of the
+    /// run after them.
     pub fn drain(
         &mut self,
         summary: &mut Summary,
@@ -127,7 +131,7 @@ impl Session {
         }
     }
 
-    /// How a run ends where the capture stands so.
+    /// Returns the result of a run that ends in this state of the capture.
     pub fn ending(&self, standing: Standing) -> Ending
         ensures { result ≡ ending_of standing self.now.number }
     {
@@ -141,7 +145,7 @@ impl Session {
         }
     }
 
-    /// Counts what became of fragments.
+    /// Stores the counts of reassembled payloads and rejected fragments in the summary, with `--reassemble`.
     pub fn count_pool(&mut self, summary: &mut Summary)
         ensures { (history : PoolHistory) → HoldsPooling history self.old.pooling →
             CountsFragments self.old.options.reassemble history (plain_of summary.old) (plain_of summary.new) }
@@ -151,7 +155,8 @@ impl Session {
         }
     }
 
-    /// Saves the packet that was read last, where packets are saved and it is shown.
+    /// Adds the packet that was just parsed to the capture file (`--write`), if there is one and the packet is
+    /// selected.
     fn save_packet(&self, saving: &mut Saving) -> Result<(), AllocError>
         requires { self.now.number + 1 < 2 ^ 64 }
         ensures saves { OnOk result ((items : List Item) (item : Item) → self.now.number ≡ packets_in items →
@@ -174,7 +179,7 @@ impl Session {
         }
     }
 
-    /// Appends the line of the packet that was read last.
+    /// Counts the packet that was just parsed, and appends its line, if it is shown, to the pending output.
     fn push_packet(&mut self, summary: &mut Summary) -> Result<(), AllocError>
         requires { self.old.number + 1 < 2 ^ 64 }
         ensures capture { self.new.capture ≡ self.old.capture }

@@ -1,4 +1,4 @@
-//! When packets came.
+//! Timestamps of packets, the first and the last one of a capture.
 
 ghost use Rattle.std.specs.Prelude.{◌≡◌};
 ghost use Rattle.capture_reader.specs.Readers.{shown_of};
@@ -7,7 +7,7 @@ ghost use Rattle.packet_dump.specs.Shown.{first_after, instant_in, latest_after}
 use capture_reader::Shown;
 use packet_times::instant_of;
 
-/// When a packet came, where that is known.
+/// Returns the timestamp of a packet in nanoseconds, or `None` if it has none.
 pub fn instant_in(shown: &Shown<'_>) -> Option<u128>
     ensures { result ≡ instant_in (shown_of shown.now) }
 {
@@ -17,7 +17,8 @@ pub fn instant_in(shown: &Shown<'_>) -> Option<u128>
     }
 }
 
-/// The time of the first packet that has one, which may be this one.
+/// Returns the first timestamp of a capture after another packet: `first`, or `this` (the timestamp of that packet) if
+/// no packet before had one.
 pub fn first_after(first: Option<u128>, this: Option<u128>) -> Option<u128>
     ensures { result ≡ first_after first this }
 {
@@ -27,7 +28,8 @@ pub fn first_after(first: Option<u128>, this: Option<u128>) -> Option<u128>
     }
 }
 
-/// The time of the last packet that has one, which may be this one.
+/// Returns the last timestamp of a capture after another packet: `this` (the timestamp of that packet), or `latest` if
+/// that packet has none.
 pub fn latest_after(latest: u128, this: Option<u128>) -> u128
     ensures { result ≡ latest_after latest this }
 {

@@ -1,31 +1,32 @@
-//! What is read, of which it is told how far it was read and why a read failed.
+//! Reader of the input that prints its progress, and why a read failed, to standard error.
 
 use std::io;
 use std::io::Read;
 
-/// A reader that says on standard error why a read failed, and of a long file how far it came, at each tenth.
+/// Reader of the input that prints to standard error why a read failed, and the progress of a long file at each tenth.
 #[derive(Drop)]
 pub struct Source<'a, R, E> {
     inner: R,
     rt: &'a E,
-    /// What is read.
+    /// Name of the input file, for messages.
     name: &'a str,
-    /// How many bytes it has, where it is told how far it was read.
+    /// Length of the input file in bytes, if progress is printed; else `None`.
     len: Option<u64>,
-    /// How many were read.
+    /// Number of bytes of the input that were read so far.
     read: u64,
-    /// Behind how many it is said next.
+    /// Number of read bytes at which progress is printed next.
     next: u64,
 }
 
-/// How many bytes a long file has, at least.
+/// Minimum length of an input file whose progress is printed, in bytes: 100 MB.
 pub const LONG: u64 = 100_000_000;
 
-/// How many bytes a megabyte has.
+/// Number of bytes in a megabyte (MB).
 const MEGABYTE: u64 = 1_000_000;
 
 impl<'a, R, E> Source<'a, R, E> {
-    /// Reads what has this name from its start on, and tells how far it came where so many bytes are told.
+    /// Returns a reader of the named input that reports failed reads, and progress if the length `len` of the input is
+    /// given.
     pub fn new(inner: R, rt: &'a E, name: &'a str, len: Option<u64>) -> Source<'a, R, E> {
         Source {
             inner,
@@ -38,7 +39,7 @@ impl<'a, R, E> Source<'a, R, E> {
     }
 }
 
-/// A tenth of a length.
+/// Returns a tenth of the input's length, the interval of progress messages; 0 if no progress is printed.
 fn tenth(len: Option<u64>) -> u64 {
     match len {
         Some(len) => len / 10,

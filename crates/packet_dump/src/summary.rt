@@ -1,4 +1,4 @@
-//! What a capture held, counted.
+//! Counts of the packets of a capture that `--summary` prints.
 
 ghost use Rattle.std.specs.Prelude.{◌≡◌, ◌++◌, false, nat_eq, map, IfOk, OnOk};
 ghost use Rattle.std.specs.Option.{option_map};
@@ -27,7 +27,7 @@ use etherparse::err::{Layer, ip, ip_auth, ipv4, ipv6_exts, linux_sll, macsec};
 use etherparse::{LaxLinkExtSlice, LaxNetSlice, LaxSlicedPacket, LinkSlice, TransportSlice};
 use std::alloc::{AllocError, Global};
 
-/// How many packets had each layer; a link extension counts each time that it stands in a packet.
+/// Number of packets with each layer, for the summary. VLAN and MACsec tags count each time they occur in a packet.
 #[derive(Clone, Copy)]
 struct LayerCounts {
     ethernet: u64,
@@ -44,68 +44,72 @@ struct LayerCounts {
     icmpv6: u64,
 }
 
-/// What a capture held.
+/// Counts of the packets of a capture that `--summary` prints.
 #[derive(Drop)]
 pub struct Summary {
-    /// Whether it is wanted; otherwise nothing is counted.
+    /// True if a summary is printed at the end; otherwise nothing is counted.
     wanted: bool,
-    /// Whether it tells what the capture cut and what is malformed apart.
+    /// True if the summary also prints how many of the refused and stopped packets are truncated, and how many are
+    /// malformed (`--quiet`).
     apart: bool,
-    /// How many packets were refused or stopped that the capture cut.
+    /// Number of packets with a truncated or invalid layer that the capture truncated.
     cut: u64,
-    /// The same of those that it kept whole.
+    /// Number of packets with an invalid layer that are completely in the capture.
     malformed: u64,
     packets: u64,
-    /// How many bytes of packets were kept.
+    /// Total number of captured bytes, over all packets.
     kept: u64,
-    /// How many bytes packets had.
+    /// Total number of bytes that the packets had before the capture truncated them.
     original: u64,
     layers: LayerCounts,
-    /// Packets of which not one layer stands.
+    /// Errors of packets without any valid layer (with `--strict`: that are not complete, valid frames), counted by
+    /// error.
     refused: Refusals,
-    /// Packets whose layers end in front of one that is refused.
+    /// Errors of packets with valid layers up to a truncated or invalid one, counted by error.
     stopped: Refusals,
-    /// How many packets were not read, by their link type.
+    /// Number of packets with an unsupported link type or link header, which are not parsed, as pairs of link type and
+    /// count.
     unread: Vec<(u16, u64)>,
-    /// What became of fragments, where payloads are put together.
+    /// Counts of IP reassembly, with `--reassemble`; `None` without.
     fragments: Option<Fragments>,
 }
 
-/// How many packets were refused.
+/// Number of packets with a parsing error, in total and by error.
 #[derive(Drop)]
 struct Refusals {
     all: u64,
-    /// How often each error was the reason, by its name.
+    /// Pairs of an error's name (such as `Ipv4 UnexpectedVersion`) and the number of packets with it.
     errors: Vec<(&'static str, u64)>,
 }
 
-/// What became of fragments.
+/// Counts of IP reassembly (`--reassemble`) for the summary.
 #[derive(Clone, Copy)]
 pub struct Fragments {
-    /// How many payloads were put together.
+    /// Number of IP payloads that were reassembled from fragments.
     pub reassembled: u64,
-    /// How many fragments the pool refused.
+    /// Number of IP fragments that the reassembly pool rejected.
     pub not_reassembled: u64,
-    /// How many streams were given up that were not complete.
+    /// Number of incomplete IP payloads that expired or were evicted.
     pub given_up: u64,
-    /// How many streams were not complete at the end.
+    /// Number of IP payloads that are still incomplete at the end of the run.
     pub open: u64,
 }
 
 impl Fragments {
-    /// Appends a line for each count.
+    /// Appends a line for each count of IP reassembly to the text of the summary.
     fn push_text(&self, text: &mut String) -> Result<(), AllocError>
         ensures { OnOk result (string_bytes text.new ≡ string_bytes text.old ++ pieces_text self.now) }
     {
         push_count(text, "reassembled", self.reassembled)?;
         push_count(text, "not reassembled", self.not_reassembled)?;
-        push_count(text, "given up", self.given_up)?;
-        push_count(text, "open at the end", self.open)
+        push_count(text, "expired or evicted", self.given_up)?;
+        push_count(text, "incomplete at the end", self.open)
     }
 }
 
 impl Summary {
-    /// Nothing was counted. The summary tells what the capture cut and what is malformed apart, or does not.
+    /// Returns a summary with all counts 0. If `wanted` is false, nothing is counted; `apart` is whether truncated and
+    /// malformed packets are printed separately.
     pub fn new(alloc: Global, wanted: bool, apart: bool) -> Summary
         ensures { plain_of result ≡ new_summary wanted apart }
     {
@@ -125,8 +129,8 @@ impl Summary {
         }
     }
 
-    /// Counts a packet, its layers, in front of which the header of a Linux cooked capture may stand, and why they end,
-    /// where a further one is refused.
+    /// Counts a packet with a valid layer: its bytes, its layers, and the error at which they end, if any. A Linux
+    /// cooked capture header that the program parsed itself counts as a layer.
     pub fn count_read(
         &mut self,
         shown: &Shown<'_>,
@@ -144,7 +148,8 @@ impl Summary {
         self.count_stop(shown, &read.stop_err)
     }
 
-    /// Counts a packet of which not one layer stands.
+    /// Counts a rejected packet (without a valid layer or, with `--strict`, not a complete, valid frame), and its
+    /// error.
     pub fn count_refusal(&mut self, shown: &Shown<'_>, error: &SliceError) -> Result<(), AllocError>
         ensures { OnOk result (plain_of self.new
             ≡ counted false (shown_of shown.now) (refusal error.now) (plain_of self.old)) }
@@ -157,7 +162,7 @@ impl Summary {
         self.refused.count(error)
     }
 
-    /// Counts a packet of a link type that is not read.
+    /// Counts a packet whose link type or link header is not supported, by link type.
     pub fn count_unread(&mut self, shown: &Shown<'_>) -> Result<(), AllocError>
         ensures { OnOk result (plain_of self.new
             ≡ counted false (shown_of shown.now) (other_link shown.now.link_type) (plain_of self.old)) }
@@ -169,7 +174,7 @@ impl Summary {
         count_link_type(&mut self.unread, shown.link_type)
     }
 
-    /// Counts the bytes of a packet.
+    /// Counts a packet, and its captured and original bytes.
     fn count_packet(&mut self, shown: &Shown<'_>)
         ensures { plain_of self.new ≡ with_packet (shown_of shown.now) (plain_of self.old) }
     {
@@ -178,7 +183,8 @@ impl Summary {
         more(&mut self.original, u64::from(shown.original_len));
     }
 
-    /// Counts why the layers of a packet end, where a further one is refused.
+    /// Counts the error at which the layers of a packet end (the next layer is truncated or invalid); does nothing if
+    /// there is none.
     fn count_stop(
         &mut self,
         shown: &Shown<'_>,
@@ -195,7 +201,8 @@ impl Summary {
         }
     }
 
-    /// Counts whether the capture cut a packet that is refused or stops.
+    /// Counts a packet with a truncated or invalid layer as truncated, if the capture lacks bytes of it, or else as
+    /// malformed.
     fn count_cause(&mut self, shown: &Shown<'_>)
         ensures { plain_of self.new ≡ with_cause (is_cut (shown_of shown.now)) (plain_of self.old) }
     {
@@ -206,7 +213,7 @@ impl Summary {
         }
     }
 
-    /// Counts what became of fragments.
+    /// Stores the counts of IP reassembly in the summary, if a summary is wanted.
     pub fn count_fragments(&mut self, fragments: Fragments)
         ensures { plain_of self.new ≡ with_fragments fragments (plain_of self.old) }
     {
@@ -215,7 +222,7 @@ impl Summary {
         }
     }
 
-    /// The text of the summary: a line for each count, of layers for those that were there.
+    /// Returns the text of the summary: a line for each count, and for each kind of layer that occurs. Allocates.
     pub fn text(&self, alloc: Global) -> Result<String, AllocError>
         ensures { IfOk result (λ text. string_bytes text ≡ summary_text (plain_of self.now)) }
     {
@@ -231,7 +238,7 @@ impl Summary {
         Ok(text)
     }
 
-    /// Appends how many packets there were, and how many of their bytes were kept.
+    /// Appends the number of packets, and of their captured and original bytes, to the text of the summary.
     fn push_packets(&self, text: &mut String) -> Result<(), AllocError>
         ensures { OnOk result (string_bytes text.new ≡ string_bytes text.old ++ packets_text (plain_of self.now)) }
     {
@@ -239,7 +246,7 @@ impl Summary {
         write!(text, "packets: {packets}\nbytes: {kept} of {original}\n")
     }
 
-    /// Appends what the capture cut and what is malformed, where they are told apart.
+    /// Appends the numbers of truncated and of malformed packets to the text of the summary, with `--quiet`.
     fn push_causes(&self, text: &mut String) -> Result<(), AllocError>
         ensures { OnOk result (string_bytes text.new ≡ string_bytes text.old ++ causes_text (plain_of self.now)) }
     {
@@ -252,7 +259,7 @@ impl Summary {
 }
 
 impl Refusals {
-    /// None.
+    /// Returns counts of packets with parsing errors that are all 0.
     fn new(alloc: Global) -> Refusals
         ensures { plain_refusals result ≡ no_refusals }
     {
@@ -262,7 +269,7 @@ impl Refusals {
         }
     }
 
-    /// Counts a refusal.
+    /// Counts a packet with this parsing error, in total and by the error's name.
     fn count(&mut self, error: &SliceError) -> Result<(), AllocError>
         ensures { OnOk result (plain_refusals self.new ≡ with_error error.now (plain_refusals self.old)) }
     {
@@ -270,7 +277,8 @@ impl Refusals {
         count_name(&mut self.errors, error_name(error))
     }
 
-    /// Appends how many there were, and how often for each error.
+    /// Appends a line with the name `row` (`refused` or `stopped`) and the number of packets with such an error, then one
+    /// line for each kind of error and its number.
     fn push_text(&self, text: &mut String, row: &str) -> Result<(), AllocError>
         ensures { OnOk result (string_bytes text.new
             ≡ string_bytes text.old ++ refusals_text row.now (plain_refusals self.now)) }
@@ -281,7 +289,7 @@ impl Refusals {
 }
 
 impl LayerCounts {
-    /// None.
+    /// Returns counts of layers that are all 0.
     fn new() -> LayerCounts
         ensures { result ≡ no_layers }
     {
@@ -301,7 +309,8 @@ impl LayerCounts {
         }
     }
 
-    /// Counts the layers of a packet, in front of which the header of a Linux cooked capture may stand.
+    /// Counts the layers of a packet. `cooked` is whether the program parsed a Linux cooked capture header itself,
+    /// which counts as a layer.
     fn count(&mut self, read: &LaxSlicedPacket<'_>, cooked: bool)
         ensures { self.new ≡ with_layers cooked (layers_in (lax_layers_of read.now)) self.old }
     {
@@ -313,7 +322,7 @@ impl LayerCounts {
         self.count_transport(&read.transport);
     }
 
-    /// Counts the header of a Linux cooked capture, where the program read one itself.
+    /// Counts a Linux cooked capture header that the program parsed itself, if `cooked` is true.
     fn count_cooked(&mut self, cooked: bool)
         ensures { self.new ≡ with_cooked cooked self.old }
     {
@@ -322,7 +331,7 @@ impl LayerCounts {
         }
     }
 
-    /// Counts a link layer.
+    /// Counts the link header of a packet (Ethernet II or Linux cooked capture), if it has one.
     fn count_link(&mut self, link: &Option<LinkSlice<'_>>)
         ensures { self.new ≡ with_link (option_map link_layer_of link.now) self.old }
     {
@@ -333,7 +342,7 @@ impl LayerCounts {
         }
     }
 
-    /// Counts link extensions.
+    /// Counts each VLAN and MACsec tag of a packet.
     fn count_extensions(&mut self, extensions: &[LaxLinkExtSlice<'_>])
         ensures { self.new ≡ with_extensions (map lax_extension_of extensions.now) self.old }
     {
@@ -342,7 +351,7 @@ impl LayerCounts {
         }
     }
 
-    /// Counts one.
+    /// Counts a VLAN or MACsec tag.
     fn count_extension(&mut self, extension: &LaxLinkExtSlice<'_>)
         ensures { self.new ≡ with_extension (lax_extension_of extension.now) self.old }
     {
@@ -352,7 +361,7 @@ impl LayerCounts {
         }
     }
 
-    /// Counts a net layer.
+    /// Counts the network layer of a packet (IPv4, IPv6 or ARP), if it has one.
     fn count_net(&mut self, net: &Option<LaxNetSlice<'_>>)
         ensures { self.new ≡ with_net (option_map lax_net_layer_of net.now) self.old }
     {
@@ -364,7 +373,7 @@ impl LayerCounts {
         }
     }
 
-    /// Counts a fragment, where the payload of IP is one.
+    /// Counts a packet that is an IP fragment, if `fragmented` is true.
     fn count_fragment(&mut self, fragmented: bool)
         ensures { self.new ≡ with_fragment fragmented self.old }
     {
@@ -373,7 +382,7 @@ impl LayerCounts {
         }
     }
 
-    /// Counts a transport layer.
+    /// Counts the transport layer of a packet (UDP, TCP, ICMPv4 or ICMPv6), if it has one.
     fn count_transport(&mut self, transport: &Option<TransportSlice<'_>>)
         ensures { self.new ≡ with_transport (option_map transport_layer_of transport.now) self.old }
     {
@@ -386,7 +395,7 @@ impl LayerCounts {
         }
     }
 
-    /// Appends a line for each layer that was there, up to IP.
+    /// Appends a summary line for each link header, tag and IP version that occurs in the capture.
     fn push_outer(&self, text: &mut String) -> Result<(), AllocError>
         ensures { OnOk result (string_bytes text.new ≡ string_bytes text.old ++ outer_counts_text self.now) }
     {
@@ -398,7 +407,7 @@ impl LayerCounts {
         push_some(text, "ipv6", self.ipv6)
     }
 
-    /// Appends one for each of the others.
+    /// Appends a summary line for ARP, IP fragments and each transport layer that occurs in the capture.
     fn push_inner(&self, text: &mut String) -> Result<(), AllocError>
         ensures { OnOk result (string_bytes text.new ≡ string_bytes text.old ++ inner_counts_text self.now) }
     {
@@ -411,21 +420,21 @@ impl LayerCounts {
     }
 }
 
-/// Whether the capture cut a packet.
+/// Returns whether the capture has fewer bytes of a packet than the packet had.
 fn is_cut(shown: &Shown<'_>) -> bool
     ensures { result ≡ is_cut (shown_of shown.now) }
 {
     (shown.bytes.len() as u64) < u64::from(shown.original_len)
 }
 
-/// Counts on. The greatest count stays.
+/// Adds `by` to a count; at the maximum of 64 bits it stays there (saturates).
 fn more(count: &mut u64, by: u64)
     ensures { count.new ≡ more count.old by }
 {
     *count = count.saturating_add(by);
 }
 
-/// Counts a link type.
+/// Adds 1 to the count of a link type in a list of pairs, with a new pair if it has none.
 fn count_link_type(counts: &mut Vec<(u16, u64)>, link_type: u16) -> Result<(), AllocError>
     ensures { OnOk result (counts.new.items ≡ with_one nat_eq link_type counts.old.items) }
 {
@@ -439,7 +448,7 @@ fn count_link_type(counts: &mut Vec<(u16, u64)>, link_type: u16) -> Result<(), A
     Ok(())
 }
 
-/// Counts a name.
+/// Adds 1 to the count of an error's name in a list of pairs, with a new pair if it has none.
 fn count_name(counts: &mut Vec<(&'static str, u64)>, name: &'static str) -> Result<(), AllocError>
     ensures { OnOk result (map plain_count counts.new.items
         ≡ with_one bytes_eq name.now (map plain_count counts.old.items)) }
@@ -454,7 +463,7 @@ fn count_name(counts: &mut Vec<(&'static str, u64)>, name: &'static str) -> Resu
     Ok(())
 }
 
-/// Appends how often each error was the reason.
+/// Appends an indented summary line for each error's name and its number of packets.
 fn push_errors(text: &mut String, errors: &[(&'static str, u64)]) -> Result<(), AllocError>
     ensures { OnOk result (string_bytes text.new
         ≡ string_bytes text.old ++ errors_text (map plain_count errors.now)) }
@@ -466,7 +475,8 @@ fn push_errors(text: &mut String, errors: &[(&'static str, u64)]) -> Result<(), 
     Ok(())
 }
 
-/// Appends how many packets were not read, by their link types, where there were any.
+/// Appends the number of packets with unsupported link types to the text of the summary, in total and by link type, if
+/// there were any.
 fn push_unread(text: &mut String, unread: &[(u16, u64)]) -> Result<(), AllocError>
     ensures { OnOk result (string_bytes text.new ≡ string_bytes text.old ++ unread_text unread.now) }
 {
@@ -478,7 +488,7 @@ fn push_unread(text: &mut String, unread: &[(u16, u64)]) -> Result<(), AllocErro
     push_links(text, unread)
 }
 
-/// Appends how many packets of each link type were not read.
+/// Appends an indented summary line for each unsupported link type and its number of packets.
 fn push_links(text: &mut String, unread: &[(u16, u64)]) -> Result<(), AllocError>
     ensures { OnOk result (string_bytes text.new ≡ string_bytes text.old ++ links_text unread.now) }
 {
@@ -488,7 +498,7 @@ fn push_links(text: &mut String, unread: &[(u16, u64)]) -> Result<(), AllocError
     Ok(())
 }
 
-/// Appends what became of fragments, where payloads are put together.
+/// Appends the counts of IP reassembly to the text of the summary, or nothing without `--reassemble`.
 fn push_fragments(text: &mut String, fragments: Option<Fragments>) -> Result<(), AllocError>
     ensures { OnOk result (string_bytes text.new ≡ string_bytes text.old ++ fragments_text fragments) }
 {
@@ -498,7 +508,7 @@ fn push_fragments(text: &mut String, fragments: Option<Fragments>) -> Result<(),
     }
 }
 
-/// Appends a count where it is not 0.
+/// Appends the summary line `name: times`, unless the count is 0.
 fn push_some(text: &mut String, name: &str, times: u64) -> Result<(), AllocError>
     ensures { OnOk result (string_bytes text.new ≡ string_bytes text.old ++ some_text name.now times) }
 {
@@ -509,14 +519,15 @@ fn push_some(text: &mut String, name: &str, times: u64) -> Result<(), AllocError
     }
 }
 
-/// Appends a count in a line of its own.
+/// Appends the summary line `name: times`.
 fn push_count(text: &mut String, name: &str, times: u64) -> Result<(), AllocError>
     ensures { OnOk result (string_bytes text.new ≡ string_bytes text.old ++ count_text name.now times) }
 {
     write!(text, "{name}: {times}\n")
 }
 
-/// The name of an error: of too few bytes the layer, and of others what is wrong.
+/// Returns the name of a parsing error in the summary: the layer for a length error, else the layer and the error, such
+/// as `Ipv4 UnexpectedVersion`.
 fn error_name(error: &SliceError) -> &'static str
     ensures { result.now ≡ error_name error.now }
 {

@@ -1,19 +1,19 @@
-//! The file that is written, of which it is told why a write failed.
+//! Writer of the capture file (`--write`) that prints why a write failed to standard error.
 
 use std::io;
 use std::io::Write;
 
-/// A writer that says on standard error why a write failed.
+/// Writer of the capture file (`--write`) that prints to standard error why a write failed.
 #[derive(Drop)]
 pub struct Target<'a, W, E> {
     inner: W,
     rt: &'a E,
-    /// What is written.
+    /// Name of the capture file, for messages.
     name: &'a str,
 }
 
 impl<'a, W, E> Target<'a, W, E> {
-    /// Writes what has this name.
+    /// Returns a writer of the named capture file that reports failed writes.
     pub fn new(inner: W, rt: &'a E, name: &'a str) -> Target<'a, W, E> {
         Target { inner, rt, name }
     }
@@ -38,7 +38,7 @@ impl<W: Write, E: Eprint> Write for Target<'_, W, E> {
     }
 }
 
-/// Where no file is written.
+/// Stands in for the capture file if there is no `--write`: a writer that accepts no bytes.
 #[derive(Drop)]
 pub struct NoFile;
 

@@ -1,4 +1,4 @@
-//! The text of transport layers.
+//! Formatting of transport layers (UDP, TCP, ICMPv4 and ICMPv6) as text of a packet's line.
 
 ghost use Rattle.std.specs.Prelude.{◌≡◌, ◌<◌, ◌++◌, OnOk};
 ghost use Rattle.etherparse.specs.Tcp.{flag_at, tcp_header_of};
@@ -15,7 +15,7 @@ use etherparse::{IpNumber, TransportSlice, UdpSlice};
 use line_io::decimals;
 use std::alloc::AllocError;
 
-/// Appends the text of a transport layer, and the length of its payload.
+/// Appends the text of a transport layer (UDP, TCP, ICMPv4 or ICMPv6), and the length of its payload.
 pub fn push_transport(
     output: &mut Vec<u8>,
     transport: &TransportSlice<'_>,
@@ -40,22 +40,22 @@ pub fn push_transport(
     }
 }
 
-/// Appends two ports.
+/// Appends the source and the destination port of UDP or TCP: `21 > 1234`.
 fn push_ports(output: &mut Vec<u8>, source: u16, destination: u16) -> Result<(), AllocError>
     ensures { OnOk result (output.new.items ≡ output.old.items ++ ports_text source destination) }
 {
     decimals::push(output, u64::from(source))?;
-    decimals::push_behind(output, b" > ", u64::from(destination))
+    decimals::push_with_text(output, b" > ", u64::from(destination))
 }
 
-/// Appends the length of a payload.
+/// Appends ` len N`, the number of captured bytes of a payload.
 pub fn push_len(output: &mut Vec<u8>, payload: &[u8]) -> Result<(), AllocError>
     ensures { OnOk result (output.new.items ≡ output.old.items ++ len_text payload.now) }
 {
-    decimals::push_behind(output, b" len ", payload.len() as u64)
+    decimals::push_with_text(output, b" len ", payload.len() as u64)
 }
 
-/// Appends the text of a datagram, and the length of its payload.
+/// Appends the text of a UDP datagram: its ports, and the length of its payload.
 fn push_datagram(output: &mut Vec<u8>, datagram: &UdpSlice<'_>) -> Result<(), AllocError>
     ensures { OnOk result (output.new.items ≡ output.old.items ++ (udp_text (udp_slice_header datagram.now)
         ++ no_length_text (header.Udp (udp_slice_header datagram.now)) (udp_slice_payload datagram.now)
@@ -66,7 +66,7 @@ fn push_datagram(output: &mut Vec<u8>, datagram: &UdpSlice<'_>) -> Result<(), Al
     push_len(output, datagram.payload())
 }
 
-/// Appends the text of a UDP header: ports.
+/// Appends ` udp` and the source and destination port of a UDP header.
 fn push_udp(output: &mut Vec<u8>, datagram: &UdpSlice<'_>) -> Result<(), AllocError>
     ensures { OnOk result (output.new.items ≡ output.old.items ++ udp_text (udp_slice_header datagram.now)) }
 {
@@ -74,7 +74,7 @@ fn push_udp(output: &mut Vec<u8>, datagram: &UdpSlice<'_>) -> Result<(), AllocEr
     push_ports(output, datagram.source_port(), datagram.destination_port())
 }
 
-/// Appends that the length field of UDP is 0, where bytes stand behind the header.
+/// Appends ` length 0` if the length field of UDP is 0 though payload bytes follow the header.
 fn push_no_length(output: &mut Vec<u8>, datagram: &UdpSlice<'_>) -> Result<(), AllocError>
     ensures { OnOk result (output.new.items ≡ output.old.items
         ++ no_length_text (header.Udp (udp_slice_header datagram.now)) (udp_slice_payload datagram.now)) }
@@ -85,8 +85,8 @@ fn push_no_length(output: &mut Vec<u8>, datagram: &UdpSlice<'_>) -> Result<(), A
     Ok(())
 }
 
-/// Appends what is told of the front of a header of a protocol that is not read: of UDP and TCP the ports, where their 4
-/// bytes are there.
+/// Appends the fields at the start of a UDP or TCP header that is truncated, invalid or in a first fragment: the ports,
+/// if these 4 bytes are captured, and further fields of TCP. Appends nothing for other protocols.
 pub fn push_header_front(
     output: &mut Vec<u8>,
     number: IpNumber,
@@ -106,7 +106,8 @@ pub fn push_header_front(
     Ok(())
 }
 
-/// The same of UDP.
+/// Appends ` udp` and the ports of a UDP header that is truncated or in a first fragment. `bytes` has at least the
+/// first 4 bytes of the header.
 fn push_udp_front(output: &mut Vec<u8>, bytes: &[u8]) -> Result<(), AllocError>
     ensures { OnOk result (output.new.items ≡ output.old.items ++ udp_front_text bytes.now) }
 {
@@ -114,7 +115,8 @@ fn push_udp_front(output: &mut Vec<u8>, bytes: &[u8]) -> Result<(), AllocError>
     push_ports_at(output, bytes)
 }
 
-/// The same of TCP, with flags and sequence numbers, where their 14 bytes are there.
+/// Appends ` tcp` and the ports of a TCP header that is truncated, invalid or in a first fragment, and its flags and
+/// sequence numbers if its first 14 bytes are captured.
 fn push_tcp_front(output: &mut Vec<u8>, bytes: &[u8]) -> Result<(), AllocError>
     ensures { OnOk result (output.new.items ≡ output.old.items ++ tcp_front_text bytes.now) }
 {
@@ -123,14 +125,15 @@ fn push_tcp_front(output: &mut Vec<u8>, bytes: &[u8]) -> Result<(), AllocError>
     push_state_at(output, bytes)
 }
 
-/// Appends the ports that stand at the front of bytes.
+/// Appends the source and the destination port of the UDP or TCP header at the start of `bytes` (its bytes 0 to 3).
 fn push_ports_at(output: &mut Vec<u8>, bytes: &[u8]) -> Result<(), AllocError>
     ensures { OnOk result (output.new.items ≡ output.old.items ++ ports_at bytes.now) }
 {
     push_ports(output, word_at(bytes, 0), word_at(bytes, 2))
 }
 
-/// Appends the flags and the sequence numbers of TCP, where their 14 bytes are there.
+/// Appends the flags and the sequence numbers of the TCP header at the start of `bytes`, if its first 14 bytes are
+/// captured.
 fn push_state_at(output: &mut Vec<u8>, bytes: &[u8]) -> Result<(), AllocError>
     ensures { OnOk result (output.new.items ≡ output.old.items ++ state_at bytes.now) }
 {
@@ -140,7 +143,7 @@ fn push_state_at(output: &mut Vec<u8>, bytes: &[u8]) -> Result<(), AllocError>
     Ok(())
 }
 
-/// Appends the text of the TCP header at the front of bytes: ports, flags and sequence numbers.
+/// Appends the text of the TCP header at the start of `bytes`: ports, flags and sequence numbers.
 fn push_tcp(output: &mut Vec<u8>, bytes: &[u8]) -> Result<(), AllocError>
     ensures { OnOk result (output.new.items ≡ output.old.items ++ tcp_text (tcp_header_of bytes.now)) }
 {
@@ -149,17 +152,17 @@ fn push_tcp(output: &mut Vec<u8>, bytes: &[u8]) -> Result<(), AllocError>
     push_state(output, bytes)
 }
 
-/// Appends the flags and the sequence numbers of the TCP header at the front of bytes.
+/// Appends the flags and the sequence numbers of the TCP header at the start of `bytes`.
 fn push_state(output: &mut Vec<u8>, bytes: &[u8]) -> Result<(), AllocError>
     ensures { OnOk result (output.new.items ≡ output.old.items ++ state_text (tcp_header_of bytes.now)) }
 {
     output.extend_from_slice(b" [")?;
     push_flags(output, bytes)?;
-    decimals::push_behind(output, b"] seq ", u64::from(long_at(bytes, 4)))?;
+    decimals::push_with_text(output, b"] seq ", u64::from(long_at(bytes, 4)))?;
     push_acknowledgment(output, bytes)
 }
 
-/// Appends a letter for each flag that is set.
+/// Appends a letter for each flag that is set in the TCP header at the start of `bytes` (SYN is `S`, ACK `A` ..).
 #[tactic(auto, unfolding(crate::specs::Transports::flags_text))]
 fn push_flags(output: &mut Vec<u8>, bytes: &[u8]) -> Result<(), AllocError>
     ensures { OnOk result (output.new.items ≡ output.old.items ++ flags_text (tcp_header_of bytes.now)) }
@@ -175,7 +178,8 @@ fn push_flags(output: &mut Vec<u8>, bytes: &[u8]) -> Result<(), AllocError>
     push_nonce(output, bytes)
 }
 
-/// Appends a letter, where the flag is set that is this bit of byte 13.
+/// Appends `letter` if a flag is set in the TCP header at the start of `bytes`; `bit` is the flag's bit in byte 13, 0
+/// for FIN.
 fn push_flag_at(output: &mut Vec<u8>, bytes: &[u8], bit: u32, letter: u8) -> Result<(), AllocError>
     requires { bit < 8 }
     ensures { OnOk result (output.new.items ≡ output.old.items ++ flag_text (flag_at bytes.now bit) letter) }
@@ -183,7 +187,8 @@ fn push_flag_at(output: &mut Vec<u8>, bytes: &[u8], bit: u32, letter: u8) -> Res
     push_flag(output, flag_at(bytes, bit), letter)
 }
 
-/// Whether the flag is set that is this bit of byte 13.
+/// Returns whether a flag is set in the TCP header at the start of `bytes`; `bit` is the flag's bit in byte 13, 0 for
+/// FIN.
 fn flag_at(bytes: &[u8], bit: u32) -> bool
     requires { bit < 8 }
     ensures { result ≡ flag_at bytes.now bit }
@@ -191,7 +196,7 @@ fn flag_at(bytes: &[u8], bit: u32) -> bool
     (byte_at(bytes, 13) >> bit) % 2 == 1
 }
 
-/// Appends the letter of the nonce sum, where its flag is set.
+/// Appends `N` if the NS flag (ECN-nonce) is set in the TCP header at the start of `bytes` (byte 12, bit 0).
 fn push_nonce(output: &mut Vec<u8>, bytes: &[u8]) -> Result<(), AllocError>
     ensures { OnOk result (output.new.items
         ≡ output.old.items ++ flag_text (tcp_header_of bytes.now).ns 78) }
@@ -199,7 +204,7 @@ fn push_nonce(output: &mut Vec<u8>, bytes: &[u8]) -> Result<(), AllocError>
     push_flag(output, byte_at(bytes, 12) % 2 == 1, b'N')
 }
 
-/// Appends a letter, where its flag is set.
+/// Appends the letter of a TCP flag, if the flag is set.
 fn push_flag(output: &mut Vec<u8>, set: bool, letter: u8) -> Result<(), AllocError>
     ensures { OnOk result (output.new.items ≡ output.old.items ++ flag_text set letter) }
 {
@@ -209,13 +214,13 @@ fn push_flag(output: &mut Vec<u8>, set: bool, letter: u8) -> Result<(), AllocErr
     Ok(())
 }
 
-/// Appends the acknowledgment number, where it counts.
+/// Appends ` ack N`, the acknowledgment number of the TCP header at the start of `bytes`, if its ACK flag is set.
 fn push_acknowledgment(output: &mut Vec<u8>, bytes: &[u8]) -> Result<(), AllocError>
     ensures { OnOk result (output.new.items
         ≡ output.old.items ++ acknowledgment_text (tcp_header_of bytes.now)) }
 {
     if byte_at(bytes, 13) / 16 % 2 == 1 {
-        decimals::push_behind(output, b" ack ", u64::from(long_at(bytes, 8)))?;
+        decimals::push_with_text(output, b" ack ", u64::from(long_at(bytes, 8)))?;
     }
     Ok(())
 }

@@ -1,5 +1,5 @@
-//! Which packets a filter lets through: words for an address, a port, a VLAN or a network, all of which must hold of a
-//! packet's layers.
+//! Packet filters: lists of primitives, each for an address, a network, a port or a VLAN. A packet passes a filter if
+//! all its primitives match the packet.
 #![tactic(auto)]
 
 pub mod network;
@@ -7,5 +7,5 @@ pub mod passing;
 pub mod word;
 
 pub use crate::network::Network;
-pub use crate::passing::{holds_of_payload, passes};
+pub use crate::passing::{matches_reassembled, passes};
 pub use crate::word::{Word, WordError};

@@ -1,4 +1,4 @@
-//! Which packets a filter lets through.
+//! Matching of packets by the primitives of a filter.
 
 ghost use Rattle.std.specs.Prelude.{◌≡◌, ◌==◌, [], ◌∷◌};
 ghost use Rattle.std.specs.List.{list_any};
@@ -9,7 +9,7 @@ ghost use Rattle.ep_lax.specs.LaxPackets.{lax_layers_of};
 ghost use Rattle.ep_lax.specs.LaxViews.{lax_net_layer_of};
 ghost use Rattle.ep_lax.specs.StrictFrames.{layers_in};
 ghost use Rattle.packet_filter.specs.Passing.{addresses_in, arp_addresses, holds_of, holds_of_address, is_for_ipv4, passes};
-ghost use Rattle.packet_filter.specs.Passing.{holds_of_payload, ports_in};
+ghost use Rattle.packet_filter.specs.Passing.{matches_reassembled, ports_in};
 
 use crate::word::Word;
 use ep_lax::{LaxNetSlice, LaxSlicedPacket};
@@ -17,14 +17,15 @@ use ep_link::ArpPacketSlice;
 use ep_transport::TransportSlice;
 use std::net::IpAddr;
 
-/// Whether all words hold of a packet, of which as many layers are there as stand.
+/// Returns true if a packet passes a filter: all its primitives match. A primitive never matches a layer that is absent
+/// or could not be parsed.
 pub fn passes(words: &[Word], packet: &LaxSlicedPacket<'_>) -> bool
     ensures { result ≡ passes words.now (lax_layers_of packet.now) }
 {
     words.iter().all(|word| holds(word, packet))
 }
 
-/// Whether a word holds of a packet.
+/// Returns true if a primitive of a filter matches a packet.
 fn holds(word: &Word, packet: &LaxSlicedPacket<'_>) -> bool
     ensures { result ≡ holds_of word.now (lax_layers_of packet.now) }
 {
@@ -35,13 +36,14 @@ fn holds(word: &Word, packet: &LaxSlicedPacket<'_>) -> bool
     }
 }
 
-/// Whether a word holds of a packet whose payload was put together from fragments, and has this transport layer.
-pub fn holds_of_payload(
+/// Returns true if a primitive of a filter matches a packet whose IP payload was reassembled from fragments. Ports are
+/// those of `transport`, the transport layer of the reassembled payload; addresses and VLANs those of `packet`.
+pub fn matches_reassembled(
     word: &Word,
     packet: &LaxSlicedPacket<'_>,
     transport: &Option<TransportSlice<'_>>,
 ) -> bool
-    ensures { result ≡ holds_of_payload word.now (layers_in (lax_layers_of packet.now))
+    ensures { result ≡ matches_reassembled word.now (layers_in (lax_layers_of packet.now))
         (option_map transport_layer_of transport.now) }
 {
     match word {
@@ -51,7 +53,7 @@ pub fn holds_of_payload(
     }
 }
 
-/// Whether a word holds of an address of a net layer.
+/// Returns true if a host or network primitive of a filter matches an address of the network layer; false without one.
 fn holds_of_net(word: &Word, net: &Option<LaxNetSlice<'_>>) -> bool
     ensures { result
         ≡ list_any (λ address. holds_of_address word.now address) (addresses_in (option_map lax_net_layer_of net.now)) }
@@ -70,7 +72,8 @@ fn holds_of_net(word: &Word, net: &Option<LaxNetSlice<'_>>) -> bool
     }
 }
 
-/// Whether a word holds of an address of an ARP packet.
+/// Returns true if a host or network primitive of a filter matches the sender or target address of an ARP packet for
+/// IPv4.
 fn holds_of_arp(word: &Word, packet: &ArpPacketSlice<'_>) -> bool
     ensures { result
         ≡ list_any (λ address. holds_of_address word.now address) (arp_addresses (arp_slice_packet packet.now)) }
@@ -85,14 +88,14 @@ fn holds_of_arp(word: &Word, packet: &ArpPacketSlice<'_>) -> bool
     )
 }
 
-/// Whether the protocol addresses of an ARP packet are of IPv4.
+/// Returns true if the protocol addresses of an ARP packet are IPv4 addresses: ether type 0x0800 and 4 bytes.
 fn is_for_ipv4(packet: &ArpPacketSlice<'_>) -> bool
     ensures { result ≡ is_for_ipv4 (arp_slice_packet packet.now) }
 {
     packet.proto_addr_type().0 == 0x0800 && packet.protocol_addr_size() == 4
 }
 
-/// Whether a word holds of one of two addresses.
+/// Returns true if a host or network primitive of a filter matches one of two addresses, each given by its bytes.
 fn holds_of_either(word: &Word, one: &[u8], other: &[u8]) -> bool
     ensures { result
         ≡ list_any (λ address. holds_of_address word.now address) (one.now ∷ other.now ∷ []) }
@@ -100,7 +103,8 @@ fn holds_of_either(word: &Word, one: &[u8], other: &[u8]) -> bool
     holds_of_address(word, one) || holds_of_address(word, other)
 }
 
-/// Whether a word holds of an address.
+/// Returns true if a host or network primitive of a filter matches an address, given by its bytes. Port and VLAN
+/// primitives never do.
 fn holds_of_address(word: &Word, address: &[u8]) -> bool
     ensures { result ≡ holds_of_address word.now address.now }
 {
@@ -112,7 +116,8 @@ fn holds_of_address(word: &Word, address: &[u8]) -> bool
     }
 }
 
-/// Whether a transport layer is from or to a port.
+/// Returns true if `port` is the source or destination port of UDP or TCP; false for ICMP, and without a transport
+/// layer.
 fn holds_of_transport(port: u16, transport: &Option<TransportSlice<'_>>) -> bool
     ensures { result
         ≡ list_any (λ other. other == port) (ports_in (option_map transport_layer_of transport.now)) }
@@ -128,7 +133,7 @@ fn holds_of_transport(port: u16, transport: &Option<TransportSlice<'_>>) -> bool
     }
 }
 
-/// Whether a port is one of two.
+/// Returns true if `port` equals one of the two other ports.
 fn is_either(port: u16, one: u16, other: u16) -> bool
     ensures { result ≡ list_any (λ number. number == port) (one ∷ other ∷ []) }
 {

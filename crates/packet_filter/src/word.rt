@@ -1,4 +1,4 @@
-//! The words of a filter, and the texts that say them.
+//! Primitives of a packet filter, and parsing them from text.
 
 ghost use Rattle.std.specs.Prelude.{◌≡◌, IfOk, IfErr, IfSome};
 ghost use Rattle.packet_filter.specs.declared.network.Network.{Network};
@@ -10,36 +10,36 @@ use crate::network::Network;
 use ep_base::VlanId;
 use std::net::IpAddr;
 
-/// What a filter asks of a packet.
+/// Primitive of a packet filter: a condition on an address, port or VLAN of a packet.
 #[derive(Clone, Copy, Debug, PartialEq, Eq)]
 pub enum Word {
-    /// It is from or to this address: of IP, or of an ARP packet for IPv4.
+    /// Source or destination address of IP, or sender or target address of ARP for IPv4, equals this address.
     Host(IpAddr),
-    /// It is UDP or TCP from or to this port.
+    /// Source or destination port of UDP or TCP equals this port.
     Port(u16),
-    /// It has a tag of this VLAN.
+    /// A VLAN tag of the packet has this identifier.
     Vlan(VlanId),
-    /// It is from or to an address of this network: of IP, or of an ARP packet for IPv4.
+    /// Source or destination address of IP, or sender or target address of ARP for IPv4, is in this network.
     Net(Network),
 }
 
-/// Why a text says no word of a kind.
+/// Reason why a text is no primitive of a packet filter.
 #[derive(Clone, Copy, Debug, PartialEq, Eq)]
 pub enum WordError {
-    /// It is no address of IPv4 or IPv6.
+    /// The text is not an IPv4 or IPv6 address.
     NotAnAddress,
-    /// It is no number of at most 65535.
+    /// The text is not a port: a number of at most 65535.
     NotAPort,
-    /// It is no number of at most 4095.
+    /// The text is not a VLAN identifier: a number of at most 4095.
     NotAVlan,
-    /// It is no address, `/` and a number of at most as many bits as the address has.
+    /// The text is not a network: an address, a `/` and a prefix length of at most the number of bits of the address.
     NotANetwork,
-    /// It is a network, and of the address a bit behind the first ones is 1.
+    /// The text is a network, but a bit of its address after the prefix is 1, as in `192.0.2.1/24`.
     HostBits,
 }
 
 impl Word {
-    /// The host of this address: four decimal numbers, or a form of RFC 4291, 2.2.
+    /// Parses a host primitive from an address: four decimal numbers (IPv4), or a form of RFC 4291, 2.2 (IPv6).
     pub fn host(text: &str) -> Result<Word, WordError>
         ensures ok { IfOk result (IsHost text.now) }
         ensures only { (word : Word) → IsHost text.now word → result ≡ Ok word }
@@ -51,7 +51,7 @@ impl Word {
         }
     }
 
-    /// The port of this number.
+    /// Parses a port primitive from a decimal number of at most 65535.
     pub fn port(text: &str) -> Result<Word, WordError>
         ensures ok { IfOk result (IsPort text.now) }
         ensures only { (word : Word) → IsPort text.now word → result ≡ Ok word }
@@ -63,7 +63,7 @@ impl Word {
         }
     }
 
-    /// The VLAN of this number.
+    /// Parses a VLAN primitive from the decimal number of its identifier, at most 4095.
     pub fn vlan(text: &str) -> Result<Word, WordError>
         ensures ok { IfOk result (IsVlan text.now) }
         ensures only { (word : Word) → IsVlan text.now word → result ≡ Ok word }
@@ -78,22 +78,22 @@ impl Word {
         }
     }
 
-    /// The network of this address and number of bits, as `192.0.2.0/24`. An address with a bit behind the first ones is
-    /// refused, as tcpdump refuses it.
+    /// Parses a network primitive: an address and a prefix length, such as `192.0.2.0/24`. It rejects an address with
+    /// bits set after the prefix, as tcpdump does.
     pub fn net(text: &str) -> Result<Word, WordError>
         ensures ok { IfOk result (IsNet text.now) }
         ensures only { (word : Word) → IsNet text.now word → result ≡ Ok word }
         ensures err { IfErr result (RefusesNet text.now) }
     {
         match network(text) {
-            Some(network) if network.is_network() => Ok(Word::Net(network)),
+            Some(network) if network.has_no_host_bits() => Ok(Word::Net(network)),
             Some(_) => Err(WordError::HostBits),
             None => Err(WordError::NotANetwork),
         }
     }
 }
 
-/// The address and the number of bits that a text says, with a slash between them.
+/// Parses a network: an address and a prefix length with a slash between them. Returns `None` if the text is none.
 fn network(text: &str) -> Option<Network>
     ensures some { IfSome result (IsPrefix text.now) }
     ensures only { (network : Network) → IsPrefix text.now network → result ≡ Some network }
@@ -104,7 +104,7 @@ fn network(text: &str) -> Option<Network>
     }
 }
 
-/// The address and the number of bits that two texts say.
+/// Parses a network from the text of its address and the text of its prefix length. Returns `None` if one is invalid.
 fn network_of(address: &str, bits: &str) -> Option<Network>
     ensures some { IfSome result (ArePrefix address.now bits.now) }
     ensures only { (network : Network) → ArePrefix address.now bits.now network → result ≡ Some network }
@@ -121,7 +121,7 @@ fn network_of(address: &str, bits: &str) -> Option<Network>
     Some(Network { address, bits })
 }
 
-/// The number of bits that an address has.
+/// Returns the number of bits of an address: 32 (IPv4) or 128 (IPv6).
 fn width(address: IpAddr) -> u8
     ensures { result ≡ address_width address }
 {

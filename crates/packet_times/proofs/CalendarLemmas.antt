@@ -1,4 +1,4 @@
--- Days that are counted, and the dates that they are.
+-- Lemmas about counted days and their dates.
 use Rattle.std.proofs.Common.{◌≡◌, ℕ, zero, suc, ◌+◌, ◌-◌, ◌*◌, ◌/◌, ◌<◌, ◌≤◌, inl, inr, Bool, true, false}
 use Rattle.std.proofs.Common.{cond, refl, sym, ap, ◌∙◌, subst, arith}
 use Rattle.std.proofs.Math.Nat.{eq-or-lt_of_le}
@@ -7,7 +7,7 @@ use Rattle.packet_times.specs.Calendar.{IsDate, date_of, day_after, days_before,
 use Rattle.packet_times.specs.Calendar.{days_in_year, days_of_months, is_leap}
 use Rattle.packet_times.specs.declared.dates.Date.{Date}
 
--- this day
+-- The date with this year, month and day.
 abbrev pub date_at : (year month day : ℕ) → Date
 date_at year month day = record { year = year; month = month; day = day }
 
@@ -24,17 +24,17 @@ next_month year month day last within = grind (arith, nat_tests)
 next_year : (year day : ℕ) → 31 ≤ day → day_after (date_at year 12 day) ≡ date_at (year + 1) 1 1
 next_year year day last = grind (arith, nat_tests)
 
--- how many days a month has
+-- A month has 28 to 31 days.
 pub month_bounds : (year month : ℕ) → (28 ≤ days_in_month year month) × (days_in_month year month ≤ 31)
 month_bounds year month = grind (arith, nat_tests)
 
--- a day more
+-- One more day is the day after.
 date_of-more : (days before : ℕ) → days ≡ before + 1 → date_of days ≡ day_after (date_of before)
 unfolding date_of
 date_of-more days before more =
     let next : days ≡ suc before = omega (arith, more) in ap date_of next
 
--- the days of a month
+-- The days of a month follow its first day.
 days_on : (k start year month : ℕ) → date_of start ≡ date_at year month 1 → k < days_in_month year month
     → date_of (start + k) ≡ date_at year month (k + 1)
 days_on zero start year month first within = ap date_of (omega arith) ∙ first
@@ -44,7 +44,7 @@ days_on (suc k) start year month first within =
     ∙ next_day year month (k + 1) (omega arith)
     ∙ ap (date_at year month) (omega arith)
 
--- the first days of the months
+-- The days of the first months lead to the first day of the next month.
 months_on : (k start year : ℕ) → date_of start ≡ date_at year 1 1 → k < 12
     → date_of (start + days_of_months year k) ≡ date_at year (k + 1) 1
 unfolding days_of_months
@@ -59,7 +59,7 @@ months_on (suc k) start year first within =
     ∙ next_month year (k + 1) (n - 1 + 1) (omega arith) (omega arith)
     ∙ ap (λ (month : ℕ). date_at year month 1) (omega arith)
 
--- the months have the days of the year
+-- The days of the months add up to the days of the year.
 months_with : (leap : Bool) → 31 + cond leap 29 28 + 31 + 30 + 31 + 30 + 31 + 31 + 30 + 31 + 30 + 31 ≡ cond leap 366 365
 months_with true = refl
 months_with false = refl
@@ -68,7 +68,7 @@ pub months_whole : (year : ℕ) → days_of_months year 11 + 31 ≡ days_in_year
 unfolding days_of_months
 months_whole year = months_with (is_leap year)
 
--- the first days of the years
+-- The days before a year lead to its first day.
 pub years_on : (year : ℕ) → date_of (days_before_year year) ≡ date_at year 1 1
 unfolding date_of days_before_year
 years_on zero = refl
@@ -82,7 +82,7 @@ years_on (suc year) =
 
 -- ---- dates
 
--- each date is the day behind those that stand in front of it
+-- A date is the date of the number of days before it.
 pub date_counted : (date : Date) → IsDate date → date_of (days_before date) ≡ date
 date_counted date is =
     let first = months_on (date.month - 1) (days_before_year date.year) date.year (years_on date.year)
@@ -95,7 +95,7 @@ date_counted date is =
     (date.month - 1 + 1) first within
     ∙ (λ i. date_at date.year (month i) (day i))
 
--- what follows a date is a date
+-- The day after a date is a date.
 day_after_is : (date : Date) → IsDate date → IsDate (day_after date)
 day_after_is date is = grind (arith, nat_tests)
 
@@ -104,15 +104,15 @@ unfolding date_of
 date_is zero = record { month_from = omega arith; month_to = omega arith; day_from = omega arith; day_to = omega arith }
 date_is (suc days) = day_after_is (date_of days) (date_is days)
 
--- ---- days in front of years
+-- ---- days before a year
 
--- how they grow from a year to the next
+-- The formula for the days before a year grows by the length of the year.
 leap_step : (year : ℕ)
     → 365 + (suc year + 3) / 4 + (suc year + 399) / 400 + (year + 99) / 100
     ≡ (year + 3) / 4 + (year + 399) / 400 + days_in_year year + (suc year + 99) / 100
 leap_step year = grind (arith, nat_tests)
 
--- 365 for each year, and the leap days
+-- The days before a year are 365 for each year, plus the leap days.
 pub days_before_year-is : (year : ℕ)
     → 365 * year + (year + 3) / 4 + (year + 399) / 400 ≡ days_before_year year + (year + 99) / 100
 unfolding days_before_year
@@ -124,18 +124,18 @@ unfolding days_before_year
 days_before_year-more year =
     let next : year + 1 ≡ suc year = omega arith in ap days_before_year next
 
--- no year has more than 366
+-- The years before a year have at most 366 days each.
 pub days_before_year-most : (year : ℕ) → days_before_year year ≤ 366 * year
 unfolding days_before_year
 days_before_year-most zero = omega arith
 days_before_year-most (suc year) =
     let most : days_in_year year ≤ 366 = grind arith in omega (arith, most, days_before_year-most year)
 
--- a year in front of which stand fewer days than the years 0 to 9999 have
+-- A year that starts on or before a day of the years 0 to 9999 is below 10,000.
 pub year_below : (year days : ℕ) → year < 10000 → days_before_year (year + 1) ≤ days → days < 3652425 → year + 1 < 10000
 year_below year days below from within = omega (arith, below, from, within, days_before_year-is (year + 1))
 
--- ---- how a date is found
+-- ---- finding a date
 
 days_of_months-more : (year month : ℕ) → 1 ≤ month
     → days_of_months year (month + 1 - 1) ≡ days_of_months year (month - 1) + days_in_month year month
@@ -146,7 +146,7 @@ days_of_months-more year month from =
     ap (days_of_months year) next
     ∙ ap (λ (m : ℕ). days_of_months year (month - 1) + days_in_month year m) same
 
--- a day of a year, of which so many are left behind the months in front of one
+-- A day is in this year, and `left` days after the first day of this month.
 pub record IsLeft (days year month left : ℕ) : Type 0 where
   pub from : 1 ≤ month
   pub to : month ≤ 12
@@ -156,7 +156,7 @@ pub first_left : (days year : ℕ) → days_before_year year ≤ days → IsLeft
 unfolding days_of_months
 first_left days year from = record { from = omega arith; to = omega arith; counted = omega (arith, from) }
 
--- the twelfth month is the last
+-- If a day of the year is after a month, this month is not the twelfth.
 twelfth : (days year month left : ℕ) → IsLeft days year month left → days < days_before_year (year + 1)
     → days_in_month year month ≤ left → month < 12
 twelfth days year month left is within more =
@@ -177,7 +177,7 @@ next_left days year month left is within more = record {
   counted = omega (arith, is.counted, more, days_of_months-more year month is.from);
 }
 
--- where less is left than the month has, the date is found
+-- If fewer days are left than the month has, the date is found.
 pub date_left : (days year month left : ℕ) → IsLeft days year month left → left < days_in_month year month
     → date_at year month (left + 1) ≡ date_of days
 date_left days year month left is within =

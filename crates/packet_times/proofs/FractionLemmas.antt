@@ -1,4 +1,5 @@
--- The digits of a fraction of a second: those of a number behind a 1, so that zeros in front are told.
+-- Lemmas about the digits of a fraction of a second: the digits of a number after a leading 1, which keeps the leading
+-- zeros.
 use Rattle.std.proofs.Common.{◌≡◌, ℕ, zero, suc, ◌+◌, ◌/◌, ◌%◌, ◌^◌, ◌<◌, List, [], ◌∷◌, ◌++◌, drop}
 use Rattle.std.proofs.Common.{ap, ◌∙◌, arith}
 use Rattle.std.specs.Fmt.{decimal}
@@ -6,12 +7,12 @@ use Rattle.std.proofs.Math.Nat.{one-le-pow, pow-succ'}
 use Rattle.std.proofs.lemmas.Fmt.{decimal_digit, decimal_step}
 use Rattle.packet_times.specs.TimeTexts.{digit}
 
--- the last digits of a number
+-- The last `count` digits of a number.
 abbrev last_digits : (count number : ℕ) → List ℕ
 last_digits zero number = []
 last_digits (suc count) number = last_digits count (number / 10) ++ digit number ∷ []
 
--- behind a 1 they are all digits
+-- The digits after a leading 1 are the last `count` digits, including leading zeros.
 behind_one : (count number : ℕ) → number < 10 ^ count → 10 ^ count + number < 2 ^ 64
     → decimal (10 ^ count + number) ≡ 49 ∷ last_digits count number
 behind_one zero number below fits =

@@ -1,24 +1,25 @@
-//! Days of the Gregorian calendar.
+//! Dates of the Gregorian calendar, converted from numbers of days.
 
 ghost use Rattle.std.specs.Prelude.{◌≡◌, ◌+◌, ◌<◌, ◌≤◌};
 ghost use Rattle.packet_times.specs.Calendar.{date_of, days_before_year, days_in_month, is_leap};
 
-/// A day of a year from 0 on.
+/// Date of the Gregorian calendar: year from 0 on, month and day.
 #[derive(Clone, Copy, Debug)]
 pub struct Date {
-    /// The year.
+    /// Year of the date, from 0 on.
     pub year: u32,
-    /// The month, from 1 on.
+    /// Month of the date, 1 to 12.
     pub month: u32,
-    /// The day of the month, from 1 on.
+    /// Day of the month, from 1 on.
     pub day: u32,
 }
 
-/// How many days the years 0 to 9999 have.
+/// Number of days in the years 0 to 9999 of the Gregorian calendar.
 pub(crate) const MOST_DAYS: u32 = 3_652_425;
 
 impl Date {
-    /// The day so many days behind the first day of the year 0, of a year below 10,000.
+    /// Returns the date of a day, given as the number of days since the first day of the year 0. It must be in a year
+    /// below 10,000: `days` is at most 3,652,424.
     pub fn of_day(days: u32) -> Date
         requires { days < 3652425 }
         ensures { result ≡ date_of days }
@@ -38,7 +39,7 @@ impl Date {
     }
 }
 
-/// The year of such a day.
+/// Returns the year of a day, given as the number of days since the first day of the year 0.
 fn year_of(days: u32) -> u32
     requires { days < 3652425 }
     ensures from { days_before_year result ≤ days }
@@ -52,7 +53,7 @@ fn year_of(days: u32) -> u32
     year
 }
 
-/// How many days stand in front of a year.
+/// Returns the number of days from the first day of the year 0 to the first day of `year`.
 fn days_before_year(year: u32) -> u32
     requires { year ≤ 10000 }
     ensures { result ≡ days_before_year year }
@@ -60,7 +61,7 @@ fn days_before_year(year: u32) -> u32
     365 * year + (year + 3) / 4 - (year + 99) / 100 + (year + 399) / 400
 }
 
-/// How many days a month has.
+/// Returns the number of days of a month (1 to 12) in a year of the Gregorian calendar: 28 to 31.
 fn days_in_month(year: u32, month: u32) -> u32
     ensures { result ≡ days_in_month year month }
 {
@@ -72,7 +73,7 @@ fn days_in_month(year: u32, month: u32) -> u32
     }
 }
 
-/// Whether a year has a leap day.
+/// Returns true if a year of the Gregorian calendar is a leap year.
 fn is_leap(year: u32) -> bool
     ensures { result ≡ is_leap year }
 {

@@ -1,28 +1,28 @@
-//! Times in nanoseconds.
+//! Timestamps as instants: nanoseconds since 2^63 seconds before 1970, so that no instant is negative.
 
 ghost use Rattle.std.specs.Prelude.{◌≡◌, ◌<◌, ◌^◌};
-ghost use Rattle.packet_times.specs.Instants.{instant_of, is_fine, nanos_of, shifted};
+ghost use Rattle.packet_times.specs.Instants.{instant_of, is_fine, ticks_to_nanos, seconds_since_origin};
 
 use capture_reader::Time;
 
-/// How many nanoseconds a second has.
+/// Nanoseconds per second.
 pub const SECOND: u128 = 1_000_000_000;
 
-/// The beginning of 1970, 2^63 seconds behind that from which instants are counted.
+/// The start of 1970 as an instant. Instants are nanoseconds since 2^63 seconds before 1970.
 pub const EPOCH: u128 = 0x8000_0000_0000_0000 * SECOND;
 
-/// A time in nanoseconds, counted from 2^63 seconds before the beginning of 1970, so that none is negative. What is
-/// finer than a nanosecond is cut off.
+/// Converts a packet's timestamp to an instant: nanoseconds since 2^63 seconds before 1970, so that none is negative.
+/// Fractions of a nanosecond are truncated.
 pub fn instant_of(time: Time) -> u128
     ensures value { result ≡ instant_of time }
     ensures bound { result < 2 ^ 95 }
 {
-    shifted(time.offset) * SECOND + nanos_of(time.ticks, time.per_second)
+    seconds_since_origin(time.offset) * SECOND + ticks_to_nanos(time.ticks, time.per_second)
 }
 
-/// A number of seconds behind the beginning of 1970, counted from 2^63 seconds before it.
-fn shifted(offset: i64) -> u128
-    ensures value { result ≡ shifted offset }
+/// Converts seconds relative to the start of 1970 to seconds since 2^63 seconds before it.
+fn seconds_since_origin(offset: i64) -> u128
+    ensures value { result ≡ seconds_since_origin offset }
     ensures bound { result < 2 ^ 64 }
 {
     let size = u128::from(offset.unsigned_abs());
@@ -33,10 +33,10 @@ fn shifted(offset: i64) -> u128
     }
 }
 
-/// How many nanoseconds these ticks are. No unit is taken for one in a second. For microseconds and nanoseconds, the
-/// units of most captures, no number of 128 bits is divided, which takes long.
-fn nanos_of(ticks: u64, per_second: u64) -> u128
-    ensures value { result ≡ nanos_of ticks per_second }
+/// Converts ticks of a timestamp to nanoseconds; a second has `per_second` ticks, and 0 is treated as 1. For
+/// microseconds and nanoseconds, as in most captures, it avoids the slow 128 bit division.
+fn ticks_to_nanos(ticks: u64, per_second: u64) -> u128
+    ensures value { result ≡ ticks_to_nanos ticks per_second }
     ensures bound { result < 2 ^ 94 }
 {
     match per_second {
@@ -46,7 +46,7 @@ fn nanos_of(ticks: u64, per_second: u64) -> u128
     }
 }
 
-/// Whether the ticks are finer than microseconds.
+/// Returns true if the resolution of a packet's timestamp is finer than microseconds.
 pub fn is_fine(time: Time) -> bool
     ensures { result ≡ is_fine time }
 {

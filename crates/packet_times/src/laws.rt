@@ -1,12 +1,12 @@
-//! What holds of the calendar and of instants, each law the contract of a function that does nothing.
+//! Laws of the calendar and of instants, each stated as the contract of a function with an empty body.
 
 ghost use Rattle.std.specs.Prelude.{◌≡◌, ℕ, ◌^◌, ◌*◌};
 ghost use Rattle.packet_times.specs.Calendar.{IsDate, date_of, days_before};
 ghost use Rattle.packet_times.specs.declared.dates.Date.{Date};
 ghost use Rattle.packet_times.specs.declared.instants.TheConstants as instants;
 
-/// Each day behind the first of the year 0 is a date, and each date is the day behind so many others; 1970 begins with
-/// the day 719,528 behind it, and the year 10,000 with the day 3,652,425.
+/// States that the number of days since the first day of the year 0 converts to a valid date, and that each valid date
+/// has such a number. 1970 starts with day 719,528, and the year 10,000 with day 3,652,425.
 pub fn calendar()
     ensures dates { (days : ℕ) → IsDate (date_of days) }
     ensures counted { (date : Date) → IsDate date → date_of (days_before date) ≡ date }
@@ -14,7 +14,8 @@ pub fn calendar()
     ensures end { date_of 3652425 ≡ record { year = 10000; month = 1; day = 1 } }
 {}
 
-/// From when instants are counted, and how many of them a second has.
+/// States that `EPOCH` (the start of 1970 as an instant) is 2^63 seconds, and that `SECOND` is 1,000,000,000
+/// nanoseconds.
 pub fn constants()
     ensures epoch { instants.EPOCH ≡ 2 ^ 63 * 1000000000 }
     ensures second { instants.SECOND ≡ 1000000000 }

@@ -1,5 +1,5 @@
-//! When packets came: instants in nanoseconds, and their texts as spans, as seconds since 1970, or as dates of the
-//! Gregorian calendar in UTC.
+//! Timestamps of packets: instants in nanoseconds, and their texts as time spans, as seconds since 1970, or as dates of
+//! the Gregorian calendar in UTC.
 #![tactic(auto)]
 
 pub mod dates;

@@ -1,4 +1,4 @@
-//! The texts of times.
+//! Texts of timestamps and time spans.
 
 ghost use Rattle.std.specs.Prelude.{◌≡◌, ◌<◌, ◌+◌, ◌*◌, ◌/◌, ◌%◌, ◌^◌, ◌++◌, IfSome, OnOk, codes, drop};
 ghost use Rattle.std.specs.Fmt.{decimal};
@@ -11,38 +11,40 @@ use capture_reader::Time;
 use line_io::decimals;
 use std::alloc::AllocError;
 
-/// One more than 64 bits hold.
+/// 2^64: the least number that a `u64` cannot hold.
 const WORD: u128 = 0x1_0000_0000_0000_0000;
 
-/// How many seconds a day has.
+/// Seconds per day.
 const DAY: u128 = 86_400;
 
-/// How many seconds lie between the beginnings of the year 0 and of 1970.
+/// Seconds from the start of the year 0 to the start of 1970.
 const TO_1970: u128 = 719_528 * DAY;
 
-/// Appends the seconds since 1970, as `1732542399.000123`: six digits of their fraction, nine where the packet's own
-/// ticks are finer than microseconds, and a sign before 1970.
+/// Appends a packet's timestamp as seconds since 1970, such as `1732542399.000123`. The fraction has six digits, or
+/// nine if the timestamp's resolution is finer than microseconds. Times before 1970 have a minus sign. Allocates if the
+/// capacity of `output` is too small.
 pub fn push_epoch(output: &mut Vec<u8>, time: Time) -> Result<(), AllocError>
     ensures { OnOk result (output.new.items ≡ output.old.items ++ epoch_text time) }
 {
     push_since(output, is_fine(time), EPOCH, instant_of(time))
 }
 
-/// Appends the date and the time of day in UTC, as `2026-11-25T14:06:39.000123Z`, with as many digits; of a year that
-/// is none of 0 to 9999 the seconds since 1970.
+/// Appends a packet's timestamp as date and time of day in UTC, such as `2026-11-25T14:06:39.000123Z`. The fraction has
+/// six digits, or nine if the timestamp's resolution is finer than microseconds. For years other than 0 to 9999, the
+/// seconds since 1970 are appended instead. Allocates if the capacity of `output` is too small.
 pub fn push_utc(output: &mut Vec<u8>, time: Time) -> Result<(), AllocError>
     ensures { OnOk result (output.new.items ≡ output.old.items ++ utc_text time) }
 {
     let fine = is_fine(time);
     let instant = instant_of(time);
     match calendar_seconds(seconds_of(instant)) {
-        Some(seconds) => push_moment(output, fine, seconds, nanos_of(instant)),
+        Some(seconds) => push_moment(output, fine, seconds, subsecond_nanos(instant)),
         None => push_since(output, fine, EPOCH, instant),
     }
 }
 
-/// The seconds in an instant. They are counted from 1970 where the nanoseconds since then fit 64 bits, so that none of
-/// 128 bits are divided.
+/// Returns the whole seconds of an instant (nanoseconds since 2^63 seconds before 1970). For times from 1970 until 2554
+/// it avoids the slow 128 bit division.
 fn seconds_of(instant: u128) -> u128
     ensures { result ≡ instant / 1000000000 }
 {
@@ -53,8 +55,9 @@ fn seconds_of(instant: u128) -> u128
     }
 }
 
-/// The nanoseconds of an instant behind its seconds, in the same way.
-fn nanos_of(instant: u128) -> u32
+/// Returns the nanoseconds of an instant after its whole seconds, below 1,000,000,000. For times from 1970 until 2554
+/// it avoids the slow 128 bit division.
+fn subsecond_nanos(instant: u128) -> u32
     ensures value { result ≡ instant % 1000000000 }
     ensures bound { result < 1000000000 }
 {
@@ -65,7 +68,8 @@ fn nanos_of(instant: u128) -> u32
     }
 }
 
-/// The seconds since the beginning of the year 0, where they are of the years 0 to 9999.
+/// Converts the seconds of an instant, counted from 2^63 seconds before 1970, to seconds since the start of the year 0.
+/// Returns `None` if they are not in the years 0 to 9999.
 fn calendar_seconds(seconds: u128) -> Option<u64>
     requires { seconds < 2 ^ 95 }
     ensures value { result ≡ calendar_seconds seconds }
@@ -80,7 +84,8 @@ fn calendar_seconds(seconds: u128) -> Option<u64>
     }
 }
 
-/// Appends a second of the years 0 to 9999, and a fraction of it.
+/// Appends a time as date and time of day in UTC, such as `2026-11-25T14:06:39.000123Z`. `seconds` counts from the
+/// start of the year 0, and must be in the years 0 to 9999. The fraction has nine digits if `fine`, or else six.
 fn push_moment(output: &mut Vec<u8>, fine: bool, seconds: u64, nanos: u32) -> Result<(), AllocError>
     requires years { seconds < 3652425 * 86400 }
     requires fraction { nanos < 1000000000 }
@@ -92,7 +97,7 @@ fn push_moment(output: &mut Vec<u8>, fine: bool, seconds: u64, nanos: u32) -> Re
     output.extend_from_slice(b"Z")
 }
 
-/// Appends a day.
+/// Appends a date as text, such as `2026-11-25`.
 fn push_date(output: &mut Vec<u8>, date: Date) -> Result<(), AllocError>
     ensures { OnOk result (output.new.items ≡ output.old.items ++ date_text date) }
 {
@@ -111,7 +116,7 @@ fn push_date(output: &mut Vec<u8>, date: Date) -> Result<(), AllocError>
     ])
 }
 
-/// Appends a second of a day behind a `T`.
+/// Appends a `T` and a time of day, such as `T14:06:39`; `second` is the second of the day.
 fn push_clock(output: &mut Vec<u8>, second: u32) -> Result<(), AllocError>
     ensures { OnOk result (output.new.items ≡ output.old.items ++ (codes "T" ++ clock_text second)) }
 {
@@ -131,7 +136,7 @@ fn push_clock(output: &mut Vec<u8>, second: u32) -> Result<(), AllocError>
     ])
 }
 
-/// The last digit of a number.
+/// Returns the last decimal digit of a number, as an ASCII byte.
 #[inline]
 fn digit(number: u32) -> u8
     ensures { result ≡ digit number }
@@ -139,8 +144,9 @@ fn digit(number: u32) -> u8
     b'0' + (number % 10) as u8
 }
 
-/// Appends the span from one instant to another, with six digits of a fraction of a second, or nine where it is known
-/// so finely, and a sign where the second instant is the earlier one.
+/// Appends the time span from instant `first` to instant `this` (in nanoseconds) as seconds. The fraction has six
+/// digits, or nine if `fine`. The span has a minus sign if `this` is earlier. Allocates if the capacity of `output` is
+/// too small.
 pub fn push_since(
     output: &mut Vec<u8>,
     fine: bool,
@@ -157,7 +163,7 @@ pub fn push_since(
     }
 }
 
-/// Appends a span of nanoseconds.
+/// Appends a time span, given in nanoseconds, as seconds with a fraction of six digits, or nine if `fine`.
 fn push_span(output: &mut Vec<u8>, fine: bool, span: u128) -> Result<(), AllocError>
     ensures { OnOk result (output.new.items ≡ output.old.items ++ span_text fine span) }
 {
@@ -165,8 +171,8 @@ fn push_span(output: &mut Vec<u8>, fine: bool, span: u128) -> Result<(), AllocEr
     push_fraction(output, fine, nanos_in(span))
 }
 
-/// How many seconds are in a span of nanoseconds, at most as many as 64 bits hold. Only a span that 64 bits do not hold
-/// is divided in 128, which takes long.
+/// Returns the whole seconds of a time span in nanoseconds, at most 2^64 - 1. The slow 128 bit division is used only
+/// for spans that do not fit in 64 bits.
 fn seconds_in(span: u128) -> u64
     ensures { result ≡ seconds_in span }
 {
@@ -181,7 +187,7 @@ fn seconds_in(span: u128) -> u64
     }
 }
 
-/// The nanoseconds behind the seconds in a span.
+/// Returns the nanoseconds of a time span after its whole seconds, below 1,000,000,000.
 fn nanos_in(span: u128) -> u32
     ensures value { result ≡ span % 1000000000 }
     ensures bound { result < 1000000000 }
@@ -193,7 +199,8 @@ fn nanos_in(span: u128) -> u32
     }
 }
 
-/// Appends a point and the digits of a fraction of a second. All are appended at once, which takes less time.
+/// Appends a decimal point and the fraction of a second `nanos`: nine digits if `fine`, or else six (truncated to
+/// microseconds).
 fn push_fraction(output: &mut Vec<u8>, fine: bool, nanos: u32) -> Result<(), AllocError>
     requires { nanos < 1000000000 }
     ensures { OnOk result (output.new.items ≡ output.old.items ++ (codes "." ++ fraction_text fine nanos)) }
@@ -205,7 +212,7 @@ fn push_fraction(output: &mut Vec<u8>, fine: bool, nanos: u32) -> Result<(), All
     }
 }
 
-/// Appends a point and nine digits.
+/// Appends a decimal point and nine digits: a fraction of a second in nanoseconds.
 fn push_nanos(output: &mut Vec<u8>, nanos: u32) -> Result<(), AllocError>
     requires { nanos < 1000000000 }
     ensures { OnOk result (output.new.items ≡ output.old.items ++ (codes "." ++ drop 1 (decimal (1000000000 + nanos)))) }
@@ -224,7 +231,7 @@ fn push_nanos(output: &mut Vec<u8>, nanos: u32) -> Result<(), AllocError>
     ])
 }
 
-/// Appends a point and six digits.
+/// Appends a decimal point and six digits: a fraction of a second in microseconds.
 fn push_micros(output: &mut Vec<u8>, micros: u32) -> Result<(), AllocError>
     requires { micros < 1000000 }
     ensures { OnOk result (output.new.items ≡ output.old.items ++ (codes "." ++ drop 1 (decimal (1000000 + micros)))) }

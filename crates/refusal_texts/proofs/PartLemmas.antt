@@ -1,4 +1,4 @@
--- Texts that are appended in three parts.
+-- A text that is appended in three parts is appended as one.
 use Rattle.std.proofs.Common.{◌≡◌, ℕ, List, ◌++◌, append_assoc}
 
 pub three_parts : (start one two three a b c : List ℕ) → one ≡ start ++ a → two ≡ one ++ b → three ≡ two ++ c

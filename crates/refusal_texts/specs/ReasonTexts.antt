@@ -1,4 +1,4 @@
--- Why bytes are no frame, in the words of the errors themselves.
+-- The texts of slice errors.
 use Rattle.std.specs.Prelude.{ℕ, List, ◌++◌, codes}
 use Rattle.std.specs.Fmt.{decimal}
 use Rattle.etherparse.specs.Names.{layer_name, len_source_name}
@@ -14,23 +14,23 @@ use Rattle.etherparse.specs.Types.TcpHeaderError.TheVariants as tcp_error
 use Rattle.etherparse.specs.Types.SliceError.{SliceError}
 use Rattle.etherparse.specs.Types.SliceError.TheVariants.{Len, LinuxSll, Macsec, Ip, Ipv4, Ipv6, Ipv4Exts, Ipv6Exts, Tcp}
 
--- how many bytes a layer needs, and how many are there
+-- layer, number of bytes it needs, and number of bytes present
 unfoldable pub needed_text : LenError → List ℕ
 needed_text error =
     layer_name error.layer ++ (codes ": " ++ decimal error.required_len)
     ++ (codes " bytes needed, " ++ decimal error.len)
 
--- what set that, and where the layer begins
+-- length field or slice that limits the bytes present, and offset of the layer
 unfoldable pub limit_text : LenError → List ℕ
 limit_text error =
     codes " there (limit " ++ len_source_name error.len_source
     ++ (codes ", offset " ++ decimal error.layer_start_offset)
 
--- a layer that has too few bytes
+-- text of a length error
 abbrev pub len_error_text : LenError → List ℕ
 len_error_text error = needed_text error ++ limit_text error ++ codes ")"
 
--- why bytes are refused, where this is the number that they hold
+-- text of an error, with this number in place of its own
 abbrev pub reason_text_with : SliceError → ℕ → List ℕ
 reason_text_with (Len error) number = len_error_text error
 reason_text_with (LinuxSll (linux_sll_error.UnsupportedPacketTypeField held)) number =
@@ -51,7 +51,7 @@ reason_text_with (Ipv6Exts exts_error.HopByHopNotAtStart) number = codes "HopByH
 reason_text_with (Ipv6Exts (exts_error.IpAuth auth_error.ZeroPayloadLen)) number = codes "ZeroPayloadLen"
 reason_text_with (Tcp (tcp_error.DataOffsetTooSmall held)) number = codes "DataOffsetTooSmall " ++ decimal number
 
--- the number that the bytes hold, of the errors that name one
+-- number of the rejected field, 0 for an error without one
 abbrev pub held_number : SliceError → ℕ
 held_number (LinuxSll (linux_sll_error.UnsupportedPacketTypeField held)) = held
 held_number (LinuxSll (linux_sll_error.UnsupportedArpHardwareId held)) = held
@@ -63,6 +63,6 @@ held_number (Ipv6 (ipv6_error.UnexpectedVersion held)) = held
 held_number (Tcp (tcp_error.DataOffsetTooSmall held)) = held
 held_number _ = 0
 
--- why bytes are refused
+-- text of an error
 abbrev pub reason_text : SliceError → List ℕ
 reason_text error = reason_text_with error (held_number error)

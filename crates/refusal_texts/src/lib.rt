@@ -1,5 +1,5 @@
-//! The texts of refusals, for the programs and the library for C: the words of `Display`, said by a clause, and appended
-//! without a request for memory of their own.
+//! Texts of the errors of slicing a packet, for the programs and the C library. They equal the texts of `Display`, and
+//! are appended to a vector without any other allocation.
 #![tactic(auto)]
 
 ghost use Rattle.std.specs.Prelude.{◌≡◌, ◌++◌, OnOk};
@@ -13,15 +13,15 @@ use std::alloc::AllocError;
 #[cfg(test)]
 mod tests;
 
-/// Appends why bytes are no frame, in the words of the error.
+/// Appends the text of an error of slicing a packet to `output`.
 pub fn push_reason(output: &mut Vec<u8>, error: &SliceError) -> Result<(), AllocError>
     ensures { OnOk result (output.new.items ≡ output.old.items ++ reason_text error.now) }
 {
     push_reason_with(output, error, held_number(error))
 }
 
-/// The same with this number in place of that which the error names, if it names one: C's numbers may be greater than
-/// the error's field can hold.
+/// Appends the text of an error of slicing a packet, with `number` in place of the field value that the error contains,
+/// if any. Numbers passed by C may be greater than that field can hold.
 pub fn push_reason_with(
     output: &mut Vec<u8>,
     error: &SliceError,
@@ -32,10 +32,10 @@ pub fn push_reason_with(
     match error {
         SliceError::Len(error) => push_len_error(output, error),
         SliceError::LinuxSll(linux_sll::HeaderError::UnsupportedPacketTypeField { .. }) => {
-            decimals::push_behind(output, b"UnsupportedPacketTypeField ", number)
+            decimals::push_with_text(output, b"UnsupportedPacketTypeField ", number)
         }
         SliceError::LinuxSll(linux_sll::HeaderError::UnsupportedArpHardwareId { .. }) => {
-            decimals::push_behind(output, b"UnsupportedArpHardwareId ", number)
+            decimals::push_with_text(output, b"UnsupportedArpHardwareId ", number)
         }
         SliceError::Macsec(macsec::HeaderError::UnexpectedVersion) => {
             output.extend_from_slice(b"UnexpectedVersion")
@@ -44,17 +44,17 @@ pub fn push_reason_with(
             output.extend_from_slice(b"InvalidUnmodifiedShortLen")
         }
         SliceError::Ip(ip::HeaderError::UnsupportedIpVersion { .. }) => {
-            decimals::push_behind(output, b"UnsupportedIpVersion ", number)
+            decimals::push_with_text(output, b"UnsupportedIpVersion ", number)
         }
         SliceError::Ip(ip::HeaderError::Ipv4HeaderLengthSmallerThanHeader { .. }) => {
-            decimals::push_behind(output, b"Ipv4HeaderLengthSmallerThanHeader ", number)
+            decimals::push_with_text(output, b"Ipv4HeaderLengthSmallerThanHeader ", number)
         }
         SliceError::Ipv4(ipv4::HeaderError::UnexpectedVersion { .. })
         | SliceError::Ipv6(ipv6::HeaderError::UnexpectedVersion { .. }) => {
-            decimals::push_behind(output, b"UnexpectedVersion ", number)
+            decimals::push_with_text(output, b"UnexpectedVersion ", number)
         }
         SliceError::Ipv4(ipv4::HeaderError::HeaderLengthSmallerThanHeader { .. }) => {
-            decimals::push_behind(output, b"HeaderLengthSmallerThanHeader ", number)
+            decimals::push_with_text(output, b"HeaderLengthSmallerThanHeader ", number)
         }
         SliceError::Ipv4Exts(ip_auth::HeaderError::ZeroPayloadLen)
         | SliceError::Ipv6Exts(
@@ -64,12 +64,13 @@ pub fn push_reason_with(
             output.extend_from_slice(b"HopByHopNotAtStart")
         }
         SliceError::Tcp(tcp::HeaderError::DataOffsetTooSmall { .. }) => {
-            decimals::push_behind(output, b"DataOffsetTooSmall ", number)
+            decimals::push_with_text(output, b"DataOffsetTooSmall ", number)
         }
     }
 }
 
-/// The number that the bytes hold, of the errors that name one.
+/// Returns the value of the packet's field that the error rejects (such as the IP version), or 0 for an error that
+/// contains none.
 fn held_number(error: &SliceError) -> u64
     ensures { result ≡ held_number error.now }
 {
@@ -98,7 +99,8 @@ fn held_number(error: &SliceError) -> u64
     }
 }
 
-/// Appends which layer has too few bytes, how many it needs, how many are there, what set that, and where it begins.
+/// Appends the text of a length error: the layer, the bytes that it needs, the bytes that are present, what limits
+/// them, and the offset of the layer in the packet.
 fn push_len_error(output: &mut Vec<u8>, error: &LenError) -> Result<(), AllocError>
     ensures { OnOk result (output.new.items ≡ output.old.items ++ len_error_text error.now) }
 {
@@ -107,23 +109,25 @@ fn push_len_error(output: &mut Vec<u8>, error: &LenError) -> Result<(), AllocErr
     output.extend_from_slice(b")")
 }
 
-/// Appends how many bytes a layer needs, and how many are there.
+/// Appends the first half of a length error's text: the layer, the number of bytes that it needs, and the number
+/// present.
 fn push_needed(output: &mut Vec<u8>, error: &LenError) -> Result<(), AllocError>
     ensures { OnOk result (output.new.items ≡ output.old.items ++ needed_text error.now) }
 {
     let required_len = error.required_len;
     let len = error.len;
     output.extend_from_slice(error.layer.name().as_bytes())?;
-    decimals::push_behind(output, b": ", required_len as u64)?;
-    decimals::push_behind(output, b" bytes needed, ", len as u64)
+    decimals::push_with_text(output, b": ", required_len as u64)?;
+    decimals::push_with_text(output, b" bytes needed, ", len as u64)
 }
 
-/// Appends what set how many are there, and where the layer begins.
+/// Appends the second half of a length error's text: what limits the bytes present, and the offset of the layer in the
+/// packet.
 fn push_limit(output: &mut Vec<u8>, error: &LenError) -> Result<(), AllocError>
     ensures { OnOk result (output.new.items ≡ output.old.items ++ limit_text error.now) }
 {
     let offset = error.layer_start_offset;
     output.extend_from_slice(b" there (limit ")?;
     output.extend_from_slice(error.len_source.name().as_bytes())?;
-    decimals::push_behind(output, b", offset ", offset as u64)
+    decimals::push_with_text(output, b", offset ", offset as u64)
 }

@@ -1,4 +1,4 @@
-//! The text of each error is that of its `Display`.
+//! Tests that the text of each error of slicing a packet equals that of its `Display`.
 
 ghost use Rattle.std.specs.Prelude.{◌≤◌, ◌-◌};
 
@@ -11,7 +11,7 @@ use etherparse::err::{
 use std::alloc::Global;
 use std::process::Abort;
 
-/// What is appended is what `Display` shows, behind what was there.
+/// Asserts that `push_reason` appends the same text as `Display` for this error, after the bytes already in the vector.
 fn is_displayed(rt: &impl Abort, alloc: Global, error: SliceError) {
     let mut text = Vec::new(alloc);
     text.push(b'>').expect(rt, "no memory");
@@ -139,7 +139,7 @@ fn lengths(rt: HostRuntime) {
     }
 }
 
-/// Too few bytes, by three different numbers.
+/// Returns a length error of this layer: `number` bytes are present, `number + 2` needed, at offset `number + 1`.
 fn missing(layer: Layer, len_source: LenSource, number: usize) -> SliceError
     requires { number ≤ usize.MAX - 2 }
 {

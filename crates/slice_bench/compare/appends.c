@@ -1,6 +1,6 @@
-/* Puts the fragments of IPv4 in frames of Ethernet II together by hand, with the memory traffic of a pool of streams:
-   a hash table, a vector of bytes and one of sections for each stream, which those that begin later use again.
-   appends FILE ROUNDS. The file holds frames, each its length in four bytes, the lowest first, then its bytes. */
+/* Reassembles IPv4 fragments in Ethernet II frames by hand, with the memory traffic of a pool of streams: a hash table,
+   and for each stream a vector of bytes and one of sections, which later streams reuse.
+   appends FILE ROUNDS. The file contains frames, each with its length in four bytes, little endian, then its bytes. */
 #include <stdint.h>
 #include <stdio.h>
 #include <stdlib.h>
@@ -12,13 +12,13 @@ enum { HEADS = 1 << 18 };
 struct section { uint16_t start, end; };
 struct stream {
     uint8_t name[12]; /* addresses, identification, protocol */
-    uint32_t next;    /* in the chain of its hash, or of the streams that ended; 0 at its end */
+    uint32_t next;    /* in the chain of its hash value, or of the streams that ended; 0 at the end */
     uint8_t *bytes;
     struct section *sections;
-    uint32_t len, room, count, places, end; /* the end is UINT32_MAX where it is not known */
+    uint32_t len, room, count, places, end; /* the end is UINT32_MAX while unknown */
 };
 
-static struct stream *streams; /* the first one is none */
+static struct stream *streams; /* index 0 is unused */
 static uint32_t n_streams, n_places, ended, *heads;
 
 static uint32_t get16(const uint8_t *at) { return (uint32_t)at[0] << 8 | at[1]; }
@@ -63,7 +63,7 @@ static void put(struct stream *s, uint32_t start, const uint8_t *part, uint32_t 
     if (s->len < end) s->len = end;
 }
 
-/* The first section that ends at or behind a position, or the first that starts behind it. */
+/* The first section that ends at or after a position, or the first that starts after it. */
 static uint32_t place_of(const struct stream *s, uint32_t position, int by_end) {
     uint32_t low = 0, high = s->count;
     while (low < high) {
@@ -87,7 +87,7 @@ static void join(struct stream *s, uint32_t start, uint32_t end) {
     s->count += 1 - (to - from);
 }
 
-/* How many bytes come out at a frame. */
+/* The number of bytes that are reassembled with this frame. */
 static uint64_t taken(const uint8_t *b, uint32_t frame) {
     if (frame < 34 || get16(b + 12) != 0x0800 || b[14] >> 4 != 4) return 0;
     uint32_t header = (b[14] & 15) * 4u, total = get16(b + 16), field = get16(b + 20);
@@ -126,7 +126,7 @@ int main(int argc, char **argv) {
     int rounds = atoi(argv[2]);
     uint64_t sum = 0, count = 0;
     clock_t before = 0;
-    for (int round = -1; round < rounds; round++) { /* the first is not timed */
+    for (int round = -1; round < rounds; round++) { /* the first round is not timed */
         if (round == 0) before = clock();
         heads = calloc(HEADS, sizeof *heads);
         n_streams = 1, n_places = 4, ended = 0;

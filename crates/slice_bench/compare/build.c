@@ -1,6 +1,6 @@
-/* Builds frames of Ethernet II, IPv4 and UDP by hand into one buffer, with both checksums:
-   build PAYLOAD_LEN FRAMES. Prints the time of a frame and what was summed. With BY_ETHERPARSE the library builds them,
-   through its interface for C. */
+/* Builds frames of Ethernet II, IPv4 and UDP by hand in one buffer, with both checksums:
+   build PAYLOAD_LEN FRAMES. Prints the time per frame and the sum. With BY_ETHERPARSE the library builds them, through
+   its C interface. */
 #include <stdint.h>
 #include <stdio.h>
 #include <stdlib.h>
@@ -29,7 +29,7 @@ size_t build(uint8_t *frame, const struct headers *h, const uint8_t *payload, si
 #else
 static void put16(uint8_t *at, uint32_t value) { at[0] = value >> 8; at[1] = value; }
 
-/* The sum of big-endian words, the last one padded with a zero byte. */
+/* The sum of big-endian words; an odd last byte is padded with zero. */
 static uint32_t sum16(const uint8_t *bytes, size_t len, uint32_t sum) {
     size_t i = 0;
     for (; i + 1 < len; i += 2) sum += (uint32_t)bytes[i] << 8 | bytes[i + 1];

@@ -24,32 +24,32 @@ import times
 TOP = os.path.abspath(f"{times.HERE}/../../..")
 ARCHIVE = f"{TOP}/crates/etherparse_c/out/libetherparse_c.a"
 FRAME_BENCH = f"{TOP}/crates/frame_bench/out/frame_bench"
-# what is built from addresses, behind no tag, one and two
+# Corpora whose frames are built from addresses: without tags, with one and with two.
 BUILT = ["udp64", "udp1400", "vlan1", "vlan2", "tcp64", "udp64ipv6", "raw64", "mix"]
-# how many streams are open at once, with a fragment of 64 bytes each, and with two
+# Number of streams that are open at once, with one fragment of 64 bytes each, and with two.
 OPEN, OPEN_OF_TWO = 1_000_000, 100_000
 
 
 def collected(command):
-    """The instructions of a run, and what it printed."""
+    """The instructions of a run, and its output."""
     callgrind = ["valgrind", "--tool=callgrind", "--callgrind-out-file=/dev/null"]
     run = subprocess.run(callgrind + command, capture_output=True, text=True, check=True)
     return int(re.search(r"Collected : (\d+)", run.stderr)[1]), run.stdout
 
 
 def an_item(command, tail, items, rounds=3):
-    """The instructions of an item, whose number the pattern finds in what is printed."""
+    """The instructions per item; the pattern finds the number of items in the output."""
     (once, _), (more, printed) = (collected([*command, str(number), *tail]) for number in (1, rounds))
     return round((more - once) / (rounds - 1) / int(re.search(items, printed)[1]))
 
 
 def measured(program, file, name, rounds=3):
-    """The instructions of an item of a measurement."""
+    """The instructions per item of a measurement."""
     return an_item([program, file], [name], rf"{name} +(\d+)", rounds)
 
 
 def built(program, size):
-    """The instructions of a frame that a program in C builds with so many bytes of payload."""
+    """The instructions per frame of a C program that builds frames with `size` bytes of payload."""
     (less, _), (more, _) = (collected([program, str(size), str(number)]) for number in (1000, 3000))
     return round((more - less) / 2000)
 
@@ -72,7 +72,7 @@ def building(program, made, folder):
 
 
 def fragment_counts(program, made, corpus):
-    """The instructions of a fragment, and by hand in C: of two rounds less one."""
+    """The instructions per fragment, here and by hand in C: those of two rounds less those of one."""
     return measured(program, corpus, "reassembly", 2), an_item([f"{made}/appends", corpus], [], r"(\d+) frames", 2)
 
 
@@ -84,7 +84,7 @@ def fragments(program, made, folder):
 
 
 def floods_of_lines():
-    """The module that gives frame_bench floods of lines."""
+    """The module that floods frame_bench with lines."""
     sys.path.insert(0, f"{TOP}/crates/frame_bench/compare")
     import floods
 
@@ -92,8 +92,9 @@ def floods_of_lines():
 
 
 def memory_of_streams():
-    """The bytes that frame_bench holds for an open stream: of one fragment of 64 bytes; of two, one stream after the
-    other; of two, all begun before one goes on. What as many fragments of one stream take is not in it."""
+    """The bytes of memory that frame_bench uses for an open stream: with one fragment of 64 bytes; with two, one stream
+    after the other; with two, all streams begun before any continues. The memory that the same number of fragments of a
+    single stream uses is subtracted."""
     floods = floods_of_lines()
     one, two = (floods.fragment(units, 1, "5a" * 64) for units in (0, 8))
 
@@ -112,7 +113,7 @@ def memory_of_streams():
 
 
 def drop_of_none():
-    """The microseconds that a drop takes that keeps all of 100,000 open streams."""
+    """The microseconds that a drop takes if all of 100,000 open streams are kept."""
     floods = floods_of_lines()
     streams, drops = list(floods.first_fragments(range(100_000))), [("drop 0", "ok")] * 1000
     seconds = [min(floods.measure(FRAME_BENCH, rows)[2] for _ in range(3)) for rows in (streams, streams + drops)]
@@ -120,7 +121,7 @@ def drop_of_none():
 
 
 def fragments_in_time(program, made, corpus, rounds):
-    """The nanoseconds of a fragment, and by hand in C."""
+    """The nanoseconds per fragment, here and by hand in C."""
     items = int(re.search(r"reassembly +(\d+)", times.ran(program, corpus, 1, "reassembly")[1])[1])
     here = times.rounds_beyond_one(rounds, items, lambda number: [program, corpus, number, "reassembly"])
     by_hand = [times.ran(f"{made}/appends", corpus, rounds)[1] for _ in range(times.REPEATS)]
@@ -129,7 +130,7 @@ def fragments_in_time(program, made, corpus, rounds):
 
 def beside(program, made, folder):
     def row(name, here, by_hand, crate, unit=""):
-        """A row: what some things take here, what one takes by hand, if there is that, and the ratios."""
+        """Prints a row: the costs here, the cost by hand in C, if measured, and the ratios."""
         numbers = "; ".join(f"{number:,.0f}" for number in here) + unit
         ratios = "; ".join(f"{number / by_hand:.1f}" for number in here) if by_hand else ""
         print(f"| {name} | {numbers} | {f'{by_hand:,.0f}{unit}' if by_hand else ''} | {ratios} | {crate} |", flush=True)

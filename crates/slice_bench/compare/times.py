@@ -17,19 +17,19 @@ import sys
 import tempfile
 
 HERE = os.path.dirname(os.path.abspath(__file__))
-# How many runs there are of what takes a second, and of what takes less.
+# Number of runs of commands that take a second, and of shorter ones.
 REPEATS = 5
 SHORT_REPEATS = 20
 FRAMES = ["udp64", "udp1400", "vlan2", "mix"]
 MEASUREMENTS = ["slicing", "slicing-apart", "filling", "lax-filling", "decoding", "rereading", "ipv4-slice", "ip-headers"]
 BUILDING = ["building", "building-from-addresses"]
-# the fragments of a corpus, by how many rounds are made besides the first
+# Corpora of fragments, with the number of rounds besides the first.
 FRAGMENTS = dict.fromkeys(["streams", "interleaved", "queue", "crowd"], 5)
 FRAGMENTS |= dict.fromkeys(["ascending", "descending", "shuffled", "alternating"], 60)
 
 
 def ran(*command):
-    """The seconds of processor time that a command takes, and what it prints."""
+    """The processor time that a command takes, in seconds, and its output."""
     with subprocess.Popen([str(word) for word in command], stdout=subprocess.PIPE, text=True) as process:
         printed = process.stdout.read()
         _, status, used = os.wait4(process.pid, 0)
@@ -40,12 +40,12 @@ def ran(*command):
 
 
 def least(pattern, *command):
-    """The least of the numbers that the pattern finds in what short runs of a command print."""
+    """The least number that the pattern finds in the outputs of short runs of a command."""
     return min(float(re.search(pattern, ran(*command)[1])[1]) for _ in range(SHORT_REPEATS))
 
 
 def rounds_beyond_one(rounds, items, command):
-    """The nanoseconds an item of so many rounds, beyond those of one: the least of several."""
+    """The nanoseconds per item of the rounds after the first: the least of several runs."""
     def once(number):
         return min(ran(*command(number))[0] for _ in range(REPEATS))
 
@@ -61,7 +61,7 @@ def heading(*names):
 
 
 def build_by_hand(folder):
-    """Builds the programs in C."""
+    """Compiles the C programs."""
     for name in ["walk", "build", "appends"]:
         subprocess.run(["gcc", "-O2", f"{HERE}/{name}.c", "-o", f"{folder}/{name}"], check=True)
 

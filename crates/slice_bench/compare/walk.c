@@ -1,5 +1,5 @@
-/* Walks frames of Ethernet II by hand, writes the offsets of their layers, and sums what they hold:
-   walk FILE ROUNDS. The file holds frames, each its length in four bytes, the lowest first, then its bytes. */
+/* Parses Ethernet II frames by hand, stores the offsets of their layers, and sums fields of all layers:
+   walk FILE ROUNDS. The file contains frames, each with its length in four bytes, little endian, then its bytes. */
 #include <stdint.h>
 #include <stdio.h>
 #include <stdlib.h>

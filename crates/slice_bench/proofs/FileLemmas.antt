@@ -1,4 +1,4 @@
--- What the bytes of a file begin with.
+-- The first frame of a file.
 use Rattle.std.proofs.Common.{◌≡◌, ℕ, ◌<◌, ◌≤◌, ◌+◌, ◌-◌, ◌^◌, List, [], ◌∷◌, ◌++◌, length, take, drop, sym, refl, ap, subst, ◌∙◌, inl, inr, arith}
 use Rattle.std.proofs.Math.Seq.{take-append_seam, drop-append_seam}
 use Rattle.std.proofs.lemmas.Bool.{cases_lt}
@@ -9,14 +9,14 @@ use Rattle.std.specs.Int.{w32, from_le_bytes, to_le_bytes}
 use Rattle.etherparse.specs.Bytes.{AreBytes}
 use Rattle.slice_bench.specs.Files.{HoldsFrames, StartsWith}
 
--- fronts of one length are one front, and what follows is one rest
+-- Equal lists with prefixes of equal length have equal prefixes and equal rests.
 same_parts : (a b x y : List ℕ) → length a ≡ length b → a ++ x ≡ b ++ y → (a ≡ b) × (x ≡ y)
 same_parts a b x y len same = (
   sym (take-append_seam a x) ∙ ap (take (length a)) same ∙ ap (λ (n : ℕ). take n (b ++ y)) len ∙ take-append_seam b y,
   sym (drop-append_seam a x) ∙ ap (drop (length a)) same ∙ ap (λ (n : ℕ). drop n (b ++ y)) len ∙ drop-append_seam b y,
 )
 
--- a front of bytes is bytes
+-- The first n bytes of bytes are bytes.
 AreBytes-take : (n : ℕ) (bytes : List ℕ) → AreBytes bytes → AreBytes (take n bytes)
 AreBytes-take n bytes fits i =
     elim (cases_lt i n) [
@@ -24,7 +24,7 @@ AreBytes-take n bytes fits i =
       | inr past ↦ rw (get_or_past (take n bytes) i 0 (omega (arith, length-take n bytes))) (omega arith)
     ]
 
--- bytes start with one frame only
+-- Bytes start with at most one frame.
 pub one_frame : (bytes a b x y : List ℕ) → StartsWith bytes a x → StartsWith bytes b y → (a ≡ b) × (x ≡ y)
 one_frame bytes a b x y (fits_a, is_a) (fits_b, is_b) =
     let fields =
@@ -34,20 +34,21 @@ one_frame bytes a b x y (fits_a, is_a) (fits_b, is_b) =
     ∙ from_le_bytes-to_le_bytes_4 (length b) fits_b in
     same_parts a b x y lengths fields.1
 
--- behind the first frame stand the other frames of the file
+-- The bytes after the first frame are the other frames of the file.
 pub frames_behind : (bytes frame behind : List ℕ) (more : List (List ℕ)) → StartsWith bytes frame behind
     → HoldsFrames bytes more → (others : List (List ℕ)) × HoldsFrames behind others
 frames_behind bytes frame behind [] front held = absurd (omega (arith, ap length (sym held ∙ front.1)))
 frames_behind bytes frame behind (first ∷ others) front held =
     (others, subst (λ r. HoldsFrames r others) (one_frame bytes first frame held.0 behind held.1 front).1 held.2)
 
--- bytes that start with no frame are those of no frames
+-- Non-empty bytes that start with no frame are not the bytes of a list of frames.
 pub no_frames : (bytes : List ℕ) (frames : List (List ℕ)) → 0 < length bytes
     → ((frame rest : List ℕ) → StartsWith bytes frame rest → ⊥) → HoldsFrames bytes frames → ⊥
 no_frames bytes [] some none held = omega (arith, some, ap length held)
 no_frames bytes (frame ∷ frames) some none held = none frame held.0 held.1
 
--- the frame at the front of some bytes, whose first four say its length
+-- If the first four bytes state the length of a frame, and the rest has at least that many bytes, the bytes start with
+-- the frame.
 pub frame_in_front : (bytes field rest : List ℕ) (len : ℕ) → AreBytes bytes
     → field ≡ take 4 bytes → rest ≡ drop 4 bytes → length rest + 4 ≡ length bytes → len ≡ from_le_bytes w32 field
     → len < 2 ^ 32 → len ≤ length rest → StartsWith bytes (take len rest) (take (length rest - len) (drop len rest))

@@ -1,4 +1,4 @@
--- What the program says: the line of an error, and the names of measurements.
+-- Texts of the program: the lines of errors, and the names of measurements.
 use Rattle.std.specs.Prelude.{ℕ, List, codes}
 use Rattle.slice_bench.specs.declared.bench_error.BenchError.{BenchError}
 use Rattle.slice_bench.specs.declared.bench_error.BenchError.TheVariants as error
@@ -15,10 +15,10 @@ error_line error.Clock = codes "slice_bench: the clock can't be read"
 error_line error.Unsteady = codes "slice_bench: two rounds gave two sums"
 error_line error.Output = codes "slice_bench: write failed"
 
--- what a measurement is called, as an argument and in the first column
+-- the name of a measurement, as an argument and in the first column
 abbrev pub measurement_name : Measurement → List ℕ
 measurement_name measurement.Slicing = codes "slicing"
-measurement_name measurement.SlicingApart = codes "slicing-apart"
+measurement_name measurement.SlicingNotInlined = codes "slicing-apart"
 measurement_name measurement.Filling = codes "filling"
 measurement_name measurement.LaxFilling = codes "lax-filling"
 measurement_name measurement.Decoding = codes "decoding"

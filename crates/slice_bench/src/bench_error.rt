@@ -1,4 +1,4 @@
-//! Why nothing was measured.
+//! Errors of the benchmark program `slice_bench`.
 
 ghost use Rattle.std.specs.Prelude.{◌≡◌, ◌≢◌};
 ghost use Rattle.slice_bench.specs.BenchTexts.{error_line};
@@ -6,27 +6,27 @@ ghost use Rattle.slice_bench.specs.declared.bench_error.BenchError.TheVariants.{
 
 use std::alloc::AllocError;
 
-/// Why a measurement ended early.
+/// Reason for which the benchmark program ends early.
 #[derive(Debug, Drop)]
 pub enum BenchError {
-    /// The arguments are not those of the usage line.
+    /// The command line arguments don't match the usage line `slice_bench FILE [ROUNDS [MEASUREMENT]]`.
     Usage,
-    /// The file could not be read.
+    /// The file with the frames to measure could not be read.
     File,
-    /// The last frame of the file is cut.
+    /// The last frame in the file has fewer bytes than its length field states, or an incomplete length field.
     Cut,
-    /// There was no memory.
+    /// A memory allocation of the benchmark failed.
     OutOfMemory,
-    /// The clock could not be read.
+    /// The clock that the measurements use could not be read.
     Clock,
-    /// Two rounds over the same frames gave two sums.
+    /// Two rounds of a measurement, which make the same calls, computed different sums from their results.
     Unsteady,
-    /// Standard output could not be written.
+    /// The results could not be written to standard output.
     Output,
 }
 
 impl BenchError {
-    /// The line for standard error, without its line feed.
+    /// Returns the error message of the benchmark program for standard error, without a line feed.
     pub fn text(&self) -> &'static str
         ensures { result.now ≡ error_line self.now }
     {
@@ -41,7 +41,7 @@ impl BenchError {
         }
     }
 
-    /// The status of the process: 2 where the call itself is wrong, and else 1.
+    /// Returns the exit status of the benchmark program for this error: 2 for wrong arguments, otherwise 1.
     pub fn status(&self) -> u8
         ensures usage { self.now ≡ BenchError.Usage → result ≡ 2 }
         ensures other { self.now ≢ BenchError.Usage → result ≡ 1 }

@@ -1,4 +1,4 @@
-//! Building frames anew from their headers and their payloads.
+//! Measured calls that build Ethernet frames from the headers and payloads decoded from other frames.
 
 ghost use Rattle.std.specs.Prelude.{◌≡◌, ◌<◌, ◌^◌, IfErr};
 
@@ -11,39 +11,39 @@ use etherparse::{
 };
 use std::alloc::Global;
 
-/// What a frame is built from.
+/// Headers and payload decoded from an Ethernet frame, as the input of the benchmarks that build frames.
 #[derive(Drop)]
 pub struct FrameParts<'a> {
-    /// The Ethernet II header, of which the addresses are used.
+    /// Ethernet II header of the decoded frame. Only its addresses are used for building.
     pub link: Ethernet2Header,
-    /// The VLAN tags behind it.
+    /// VLAN tags (one or two) after the Ethernet II header; `None` if the frame has no tag.
     pub tags: Option<VlanHeader>,
-    /// What stands behind them.
-    pub inside: Inside<'a>,
+    /// Layers of the frame after the Ethernet II header and its VLAN tags: IPv4, IPv6 or ARP.
+    pub inside: EtherPayloadParts<'a>,
 }
 
-/// What a frame is built from behind its link header and its tags.
+/// Decoded network layer of a frame, with the payload of an IP packet.
 #[derive(Drop)]
-pub enum Inside<'a> {
-    /// The headers of IPv4, and what stands behind them.
-    Ipv4(Ipv4Header, Ipv4Extensions, Behind<'a>),
-    /// The headers of IPv6, and what stands behind them.
-    Ipv6(Ipv6Header, Ipv6Extensions, Behind<'a>),
-    /// An ARP packet.
+pub enum EtherPayloadParts<'a> {
+    /// IPv4 header, IPv4 extension headers, and the transport header and payload after them.
+    Ipv4(Ipv4Header, Ipv4Extensions, IpPayloadParts<'a>),
+    /// IPv6 header, IPv6 extension headers, and the transport header and payload after them.
+    Ipv6(Ipv6Header, Ipv6Extensions, IpPayloadParts<'a>),
+    /// ARP packet, the whole content of the frame after the Ethernet II header and its tags.
     Arp(ArpPacket),
 }
 
-/// What a frame is built from behind its IP headers.
+/// Decoded payload of an IP packet: a transport header and its payload, or bytes of any IP number.
 #[derive(Drop)]
-pub enum Behind<'a> {
-    /// A payload in which no transport header was read, and its IP number.
+pub enum IpPayloadParts<'a> {
+    /// IP number and payload of an IP packet without a decoded transport header, such as a fragment.
     Payload(IpNumber, &'a [u8]),
-    /// A transport header and its payload.
+    /// Transport header (UDP, TCP, ICMPv4 or ICMPv6) and the payload after it.
     Transport(TransportHeader, &'a [u8]),
 }
 
-/// What frames are built anew from, in their order. One that is not decoded, or for whose headers the builder has no
-/// steps, is left out.
+/// Decodes each Ethernet frame into the headers and payload that benchmarks build frames from, in the order of the
+/// frames. Frames that the decoder rejects, and frames with headers that the builder does not support, are omitted.
 pub fn frame_parts_of<'a>(
     alloc: Global,
     frames: &[&'a [u8]],
@@ -61,7 +61,8 @@ pub fn frame_parts_of<'a>(
     Ok(all)
 }
 
-/// What a frame is built anew from, where it is decoded and the builder has a step for each of its headers.
+/// Decodes an Ethernet frame into its headers and payload. Returns `None` if the decoder rejects the frame, or if the
+/// builder does not support all of its headers.
 fn parts_of_frame(frame: &[u8]) -> Option<FrameParts<'_>> {
     match PacketHeaders::from_ethernet_slice(frame) {
         Ok(packet) => parts_in(packet),
@@ -69,15 +70,16 @@ fn parts_of_frame(frame: &[u8]) -> Option<FrameParts<'_>> {
     }
 }
 
-/// What the frame of these headers is built anew from, where the builder has a step for each.
+/// Converts the decoded headers of a frame into the parts that benchmarks build frames from, or returns `None` if the
+/// builder does not support all headers.
 fn parts_in(packet: PacketHeaders<'_>) -> Option<FrameParts<'_>> {
     let link = ethernet2_in(packet.link)?;
     let tags = tags_in(packet.link_exts.as_slice())?;
-    let inside = inside_of(packet.net, packet.transport, packet.payload)?;
+    let inside = ether_payload_parts(packet.net, packet.transport, packet.payload)?;
     Some(FrameParts { link, tags, inside })
 }
 
-/// The Ethernet II header among link headers.
+/// Returns the link header if it is an Ethernet II header, otherwise `None`.
 fn ethernet2_in(link: Option<LinkHeader>) -> Option<Ethernet2Header> {
     match link {
         Some(LinkHeader::Ethernet2(header)) => Some(header),
@@ -85,8 +87,8 @@ fn ethernet2_in(link: Option<LinkHeader>) -> Option<Ethernet2Header> {
     }
 }
 
-/// The VLAN tags that link extensions are, or that there are none: where there is no other extension and at most two,
-/// since the builder has no step for more.
+/// Returns the VLAN tags (none, one or two) of a frame's link extensions; `Some(None)` means no tags. Returns `None`
+/// for a MACsec tag or more than two tags, which the builder does not support.
 fn tags_in(link_exts: &[LinkExtHeader]) -> Option<Option<VlanHeader>> {
     match link_exts {
         [] => Some(None),
@@ -100,35 +102,40 @@ fn tags_in(link_exts: &[LinkExtHeader]) -> Option<Option<VlanHeader>> {
     }
 }
 
-/// What stands behind the link layer and its extensions, where the builder has steps for it.
-fn inside_of<'a>(
+/// Combines the decoded network layer, transport header and payload of a frame. Returns `None` if there is no network
+/// layer, or an IP packet without a transport header or IP payload.
+fn ether_payload_parts<'a>(
     net: Option<NetHeaders>,
     transport: Option<TransportHeader>,
     payload: PayloadSlice<'a>,
-) -> Option<Inside<'a>> {
+) -> Option<EtherPayloadParts<'a>> {
     match net? {
         NetHeaders::Ipv4(header, extensions) => {
-            let behind = behind_of(transport, payload)?;
-            Some(Inside::Ipv4(header, extensions, behind))
+            let behind = ip_payload_parts(transport, payload)?;
+            Some(EtherPayloadParts::Ipv4(header, extensions, behind))
         }
         NetHeaders::Ipv6(header, extensions) => {
-            let behind = behind_of(transport, payload)?;
-            Some(Inside::Ipv6(header, extensions, behind))
+            let behind = ip_payload_parts(transport, payload)?;
+            Some(EtherPayloadParts::Ipv6(header, extensions, behind))
         }
-        NetHeaders::Arp(packet) => Some(Inside::Arp(packet)),
+        NetHeaders::Arp(packet) => Some(EtherPayloadParts::Arp(packet)),
     }
 }
 
-/// What stands behind IP headers, where it is a transport header and its payload, or the payload of an IP packet.
-fn behind_of<'a>(
+/// Returns the transport header with its payload or, without a transport header, the IP payload with its IP number.
+/// Returns `None` if there is neither.
+fn ip_payload_parts<'a>(
     transport: Option<TransportHeader>,
     payload: PayloadSlice<'a>,
-) -> Option<Behind<'a>> {
+) -> Option<IpPayloadParts<'a>> {
     if let Some(transport) = transport {
-        return Some(Behind::Transport(transport, payload.slice()));
+        return Some(IpPayloadParts::Transport(transport, payload.slice()));
     }
     match payload {
-        PayloadSlice::Ip(payload) => Some(Behind::Payload(payload.ip_number, payload.payload)),
+        PayloadSlice::Ip(payload) => Some(IpPayloadParts::Payload(
+            payload.ip_number,
+            payload.payload,
+        )),
         PayloadSlice::Empty
         | PayloadSlice::Ether(_)
         | PayloadSlice::MacsecMod(_)
@@ -139,16 +146,19 @@ fn behind_of<'a>(
     }
 }
 
-/// A way to build a frame.
+/// Way in which a benchmark builds a frame; implemented by `FromHeaders` and `FromAddresses`.
 pub trait Builds {
-    /// Appends the frame that is built of these, and nothing at an error.
+    /// Builds a frame from these decoded headers and payload, and appends it to the buffer. An error leaves the buffer
+    /// unchanged.
     fn build(parts: &FrameParts<'_>, buffer: &mut Vec<u8>) -> Result<(), BuildWriteError>;
 }
 
-/// From headers by value.
+/// Builds a frame from decoded headers, with all their fields except those that the builder computes (types, lengths
+/// and checksums).
 pub struct FromHeaders;
 
-/// From addresses and ports.
+/// Builds a frame from the addresses, VLAN identifiers, ports and payload of a decoded frame. Most other header fields
+/// have the builder's default values.
 pub struct FromAddresses;
 
 impl Builds for FromHeaders {
@@ -163,7 +173,8 @@ impl Builds for FromAddresses {
     }
 }
 
-/// Builds the frame of each of these, one after the other in one buffer, and adds up what is summed of them.
+/// Builds all frames in the way of `Way`, one after the other in one reused buffer. Returns the sum of a number
+/// computed from each built frame; a benchmark checks that each round has the same sum.
 pub fn built<Way: Builds>(alloc: Global, all: &[FrameParts<'_>]) -> Result<u64, BenchError>
     ensures err { IfErr result (λ error. error ≡ BenchError.OutOfMemory) }
 {
@@ -177,7 +188,8 @@ pub fn built<Way: Builds>(alloc: Global, all: &[FrameParts<'_>]) -> Result<u64, 
     Ok(total)
 }
 
-/// The same of those that are UDP over IPv4 without tags, each in a new buffer, with the builder's size asked first.
+/// Builds each untagged UDP over IPv4 frame in a new buffer, which first reserves the size that the builder computes.
+/// Returns the sum of a number computed from each built frame; a benchmark checks that each round has the same sum.
 pub fn built_with_size(alloc: Global, all: &[FrameParts<'_>]) -> Result<u64, BenchError>
     ensures err { IfErr result (λ error. error ≡ BenchError.OutOfMemory) }
 {
@@ -190,7 +202,8 @@ pub fn built_with_size(alloc: Global, all: &[FrameParts<'_>]) -> Result<u64, Ben
     Ok(total)
 }
 
-/// What is summed of a frame that was built, and 0 where the builder refused it.
+/// Returns the number that a benchmark adds to its sum for a built frame, computed from its bytes; 0 if the builder
+/// rejected the frame. Only a failed allocation is an error.
 fn number_of(built: Result<(), BuildWriteError>, frame: &[u8]) -> Result<u64, BenchError>
     ensures err { IfErr result (λ error. error ≡ BenchError.OutOfMemory) }
 {
@@ -201,20 +214,21 @@ fn number_of(built: Result<(), BuildWriteError>, frame: &[u8]) -> Result<u64, Be
     }
 }
 
-/// Appends the frame that is built of these, and nothing at an error.
+/// Builds a frame from decoded headers and payload, with all fields that the builder does not compute, and appends it
+/// to the buffer. An error leaves the buffer unchanged.
 pub fn build(parts: &FrameParts<'_>, buffer: &mut Vec<u8>) -> Result<(), BuildWriteError> {
     match &parts.inside {
-        Inside::Ipv4(header, extensions, behind) => {
+        EtherPayloadParts::Ipv4(header, extensions, behind) => {
             let header = header.clone().unwrap();
             let extensions = extensions.clone().unwrap();
             build_ip(parts, IpHeaders::Ipv4(header, extensions), behind, buffer)
         }
-        Inside::Ipv6(header, extensions, behind) => {
+        EtherPayloadParts::Ipv6(header, extensions, behind) => {
             let header = header.clone().unwrap();
             let extensions = copy_of(extensions);
             build_ip(parts, IpHeaders::Ipv6(header, extensions), behind, buffer)
         }
-        Inside::Arp(packet) => {
+        EtherPayloadParts::Arp(packet) => {
             let packet = packet.clone().unwrap();
             let link = PacketBuilder::ethernet2(parts.link.source, parts.link.destination);
             match &parts.tags {
@@ -225,56 +239,67 @@ pub fn build(parts: &FrameParts<'_>, buffer: &mut Vec<u8>) -> Result<(), BuildWr
     }
 }
 
-/// Appends the frame of the addresses, tags, ports and payload of these, and nothing at an error: headers of IP without
-/// options and extension headers, and of TCP without options and with no flag but ACK.
+/// Builds a frame from the addresses, VLAN identifiers, ports and payload of a decoded frame, and appends it to the
+/// buffer. IP headers have no options or extension headers; TCP has no options, and ACK as its only flag. An ARP packet
+/// is copied without VLAN tags. An error leaves the buffer unchanged.
 pub fn build_from_addresses(
     parts: &FrameParts<'_>,
     buffer: &mut Vec<u8>,
 ) -> Result<(), BuildWriteError> {
     let link = PacketBuilder::ethernet2(parts.link.source, parts.link.destination);
     match &parts.inside {
-        Inside::Ipv4(header, _, behind) => {
+        EtherPayloadParts::Ipv4(header, _, behind) => {
             let (source, destination) = (header.source, header.destination);
             let hops = header.time_to_live;
             match &parts.tags {
-                None => build_behind(link.ipv4(source, destination, hops), behind, false, buffer),
+                None => append_ip_payload(
+                    link.ipv4(source, destination, hops),
+                    behind,
+                    false,
+                    buffer,
+                ),
                 Some(VlanHeader::Single(tag)) => {
                     let link = link.single_vlan(tag.vlan_id);
-                    build_behind(link.ipv4(source, destination, hops), behind, false, buffer)
+                    append_ip_payload(link.ipv4(source, destination, hops), behind, false, buffer)
                 }
                 Some(VlanHeader::Double(tags)) => {
                     let link = link.double_vlan(tags.outer.vlan_id, tags.inner.vlan_id);
-                    build_behind(link.ipv4(source, destination, hops), behind, false, buffer)
+                    append_ip_payload(link.ipv4(source, destination, hops), behind, false, buffer)
                 }
             }
         }
-        Inside::Ipv6(header, _, behind) => {
+        EtherPayloadParts::Ipv6(header, _, behind) => {
             let (source, destination) = (header.source, header.destination);
             let hops = header.hop_limit;
             match &parts.tags {
-                None => build_behind(link.ipv6(source, destination, hops), behind, false, buffer),
+                None => append_ip_payload(
+                    link.ipv6(source, destination, hops),
+                    behind,
+                    false,
+                    buffer,
+                ),
                 Some(VlanHeader::Single(tag)) => {
                     let link = link.single_vlan(tag.vlan_id);
-                    build_behind(link.ipv6(source, destination, hops), behind, false, buffer)
+                    append_ip_payload(link.ipv6(source, destination, hops), behind, false, buffer)
                 }
                 Some(VlanHeader::Double(tags)) => {
                     let link = link.double_vlan(tags.outer.vlan_id, tags.inner.vlan_id);
-                    build_behind(link.ipv6(source, destination, hops), behind, false, buffer)
+                    append_ip_payload(link.ipv6(source, destination, hops), behind, false, buffer)
                 }
             }
         }
-        Inside::Arp(packet) => link.arp(packet.clone().unwrap()).write(buffer),
+        EtherPayloadParts::Arp(packet) => link.arp(packet.clone().unwrap()).write(buffer),
     }
 }
 
-/// The same of a frame of UDP over IPv4 without tags, and nothing of another one: the step says the size, and room for
-/// it is made, before the step writes the frame.
+/// Reserves the size that the builder computes for an untagged UDP over IPv4 frame with these addresses, ports and
+/// payload, and appends the frame to the buffer. Appends nothing if the decoded frame is of another type.
 fn build_with_size(parts: &FrameParts<'_>, buffer: &mut Vec<u8>) -> Result<(), BuildWriteError> {
     if let None = &parts.tags {
-        if let Inside::Ipv4(
+        if let EtherPayloadParts::Ipv4(
             header,
             _,
-            Behind::Transport(TransportHeader::Udp(ports), payload),
+            IpPayloadParts::Transport(TransportHeader::Udp(ports), payload),
         ) = &parts.inside
         {
             let step = PacketBuilder::ethernet2(parts.link.source, parts.link.destination)
@@ -289,45 +314,46 @@ fn build_with_size(parts: &FrameParts<'_>, buffer: &mut Vec<u8>) -> Result<(), B
     Ok(())
 }
 
-/// A copy of extension headers.
+/// Returns a copy of the IPv6 extension headers, which does not allocate and cannot fail.
 #[inline(always)]
 fn copy_of(extensions: &Ipv6Extensions) -> Ipv6Extensions {
     extensions.clone().unwrap()
 }
 
-/// Appends the frame of the link header and the tags of these parts, these IP headers and what stands behind them. It
-/// is inlined, once for each version of IP: so the headers, which are large, stay where they are made.
+/// Builds a frame from the addresses and VLAN tags of `parts`, the IP headers in `headers` and a decoded IP payload,
+/// and appends it to the buffer. Inlined once for each IP version, so that the large IP headers are not moved.
 #[inline(always)]
 fn build_ip(
     parts: &FrameParts<'_>,
     headers: IpHeaders,
-    behind: &Behind<'_>,
+    behind: &IpPayloadParts<'_>,
     buffer: &mut Vec<u8>,
 ) -> Result<(), BuildWriteError> {
     let link = PacketBuilder::ethernet2(parts.link.source, parts.link.destination);
     match &parts.tags {
-        Some(tags) => build_behind(
+        Some(tags) => append_ip_payload(
             link.vlan(tags.clone().unwrap()).ip(headers),
             behind,
             true,
             buffer,
         ),
-        None => build_behind(link.ip(headers), behind, true, buffer),
+        None => append_ip_payload(link.ip(headers), behind, true, buffer),
     }
 }
 
-/// Appends the frame of a step of IP headers and what stands behind them; with a whole header of TCP, or else its ports
-/// and numbers alone. It is inlined for the same reason, and so that what the step holds is known there.
+/// Adds a decoded IP payload to a builder step that has IP headers, and appends the frame to the buffer. If `whole` is
+/// true, a TCP header is copied completely, else only its ports, numbers and window size. Inlined, so that the step is
+/// not moved.
 #[inline(always)]
-fn build_behind(
+fn append_ip_payload(
     step: PacketBuilderStep<IpHeaders>,
-    behind: &Behind<'_>,
+    behind: &IpPayloadParts<'_>,
     whole: bool,
     buffer: &mut Vec<u8>,
 ) -> Result<(), BuildWriteError> {
     match behind {
-        Behind::Payload(number, payload) => step.write(buffer, *number, payload),
-        Behind::Transport(transport, payload) => match transport {
+        IpPayloadParts::Payload(number, payload) => step.write(buffer, *number, payload),
+        IpPayloadParts::Transport(transport, payload) => match transport {
             TransportHeader::Udp(header) => {
                 step.udp(header.source_port, header.destination_port)
                     .write(buffer, payload)
@@ -358,20 +384,21 @@ fn build_behind(
     }
 }
 
-/// What is summed of a frame that was built.
+/// Returns a number that depends on the content of a built frame: its length plus the 16-bit words at bytes 24 and 40.
+/// A benchmark checks that the sum of these numbers is the same in each round.
 fn frame_number(frame: &[u8]) -> u64 {
     let words = u64::from(word_at(frame, 24)) + u64::from(word_at(frame, 40));
     words.wrapping_add(frame.len() as u64)
 }
 
-/// Two bytes of a frame, the high one first; 0 for what is not there.
+/// Returns the big-endian 16-bit word at byte offset `at` of a frame. Bytes after the end of the frame count as 0.
 fn word_at(frame: &[u8], at: usize) -> u16
     requires { at < 2 ^ 16 }
 {
     u16::from_be_bytes([byte_at(frame, at), byte_at(frame, at + 1)])
 }
 
-/// A byte of a frame, and 0 where it has none.
+/// Returns the byte at offset `at` of a frame, or 0 after the end of the frame.
 fn byte_at(frame: &[u8], at: usize) -> u8 {
     match frame.get(at) {
         Some(byte) => *byte,

@@ -1,4 +1,5 @@
-//! What is done with a frame, and what is summed of it.
+//! Calls that a benchmark measures on each frame or IP packet. Each computes a number from the result, which is added
+//! to a sum, so that no call is optimized away.
 
 use etherparse::err::packet::SliceError;
 use etherparse::{
@@ -6,16 +7,19 @@ use etherparse::{
     NetSlice, PacketHeaders, SlicedPacket, TransportHeader, TransportSlice,
 };
 
-/// Something that is done with each frame, or with each IP packet, in turn.
+/// Call that a benchmark measures on each frame or IP packet, implemented by one type for each measured function of the
+/// library (such as `Slicing`).
 pub trait Column<'a> {
-    /// What is kept from one to the next, before the first.
+    /// Creates the state of the measured call, such as an empty packet value that is reused for all frames.
     fn new() -> Self;
 
-    /// What is summed of one; 0 where it is refused.
+    /// Makes the measured call on one frame or IP packet, and returns a number computed from its result, or 0 if the
+    /// call rejects the bytes.
     fn number(&mut self, bytes: &'a [u8]) -> u64;
 }
 
-/// The sum over all of them.
+/// Makes the measured call `C` on all frames (or IP packets), and returns the sum of the numbers computed from the
+/// results.
 pub fn total<'a, C: Column<'a> + Drop>(frames: &[&'a [u8]]) -> u64 {
     let mut column = C::new();
     let mut total: u64 = 0;
@@ -25,7 +29,7 @@ pub fn total<'a, C: Column<'a> + Drop>(frames: &[&'a [u8]]) -> u64 {
     total
 }
 
-/// `SlicedPacket::from_ethernet`.
+/// Measures `SlicedPacket::from_ethernet`: slices an Ethernet frame into a new value.
 #[derive(Drop)]
 pub struct Slicing;
 
@@ -42,30 +46,30 @@ impl<'a> Column<'a> for Slicing {
     }
 }
 
-/// `SlicedPacket::from_ethernet` in a call that is not inlined.
+/// Measures `SlicedPacket::from_ethernet`, called through a function that is not inlined into the measured loop.
 #[derive(Drop)]
-pub struct SlicingApart;
+pub struct SlicingNotInlined;
 
-impl<'a> Column<'a> for SlicingApart {
-    fn new() -> SlicingApart {
-        SlicingApart
+impl<'a> Column<'a> for SlicingNotInlined {
+    fn new() -> SlicingNotInlined {
+        SlicingNotInlined
     }
 
     fn number(&mut self, bytes: &'a [u8]) -> u64 {
-        match sliced_apart(bytes) {
+        match slice_not_inlined(bytes) {
             Ok(packet) => layers_number(&packet),
             Err(_) => 0,
         }
     }
 }
 
-/// The packet, by value.
+/// Slices an Ethernet frame, in a function that is not inlined into the measured loop.
 #[inline(never)]
-fn sliced_apart(bytes: &[u8]) -> Result<SlicedPacket<'_>, SliceError> {
+fn slice_not_inlined(bytes: &[u8]) -> Result<SlicedPacket<'_>, SliceError> {
     SlicedPacket::from_ethernet(bytes)
 }
 
-/// `SlicedPacket::slice_into`, with one packet that is reused.
+/// Measures `SlicedPacket::slice_into`: slices each Ethernet frame into one reused value.
 #[derive(Drop)]
 pub struct Filling<'a> {
     packet: SlicedPacket<'a>,
@@ -86,7 +90,7 @@ impl<'a> Column<'a> for Filling<'a> {
     }
 }
 
-/// `LaxSlicedPacket::slice_into`, with one packet that is reused.
+/// Measures `LaxSlicedPacket::slice_into`: slices each Ethernet frame laxly into one reused value.
 #[derive(Drop)]
 pub struct LaxFilling<'a> {
     packet: LaxSlicedPacket<'a>,
@@ -107,7 +111,7 @@ impl<'a> Column<'a> for LaxFilling<'a> {
     }
 }
 
-/// `PacketHeaders::from_ethernet_slice`.
+/// Measures `PacketHeaders::from_ethernet_slice`: decodes the headers of an Ethernet frame into a new value.
 #[derive(Drop)]
 pub struct Decoding;
 
@@ -124,7 +128,7 @@ impl<'a> Column<'a> for Decoding {
     }
 }
 
-/// `PacketHeaders::read_into`, with one packet that is reused.
+/// Measures `PacketHeaders::read_into`: decodes the headers of each Ethernet frame into one reused value.
 #[derive(Drop)]
 pub struct Rereading<'a> {
     packet: PacketHeaders<'a>,
@@ -145,7 +149,7 @@ impl<'a> Column<'a> for Rereading<'a> {
     }
 }
 
-/// `Ipv4Slice::from_slice`.
+/// Measures `Ipv4Slice::from_slice` on each IP packet; an IPv6 packet is rejected.
 #[derive(Drop)]
 pub struct SlicingIpv4;
 
@@ -165,7 +169,7 @@ impl<'a> Column<'a> for SlicingIpv4 {
     }
 }
 
-/// `IpHeaders::from_slice`.
+/// Measures `IpHeaders::from_slice`: decodes the IP and extension headers of an IPv4 or IPv6 packet.
 #[derive(Drop)]
 pub struct ReadingIpHeaders;
 
@@ -188,7 +192,8 @@ impl<'a> Column<'a> for ReadingIpHeaders {
     }
 }
 
-/// What is summed of a sliced packet.
+/// Returns the sum of some header fields of a sliced packet (ether type, IP protocol and length, UDP or TCP ports) and
+/// the payload length. A benchmark adds it to a total, so that slicing is not optimized away.
 #[inline]
 fn layers_number(packet: &SlicedPacket<'_>) -> u64 {
     let link = link_number(&packet.link);
@@ -198,7 +203,8 @@ fn layers_number(packet: &SlicedPacket<'_>) -> u64 {
     headers.wrapping_add(packet.payload().len() as u64)
 }
 
-/// The same of a packet that is sliced laxly.
+/// Returns the sum of some header fields of a laxly sliced packet (ether type, IP protocol and length, UDP or TCP
+/// ports) and the payload length. A benchmark adds it to a total, so that slicing is not optimized away.
 #[inline]
 fn lax_layers_number(packet: &LaxSlicedPacket<'_>) -> u64 {
     let link = link_number(&packet.link);
@@ -208,7 +214,8 @@ fn lax_layers_number(packet: &LaxSlicedPacket<'_>) -> u64 {
     headers.wrapping_add(packet.payload().len() as u64)
 }
 
-/// What is summed of a link layer.
+/// Returns the ether type of a sliced Ethernet II header, or 0 for another or no link layer. A benchmark adds it to a
+/// total, so that slicing is not optimized away.
 #[inline]
 fn link_number(link: &Option<LinkSlice<'_>>) -> u16 {
     match link {
@@ -218,7 +225,8 @@ fn link_number(link: &Option<LinkSlice<'_>>) -> u16 {
     }
 }
 
-/// What is summed of a net layer.
+/// Returns protocol plus total length of a sliced IPv4 header, or next header plus payload length of an IPv6 header; 0
+/// for ARP or no network layer. A benchmark adds it to a total, so that slicing is not optimized away.
 #[inline]
 fn net_number(net: &Option<NetSlice<'_>>) -> u32 {
     match net {
@@ -234,7 +242,8 @@ fn net_number(net: &Option<NetSlice<'_>>) -> u32 {
     }
 }
 
-/// The same of one that is sliced laxly.
+/// Returns protocol plus total length of a laxly sliced IPv4 header, or next header plus payload length of an IPv6
+/// header; 0 for ARP or no network layer. A benchmark adds it to a total, so that slicing is not optimized away.
 #[inline]
 fn lax_net_number(net: &Option<LaxNetSlice<'_>>) -> u32 {
     match net {
@@ -250,7 +259,8 @@ fn lax_net_number(net: &Option<LaxNetSlice<'_>>) -> u32 {
     }
 }
 
-/// What is summed of a transport layer.
+/// Returns source port plus destination port of a sliced UDP or TCP header; 0 for ICMP or no transport layer. A
+/// benchmark adds it to a total, so that slicing is not optimized away.
 #[inline]
 fn transport_number(transport: &Option<TransportSlice<'_>>) -> u32 {
     match transport {
@@ -264,7 +274,8 @@ fn transport_number(transport: &Option<TransportSlice<'_>>) -> u32 {
     }
 }
 
-/// What is summed of decoded headers.
+/// Returns the sum of some decoded header fields of a packet (ether type, IP protocol and length, UDP or TCP ports) and
+/// the payload length. A benchmark adds it to a total, so that decoding is not optimized away.
 #[inline]
 fn headers_number(packet: &PacketHeaders<'_>) -> u64 {
     let link = link_header_number(&packet.link);
@@ -274,7 +285,8 @@ fn headers_number(packet: &PacketHeaders<'_>) -> u64 {
     headers.wrapping_add(packet.payload.slice().len() as u64)
 }
 
-/// What is summed of a link header.
+/// Returns the ether type of a decoded Ethernet II header, or 0 for another or no link header. A benchmark adds it to a
+/// total, so that decoding is not optimized away.
 #[inline]
 fn link_header_number(link: &Option<LinkHeader>) -> u16 {
     match link {
@@ -283,7 +295,8 @@ fn link_header_number(link: &Option<LinkHeader>) -> u16 {
     }
 }
 
-/// What is summed of net headers.
+/// Returns protocol plus total length of a decoded IPv4 header, or next header plus payload length of an IPv6 header; 0
+/// for ARP or no network layer. A benchmark adds it to a total, so that decoding is not optimized away.
 #[inline]
 fn net_header_number(net: &Option<NetHeaders>) -> u32 {
     match net {
@@ -297,7 +310,8 @@ fn net_header_number(net: &Option<NetHeaders>) -> u32 {
     }
 }
 
-/// What is summed of a transport header.
+/// Returns source port plus destination port of a decoded UDP or TCP header; 0 for ICMP or no transport header. A
+/// benchmark adds it to a total, so that decoding is not optimized away.
 #[inline]
 fn transport_header_number(transport: &Option<TransportHeader>) -> u32 {
     match transport {

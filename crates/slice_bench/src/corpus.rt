@@ -1,4 +1,4 @@
-//! What is measured.
+//! Selection of the IP packets in Ethernet frames, for benchmarks that start at the IP header.
 
 ghost use Rattle.std.specs.Prelude.{◌≡◌, IfErr};
 
@@ -6,7 +6,8 @@ use crate::bench_error::BenchError;
 use etherparse::{EtherPayloadSlice, NetSlice, SlicedPacket};
 use std::alloc::Global;
 
-/// The IP packets in frames, each where its frame has one, with what its length field leaves.
+/// Returns the IP packet of each Ethernet frame that slicing accepts and that contains one. Bytes after the end that
+/// its length field states, such as Ethernet padding, are included.
 pub fn ip_packets_of<'a>(alloc: Global, frames: &[&'a [u8]]) -> Result<Vec<&'a [u8]>, BenchError>
     ensures err { IfErr result (λ error. error ≡ BenchError.OutOfMemory) }
 {
@@ -21,7 +22,8 @@ pub fn ip_packets_of<'a>(alloc: Global, frames: &[&'a [u8]]) -> Result<Vec<&'a [
     Ok(packets)
 }
 
-/// The IP packet in a frame, where it has one.
+/// Returns the bytes of the IP packet in an Ethernet frame, or `None` if the frame is rejected or contains no IP
+/// packet.
 fn ip_packet(frame: &[u8]) -> Option<&[u8]> {
     match SlicedPacket::from_ethernet(frame) {
         Ok(packet) => ip_bytes(&packet),
@@ -29,7 +31,8 @@ fn ip_packet(frame: &[u8]) -> Option<&[u8]> {
     }
 }
 
-/// The bytes behind the link layer and its extensions, where the net layer in them is IP.
+/// Returns the bytes after the link header and all VLAN or MACsec tags of a sliced packet if they are an IP packet,
+/// otherwise `None`.
 fn ip_bytes<'a>(packet: &SlicedPacket<'a>) -> Option<&'a [u8]> {
     let inside = payload_bytes(packet.ether_payload());
     match &packet.net {
@@ -39,7 +42,7 @@ fn ip_bytes<'a>(packet: &SlicedPacket<'a>) -> Option<&'a [u8]> {
     }
 }
 
-/// The bytes of a payload.
+/// Returns the bytes of a payload that has an ether type, without the ether type.
 fn payload_bytes(payload: Option<EtherPayloadSlice<'_>>) -> Option<&[u8]> {
     match payload {
         Some(payload) => Some(payload.payload),

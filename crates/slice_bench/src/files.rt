@@ -1,4 +1,4 @@
-//! The frames of a file.
+//! Splits the input file of the benchmark program into frames.
 
 ghost use Rattle.std.specs.Prelude.{◌≡◌, ◌⊎◌, ℕ, List, map, IfErr, IfNone, IfOk, IfSome};
 ghost use Rattle.slice_bench.specs.Files.{HoldsFrames, StartsWith};
@@ -6,8 +6,8 @@ ghost use Rattle.slice_bench.specs.Files.{HoldsFrames, StartsWith};
 use crate::bench_error::BenchError;
 use std::alloc::Global;
 
-/// The frames that the bytes of a file hold: of each its length in four bytes, the lowest first, and then its bytes.
-/// A file whose last frame is cut is refused.
+/// Splits the bytes of the benchmark's input file into frames. Each frame in the file is a length (four bytes, little
+/// endian) and then as many bytes. Returns an error if the last frame is truncated.
 pub fn frames_of(alloc: Global, bytes: &[u8]) -> Result<Vec<&[u8]>, BenchError>
     ensures ok { IfOk result (λ frames. HoldsFrames bytes.now (map (λ frame. frame.now) frames.items)) }
     ensures cut { result ≡ Err BenchError.Cut → (frames : List (List ℕ)) → HoldsFrames bytes.now frames → ⊥ }
@@ -27,7 +27,8 @@ pub fn frames_of(alloc: Global, bytes: &[u8]) -> Result<Vec<&[u8]>, BenchError>
     Ok(frames)
 }
 
-/// The first frame, and what stands behind it.
+/// Splits off the first frame of the benchmark's input file: a length (four bytes, little endian) and then as many
+/// bytes. Returns the frame and the bytes after it, or `None` if the frame is truncated.
 fn split_frame(bytes: &[u8]) -> Option<(&[u8], &[u8])>
     ensures some { IfSome result (λ parts. StartsWith bytes.now parts.0.now parts.1.now) }
     ensures none { IfNone result ((frame rest : List ℕ) → StartsWith bytes.now frame rest → ⊥) }

@@ -1,9 +1,10 @@
-//! Measures how long a frame takes.
+//! Benchmark program: measures the time that slicing, decoding, building and reassembling take for each frame.
 //!
-//! `slice_bench FILE` reads frames, each a length of four bytes, the lowest first, and then its bytes, and prints the
-//! mean time of a frame for each measurement, with what was summed, so that nothing is left out.
-//! `slice_bench FILE ROUNDS` makes so many rounds over the file in place of as many as take a second, and
-//! `slice_bench FILE ROUNDS MEASUREMENT` that one alone: so instructions can be counted.
+//! `slice_bench FILE` reads frames from a file: each is a length (four bytes, little endian) and then as many bytes.
+//! For each measurement it prints the mean time per item (frame or IP packet) and a sum over the results, so that no
+//! call is optimized away. It repeats each measurement for a second, after one round that is not timed. `slice_bench
+//! FILE ROUNDS` makes this number of timed rounds over the file instead, and `slice_bench FILE ROUNDS MEASUREMENT`
+//! makes one measurement only, so that its instructions can be counted.
 #![tactic(auto)]
 
 mod bench_error;
@@ -24,7 +25,8 @@ use std::process::ExitCode;
 use std::rt::{Clock, Env, Files};
 use std::{env, fs};
 
-/// The greatest number of frames that are built anew, the first ones: the headers of each take some ten kilobytes.
+/// Number of frames at the start of the file that the building benchmarks use at most. They are limited because the
+/// decoded headers of each frame use some ten kilobytes.
 const MOST_BUILT: usize = 1000;
 
 fn main(rt: HostRuntime) -> ExitCode {
@@ -37,7 +39,7 @@ fn main(rt: HostRuntime) -> ExitCode {
     }
 }
 
-/// Does what the arguments ask.
+/// Reads the file with frames, makes the measurements that the command line arguments select, and prints the results.
 fn run<R: Files + Env + Clock + Print + AllocGlobal>(rt: &R) -> Result<(), BenchError> {
     let Ok(mut args) = env::args(rt) else {
         return Err(BenchError::Usage);
@@ -75,7 +77,7 @@ fn run<R: Files + Env + Clock + Print + AllocGlobal>(rt: &R) -> Result<(), Bench
     Ok(())
 }
 
-/// A number of rounds, at least one.
+/// Parses the argument ROUNDS, a decimal number. Anything else than a number above 0 is a usage error.
 fn rounds_in(text: &str) -> Result<u64, BenchError> {
     match text.parse::<u64>() {
         Ok(rounds) if rounds > 0 => Ok(rounds),
@@ -83,7 +85,7 @@ fn rounds_in(text: &str) -> Result<u64, BenchError> {
     }
 }
 
-/// The measurement of this name.
+/// Returns the measurement with the name given as the argument MEASUREMENT; an unknown name is a usage error.
 fn measurement_named(name: &str) -> Result<Measurement, BenchError> {
     for measurement in Measurement::ALL {
         if measurement.name() == name {
@@ -93,7 +95,7 @@ fn measurement_named(name: &str) -> Result<Measurement, BenchError> {
     Err(BenchError::Usage)
 }
 
-/// Prints what the columns are.
+/// Prints the heading of the results: measurement, items, rounds, nanoseconds per item, and sum.
 fn print_heading<R: Print>(rt: &R) -> Result<(), BenchError> {
     let printed = println!(rt;
         "{:<23} {:>9} {:>9} {:>10} {:>20}",
@@ -102,7 +104,7 @@ fn print_heading<R: Print>(rt: &R) -> Result<(), BenchError> {
     printed.map_err(|_| BenchError::Output)
 }
 
-/// Makes a measurement, and prints what came of it.
+/// Makes one measurement, and prints its results in one line: number of items, rounds, mean time per item, and sum.
 fn print_measured<R: Clock + Print + AllocGlobal>(
     rt: &R,
     measurement: Measurement,

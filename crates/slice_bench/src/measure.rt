@@ -1,4 +1,4 @@
-//! Rounds over frames, and how long they take.
+//! Measures the time of benchmark rounds: one round makes a call on each frame or IP packet of a file.
 
 ghost use Rattle.std.specs.Prelude.{◌≡◌, ◌*◌, ◌/◌, ◌<◌, ◌^◌};
 ghost use Rattle.slice_bench.specs.BenchTexts.{measurement_name};
@@ -6,59 +6,61 @@ ghost use Rattle.slice_bench.specs.BenchTexts.{measurement_name};
 use crate::bench_error::BenchError;
 use crate::building::{FrameParts, FromAddresses, FromHeaders, built, built_with_size};
 use crate::columns::{
-    Decoding, Filling, LaxFilling, ReadingIpHeaders, Rereading, Slicing, SlicingApart, SlicingIpv4,
-    total,
+    Decoding, Filling, LaxFilling, ReadingIpHeaders, Rereading, Slicing, SlicingIpv4,
+    SlicingNotInlined, total,
 };
 use crate::reassembly::handed_out;
 use std::alloc::Global;
 use std::rt::Clock;
 use std::time::Instant;
 
-/// The frames of a file, the IP packets in them, and what some of them are built from.
+/// Input of the benchmarks: the frames of a file, the IP packets in them, and the decoded headers and payloads of the
+/// first frames.
 #[derive(Drop)]
 pub struct Corpus<'a> {
-    /// The frames.
+    /// All Ethernet frames of the benchmark's input file.
     pub frames: Vec<&'a [u8]>,
-    /// The IP packets in them.
+    /// IP packets in the frames of the benchmark's input file, for measurements that start at the IP header.
     pub ip_packets: Vec<&'a [u8]>,
-    /// What some of the frames are built from.
+    /// Decoded headers and payloads of the first frames of the input file, for measurements that build frames.
     pub frame_parts: Vec<FrameParts<'a>>,
 }
 
-/// What is done with each frame of a file, with each IP packet in them, or with what some of them are built from.
+/// Measurement of the benchmark program: the library call that it makes on each frame or IP packet of the input file,
+/// or on the decoded headers of those of its first 1,000 frames that the builder supports.
 #[derive(Clone, Copy, Debug, PartialEq, Eq)]
 pub enum Measurement {
-    /// A frame is sliced.
+    /// Slices each Ethernet frame into a new value.
     Slicing,
-    /// A frame is sliced by a call that is not inlined.
-    SlicingApart,
-    /// A frame is sliced into one packet that is reused.
+    /// Slices each Ethernet frame into a new value, in a function that is not inlined.
+    SlicingNotInlined,
+    /// Slices each Ethernet frame into one reused packet value.
     Filling,
-    /// The same laxly.
+    /// Slices each Ethernet frame laxly into one reused packet value.
     LaxFilling,
-    /// The headers of a frame are decoded.
+    /// Decodes the headers of each Ethernet frame into a new value.
     Decoding,
-    /// The headers of a frame are decoded into one value that is reused.
+    /// Decodes the headers of each Ethernet frame into one reused value.
     Rereading,
-    /// An IP packet is sliced as one of IPv4.
+    /// Slices each IP packet as IPv4; IPv6 packets are rejected.
     SlicingIpv4,
-    /// The headers of an IP packet are read.
+    /// Decodes the IP and extension headers of each IPv4 or IPv6 packet.
     ReadingIpHeaders,
-    /// A frame is built anew from its headers by value and its payload.
+    /// Builds each frame from its decoded headers and its payload, in one reused buffer.
     Building,
-    /// A frame is built from the addresses, ports and payload of one.
+    /// Builds each frame from the addresses, ports and payload of a decoded frame, in one reused buffer.
     BuildingFromAddresses,
-    /// The same of UDP over IPv4 without tags, into a new buffer, with its size asked first.
+    /// Builds each untagged UDP over IPv4 frame in a new buffer that first reserves the size that the builder computes.
     BuildingWithSize,
-    /// A frame is sliced and given to a pool, which is new in each round.
+    /// Slices each Ethernet frame and passes it to a reassembly pool, which is new in each round.
     Reassembly,
 }
 
 impl Measurement {
-    /// Each of them, in the order in which they are made.
+    /// All measurements of the benchmark program, in the order in which they are made.
     pub const ALL: [Measurement; 12] = [
         Measurement::Slicing,
-        Measurement::SlicingApart,
+        Measurement::SlicingNotInlined,
         Measurement::Filling,
         Measurement::LaxFilling,
         Measurement::Decoding,
@@ -71,13 +73,13 @@ impl Measurement {
         Measurement::Reassembly,
     ];
 
-    /// Its name, as an argument and in the output.
+    /// Name of the measurement, as the argument MEASUREMENT and in the printed results.
     pub fn name(&self) -> &'static str
         ensures { result.now ≡ measurement_name self.now }
     {
         match self {
             Measurement::Slicing => "slicing",
-            Measurement::SlicingApart => "slicing-apart",
+            Measurement::SlicingNotInlined => "slicing-apart",
             Measurement::Filling => "filling",
             Measurement::LaxFilling => "lax-filling",
             Measurement::Decoding => "decoding",
@@ -91,11 +93,12 @@ impl Measurement {
         }
     }
 
-    /// How many a round goes over.
+    /// Number of items in one round of this measurement: frames, IP packets or decoded frames, as the measurement uses
+    /// them.
     pub fn count(&self, corpus: &Corpus<'_>) -> usize {
         match self {
             Measurement::Slicing
-            | Measurement::SlicingApart
+            | Measurement::SlicingNotInlined
             | Measurement::Filling
             | Measurement::LaxFilling
             | Measurement::Decoding
@@ -108,11 +111,14 @@ impl Measurement {
         }
     }
 
-    /// One round, and what is summed in it.
+    /// Makes one round of this measurement over the input, and returns the sum of the numbers computed from the results
+    /// of its calls.
     fn round(&self, alloc: Global, corpus: &Corpus<'_>) -> Result<u64, BenchError> {
         match self {
             Measurement::Slicing => Ok(total::<Slicing>(corpus.frames.as_slice())),
-            Measurement::SlicingApart => Ok(total::<SlicingApart>(corpus.frames.as_slice())),
+            Measurement::SlicingNotInlined => Ok(total::<SlicingNotInlined>(
+                corpus.frames.as_slice(),
+            )),
             Measurement::Filling => Ok(total::<Filling>(corpus.frames.as_slice())),
             Measurement::LaxFilling => Ok(total::<LaxFilling>(corpus.frames.as_slice())),
             Measurement::Decoding => Ok(total::<Decoding>(corpus.frames.as_slice())),
@@ -131,21 +137,23 @@ impl Measurement {
     }
 }
 
-/// What came of a measurement.
+/// Result of one measurement of the benchmark program.
 #[derive(Drop)]
 pub struct Measured {
-    /// How many rounds were made.
+    /// Number of timed rounds over the input that the measurement made.
     pub rounds: u64,
-    /// How long they took, in nanoseconds.
+    /// Duration of all timed rounds of the measurement together, in nanoseconds.
     pub nanos: u64,
-    /// What is summed in a round.
+    /// Sum of the numbers computed from the results of the measured calls in one round; equal in all rounds.
     pub sum: u64,
 }
 
-/// How long rounds take that are made for nothing but their time, in nanoseconds.
+/// Duration in nanoseconds (one second) after which a measurement starts no further round, if the argument ROUNDS is
+/// not given.
 const LONG_ENOUGH: u64 = 1_000_000_000;
 
-/// Makes a round, and then so many rounds that are timed, or as many as take a second.
+/// Makes one round of a measurement without timing it, and then `rounds` timed rounds or, if `None`, rounds until a
+/// second has passed. Returns an error if a round's sum differs from that of the first round.
 pub fn measure<C: Clock>(
     clock: &C,
     alloc: Global,
@@ -182,7 +190,8 @@ pub fn measure<C: Clock>(
     })
 }
 
-/// The mean time of one of so many, in tenths of a nanosecond, rounded down.
+/// Returns the mean time of a measured call in tenths of a nanosecond, rounded down: the duration `nanos` divided by
+/// the number of calls, `count`.
 pub fn mean_tenths(nanos: u64, count: u64) -> u64
     requires { 0 < count }
     ensures { nanos * 10 < 2 ^ 64 → result ≡ nanos * 10 / count }

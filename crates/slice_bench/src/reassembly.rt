@@ -1,12 +1,13 @@
-//! Putting the fragmented payloads of frames together.
+//! Benchmark of reassembly: passes all frames of the input file to a reassembly pool.
 
 use crate::bench_error::BenchError;
 use etherparse::SlicedPacket;
 use etherparse::defrag::{IpDefragError, IpDefragPool};
 use std::alloc::Global;
 
-/// How many bytes a new pool hands out of these frames, in order. It sees what is no frame as nothing, and gets each
-/// payload's memory back.
+/// Passes all frames in order to a new reassembly pool, and returns the total length in bytes of the payloads that it
+/// reassembles. Frames that slicing or the pool rejects are ignored. The buffer of each payload is returned to the pool
+/// for reuse.
 pub fn handed_out(alloc: Global, frames: &[&[u8]]) -> Result<u64, BenchError> {
     let mut pool: IpDefragPool<(), ()> = IpDefragPool::new(alloc);
     let mut total: u64 = 0;
@@ -16,7 +17,8 @@ pub fn handed_out(alloc: Global, frames: &[&[u8]]) -> Result<u64, BenchError> {
     Ok(total)
 }
 
-/// How many bytes the pool hands out at a frame.
+/// Passes one frame to the reassembly pool, and returns the length in bytes of the payload that it completes, or 0 if
+/// it completes none.
 fn taken(pool: &mut IpDefragPool<(), ()>, frame: &[u8]) -> Result<u64, BenchError> {
     let Ok(packet) = SlicedPacket::from_ethernet(frame) else {
         return Ok(0);

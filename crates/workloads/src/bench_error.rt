@@ -1,22 +1,22 @@
-//! Why a job was not done.
+//! Errors of the benchmark program `workloads`.
 
 use std::alloc::{AllocError, AllocFailed};
 
-/// Why a job was not done.
+/// Reason for which the benchmark program `workloads` failed.
 #[derive(Debug, Drop)]
 pub enum BenchError {
-    /// The arguments are not those of the usage line.
+    /// The command line arguments are not JOB ROUNDS SEED.
     Usage,
-    /// There was no memory.
+    /// An allocation failed.
     OutOfMemory,
     /// Standard output could not be written.
     Output,
-    /// An input was not made as it was meant.
+    /// An input of a benchmark job (frame, capture or fragment) could not be generated as intended.
     Input,
 }
 
 impl BenchError {
-    /// The line for standard error, without its line feed.
+    /// Returns the error message for standard error, without a line feed at the end.
     pub fn text(&self) -> &'static str {
         match self {
             BenchError::Usage => "usage: workloads JOB ROUNDS SEED",
@@ -26,7 +26,7 @@ impl BenchError {
         }
     }
 
-    /// The status of the process: 2 where the call itself is wrong, and else 1.
+    /// Returns the exit status of the program: 2 if the command line arguments are wrong, otherwise 1.
     pub fn status(&self) -> u8 {
         match self {
             BenchError::Usage => 2,

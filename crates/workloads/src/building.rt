@@ -1,4 +1,4 @@
-//! Frames built.
+//! The benchmark job that builds frames.
 
 use crate::bench_error::BenchError;
 use crate::digest::Digest;
@@ -15,44 +15,45 @@ use etherparse::{
 };
 use std::alloc::Global;
 
-/// What a frame is built of.
+/// Kind of a frame that the benchmark builds: its headers, and what they are built from.
 #[derive(Clone, Copy)]
 enum Kind {
-    /// Addresses of IPv4 and ports of UDP.
+    /// A UDP datagram over IPv4, built from addresses and ports.
     UdpIpv4,
-    /// The same behind a VLAN tag.
+    /// A UDP datagram over IPv4 with a VLAN tag, built from addresses and ports.
     TaggedUdpIpv4,
-    /// The same of IPv6.
+    /// A UDP datagram over IPv6, built from addresses and ports.
     UdpIpv6,
-    /// Addresses of IPv4, and of TCP ports, numbers and options.
+    /// A TCP segment over IPv4, built from addresses, ports, sequence numbers and options.
     TcpIpv4,
-    /// The same of IPv6.
+    /// A TCP segment over IPv6, built from addresses, ports, sequence numbers and options.
     TcpIpv6,
-    /// Addresses of IPv4, and an echo request's numbers.
+    /// An ICMPv4 echo request, built from addresses, identifier and sequence number.
     EchoIpv4,
-    /// The same of IPv6.
+    /// An ICMPv6 echo request, built from addresses, identifier and sequence number.
     EchoIpv6,
-    /// A header of IPv4, and ports of UDP.
+    /// A UDP datagram over IPv4, built from an owned IPv4 header and ports.
     Ipv4Header,
-    /// The same of IPv6.
+    /// A UDP datagram over IPv6, built from an owned IPv6 header and ports.
     Ipv6Header,
-    /// The same with extension headers.
+    /// A UDP datagram over IPv6, built from an owned IPv6 header with extension headers, and ports.
     Chain,
-    /// A header of IPv4 that says where in a payload a fragment belongs.
+    /// An IPv4 fragment, built from an owned IPv4 header with a fragment offset.
     Fragment,
 }
 
-/// How frames are built again and again.
+/// Description of a frame that the benchmark builds once in each round, with other addresses and ports.
 #[derive(Clone, Copy)]
 struct Plan {
     kind: Kind,
-    /// Where among the bytes of payloads its payload begins.
+    /// Offset in the vector of random bytes at which the payload of the frame starts.
     start: usize,
-    /// How many bytes it has.
+    /// Length of the payload of the frame in bytes.
     len: usize,
 }
 
-/// Builds frames, of addresses and of headers, each into one vector that is used again.
+/// Builds 2,000 frames in each round, from addresses or from owned headers, each into one reused vector. Returns the
+/// digest of their bytes.
 pub fn build_frames(alloc: Global, rounds: u32, seed: u64) -> Result<Digest, BenchError> {
     let mut numbers = Numbers::new(seed);
     let noise = noise(alloc, &mut numbers)?;
@@ -81,7 +82,7 @@ pub fn build_frames(alloc: Global, rounds: u32, seed: u64) -> Result<Digest, Ben
 }
 
 impl Plan {
-    /// One of a drawn kind, with a payload of 0, 64, 1,400 or seldom 8,900 bytes.
+    /// Draws a random kind of frame, and a payload length of 0, 64, 1,400 or, rarely, 8,900 bytes.
     fn drawn(numbers: &mut Numbers) -> Plan {
         let kind = match numbers.below(100) {
             0..=21 => Kind::UdpIpv4,
@@ -109,7 +110,8 @@ impl Plan {
         }
     }
 
-    /// Appends a frame with addresses and ports of this number.
+    /// Appends a frame whose addresses and ports are derived from `number`. The inner result is that of the packet
+    /// builder; the outer one is an error if an input value is invalid.
     fn build(
         &self,
         number: u64,
@@ -201,7 +203,7 @@ impl Plan {
     }
 }
 
-/// The options of a segment with a timestamp.
+/// Returns TCP options: two no-operation options, and a timestamp with the lower 16 bits of `number`.
 fn timestamp(number: u64) -> [TcpOptionElement; 3] {
     let time = u32::from(low_16(number));
     [
@@ -211,7 +213,7 @@ fn timestamp(number: u64) -> [TcpOptionElement; 3] {
     ]
 }
 
-/// A header of IPv4 from this address.
+/// Returns an IPv4 header with this source address, identification and fragment offset, and without extension headers.
 fn ipv4_headers(
     source: [u8; 4],
     identification: u16,
@@ -231,7 +233,7 @@ fn ipv4_headers(
     IpHeaders::Ipv4(header, Default::default())
 }
 
-/// A header of IPv6 from this address.
+/// Returns an IPv6 header with this source address and a fixed destination address.
 fn ipv6_from(source: [u8; 16]) -> Ipv6Header {
     Ipv6Header {
         source,

@@ -1,4 +1,4 @@
-//! Captures read, and told packet by packet.
+//! The benchmark job that reads captures and formats a line for each packet.
 
 use crate::bench_error::BenchError;
 use crate::digest::Digest;
@@ -13,38 +13,39 @@ use packet_times::{EPOCH, instant_of, is_fine, push_since, push_utc};
 use refusal_texts::push_reason;
 use std::alloc::Global;
 
-/// How many bytes of a capture are taken at a time.
+/// Number of bytes of a capture that are given to the reader at a time (64 KiB).
 const PIECE_LEN: usize = 65_536;
 
-/// How many bytes of a packet a capture keeps that is cut.
+/// Snap length of the generated capture with truncated packets, in bytes.
 const SNAP_LEN: usize = 96;
 
-/// The seconds at which captures begin.
+/// Start time of generated captures in seconds since 1970-01-01 00:00 UTC; the times of their packets are added to it.
 const BEGIN: u64 = 1_732_542_399;
 
-/// How many bytes of text are put together before they are taken away.
+/// Number of bytes of formatted lines that are collected before they are added to the digest (64 KiB).
 const TEXT_LEN: usize = 65_536;
 
-/// The format of a capture.
+/// Format of a generated capture, pcap or pcapng.
 #[derive(Clone, Copy, PartialEq, Eq)]
 enum Format {
-    /// pcap, in microseconds.
+    /// pcap capture, with timestamps in microseconds.
     Classic,
-    /// pcapng, in nanoseconds.
+    /// pcapng capture, with timestamps in nanoseconds.
     Blocks,
 }
 
-/// What a capture has behind its beginning, which is taken again and again with other packets, and its reader.
+/// The packet records or blocks of a generated capture, and the capture reader that reads them in every round with
+/// other timestamps, addresses and ports.
 #[derive(Drop)]
 struct Tape {
     format: Format,
     frames: Frames,
-    /// Where the time of each packet stands.
+    /// Index of the timestamp of each packet in the bytes of the generated capture after its file header.
     times: Vec<usize>,
     reader: CaptureReader,
 }
 
-/// What is told of packets.
+/// Formatted lines about captured packets, the digest of earlier lines, and the filter that each packet is tested with.
 #[derive(Drop)]
 struct Report {
     digest: Digest,
@@ -52,8 +53,9 @@ struct Report {
     word: Word,
 }
 
-/// Reads captures in turns: pcap, pcapng, and pcap that keeps 96 bytes of a packet. Of each packet a line is put
-/// together: number, time, ports, details, why it is refused, and whether a filter lets it through.
+/// Reads a generated capture in each round: pcap, pcapng, and pcap with a snap length of 96 bytes alternate. For each
+/// packet a line is formatted: number, time, ports, details, why it is rejected, and whether a filter accepts it.
+/// Returns the digest of the lines.
 pub fn read_captures(alloc: Global, rounds: u32, seed: u64) -> Result<Digest, BenchError> {
     let mut numbers = Numbers::new(seed);
     let mut whole = Tape::drawn(alloc, &mut numbers, Format::Classic, usize::MAX)?;
@@ -80,7 +82,8 @@ pub fn read_captures(alloc: Global, rounds: u32, seed: u64) -> Result<Digest, Be
 }
 
 impl Tape {
-    /// One of packets of drawn shapes, of which at most so many bytes are kept.
+    /// Generates a capture of this format with 2,000 random packets, each truncated to at most `most` bytes, and gives
+    /// its file header to a new reader.
     fn drawn(
         alloc: Global,
         numbers: &mut Numbers,
@@ -108,7 +111,8 @@ impl Tape {
         Ok(tape)
     }
 
-    /// Appends a packet that stands so among those that were drawn.
+    /// Appends a packet, truncated to at most `most` bytes, to the generated capture. `place` has the positions of the
+    /// addresses and ports that are set in each round.
     fn push(&mut self, place: &Place, frame: &[u8], most: usize) -> Result<(), BenchError> {
         let kept = between(frame, 0, frame.len().min(most));
         let (kept_len, len) = (low_32(kept.len()), low_32(frame.len()));
@@ -145,7 +149,8 @@ impl Tape {
         Ok(())
     }
 
-    /// Reads its packets with other times, addresses and ports, by this number.
+    /// Reads all packets of the generated capture and reports each, after setting times, addresses and ports to values
+    /// derived from `number`.
     fn read(&mut self, number: u64, report: &mut Report) -> Result<(), BenchError> {
         self.frames.renew(number);
         let mut micros = number.wrapping_mul(37);
@@ -161,19 +166,21 @@ impl Tape {
     }
 }
 
-/// The heading of a classic capture of Ethernet, in microseconds.
+/// File header of a pcap capture: little endian, version 2.4, timestamps in microseconds, snap length 262,144,
+/// Ethernet.
 const CLASSIC_HEADING: &[u8] = &[
     0xd4, 0xc3, 0xb2, 0xa1, 2, 0, 4, 0, 0, 0, 0, 0, 0, 0, 0, 0, 0, 0, 4, 0, 1, 0, 0, 0,
 ];
 
-/// A section, and an interface of Ethernet, in nanoseconds.
+/// Start of a pcapng capture: a little endian section header, and the description of an Ethernet interface with
+/// timestamps in nanoseconds.
 const SECTION_AND_INTERFACE: &[u8] = &[
     0x0a, 0x0d, 0x0d, 0x0a, 28, 0, 0, 0, 0x4d, 0x3c, 0x2b, 0x1a, 1, 0, 0, 0, 255, 255, 255, 255,
     255, 255, 255, 255, 28, 0, 0, 0, 1, 0, 0, 0, 32, 0, 0, 0, 1, 0, 0, 0, 0, 0, 4, 0, 9, 0, 1, 0,
     9, 0, 0, 0, 0, 0, 0, 0, 32, 0, 0, 0,
 ];
 
-/// Writes the time of a packet, so many microseconds behind the first.
+/// Writes the timestamp of a packet into a generated capture at index `at`: `micros` microseconds after the start time.
 fn put_time(bytes: &mut [u8], at: usize, format: Format, micros: u64) {
     let (first, second) = match format {
         Format::Classic => {
@@ -192,7 +199,7 @@ fn put_time(bytes: &mut [u8], at: usize, format: Format, micros: u64) {
     put_low_32(bytes, at.wrapping_add(4), second);
 }
 
-/// Writes the lower 32 bits of a number, the lowest byte first.
+/// Writes the lower 32 bits of a number at index `at`, little endian. Bytes out of range are not written.
 fn put_low_32(bytes: &mut [u8], at: usize, number: u64) {
     let [a, b, c, d, ..] = number.to_le_bytes();
     put(bytes, at, a);
@@ -201,12 +208,13 @@ fn put_low_32(bytes: &mut [u8], at: usize, number: u64) {
     put(bytes, at.wrapping_add(3), d);
 }
 
-/// A length in 32 bits.
+/// Returns a length in bytes as a 32 bit number, modulo 2^32.
 fn low_32(len: usize) -> u32 {
     (len % 0x1_0000_0000) as u32
 }
 
-/// Gives a reader a piece.
+/// Gives the next chunk of a capture to its reader. Returns an error if the capture would exceed 2^64 - 1 bytes or an
+/// allocation fails.
 fn take(reader: &mut CaptureReader, piece: &[u8]) -> Result<(), BenchError> {
     if reader.taken().checked_add(piece.len() as u64).is_none() {
         return Err(BenchError::Input);
@@ -215,7 +223,7 @@ fn take(reader: &mut CaptureReader, piece: &[u8]) -> Result<(), BenchError> {
     Ok(())
 }
 
-/// Tells of each packet that was taken whole.
+/// Reads all complete packets that the capture reader was given so far, and appends a line for each to the report.
 fn read_packets(reader: &mut CaptureReader, report: &mut Report) -> Result<(), BenchError> {
     for _ in 0..u64::MAX {
         match reader.advance() {
@@ -229,7 +237,8 @@ fn read_packets(reader: &mut CaptureReader, report: &mut Report) -> Result<(), B
 }
 
 impl Report {
-    /// Puts the line of a packet together.
+    /// Appends the line of a captured packet: number, time, whether a filter accepts it, ports, details, and why
+    /// parsing stopped.
     fn tell(&mut self, shown: &Shown<'_>) -> Result<(), BenchError> {
         self.digest.count_call();
         let text = &mut self.text;
@@ -267,14 +276,14 @@ impl Report {
         Ok(())
     }
 
-    /// Takes the text away.
+    /// Adds the lines that were formatted so far to the digest, and clears them.
     fn take_text(&mut self) {
         self.digest.add_bytes(self.text.as_slice());
         self.text.clear();
     }
 }
 
-/// Appends the net layer's version, the ports and the length of the payload.
+/// Appends to a packet's line: protocol of the network layer, TCP or UDP ports, and length of the payload.
 fn push_transport(text: &mut Vec<u8>, packet: &LaxSlicedPacket<'_>) -> Result<(), BenchError> {
     match &packet.net {
         Some(LaxNetSlice::Ipv4(_)) => text.extend_from_slice(b" ipv4")?,
@@ -292,9 +301,9 @@ fn push_transport(text: &mut Vec<u8>, packet: &LaxSlicedPacket<'_>) -> Result<()
         Some(TransportSlice::Icmpv4(_) | TransportSlice::Icmpv6(_)) | None => None,
     };
     if let Some((source, destination)) = ports {
-        decimals::push_behind(text, b" ", u64::from(source))?;
-        decimals::push_behind(text, b" > ", u64::from(destination))?;
+        decimals::push_with_text(text, b" ", u64::from(source))?;
+        decimals::push_with_text(text, b" > ", u64::from(destination))?;
     }
-    decimals::push_behind(text, b" len ", packet.payload().len() as u64)?;
+    decimals::push_with_text(text, b" len ", packet.payload().len() as u64)?;
     Ok(())
 }

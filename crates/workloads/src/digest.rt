@@ -1,9 +1,10 @@
-//! What is printed of the answers of calls.
+//! Digest of the results of all calls of a benchmark job.
 
 use etherparse::err::packet::SliceError;
 
-/// A digest of what calls answered, and how many calls there were: a sum of words and the sum of its values, after
-/// Fletcher's checksum, so that the order of the words counts. It costs little beside a call.
+/// A digest of the results of a benchmark job, with the number of calls. It is the sum of all added numbers and the sum
+/// of its intermediate values, as in Fletcher's checksum, so that their order matters. It is cheap compared to a call
+/// of the library.
 #[derive(Drop)]
 pub struct Digest {
     calls: u64,
@@ -12,7 +13,7 @@ pub struct Digest {
 }
 
 impl Digest {
-    /// Of no call.
+    /// Returns the digest of a benchmark job before its first call.
     pub fn new() -> Digest {
         Digest {
             calls: 0,
@@ -21,20 +22,20 @@ impl Digest {
         }
     }
 
-    /// One call more.
+    /// Counts a call of the library whose result is added to the digest (in the job that reads captures: a packet).
     #[inline]
     pub fn count_call(&mut self) {
         self.calls = self.calls.wrapping_add(1);
     }
 
-    /// A number of an answer.
+    /// Adds a number to the digest, as a field of a parsed packet.
     #[inline]
     pub fn add(&mut self, number: u64) {
         self.sum = self.sum.wrapping_add(number);
         self.sums = self.sums.wrapping_add(self.sum);
     }
 
-    /// Why a frame was refused.
+    /// Adds the error of a rejected frame to the digest: for a length error the lengths and the offset, otherwise 1.
     pub fn add_refusal(&mut self, error: &SliceError) {
         match error {
             SliceError::Len(error) => {
@@ -46,7 +47,8 @@ impl Digest {
         }
     }
 
-    /// Bytes of an answer, eight at a time, and their length.
+    /// Adds bytes to the digest, as those of a built frame: eight at a time as a little endian number, the rest singly,
+    /// and then their count.
     pub fn add_bytes(&mut self, bytes: &[u8]) {
         let (mut sum, mut sums) = (self.sum, self.sums);
         let words = bytes.chunks_exact(8);
@@ -64,12 +66,12 @@ impl Digest {
         self.add(bytes.len() as u64);
     }
 
-    /// How many calls were made.
+    /// Number of calls of the library whose results are in the digest.
     pub fn calls(&self) -> u64 {
         self.calls
     }
 
-    /// The digest.
+    /// The digest of the results of a benchmark job as one number.
     pub fn value(&self) -> u64 {
         self.sum ^ self.sums.wrapping_mul(0x9e37_79b9_7f4a_7c15)
     }

@@ -1,8 +1,8 @@
-//! Fields of an input that differ from call to call, so that no call gets the same input twice.
+//! Fields of a frame that are set anew for each call of a benchmark job, so that no call gets an input twice.
 
 ghost use Rattle.std.specs.Prelude.{◌≤◌};
 
-/// Writes a number of 16 bits at this place, and nothing where it is none of the bytes.
+/// Writes a big endian 16 bit number at index `at`. Bytes of it that are out of range are not written.
 #[inline]
 pub fn put_16(bytes: &mut [u8], at: usize, number: u16) {
     let [high, low] = number.to_be_bytes();
@@ -10,7 +10,7 @@ pub fn put_16(bytes: &mut [u8], at: usize, number: u16) {
     put(bytes, at.wrapping_add(1), low);
 }
 
-/// The same of 32 bits.
+/// Writes a big endian 32 bit number at index `at`. Bytes of it that are out of range are not written.
 #[inline]
 pub fn put_32(bytes: &mut [u8], at: usize, number: u32) {
     let [a, b, c, d] = number.to_be_bytes();
@@ -20,7 +20,7 @@ pub fn put_32(bytes: &mut [u8], at: usize, number: u32) {
     put(bytes, at.wrapping_add(3), d);
 }
 
-/// The same of a byte.
+/// Writes a byte at index `at` if that is in range, otherwise does nothing.
 #[inline]
 pub fn put(bytes: &mut [u8], at: usize, byte: u8) {
     if at < bytes.len() {
@@ -28,43 +28,45 @@ pub fn put(bytes: &mut [u8], at: usize, byte: u8) {
     }
 }
 
-/// The lower 16 bits of a number.
+/// Returns the lower 16 bits of a number.
 #[inline]
 pub fn low_16(number: u64) -> u16 {
     (number % 65_536) as u16
 }
 
-/// Two fields of 16 bits, of which one holds a number and the other its complement: so what sums both stays right,
-/// whatever the number.
+/// Positions of two 16 bit fields of a frame. They contain a number and its one's complement, so that a checksum over
+/// both stays valid for any number.
 #[derive(Clone, Copy)]
 pub struct Balance {
-    /// Where the number stands.
+    /// Index in the frame of a 16 bit field whose one's complement another field contains.
     pub number: usize,
-    /// Where its complement stands.
+    /// Index in the frame of the 16 bit field that contains the one's complement of another field, so that checksums
+    /// stay valid.
     pub complement: usize,
 }
 
 impl Balance {
-    /// No fields.
+    /// Value for a frame without the two 16 bit fields, for example because it is truncated before them.
     pub const NONE: Balance = Balance {
         number: usize::MAX,
         complement: usize::MAX,
     };
 
-    /// Whether there are fields.
+    /// Returns true if the frame has this pair of 16 bit fields, false for `NONE`.
     #[inline]
     pub fn is_there(&self) -> bool {
         self.number != usize::MAX
     }
 
-    /// Writes a number.
+    /// Writes `number` and its one's complement, big endian, to the two 16 bit fields of a frame.
     #[inline]
     pub fn put(&self, bytes: &mut [u8], number: u16) {
         put_16(bytes, self.number, number);
         put_16(bytes, self.complement, 65_535 - number);
     }
 
-    /// The same fields, if they lie within this length, so much further behind.
+    /// Returns the positions of the two 16 bit fields moved by `by` bytes, or `NONE` unless both start below index
+    /// `len`.
     pub fn moved(&self, by: usize, len: usize) -> Balance {
         if self.number < len && self.complement < len {
             Balance {
@@ -77,7 +79,7 @@ impl Balance {
     }
 }
 
-/// A number that looks as if it were drawn, for each number another one (after Steele, Lea and Flood's SplitMix).
+/// Returns a pseudorandom number, a different one for each argument (after SplitMix by Steele, Lea and Flood).
 #[inline]
 pub fn mixed(number: u64) -> u64 {
     let number = number.wrapping_mul(0x9e37_79b9_7f4a_7c15);
@@ -86,28 +88,29 @@ pub fn mixed(number: u64) -> u64 {
     number ^ (number >> 31)
 }
 
-/// The numbers of a job, one after the other: each mixed of the seed and how many came before.
+/// A generator of pseudorandom numbers for the inputs of a benchmark job: each number depends on the seed and on how
+/// many were drawn before.
 #[derive(Drop)]
 pub struct Numbers {
     next: u64,
 }
 
 impl Numbers {
-    /// Those of a seed.
+    /// Returns a generator of the pseudorandom numbers of this seed.
     pub fn new(seed: u64) -> Numbers {
         Numbers {
             next: seed.wrapping_mul(0x1_0000_0001),
         }
     }
 
-    /// The next one.
+    /// Returns the next pseudorandom number, of 64 bits.
     #[inline]
     pub fn draw(&mut self) -> u64 {
         self.next = self.next.wrapping_add(1);
         mixed(self.next)
     }
 
-    /// The next one, below a bound.
+    /// Returns the next pseudorandom number reduced modulo `bound`; if `bound` is 0, returns 0 and draws none.
     #[inline]
     pub fn below(&mut self, bound: u64) -> u64
         ensures { result ≤ bound }

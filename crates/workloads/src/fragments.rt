@@ -1,4 +1,4 @@
-//! Fragments of many streams put together.
+//! The benchmark job that reassembles the fragments of many IP datagrams at the same time.
 
 use crate::bench_error::BenchError;
 use crate::digest::Digest;
@@ -15,66 +15,68 @@ use etherparse::{
 };
 use std::alloc::Global;
 
-/// How many fragments' bytes behind headers of IPv4 an Ethernet frame carries.
+/// Maximum payload of an IPv4 fragment in an Ethernet frame, in bytes.
 const PIECE_LEN: usize = 1_480;
 
-/// How many it carries behind headers of IPv6.
+/// Maximum payload of an IPv6 fragment in an Ethernet frame, in bytes: a multiple of 8, after IPv6 and fragment header.
 const PIECE_LEN_IPV6: usize = 1_448;
 
-/// Where the payload of a fragment of IPv4 begins in its frame.
+/// Index in an Ethernet frame at which the payload of an IPv4 fragment starts: 14 bytes Ethernet II and 20 bytes IPv4.
 const PAYLOAD_IPV4: usize = 34;
 
-/// Where that of IPv6 begins.
+/// Index in an Ethernet frame at which the payload of an IPv6 fragment starts: 14 bytes Ethernet II, 40 bytes IPv6 and
+/// 8 bytes fragment header.
 const PAYLOAD_IPV6: usize = 62;
 
-/// How many frames come in a second.
+/// Number of frames that are passed to the reassembly pool in a second of simulated time.
 const FRAMES_A_SECOND: u64 = 20_000;
 
-/// How many seconds a stream is kept.
+/// Number of seconds of simulated time after which an incomplete datagram without new fragments is dropped.
 const KEPT_SECONDS: u64 = 5;
 
-/// How many turns a stream has at most: six fragments, one of them twice.
+/// Maximum number of fragments that are passed to the reassembly pool for one datagram: six, and the first one once
+/// more.
 const TURNS: u64 = 7;
 
-/// Streams that go on in turn.
+/// Size of a group of fragmented datagrams that are reassembled at the same time.
 #[derive(Clone, Copy)]
 struct Crowd {
-    /// How many are open at a time.
+    /// Number of datagrams whose fragments arrive alternately.
     streams: u64,
-    /// How many fragments each has at most, and at least two.
+    /// Maximum number of fragments of a datagram; each datagram has at least two.
     most_fragments: u64,
-    /// How many bytes of payload a fragment has that is not the last.
+    /// Payload length of all fragments of a datagram but the last, in bytes; over IPv6 at most 1,448.
     piece_len: usize,
 }
 
-/// A thousand streams of datagrams up to 9 KB.
+/// A thousand fragmented datagrams of up to 9 KB, reassembled at the same time.
 const MANY: Crowd = Crowd {
     streams: 1_000,
     most_fragments: 6,
     piece_len: PIECE_LEN,
 };
 
-/// Fifty thousand streams of short datagrams.
+/// Fifty thousand short datagrams in two fragments each, reassembled at the same time.
 const CROWD: Crowd = Crowd {
     streams: 50_000,
     most_fragments: 2,
     piece_len: 120,
 };
 
-/// How the fragments of a stream come.
+/// Order in which the fragments of a datagram arrive.
 #[derive(Clone, Copy, PartialEq, Eq)]
 enum Habit {
-    /// In order.
+    /// The fragments of the datagram arrive in order.
     InOrder,
-    /// The last one first.
+    /// The fragments of the datagram arrive in reverse order.
     Backwards,
-    /// In order, the first one twice.
+    /// The fragments of the datagram arrive in order, the first one twice.
     Repeated,
-    /// In order, without the last one.
+    /// The fragments of the datagram arrive in order, but the last one never does.
     NeverEnds,
 }
 
-/// What a stream is like.
+/// A stream, the fragments of one datagram: IP version, number and lengths of the fragments, and their order.
 #[derive(Clone, Copy)]
 struct Stream {
     number: u64,
@@ -85,37 +87,39 @@ struct Stream {
     habit: Habit,
 }
 
-/// A pool, the frames that it gets, and what came of them.
+/// A reassembly pool, the frames that are passed to it, and the digest of the results.
 #[derive(Drop)]
 pub struct Reassembly {
     pool: IpDefragPool<u64, u64>,
-    /// A frame of IPv4 with the longest fragment.
+    /// An Ethernet frame with an IPv4 fragment of maximum length, which is changed each time before it is passed to the
+    /// pool.
     ipv4: Vec<u8>,
-    /// The same of IPv6.
+    /// An Ethernet frame with an IPv6 fragment of maximum length, which is changed each time before it is passed to the
+    /// pool.
     ipv6: Vec<u8>,
-    /// A frame without a fragment.
+    /// An Ethernet frame with an unfragmented TCP segment over IPv4, which the reassembly pool ignores.
     plain: Vec<u8>,
     plain_fields: Fields,
     frames: u64,
     pub digest: Digest,
 }
 
-/// Gives a pool the fragments of streams that go on in turn, a thousand at a time, in each 32nd round fifty thousand;
-/// between them frames without a fragment. Payloads are given back, and streams that got no fragment for some time
-/// are given up.
-pub fn put_together(alloc: Global, rounds: u32, seed: u64) -> Result<Digest, BenchError> {
+/// Passes the fragments of a thousand datagrams (fifty thousand in each 32nd round) alternately to a reassembly pool,
+/// with unfragmented frames between them. Returned payloads are given back to the pool; incomplete datagrams expire
+/// after some time. Returns the digest of all results.
+pub fn reassemble_streams(alloc: Global, rounds: u32, seed: u64) -> Result<Digest, BenchError> {
     let mut reassembly = Reassembly::new(alloc, seed)?;
     let mut first = (seed % 65_536).wrapping_mul(65_536);
     for round in 0..rounds {
         let crowd = if round % 32 == 31 { CROWD } else { MANY };
-        reassembly.give_crowd(crowd, first)?;
+        reassembly.process_group(crowd, first)?;
         first = first.wrapping_add(crowd.streams);
     }
     Ok(reassembly.digest)
 }
 
 impl Reassembly {
-    /// An empty pool.
+    /// Returns an empty reassembly pool, and the frames that are changed and passed to it.
     pub fn new(alloc: Global, seed: u64) -> Result<Reassembly, BenchError> {
         let mut numbers = Numbers::new(seed);
         let noise = noise(alloc, &mut numbers)?;
@@ -154,15 +158,16 @@ impl Reassembly {
         Ok(reassembly)
     }
 
-    /// Gives the fragments of streams in turn, from the stream of this number on.
-    fn give_crowd(&mut self, crowd: Crowd, first: u64) -> Result<(), BenchError> {
+    /// Passes the fragments of a group of datagrams alternately to the reassembly pool. The datagrams have the numbers
+    /// from `first` on.
+    fn process_group(&mut self, crowd: Crowd, first: u64) -> Result<(), BenchError> {
         for turn in 0..TURNS {
             for index in 0..crowd.streams {
                 let stream = Stream::of_number(first.wrapping_add(index), crowd);
                 if let Some(place) = stream.place_at(turn) {
-                    self.give_fragment(&stream, place)?;
+                    self.process_fragment_of(&stream, place)?;
                     if self.frames % 4 == 0 {
-                        self.give_plain()?;
+                        self.process_plain_frame()?;
                     }
                 }
             }
@@ -170,8 +175,8 @@ impl Reassembly {
         Ok(())
     }
 
-    /// Gives a fragment of a stream.
-    fn give_fragment(&mut self, stream: &Stream, place: u64) -> Result<(), BenchError> {
+    /// Passes the fragment with index `place` of a datagram to the reassembly pool.
+    fn process_fragment_of(&mut self, stream: &Stream, place: u64) -> Result<(), BenchError> {
         let is_last = place.saturating_add(1) >= stream.fragments;
         let len = if is_last {
             stream.last_len
@@ -212,8 +217,14 @@ impl Reassembly {
         Ok(())
     }
 
-    /// Gives a fragment of eight bytes of the stream of this number.
-    pub fn give_short(&mut self, number: u64, place: u16, more: bool) -> Result<(), BenchError> {
+    /// Passes an IPv4 fragment of 8 bytes to the reassembly pool: fragment `place` of the datagram with this number.
+    /// `more` states whether more fragments follow.
+    pub fn process_short_fragment(
+        &mut self,
+        number: u64,
+        place: u16,
+        more: bool,
+    ) -> Result<(), BenchError> {
         let offset = u64::from(place) * 8;
         write_ipv4(self.ipv4.as_mut_slice(), number, offset, more, 8);
         give(
@@ -226,8 +237,8 @@ impl Reassembly {
         Ok(())
     }
 
-    /// Gives a frame without a fragment.
-    fn give_plain(&mut self) -> Result<(), BenchError> {
+    /// Passes an unfragmented frame to the reassembly pool, with new addresses and ports.
+    fn process_plain_frame(&mut self) -> Result<(), BenchError> {
         let number = self.frames;
         let plain = self.plain.as_mut_slice();
         self.plain_fields.addresses.put(plain, host_of(number));
@@ -242,7 +253,8 @@ impl Reassembly {
         Ok(())
     }
 
-    /// One more frame came. Each second the streams are given up that are too old.
+    /// Counts a frame that was passed to the reassembly pool. Once per second of simulated time, drops the incomplete
+    /// datagrams that had no fragment for five seconds.
     fn count_frame(&mut self) {
         self.frames = self.frames.wrapping_add(1);
         if self.frames % FRAMES_A_SECOND == 0 {
@@ -253,7 +265,8 @@ impl Reassembly {
     }
 }
 
-/// Gives a pool a frame.
+/// Parses a frame and passes it to a reassembly pool, with `second` as timestamp. Adds the result to the digest, and
+/// gives a returned payload back to the pool.
 fn give(
     pool: &mut IpDefragPool<u64, u64>,
     digest: &mut Digest,
@@ -278,7 +291,7 @@ fn give(
 }
 
 impl Stream {
-    /// The stream of a number.
+    /// Derives IP version, fragment lengths and order of a fragmented datagram from its number.
     fn of_number(number: u64, crowd: Crowd) -> Stream {
         let drawn = mixed(number);
         let habit = match (drawn >> 40) % 50 {
@@ -304,7 +317,8 @@ impl Stream {
         }
     }
 
-    /// Which of its fragments comes at a turn.
+    /// Returns the index of the fragment that arrives as number `turn` of its datagram, from 0 on, or `None` if no more
+    /// arrive.
     fn place_at(&self, turn: u64) -> Option<u64> {
         let place = match self.habit {
             Habit::Backwards if turn < self.fragments => self.fragments - 1 - turn,
@@ -320,7 +334,7 @@ impl Stream {
     }
 }
 
-/// A header of IPv4 of a fragment.
+/// Returns the IPv4 header of a fragment with offset 0 and more fragments to follow.
 fn fragment_ipv4() -> IpHeaders {
     let header = Ipv4Header {
         dont_fragment: false,
@@ -333,7 +347,7 @@ fn fragment_ipv4() -> IpHeaders {
     IpHeaders::Ipv4(header, Default::default())
 }
 
-/// Headers of IPv6 of a fragment.
+/// Returns the IPv6 header and the fragment header of a fragment with offset 0 and more fragments to follow.
 fn fragment_ipv6() -> IpHeaders {
     let extensions = Ipv6Extensions {
         hop_by_hop_options: None,
@@ -350,7 +364,8 @@ fn fragment_ipv6() -> IpHeaders {
     IpHeaders::Ipv6(ipv6_header(), extensions)
 }
 
-/// Makes a frame the fragment of a stream at an offset, with so many bytes.
+/// Changes an Ethernet frame into the IPv4 fragment of datagram `number` with this offset and payload length, in bytes.
+/// `more` states whether more fragments follow.
 fn write_ipv4(frame: &mut [u8], number: u64, offset: u64, more: bool, len: usize) {
     put_16(frame, 16, low_16(len as u64).wrapping_add(20));
     put_16(frame, 18, low_16(number));
@@ -365,7 +380,8 @@ fn write_ipv4(frame: &mut [u8], number: u64, offset: u64, more: bool, len: usize
     put_32(frame, PAYLOAD_IPV4 + 4, (number % 0x1_0000_0000) as u32);
 }
 
-/// The same of IPv6.
+/// Changes an Ethernet frame into the IPv6 fragment of datagram `number` with this offset and payload length, in bytes.
+/// `more` states whether more fragments follow.
 fn write_ipv6(frame: &mut [u8], number: u64, offset: u64, more: bool, len: usize) {
     put_16(frame, 18, low_16(len as u64).wrapping_add(8));
     put_16(frame, 36, host_of(number));

@@ -1,46 +1,50 @@
-//! Many frames in one vector.
+//! Random frames of a benchmark job, in one vector.
 
 use crate::bench_error::BenchError;
 use crate::fields::{Balance, Numbers, low_16, put_32};
 use crate::templates::{Shape, noise, write_shape};
 use std::alloc::Global;
 
-/// How many frames a round goes over.
+/// Number of frames that a benchmark job processes in each round.
 pub const FRAMES: usize = 2_000;
 
-/// How many hosts send them.
+/// Number of different source addresses of the generated frames.
 const HOSTS: u64 = 509;
 
-/// The lower half of the address from which the frame of a number comes.
+/// Returns the lower 16 bits of the source IP address in the generated frame with this number: one of 509 values.
 #[inline]
 pub fn host_of(number: u64) -> u16 {
     low_16(number % HOSTS)
 }
 
-/// The port from which it comes.
+/// Returns the source port in the generated frame with this number.
 #[inline]
 pub fn port_of(number: u64) -> u16 {
     low_16(number.wrapping_mul(40_503))
 }
 
-/// Where a frame stands.
+/// Position of a generated frame in the vector of all frames, with the positions of the fields that are set in each
+/// round.
 #[derive(Clone, Copy)]
 pub struct Place {
-    /// Where it begins.
+    /// Index in the vector of all frames at which the frame starts.
     pub start: usize,
-    /// Where its net layer begins, behind the hardware addresses.
+    /// Index in the vector of all frames at which the frame's network layer starts, after the Ethernet header and VLAN
+    /// tags.
     pub net: usize,
-    /// Where it ends.
+    /// Index in the vector of all frames at which the frame ends.
     pub end: usize,
-    /// The lower halves of its addresses.
+    /// Positions of the lower 16 bits of the frame's source and destination IP address, the second the complement of
+    /// the first.
     pub addresses: Balance,
-    /// Its source port.
+    /// Positions of the frame's source port (or of another field that distinguishes frames) and of a field with its
+    /// complement.
     pub ports: Balance,
 }
 
 impl Place {
-    /// Sets the addresses and ports anew, by this number, whose lower 32 bits end the hardware address from which the frame
-    /// comes: so no two numbers below 2^32 give the same frame.
+    /// Sets the frame's IP addresses, ports and source hardware address to values derived from `number`. Its lower 32
+    /// bits are the end of the hardware address, so numbers below 2^32 produce distinct frames.
     #[inline]
     pub fn renew(&self, bytes: &mut [u8], number: u64) {
         put_32(
@@ -52,20 +56,21 @@ impl Place {
         self.ports.put(bytes, port_of(number));
     }
 
-    /// The frame.
+    /// Returns the bytes of the frame at this position in the vector of all frames.
     #[inline]
     pub fn frame_in<'a>(&self, bytes: &'a [u8]) -> &'a [u8] {
         between(bytes, self.start, self.end)
     }
 
-    /// The frame without its link layer and tags.
+    /// Returns the bytes of the frame at this position in the vector of all frames, without its Ethernet header and
+    /// VLAN tags.
     #[inline]
     pub fn packet_in<'a>(&self, bytes: &'a [u8]) -> &'a [u8] {
         between(bytes, self.net, self.end)
     }
 }
 
-/// The bytes from one place to another, where both are there.
+/// Returns the bytes from `start` to `end`, or no bytes if that range is invalid.
 #[inline]
 pub fn between(bytes: &[u8], start: usize, end: usize) -> &[u8] {
     if start <= end && end <= bytes.len() {
@@ -75,17 +80,18 @@ pub fn between(bytes: &[u8], start: usize, end: usize) -> &[u8] {
     }
 }
 
-/// Frames one behind the other, and where each stands.
+/// Generated frames of a benchmark job, one after the other in one vector, and their positions.
 #[derive(Drop)]
 pub struct Frames {
-    /// Their bytes.
+    /// Bytes of all generated frames, one after the other.
     pub bytes: Vec<u8>,
-    /// Their places.
+    /// Positions of the generated frames and of their fields in the vector of all frames.
     pub places: Vec<Place>,
 }
 
 impl Frames {
-    /// Frames of drawn shapes: of each 50 one is cut short behind its addresses, as by a broken sender.
+    /// Generates 2,000 random frames as in ordinary traffic. One of 50 is truncated at byte 20 of its network layer or
+    /// later, as by a broken sender.
     pub fn drawn(alloc: Global, numbers: &mut Numbers) -> Result<Frames, BenchError> {
         let noise = noise(alloc, numbers)?;
         let mut bytes = Vec::new(alloc);
@@ -113,7 +119,8 @@ impl Frames {
         Ok(Frames { bytes, places })
     }
 
-    /// Sets the addresses and ports of each anew, from this number on.
+    /// Sets the addresses and ports of all generated frames to new values: the first frame has this number, and each
+    /// frame the next one.
     pub fn renew(&mut self, number: u64) {
         let mut number = number;
         for place in self.places.as_slice() {
@@ -123,7 +130,7 @@ impl Frames {
     }
 }
 
-/// The number from which the frames of a round are renewed.
+/// Returns the number of the first frame in a round; addresses and ports of each frame are derived from its number.
 pub fn first_number(seed: u64, round: u32) -> u64 {
     (seed % 65_536).wrapping_add(u64::from(round).wrapping_mul(FRAMES as u64))
 }

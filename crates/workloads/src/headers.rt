@@ -1,4 +1,4 @@
-//! Headers read as values.
+//! The benchmark job that decodes headers into owned values.
 
 use crate::bench_error::BenchError;
 use crate::digest::Digest;
@@ -8,8 +8,8 @@ use crate::slicing::low_word;
 use etherparse::{Entry, IpHeaders, LinkHeader, NetHeaders, PacketHeaders, TransportHeader};
 use std::alloc::Global;
 
-/// Reads the headers of each frame: in turns of three rounds by value, into a value that is there already, and those of
-/// IP alone.
+/// Decodes the headers of 2,000 frames in each round, and returns the digest of all results. Three kinds of rounds
+/// alternate: into new values, into one reused value, and the IP headers only.
 pub fn read_headers(alloc: Global, rounds: u32, seed: u64) -> Result<Digest, BenchError> {
     let mut numbers = Numbers::new(seed);
     let mut frames = Frames::drawn(alloc, &mut numbers)?;
@@ -18,14 +18,14 @@ pub fn read_headers(alloc: Global, rounds: u32, seed: u64) -> Result<Digest, Ben
         frames.renew(first_number(seed, round));
         match round % 3 {
             0 => read_by_value(&frames, &mut digest),
-            1 => read_again(&frames, &mut digest),
+            1 => read_into_reused(&frames, &mut digest),
             _ => read_ip(&frames, &mut digest),
         }
     }
     Ok(digest)
 }
 
-/// Reads those of each frame by value.
+/// Decodes the headers of each frame into a new value, and adds fields of them to the digest.
 fn read_by_value(frames: &Frames, digest: &mut Digest) {
     for place in frames.places.as_slice() {
         digest.count_call();
@@ -36,8 +36,8 @@ fn read_by_value(frames: &Frames, digest: &mut Digest) {
     }
 }
 
-/// Reads those of each frame into one value.
-fn read_again(frames: &Frames, digest: &mut Digest) {
+/// Decodes the headers of each frame into one reused value, and adds fields of them to the digest.
+fn read_into_reused(frames: &Frames, digest: &mut Digest) {
     let mut packet = PacketHeaders::new();
     for place in frames.places.as_slice() {
         digest.count_call();
@@ -48,8 +48,8 @@ fn read_again(frames: &Frames, digest: &mut Digest) {
     }
 }
 
-/// Reads those of IP of each frame but those that are cut in front of their ports: without the hardware address, few of
-/// their packets differ.
+/// Decodes the IP headers of each frame, and adds fields of them to the digest. Frames that are truncated before their
+/// ports are skipped, because without their Ethernet header many of them would be equal.
 fn read_ip(frames: &Frames, digest: &mut Digest) {
     for place in frames.places.as_slice() {
         if !place.ports.is_there() {
@@ -73,7 +73,8 @@ fn read_ip(frames: &Frames, digest: &mut Digest) {
     }
 }
 
-/// Adds fields of a packet's headers.
+/// Adds to the digest: ether type, source address, fields of the transport header (such as source port or checksum) and
+/// payload length from the decoded headers of a packet.
 fn add_headers(digest: &mut Digest, packet: &PacketHeaders<'_>) {
     let link = match &packet.link {
         Some(LinkHeader::Ethernet2(header)) => u64::from(header.ether_type.0),

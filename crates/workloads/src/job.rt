@@ -1,37 +1,37 @@
-//! The jobs.
+//! The jobs of the benchmark.
 
 use crate::bench_error::BenchError;
 use crate::building::build_frames;
 use crate::captures::read_captures;
 use crate::digest::Digest;
-use crate::fragments::put_together;
+use crate::fragments::reassemble_streams;
 use crate::headers::read_headers;
-use crate::shuffled::put_shuffled;
+use crate::shuffled::reassemble_shuffled;
 use crate::slicing::slice_frames;
 use crate::unusual::slice_unusual;
 use std::alloc::Global;
 
-/// What users wait for.
+/// A job of the benchmark: work with packets that users of the library wait for.
 #[derive(Clone, Copy)]
 pub enum Job {
-    /// Captures are read, and a line is put together of each packet.
+    /// Reads pcap and pcapng captures, and formats a line for each packet.
     Captures,
-    /// Frames are sliced.
+    /// Parses Ethernet frames into slices (without copying) and reads a few of their fields.
     Slicing,
-    /// Headers are read as values.
+    /// Decodes the headers of Ethernet frames into owned values.
     Headers,
-    /// Frames are built.
+    /// Builds Ethernet frames from addresses, ports and headers.
     Building,
-    /// The fragments of many streams are put together.
+    /// Reassembles the fragments of many IP datagrams at the same time.
     Reassembly,
-    /// Long payloads are put together from short fragments in bad orders.
+    /// Reassembles long IP payloads from fragments of 8 bytes that arrive in unfavorable orders.
     Shuffled,
-    /// Frames with rare headers, half of them truncated, are sliced laxly, and their checksums verified.
+    /// Parses frames with rare headers laxly, half of them truncated, and verifies their checksums.
     Unusual,
 }
 
 impl Job {
-    /// Each of them.
+    /// All jobs of the benchmark, in the order in which they are run.
     pub const ALL: [Job; 7] = [
         Job::Captures,
         Job::Slicing,
@@ -42,7 +42,7 @@ impl Job {
         Job::Unusual,
     ];
 
-    /// Its name, as an argument and in the output.
+    /// Name of the benchmark job, as a command line argument and in the output.
     pub fn name(&self) -> &'static str {
         match self {
             Job::Captures => "captures",
@@ -55,15 +55,16 @@ impl Job {
         }
     }
 
-    /// Does so many rounds of it, over inputs that follow from the seed.
+    /// Runs the given number of rounds of the benchmark job over inputs that are derived from the seed, and returns the
+    /// digest of all results.
     pub fn run(&self, alloc: Global, rounds: u32, seed: u64) -> Result<Digest, BenchError> {
         match self {
             Job::Captures => read_captures(alloc, rounds, seed),
             Job::Slicing => slice_frames(alloc, rounds, seed),
             Job::Headers => read_headers(alloc, rounds, seed),
             Job::Building => build_frames(alloc, rounds, seed),
-            Job::Reassembly => put_together(alloc, rounds, seed),
-            Job::Shuffled => put_shuffled(alloc, rounds, seed),
+            Job::Reassembly => reassemble_streams(alloc, rounds, seed),
+            Job::Shuffled => reassemble_shuffled(alloc, rounds, seed),
             Job::Unusual => slice_unusual(alloc, rounds, seed),
         }
     }

@@ -1,7 +1,8 @@
-//! Does jobs that users of the library wait for, over inputs that it makes, and prints a digest of all that came of them.
+//! Runs jobs that users of the library wait for, over generated inputs, and prints a digest of all results.
 //!
-//! `workloads JOB ROUNDS SEED` does so many rounds of a job, or of each where it is `all`, over inputs that follow from
-//! the seed. No call gets the same input twice. A line has the job's name, how many calls it made, and the digest.
+//! `workloads JOB ROUNDS SEED` runs a number of rounds of a job, or of every job with `all`, over inputs that are
+//! derived from the seed. No call gets an input twice, except for fragments that a job repeats on purpose. A line has
+//! the name of the job, the number of calls, and the digest.
 #![tactic(auto)]
 
 mod bench_error;
@@ -35,7 +36,7 @@ fn main(rt: HostRuntime) -> ExitCode {
     }
 }
 
-/// Does what the arguments ask.
+/// Runs the benchmark jobs that the command line selects (JOB ROUNDS SEED), and prints the result of each.
 fn run<R: Env + Print + AllocGlobal>(rt: &R) -> Result<(), BenchError> {
     let Ok(mut args) = env::args(rt) else {
         return Err(BenchError::Usage);
@@ -62,7 +63,7 @@ fn run<R: Env + Print + AllocGlobal>(rt: &R) -> Result<(), BenchError> {
     }
 }
 
-/// Does a job, and prints what came of it.
+/// Runs a benchmark job and prints its line: name, number of calls, and digest of all results in hexadecimal.
 fn print_done<R: Print + AllocGlobal>(
     rt: &R,
     job: Job,

@@ -1,4 +1,4 @@
-//! Long payloads put together from short fragments that come in bad orders.
+//! The benchmark job that reassembles long payloads from short fragments in unfavorable orders.
 
 use crate::bench_error::BenchError;
 use crate::digest::Digest;
@@ -6,15 +6,16 @@ use crate::fields::Numbers;
 use crate::fragments::Reassembly;
 use std::alloc::Global;
 
-/// How many fragments of eight bytes the longest payload has.
+/// Number of fragments, of 8 bytes each, into which a payload of 65,528 bytes is split.
 const FRAGMENTS: u16 = 8_191;
 
-/// One of so many rounds has a payload that lacks a fragment.
+/// Interval of rounds: in each eighth round one fragment of the payload never arrives.
 const LACKING: u32 = 8;
 
-/// Puts a payload of 65,528 bytes together in each round, from fragments of eight bytes that come in turns shuffled,
-/// every second first, the last one first, and in pairs that are exchanged. In each eighth round one never comes.
-pub fn put_shuffled(alloc: Global, rounds: u32, seed: u64) -> Result<Digest, BenchError> {
+/// Reassembles a payload of 65,528 bytes in each round, from fragments of 8 bytes, and returns the digest of all
+/// results. Four orders alternate: shuffled, the odd fragments before the even ones, reversed, and with neighbors
+/// exchanged. In each eighth round one fragment never arrives.
+pub fn reassemble_shuffled(alloc: Global, rounds: u32, seed: u64) -> Result<Digest, BenchError> {
     let mut numbers = Numbers::new(seed);
     let mut reassembly = Reassembly::new(alloc, seed)?;
     let mut order = Vec::new(alloc);
@@ -31,14 +32,15 @@ pub fn put_shuffled(alloc: Global, rounds: u32, seed: u64) -> Result<Digest, Ben
         let number = first.wrapping_add(u64::from(round));
         for place in order.as_slice() {
             if !(lacks && *place == FRAGMENTS / 2) {
-                reassembly.give_short(number, *place, *place < FRAGMENTS - 1)?;
+                reassembly.process_short_fragment(number, *place, *place < FRAGMENTS - 1)?;
             }
         }
     }
     Ok(reassembly.digest)
 }
 
-/// Which fragment comes at this place of the order of a round.
+/// Returns the index of the fragment that arrives at position `index` in a round. The order depends on `round % 4`: in
+/// order (shuffled later), the odd fragments first, reversed, or with neighbors exchanged.
 fn place_at(round: u32, index: u16) -> u16 {
     let index = index.min(FRAGMENTS - 1);
     match round % 4 {
@@ -52,7 +54,7 @@ fn place_at(round: u32, index: u16) -> u16 {
     }
 }
 
-/// Brings them into a drawn order (after Fisher and Yates).
+/// Shuffles the order in which the fragments of a payload arrive (Fisher-Yates).
 fn shuffle(order: &mut [u16], numbers: &mut Numbers) {
     for index in 0..order.len() {
         let other = numbers.below(index as u64 + 1) as usize;

@@ -1,4 +1,4 @@
-//! Frames sliced, and a few of their fields read.
+//! The benchmark job that parses frames into slices and reads a few of their fields.
 
 use crate::bench_error::BenchError;
 use crate::digest::Digest;
@@ -7,7 +7,8 @@ use crate::frames::{Frames, first_number};
 use etherparse::{Entry, LinkSlice, NetSlice, SlicedPacket, TransportSlice};
 use std::alloc::Global;
 
-/// Slices each frame, in turns into a packet that is there already and by value.
+/// Parses 2,000 frames into slices in each round, in even rounds into one reused packet and in odd ones into new
+/// packets. Returns the digest of all results.
 pub fn slice_frames(alloc: Global, rounds: u32, seed: u64) -> Result<Digest, BenchError> {
     let mut numbers = Numbers::new(seed);
     let mut frames = Frames::drawn(alloc, &mut numbers)?;
@@ -19,7 +20,8 @@ pub fn slice_frames(alloc: Global, rounds: u32, seed: u64) -> Result<Digest, Ben
     Ok(digest)
 }
 
-/// Slices each frame once.
+/// Parses each frame into slices, into one reused packet (`in_place`) or into new ones, and adds the results to the
+/// digest.
 fn slice_round(frames: &Frames, digest: &mut Digest, in_place: bool) {
     let bytes = frames.bytes.as_slice();
     let mut packet = SlicedPacket::new();
@@ -40,7 +42,8 @@ fn slice_round(frames: &Frames, digest: &mut Digest, in_place: bool) {
     }
 }
 
-/// Adds fields of a packet's layers.
+/// Adds to the digest: ether type, source address, fields of the transport header (such as ports) and payload length of
+/// a sliced packet.
 #[inline]
 fn add_packet(digest: &mut Digest, packet: &SlicedPacket<'_>) {
     let link = match &packet.link {
@@ -70,7 +73,7 @@ fn add_packet(digest: &mut Digest, packet: &SlicedPacket<'_>) {
     digest.add(transport ^ (packet.payload().len() as u64) << 48);
 }
 
-/// The last four bytes of an address.
+/// Returns the last four bytes of an IPv6 address as a big endian number.
 #[inline]
 pub fn low_word(address: &[u8; 16]) -> u64 {
     let [.., a, b, c, d] = *address;

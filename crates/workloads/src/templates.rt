@@ -1,4 +1,4 @@
-//! Frames of the shapes that a network carries, whose addresses and ports are set anew for each call.
+//! Generated frames as in ordinary traffic; their addresses and ports are set anew for each call.
 
 ghost use Rattle.std.specs.Prelude.{◌≤◌};
 
@@ -10,57 +10,62 @@ use etherparse::{
 };
 use std::alloc::Global;
 
-/// The greatest number of bytes behind an Ethernet header.
+/// Maximum number of bytes after the Ethernet header and VLAN tag of a generated frame.
 const MTU: usize = 1500;
 
-/// The number of bytes of a TCP header with a timestamp and two fillers.
+/// Length in bytes of a TCP header with a timestamp option and two no-operation options.
 const TCP_LEN: usize = 32;
 
-/// The number of bytes of payloads that templates are made of.
+/// Number of random bytes that serve as payloads of generated frames.
 const NOISE_LEN: usize = 9_200;
 
-/// What a frame carries behind its link layer.
+/// Content of a generated frame: its transport layer, or ARP.
 #[derive(Clone, Copy, PartialEq, Eq)]
 pub enum Inside {
-    /// A segment of TCP with a timestamp.
+    /// A TCP segment with a timestamp option.
     Tcp,
-    /// A datagram of UDP.
+    /// A UDP datagram.
     Udp,
-    /// An echo request.
+    /// An ICMPv4 or ICMPv6 echo request.
     Icmp,
-    /// A datagram of UDP behind two extension headers of IPv6.
+    /// A UDP datagram over IPv6, after hop-by-hop and destination options.
     Chain,
-    /// An ARP request.
+    /// An ARP request, instead of an IP packet.
     Arp,
 }
 
-/// The shape of a frame.
+/// Shape of a generated frame: its headers, and the length of its payload.
 #[derive(Clone, Copy)]
 pub struct Shape {
-    /// What it carries.
+    /// Transport layer of the generated frame, or ARP.
     pub inside: Inside,
-    /// Whether its net layer is IPv6, and else IPv4.
+    /// True if the generated frame has an IPv6 header, false for IPv4. It has no effect on `Chain` (always IPv6) and
+    /// `Arp`.
     pub is_ipv6: bool,
-    /// Whether it has a VLAN tag.
+    /// True if the generated frame has a VLAN tag. It has no effect on `Arp`, which has none.
     pub is_tagged: bool,
-    /// How many bytes its payload has, at most.
+    /// Length of the payload of the generated frame in bytes, unless the frame would be too long.
     pub payload_len: usize,
 }
 
-/// A frame, and where it may be changed without making a checksum wrong.
+/// Positions in a generated frame of the fields that are set anew for each call of the library; they can change without
+/// invalidating a checksum.
 #[derive(Clone, Copy)]
 pub struct Fields {
-    /// Where its net layer begins.
+    /// Index in the generated frame at which the network layer starts.
     pub net: usize,
-    /// The lower halves of its addresses of IP.
+    /// Positions of the lower 16 bits of the frame's source and destination IP address, the second the complement of
+    /// the first.
     pub addresses: Balance,
-    /// Its source port, or what tells one from another in its place.
+    /// Positions of the frame's source port (or of another field that distinguishes frames) and of a field with its
+    /// complement.
     pub ports: Balance,
 }
 
 impl Shape {
-    /// One as a network has it: of TCP four fifths, half of these without payload and the others mostly full; of UDP
-    /// 60 to 1,300 bytes; a quarter IPv6; a few tags, echo requests, ARP and extension headers.
+    /// Draws the shape of a random frame as in ordinary traffic: four fifths TCP, half of these without payload and
+    /// most others full; UDP with payloads of 2 to 1,257 bytes; a quarter IPv6; a few VLAN tags, echo requests, ARP and
+    /// extension headers.
     pub fn drawn(numbers: &mut Numbers) -> Shape {
         let kind = numbers.below(100);
         let is_ipv6 = numbers.below(4) == 0;
@@ -83,20 +88,22 @@ impl Shape {
         }
     }
 
-    /// How many bytes stand in front of its net layer.
+    /// Returns the length of the Ethernet header and VLAN tag of a generated frame, in bytes.
     fn link_len(&self) -> usize
         ensures { result ≤ 18 }
     {
         if self.is_tagged { 18 } else { 14 }
     }
 
-    /// How many bytes of payload fit in a frame, with so many bytes of headers of IP and of what it carries.
+    /// Returns the payload length of a generated frame, limited so that it fits in 1,500 bytes after `headers_len`
+    /// bytes of IP and transport headers.
     fn fitting_len(&self, headers_len: usize) -> usize {
         self.payload_len.min(MTU - headers_len.min(MTU))
     }
 }
 
-/// Payloads of any bytes, of which the first two are a complement of zero.
+/// Returns random bytes for the payloads of generated frames. The first two are 0xffff, the one's complement of the UDP
+/// source port 0.
 pub fn noise(alloc: Global, numbers: &mut Numbers) -> Result<Vec<u8>, BenchError> {
     let mut bytes = Vec::new(alloc);
     bytes.extend_from_slice(&[255, 255])?;
@@ -106,12 +113,13 @@ pub fn noise(alloc: Global, numbers: &mut Numbers) -> Result<Vec<u8>, BenchError
     Ok(bytes)
 }
 
-/// The first so many bytes.
+/// Returns the first `len` bytes, or all bytes if there are fewer.
 pub fn front(bytes: &[u8], len: usize) -> &[u8] {
     &bytes[..len.min(bytes.len())]
 }
 
-/// Puts the frame of a shape in place of what the vector has.
+/// Replaces the content of the vector with a frame that has the headers of `shape` and the start of `noise` as payload.
+/// Returns the positions of its addresses and ports.
 pub fn write_shape(frame: &mut Vec<u8>, shape: &Shape, noise: &[u8]) -> Result<Fields, BenchError> {
     frame.clear();
     match shape.inside {
@@ -122,7 +130,7 @@ pub fn write_shape(frame: &mut Vec<u8>, shape: &Shape, noise: &[u8]) -> Result<F
     }
 }
 
-/// The same of an ARP request.
+/// Writes an Ethernet frame with an ARP request, and returns the positions of its addresses.
 fn write_arp(frame: &mut Vec<u8>) -> Result<Fields, BenchError> {
     let Ok(packet) = ArpPacket::new(
         ArpHardwareId::ETHERNET,
@@ -154,25 +162,26 @@ fn write_arp(frame: &mut Vec<u8>) -> Result<Fields, BenchError> {
     })
 }
 
-/// The hardware address that frames come from.
+/// Source hardware address of the generated frames; some benchmark jobs set its last four bytes for each call.
 pub const SOURCE: [u8; 6] = [2, 0, 0, 0, 0, 1];
 
-/// The hardware address that frames go to.
+/// Destination hardware address of the generated frames; ARP requests are broadcast instead.
 pub const DESTINATION: [u8; 6] = [2, 0, 0, 0, 0, 2];
 
-/// The address of IPv4 that packets come from, without its lower half.
+/// Source IPv4 address of the generated frames; its lower 16 bits are set for each call.
 pub const SOURCE_IPV4: [u8; 4] = [10, 1, 0, 0];
 
-/// The address of IPv4 that packets go to, with the complement of that half.
+/// Destination IPv4 address of the generated frames; its lower 16 bits are the complement of those of `SOURCE_IPV4`.
 pub const DESTINATION_IPV4: [u8; 4] = [10, 2, 255, 255];
 
-/// The address of IPv6 that packets come from, without its lower 16 bits.
+/// Source IPv6 address of the generated frames; its lower 16 bits are set for each call.
 pub const SOURCE_IPV6: [u8; 16] = [0x20, 1, 0xd, 0xb8, 0, 1, 0, 0, 0, 0, 0, 0, 0, 7, 0, 0];
 
-/// The address of IPv6 that packets go to, with the complement of these.
+/// Destination IPv6 address of the generated frames; its lower 16 bits are the complement of those of `SOURCE_IPV6`.
 pub const DESTINATION_IPV6: [u8; 16] = [0x20, 1, 0xd, 0xb8, 0, 2, 0, 0, 0, 0, 0, 0, 0, 9, 255, 255];
 
-/// The same of a packet of IP.
+/// Writes an Ethernet frame with the IP packet that `shape` describes, and returns the positions of its addresses and
+/// ports.
 fn write_ip(frame: &mut Vec<u8>, shape: &Shape, noise: &[u8]) -> Result<Fields, BenchError> {
     let link = PacketBuilder::ethernet2(SOURCE, DESTINATION);
     let Ok(vlan) = VlanId::try_new(5) else {
@@ -185,7 +194,7 @@ fn write_ip(frame: &mut Vec<u8>, shape: &Shape, noise: &[u8]) -> Result<Fields, 
         } else {
             link.ip(headers)
         };
-        return write_behind(frame, step, shape, true, noise);
+        return write_transport(frame, step, shape, true, noise);
     }
     let step = match (shape.is_tagged, shape.is_ipv6) {
         (false, false) => link.ipv4(SOURCE_IPV4, DESTINATION_IPV4, 64),
@@ -197,10 +206,10 @@ fn write_ip(frame: &mut Vec<u8>, shape: &Shape, noise: &[u8]) -> Result<Fields, 
             .single_vlan(vlan)
             .ipv6(SOURCE_IPV6, DESTINATION_IPV6, 64),
     };
-    write_behind(frame, step, shape, shape.is_ipv6, noise)
+    write_transport(frame, step, shape, shape.is_ipv6, noise)
 }
 
-/// A header of IPv6 with these addresses.
+/// Returns an IPv6 header with the addresses of the generated frames and hop limit 64.
 pub fn ipv6_header() -> Ipv6Header {
     Ipv6Header {
         hop_limit: 64,
@@ -210,7 +219,7 @@ pub fn ipv6_header() -> Ipv6Header {
     }
 }
 
-/// Hop by hop and destination options.
+/// Returns IPv6 hop-by-hop options and destination options, both of padding only.
 pub fn chain() -> Result<Ipv6Extensions, BenchError> {
     let (Ok(first), Ok(second)) = (
         Ipv6RawExtHeader::new_raw(IpNumber::UDP, &[1, 4, 0, 0, 0, 0]),
@@ -227,8 +236,9 @@ pub fn chain() -> Result<Ipv6Extensions, BenchError> {
     })
 }
 
-/// Writes what a shape carries behind headers of IP.
-fn write_behind(
+/// Writes a frame: the headers begun in `step`, which end in IP, then the transport header that `shape` names, and a
+/// payload from `noise`. Returns the positions of its addresses and ports.
+fn write_transport(
     frame: &mut Vec<u8>,
     step: PacketBuilderStep<IpHeaders>,
     shape: &Shape,

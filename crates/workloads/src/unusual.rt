@@ -1,4 +1,4 @@
-//! Lax slicing of frames with rare headers, half of them truncated, and verification of their checksums.
+//! The benchmark job that parses frames with rare headers laxly, half of them truncated, and verifies their checksums.
 
 use crate::bench_error::BenchError;
 use crate::digest::Digest;
@@ -14,8 +14,8 @@ use etherparse::{
 };
 use std::alloc::Global;
 
-/// Slices the frames laxly, in even rounds into one packet and in odd ones into a new packet each, and verifies the
-/// checksums of the bytes that were captured.
+/// Parses 2,000 frames with rare headers laxly in each round, in even rounds into one reused packet and in odd ones
+/// into new packets, and verifies the checksums of the captured bytes. Returns the digest of all results.
 pub fn slice_unusual(alloc: Global, rounds: u32, seed: u64) -> Result<Digest, BenchError> {
     let mut numbers = Numbers::new(seed);
     let mut frames = UnusualFrames::drawn(alloc, &mut numbers)?;
@@ -28,7 +28,7 @@ pub fn slice_unusual(alloc: Global, rounds: u32, seed: u64) -> Result<Digest, Be
     Ok(digest)
 }
 
-/// Slices each frame once.
+/// Parses each frame laxly, into one reused packet (`in_place`) or into new ones, and adds the results to the digest.
 fn slice_round(frames: &UnusualFrames, first: u64, digest: &mut Digest, in_place: bool) {
     let bytes = frames.bytes.as_slice();
     let mut packet = LaxSlicedPacket::new();
@@ -51,7 +51,8 @@ fn slice_round(frames: &UnusualFrames, first: u64, digest: &mut Digest, in_place
     }
 }
 
-/// Adds fields of a packet's layers, and its checksums.
+/// Adds fields of all layers after the Ethernet header of a laxly parsed packet to the digest, and whether its
+/// checksums are valid.
 fn add_packet(digest: &mut Digest, packet: &LaxSlicedPacket<'_>) {
     for extension in packet.link_exts.as_slice() {
         add_link_extension(digest, extension);
@@ -71,7 +72,7 @@ fn add_packet(digest: &mut Digest, packet: &LaxSlicedPacket<'_>) {
     digest.add(packet.payload().len() as u64 ^ u64::from(packet.is_incomplete()) << 32);
 }
 
-/// Adds fields of a VLAN or MACsec tag.
+/// Adds fields of a VLAN tag or a MACsec tag (SecTAG) to the digest.
 fn add_link_extension(digest: &mut Digest, extension: &LaxLinkExtSlice<'_>) {
     match extension {
         LaxLinkExtSlice::Vlan(tag) => {
@@ -89,7 +90,8 @@ fn add_link_extension(digest: &mut Digest, extension: &LaxLinkExtSlice<'_>) {
     }
 }
 
-/// Adds fields of an IPv4 packet with its options and authentication header, and whether its header's checksum is valid.
+/// Adds fields of an IPv4 packet to the digest: its options, its authentication header, and whether its header checksum
+/// is valid.
 fn add_ipv4(digest: &mut Digest, packet: &LaxIpv4Slice<'_>) {
     let header = packet.header();
     let source = u64::from(u32::from_be_bytes(header.source()));
@@ -102,7 +104,7 @@ fn add_ipv4(digest: &mut Digest, packet: &LaxIpv4Slice<'_>) {
     add_verdict(digest, header.header_checksum(), sum);
 }
 
-/// Adds fields of an IPv6 packet and its extension headers.
+/// Adds fields of an IPv6 packet and its extension headers to the digest.
 fn add_ipv6(digest: &mut Digest, packet: &LaxIpv6Slice<'_>) {
     let header = packet.header();
     digest.add(low_word(&header.source()) ^ u64::from(header.payload_length()) << 32);
@@ -119,13 +121,13 @@ fn add_ipv6(digest: &mut Digest, packet: &LaxIpv6Slice<'_>) {
     }
 }
 
-/// Adds fields of an authentication header.
+/// Adds SPI, sequence number and integrity check value of an IP authentication header to the digest.
 fn add_auth(digest: &mut Digest, auth: &IpAuthHeaderSlice<'_>) {
     digest.add(u64::from(auth.sequence_number()) ^ u64::from(auth.spi()) << 32);
     digest.add_bytes(auth.raw_icv());
 }
 
-/// Adds fields of a transport layer.
+/// Adds fields of a UDP, TCP or ICMP header to the digest, for TCP with its options.
 fn add_transport(digest: &mut Digest, transport: &TransportSlice<'_>) {
     match transport {
         TransportSlice::Udp(datagram) => {
@@ -146,7 +148,7 @@ fn add_transport(digest: &mut Digest, transport: &TransportSlice<'_>) {
     }
 }
 
-/// Adds the options of a TCP segment.
+/// Adds the options of a TCP segment to the digest; an invalid option counts as 5.
 fn add_options(digest: &mut Digest, segment: &TcpSlice<'_>) {
     for option in segment.options_iterator() {
         match option {
@@ -156,7 +158,7 @@ fn add_options(digest: &mut Digest, segment: &TcpSlice<'_>) {
     }
 }
 
-/// Returns a number of an option's value.
+/// Returns a number for the digest that depends on the value of a TCP option.
 fn number_of(option: &TcpOptionElement) -> u64 {
     match option {
         TcpOptionElement::Noop => 1,
@@ -170,7 +172,7 @@ fn number_of(option: &TcpOptionElement) -> u64 {
     }
 }
 
-/// Adds whether the checksum of a transport layer is valid for the bytes that were captured.
+/// Adds to the digest whether the checksum of a UDP, TCP or ICMP layer is valid for the captured bytes.
 fn add_checksum(
     digest: &mut Digest,
     net: &Option<LaxNetSlice<'_>>,
@@ -189,7 +191,7 @@ fn add_checksum(
     }
 }
 
-/// Adds whether the checksum of a transport layer is valid between these IPv4 addresses.
+/// Adds to the digest whether the checksum of a UDP, TCP or ICMPv4 layer is valid between these IPv4 addresses.
 fn add_checksum_ipv4(
     digest: &mut Digest,
     source: [u8; 4],
@@ -215,7 +217,7 @@ fn add_checksum_ipv4(
     }
 }
 
-/// Adds whether the checksum of a transport layer is valid between these IPv6 addresses.
+/// Adds to the digest whether the checksum of a UDP, TCP or ICMPv6 layer is valid between these IPv6 addresses.
 fn add_checksum_ipv6(
     digest: &mut Digest,
     source: [u8; 16],
@@ -243,7 +245,8 @@ fn add_checksum_ipv6(
     }
 }
 
-/// Adds whether a field has the checksum that was calculated.
+/// Adds a computed checksum to the digest, and whether the checksum field has it. If the UDP payload or TCP segment was
+/// too long to compute it, adds its length instead.
 fn add_sum(digest: &mut Digest, field: u16, sum: Result<u16, ValueTooBigError<usize>>) {
     match sum {
         Ok(sum) => add_verdict(digest, field, sum),
@@ -251,7 +254,7 @@ fn add_sum(digest: &mut Digest, field: u16, sum: Result<u16, ValueTooBigError<us
     }
 }
 
-/// Adds a calculated checksum, and whether a field has it.
+/// Adds a computed checksum to the digest, and whether the checksum field `field` has it.
 fn add_verdict(digest: &mut Digest, field: u16, sum: u16) {
     digest.add(u64::from(sum) ^ u64::from(field == sum) << 16);
 }

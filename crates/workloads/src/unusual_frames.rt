@@ -1,4 +1,4 @@
-//! Frames with rare headers: IPv4 and TCP options, authentication headers, MACsec, two and three VLAN tags.
+//! Generated frames with rare headers: IPv4 and TCP options, authentication headers, MACsec, two and three VLAN tags.
 
 use crate::bench_error::BenchError;
 use crate::fields::{Balance, Numbers, mixed, put_32};
@@ -14,51 +14,52 @@ use etherparse::{
 };
 use std::alloc::Global;
 
-/// Number of bytes of an Ethernet header, which truncation keeps.
+/// Minimum length of truncated frames in bytes, that of an Ethernet header.
 const LEAST_LEN: usize = 14;
 
-/// Number of bytes that every truncated frame is shorter than.
+/// Truncated frames are shorter than this number of bytes.
 const SNAP_LEN: usize = 160;
 
-/// Number of bytes of an integrity check value: HMAC-SHA-1-96 (RFC 2404).
+/// Length in bytes of the integrity check value in generated authentication headers, as for HMAC-SHA-1-96 (RFC 2404).
 const ICV_LEN: usize = 12;
 
-/// IPv4 options (RFC 791, 3.1): a router alert (RFC 2113), a record of three routers, and the end of the options.
+/// IPv4 options (RFC 791, 3.1): router alert (RFC 2113), record route with space for three routers, and the
+/// end-of-options marker.
 const IPV4_OPTIONS: [u8; 20] = [
     148, 4, 0, 0, 7, 15, 8, 192, 0, 2, 1, 0, 0, 0, 0, 0, 0, 0, 0, 0,
 ];
 
-/// Headers between the Ethernet header and the network layer.
+/// Tags between the Ethernet header and the network layer of a generated frame.
 #[derive(Clone, Copy, PartialEq, Eq)]
 enum Tags {
-    /// None.
+    /// The frame has no VLAN tag and no MACsec tag.
     Untagged,
     /// Two VLAN tags.
     TwoVlans,
     /// Three VLAN tags.
     ThreeVlans,
-    /// A MACsec tag, and an unmodified payload.
+    /// A MACsec tag (SecTAG) and an unmodified payload.
     Macsec,
-    /// A MACsec tag with a secure channel identifier, and an encrypted payload.
+    /// A MACsec tag (SecTAG) with a secure channel identifier, and an encrypted payload.
     Encrypted,
 }
 
-/// Transport layer of a frame.
+/// Transport layer of a generated frame.
 #[derive(Clone, Copy)]
 enum Transport {
-    /// A TCP segment with the options of a connection's first one.
+    /// A TCP segment with the options of a SYN: maximum segment size, SACK permitted, timestamp and window scale.
     Syn,
-    /// A TCP segment with a timestamp and three selective acknowledgements, which fill the header.
+    /// A TCP segment with a timestamp and three SACK blocks, the longest options that a TCP header can have.
     Ack,
     /// A UDP datagram.
     Udp,
-    /// An echo request.
+    /// An ICMPv4 or ICMPv6 echo request.
     Echo,
 }
 
 impl Transport {
-    /// Returns the length of the header, and counted from its start the places of the source port (or of the identifier
-    /// of an echo request) and of the port's complement, which for UDP is in the payload.
+    /// Returns three numbers of bytes: the length of the transport header, and the offsets from its start of the source
+    /// port (of the identifier for an echo request) and of its complement. For UDP the complement is in the payload.
     fn places(&self) -> (usize, usize, usize) {
         match self {
             Transport::Syn => (40, 0, 6),
@@ -69,22 +70,22 @@ impl Transport {
     }
 }
 
-/// Headers of a frame, and the length of its payload.
+/// Shape of a generated frame: its headers, and the length of its payload in bytes.
 #[derive(Clone, Copy)]
 struct UnusualShape {
     tags: Tags,
     is_ipv6: bool,
-    /// Whether there are IPv4 options or hop by hop options of IPv6.
+    /// True if the generated frame has IPv4 options or IPv6 hop-by-hop options.
     has_options: bool,
-    /// Whether there is an authentication header.
+    /// True if the generated frame has an IP authentication header.
     has_auth: bool,
     transport: Transport,
     payload_len: usize,
 }
 
 impl UnusualShape {
-    /// Draws a shape. Encrypted payloads and echo requests are a tenth each, all other headers a fifth to a half; as in
-    /// ordinary traffic short payloads are more frequent than long ones.
+    /// Draws the shape of a random frame with rare headers. Encrypted payloads and echo requests are a tenth each, all
+    /// other rare headers a fifth to a half. As in ordinary traffic, short payloads are more frequent than long ones.
     fn drawn(numbers: &mut Numbers) -> UnusualShape {
         UnusualShape {
             tags: match numbers.below(10) {
@@ -112,24 +113,27 @@ impl UnusualShape {
     }
 }
 
-/// A frame among others, and the fields that are set anew for each call.
+/// Position of a generated frame in the vector of all frames, with the positions of the fields that are set anew for
+/// each call of the library.
 #[derive(Clone, Copy)]
 pub struct Sample {
     start: usize,
     end: usize,
-    /// The lower two bytes of its IP addresses.
+    /// Positions of the lower 16 bits of the frame's source and destination IP address, the second the complement of
+    /// the first.
     addresses: Balance,
-    /// Its source port, or the identifier of its echo request.
+    /// Positions of the frame's source port (or the identifier of its echo request) and of a field with its complement.
     ports: Balance,
-    /// Place of the MACsec packet number.
+    /// Index of the frame's MACsec packet number in the vector of all frames, if it has a MACsec tag.
     packet_number: Option<usize>,
-    /// Place of the sequence number of the authentication header.
+    /// Index of the sequence number of the frame's IP authentication header in the vector of all frames, if present.
     sequence_number: Option<usize>,
     is_truncated: bool,
 }
 
 impl Sample {
-    /// Sets addresses, ports and numbers for the call of this number.
+    /// Sets the frame's hardware address, IP addresses, ports, MACsec packet number and authentication sequence number
+    /// to values derived from `number`.
     fn renew(&self, bytes: &mut [u8], number: u64) {
         let low = (number % 0x1_0000_0000) as u32;
         put_32(bytes, self.start.wrapping_add(8), low);
@@ -147,8 +151,8 @@ impl Sample {
         }
     }
 
-    /// Returns the bytes of the frame that the capture keeps in the call of this number: all, or if it is truncated up
-    /// to a place that the number decides.
+    /// Returns the captured bytes of a generated frame: all, or if the frame is truncated, its first 14 to 159 bytes,
+    /// by a length that is derived from `number`.
     #[inline]
     pub fn captured_in<'a>(&self, bytes: &'a [u8], number: u64) -> &'a [u8] {
         let len = self.end.saturating_sub(self.start);
@@ -162,17 +166,18 @@ impl Sample {
     }
 }
 
-/// Frames in one vector.
+/// Generated frames with rare headers, one after the other in one vector, and their positions.
 #[derive(Drop)]
 pub struct UnusualFrames {
-    /// Their bytes.
+    /// Bytes of all generated frames, one after the other.
     pub bytes: Vec<u8>,
-    /// Their places.
+    /// Positions of the generated frames, and of their fields that are set anew for each call of the library.
     pub samples: Vec<Sample>,
 }
 
 impl UnusualFrames {
-    /// Draws the frames, of which every second one is truncated in each call.
+    /// Generates 2,000 random frames with rare headers. Every second one is truncated whenever it is parsed, to another
+    /// length each time.
     pub fn drawn(alloc: Global, numbers: &mut Numbers) -> Result<UnusualFrames, BenchError> {
         let noise = noise(alloc, numbers)?;
         let mut bytes = Vec::new(alloc);
@@ -186,7 +191,8 @@ impl UnusualFrames {
         Ok(UnusualFrames { bytes, samples })
     }
 
-    /// Sets addresses, ports and numbers of all frames, the first of them by this number.
+    /// Sets addresses, ports and sequence numbers of all generated frames to new values: the first frame has this
+    /// number, and each frame the next one.
     pub fn renew(&mut self, number: u64) {
         let mut number = number;
         for sample in self.samples.as_slice() {
@@ -196,7 +202,8 @@ impl UnusualFrames {
     }
 }
 
-/// Appends a frame.
+/// Appends a frame with the headers of `shape` to the vector of all frames, and returns its position and those of its
+/// fields.
 fn push_frame(
     bytes: &mut Vec<u8>,
     shape: &UnusualShape,
@@ -232,7 +239,7 @@ fn push_frame(
     Ok(sample)
 }
 
-/// Appends an Ethernet header and tags before a payload of this type.
+/// Appends an Ethernet header and VLAN or MACsec tags, before a network layer of this ether type.
 fn push_link(bytes: &mut Vec<u8>, tags: Tags, ether_type: EtherType) -> Result<(), BenchError> {
     let outer = match tags {
         Tags::Untagged => ether_type,
@@ -262,7 +269,7 @@ fn push_link(bytes: &mut Vec<u8>, tags: Tags, ether_type: EtherType) -> Result<(
     }
 }
 
-/// Appends a VLAN tag for each of these types of the next header.
+/// Appends one VLAN tag for each element of `types`, the ether type of the header after that tag.
 fn push_vlans(bytes: &mut Vec<u8>, types: &[EtherType]) -> Result<(), BenchError> {
     for ether_type in types {
         let (Ok(pcp), Ok(vlan_id)) = (VlanPcp::try_new(3), VlanId::try_new(42)) else {
@@ -279,7 +286,7 @@ fn push_vlans(bytes: &mut Vec<u8>, types: &[EtherType]) -> Result<(), BenchError
     Ok(())
 }
 
-/// Appends a MACsec tag without a short length.
+/// Appends a MACsec tag (SecTAG) with short length 0, which sets no limit to the payload.
 fn push_macsec(
     bytes: &mut Vec<u8>,
     ptype: MacsecPType,
@@ -298,7 +305,8 @@ fn push_macsec(
     Ok(())
 }
 
-/// Appends an IP packet, and sets the places of its fields.
+/// Appends the IP packet that `shape` describes, and stores the positions of its addresses, ports and sequence number
+/// in `sample`.
 fn push_packet(
     bytes: &mut Vec<u8>,
     shape: &UnusualShape,
@@ -331,7 +339,7 @@ fn push_packet(
     Ok(())
 }
 
-/// Appends an IP packet with this payload.
+/// Appends an IP packet: the IP headers and the transport header that `shape` names, and this payload.
 fn push_ip(bytes: &mut Vec<u8>, shape: &UnusualShape, payload: &[u8]) -> Result<(), BenchError> {
     let step = PacketBuilder::ip(ip_headers(shape)?);
     let written = match shape.transport {
@@ -349,7 +357,8 @@ fn push_ip(bytes: &mut Vec<u8>, shape: &UnusualShape, payload: &[u8]) -> Result<
     }
 }
 
-/// Appends an IP packet with a TCP segment.
+/// Appends an IP packet with a TCP segment: the IP headers begun in `step`, a TCP header with these options, and this
+/// payload.
 fn push_tcp(
     bytes: &mut Vec<u8>,
     step: PacketBuilderStep<IpHeaders>,
@@ -365,7 +374,7 @@ fn push_tcp(
     }
 }
 
-/// Returns the options of a connection's first segment, 20 bytes.
+/// Returns the TCP options of a SYN, 20 bytes: maximum segment size, SACK permitted, timestamp and window scale.
 fn syn_options() -> [TcpOptionElement; 5] {
     [
         TcpOptionElement::MaximumSegmentSize(1_460),
@@ -376,7 +385,7 @@ fn syn_options() -> [TcpOptionElement; 5] {
     ]
 }
 
-/// Returns a timestamp and selective acknowledgements of three blocks, 40 bytes.
+/// Returns TCP options of 40 bytes, the maximum: a timestamp and three SACK blocks.
 fn ack_options() -> [TcpOptionElement; 6] {
     [
         TcpOptionElement::Noop,
@@ -391,7 +400,7 @@ fn ack_options() -> [TcpOptionElement; 6] {
     ]
 }
 
-/// Returns the IP headers of a shape.
+/// Returns the IPv4 or IPv6 header that `shape` describes, with its options and authentication header.
 fn ip_headers(shape: &UnusualShape) -> Result<IpHeaders, BenchError> {
     let auth = if shape.has_auth {
         Some(auth_header()?)
@@ -431,7 +440,7 @@ fn ip_headers(shape: &UnusualShape) -> Result<IpHeaders, BenchError> {
     Ok(IpHeaders::Ipv4(header, Ipv4Extensions { auth }))
 }
 
-/// Returns an authentication header (RFC 4302), whose next header the builder sets.
+/// Returns an IP authentication header (RFC 4302); the packet builder sets its next header field.
 fn auth_header() -> Result<IpAuthHeader, BenchError> {
     match IpAuthHeader::new(IpNumber::UDP, 0x1001, 0, &[0xa5; ICV_LEN]) {
         Ok(header) => Ok(header),
@@ -439,7 +448,7 @@ fn auth_header() -> Result<IpAuthHeader, BenchError> {
     }
 }
 
-/// Returns a router alert in hop by hop options (RFC 2711), whose next header the builder sets.
+/// Returns IPv6 hop-by-hop options with a router alert (RFC 2711); the packet builder sets their next header field.
 fn hop_by_hop_options() -> Result<Ipv6RawExtHeader, BenchError> {
     match Ipv6RawExtHeader::new_raw(IpNumber::UDP, &[5, 2, 0, 0, 1, 0]) {
         Ok(header) => Ok(header),

@@ -1,59 +1,59 @@
-//! The calls of `libetherparse_c.a` and their numbers, as the header `etherparse.h` declares them: it says in full what
-//! each is for, what it answers and what a caller owes. `etherparse-c` has safe wrappers of all of them.
+//! Declarations of the calls of `libetherparse_c.a` and of their numbers, as in the C header `etherparse.h`, which
+//! documents each call, its statuses and the duties of a caller. `etherparse-c` has safe wrappers of all of them.
 //!
-//! The exports are called `etherparse_1_slice` and so on, so that declarations of one layout do not link with an archive
-//! of another one. `build.rs` says where the archive is looked for.
+//! The exports are named `etherparse_1_slice` and so on, so that declarations of one layout do not link with an archive
+//! of another layout. `build.rs` documents where the archive is searched.
 #![no_std]
 #![warn(missing_docs)]
 
-/// The version that these declarations are of: 10000 times the major number, 100 times the minor one, and the patch.
+/// Version of these declarations: 10000 times the major number, plus 100 times the minor one, plus the patch.
 pub const VERSION: u32 = 100;
-/// The most bytes of stack that a call needs, but for that which builds fragments.
+/// Maximum stack that a call needs, in bytes, except [`etherparse_build_fragment`].
 pub const STACK: u32 = 2048;
-/// The most bytes of stack that [`etherparse_build_fragment`] needs.
+/// Maximum stack that [`etherparse_build_fragment`] needs, in bytes.
 pub const STACK_OF_FRAGMENTS: u32 = 65536;
-/// As many bytes have room for the text of each refusal, with its zero byte.
+/// Buffer length that is enough for the text of every error, including its zero byte.
 pub const REFUSAL_TEXT_MAX: u32 = 142;
 
-// What a call answers.
-/// It did what it is for.
+// Statuses of calls.
+/// Success.
 pub const OK: u32 = 0;
-/// The bytes are no frame; the refusal says why.
+/// The bytes are not a frame; the refusal has the error.
 pub const REFUSED: u32 = 1;
-/// A number in the place of a choice is none of those below.
+/// A number is not one of the allowed choices.
 pub const UNKNOWN_CHOICE: u32 = 2;
-/// The buffer has too few bytes; how many are needed is told.
+/// The buffer is too small; the needed length is stored.
 pub const TOO_SMALL: u32 = 3;
-/// The payload is longer than the headers' length fields can count.
+/// The payload is too long for the headers' length fields.
 pub const TOO_LONG: u32 = 4;
-/// There was no memory.
+/// An allocation failed.
 pub const OUT_OF_MEMORY: u32 = 5;
-/// A payload is complete, and handed out.
+/// A payload is complete, and is in the buffer.
 pub const COMPLETE: u32 = 6;
-/// The fragment in a frame is refused; the answer says why.
+/// The fragment in a frame is rejected; the answer has the reason.
 pub const FRAGMENT_REFUSED: u32 = 7;
-/// A payload waits in the pool, which takes no frame before it is handed out.
+/// A payload waits in the pool, which takes no frame until it is taken.
 pub const PAYLOAD_WAITS: u32 = 8;
 
-// What a frame begins with.
-/// An Ethernet II header.
+// First header of a frame.
+/// Ethernet II header.
 pub const ENTRY_ETHERNET: u32 = 0;
-/// The header of a Linux cooked capture (SLL v1).
+/// Linux cooked capture header (SLL v1).
 pub const ENTRY_LINUX_SLL: u32 = 1;
-/// What an ether type says, without a link header.
+/// Payload of an ether type, without a link header.
 pub const ENTRY_ETHER_TYPE: u32 = 2;
-/// An IP header of either version.
+/// IP header of either version.
 pub const ENTRY_IP: u32 = 3;
 
-// The kinds of headers, by their layer. In each layer 0 is none.
-/// An Ethernet II header.
+// Kinds of headers, for each layer. In each layer 0 is none.
+/// Ethernet II header.
 pub const LINK_ETHERNET2: u32 = 1;
-/// The header of a Linux cooked capture (SLL v1).
+/// Linux cooked capture header (SLL v1).
 pub const LINK_LINUX_SLL: u32 = 2;
 
-/// A VLAN tag.
+/// VLAN tag.
 pub const EXT_VLAN: u32 = 1;
-/// A MACsec tag (SecTAG).
+/// MACsec tag (SecTAG).
 pub const EXT_MACSEC: u32 = 2;
 
 /// ARP.
@@ -72,336 +72,337 @@ pub const TRANSPORT_UDP: u32 = 17;
 /// ICMPv6.
 pub const TRANSPORT_ICMPV6: u32 = 58;
 
-// What set the end of some bytes.
-/// The length that was passed.
+// Length field that limits some bytes.
+/// None: the length that was passed.
 pub const END_SLICE: u32 = 0;
-/// The short length of a MACsec tag.
+/// Short length (SL) of a MACsec tag.
 pub const END_MACSEC: u32 = 1;
-/// The total length of an IPv4 header.
+/// Total length of an IPv4 header.
 pub const END_IPV4: u32 = 2;
-/// The payload length of an IPv6 header.
+/// Payload length of an IPv6 header.
 pub const END_IPV6: u32 = 3;
-/// The length of a UDP header.
+/// Length of a UDP header.
 pub const END_UDP: u32 = 4;
-/// The address lengths of an ARP packet.
+/// Address lengths of an ARP packet.
 pub const END_ARP: u32 = 5;
 
-// Why bytes are no frame.
-/// There is no refusal: the bytes are a frame.
+// Kinds of errors.
+/// No error: the bytes are a frame.
 pub const REFUSAL_NONE: u32 = 0;
 /// A layer needs another number of bytes than there are.
 pub const REFUSAL_LEN: u32 = 1;
-/// The packet type of a cooked capture is `number`, above 7.
+/// Packet type of a cooked capture is `number`, above 7.
 pub const REFUSAL_SLL_PACKET_TYPE: u32 = 2;
-/// The hardware type of a cooked capture `number` is not known.
+/// ARP hardware type of a cooked capture, `number`, is not supported.
 pub const REFUSAL_SLL_ARP_HARDWARE: u32 = 3;
-/// The version bit of MACsec is set.
+/// Version bit of MACsec is set.
 pub const REFUSAL_MACSEC_VERSION: u32 = 4;
-/// An unmodified MACsec payload has no room for its ether type.
+/// Unmodified MACsec payload is too short for its ether type.
 pub const REFUSAL_MACSEC_SHORT_LEN: u32 = 5;
-/// Entry IP: the version is `number`, neither 4 nor 6.
+/// Entry IP: version is `number`, neither 4 nor 6.
 pub const REFUSAL_IP_VERSION: u32 = 6;
-/// Entry IP: the header length of IPv4 is `number` words, below 5.
+/// Entry IP: IPv4 header length (IHL) is `number`, below 5.
 pub const REFUSAL_IP_IHL: u32 = 7;
-/// Behind the ether type of IPv4 the version is `number`.
+/// Version after the ether type of IPv4 is `number`.
 pub const REFUSAL_IPV4_VERSION: u32 = 8;
-/// The header length is `number` words, below 5.
+/// Header length (IHL) after the ether type of IPv4 is `number`, below 5.
 pub const REFUSAL_IPV4_IHL: u32 = 9;
-/// Behind the ether type of IPv6 the version is `number`.
+/// Version after the ether type of IPv6 is `number`.
 pub const REFUSAL_IPV6_VERSION: u32 = 10;
-/// The length of an authentication header in IPv4 is 0.
+/// Payload length of an authentication header in IPv4 is 0.
 pub const REFUSAL_IPV4_AUTH: u32 = 11;
-/// Hop by hop options stand behind another extension header.
+/// Hop-by-hop options come after another extension header.
 pub const REFUSAL_IPV6_HOP_BY_HOP: u32 = 12;
-/// The length of an authentication header in IPv6 is 0.
+/// Payload length of an authentication header in IPv6 is 0.
 pub const REFUSAL_IPV6_AUTH: u32 = 13;
-/// The data offset of TCP is `number` words, below 5.
+/// Data offset of TCP is `number`, below 5.
 pub const REFUSAL_TCP_DATA_OFFSET: u32 = 14;
 
-// The layers that a refusal by length names.
-/// An Ethernet II header.
+// Layers of length errors.
+/// Ethernet II header.
 pub const LAYER_ETHERNET2_HEADER: u32 = 1;
-/// The header of a Linux cooked capture.
+/// Linux cooked capture header.
 pub const LAYER_LINUX_SLL_HEADER: u32 = 2;
-/// A VLAN tag.
+/// VLAN tag.
 pub const LAYER_VLAN_HEADER: u32 = 3;
-/// A MACsec tag.
+/// MACsec tag.
 pub const LAYER_MACSEC_HEADER: u32 = 4;
-/// What a MACsec short length counts.
+/// Bytes that a MACsec short length counts.
 pub const LAYER_MACSEC_PACKET: u32 = 5;
-/// An ARP packet.
+/// ARP packet.
 pub const LAYER_ARP: u32 = 6;
-/// An IP header of either version.
+/// IP header of either version.
 pub const LAYER_IP_HEADER: u32 = 7;
-/// An IPv4 header.
+/// IPv4 header.
 pub const LAYER_IPV4_HEADER: u32 = 8;
-/// What an IPv4 total length counts.
+/// Bytes that an IPv4 total length counts.
 pub const LAYER_IPV4_PACKET: u32 = 9;
-/// An authentication header.
+/// Authentication header.
 pub const LAYER_IP_AUTH_HEADER: u32 = 10;
-/// An IPv6 header.
+/// IPv6 header.
 pub const LAYER_IPV6_HEADER: u32 = 11;
-/// What an IPv6 payload length counts.
+/// Bytes that an IPv6 payload length counts.
 pub const LAYER_IPV6_PACKET: u32 = 12;
-/// An IPv6 extension header.
+/// IPv6 extension header.
 pub const LAYER_IPV6_EXT_HEADER: u32 = 13;
-/// An IPv6 fragment header.
+/// IPv6 fragment header.
 pub const LAYER_IPV6_FRAG_HEADER: u32 = 14;
-/// A UDP header.
+/// UDP header.
 pub const LAYER_UDP_HEADER: u32 = 15;
-/// What a UDP length counts.
+/// Bytes that a UDP length counts.
 pub const LAYER_UDP_PAYLOAD: u32 = 16;
-/// A TCP header.
+/// TCP header.
 pub const LAYER_TCP_HEADER: u32 = 17;
-/// An ICMP message.
+/// ICMP message.
 pub const LAYER_ICMPV4: u32 = 18;
-/// An ICMP timestamp request.
+/// ICMP timestamp request.
 pub const LAYER_ICMPV4_TIMESTAMP: u32 = 19;
-/// An ICMP timestamp reply.
+/// ICMP timestamp reply.
 pub const LAYER_ICMPV4_TIMESTAMP_REPLY: u32 = 20;
-/// An ICMPv6 message.
+/// ICMPv6 message.
 pub const LAYER_ICMPV6: u32 = 21;
 
-// The flags of TCP.
-/// No more data comes.
+// Flags of TCP (RFC 9293, 3.1).
+/// FIN: no more data from the sender.
 pub const TCP_FIN: u8 = 1;
-/// The sequence number is the first.
+/// SYN: synchronize sequence numbers.
 pub const TCP_SYN: u8 = 2;
-/// The connection is broken off.
+/// RST: reset the connection.
 pub const TCP_RST: u8 = 4;
-/// Hand what came to the program.
+/// PSH: push buffered data to the application.
 pub const TCP_PSH: u8 = 8;
-/// The acknowledgment number counts.
+/// ACK: the acknowledgment number is valid.
 pub const TCP_ACK: u8 = 16;
-/// The urgent pointer counts.
+/// URG: the urgent pointer is valid.
 pub const TCP_URG: u8 = 32;
-/// A mark of congestion came.
+/// ECE: ECN-Echo (RFC 3168).
 pub const TCP_ECE: u8 = 64;
-/// The sender slowed down.
+/// CWR: congestion window reduced (RFC 3168).
 pub const TCP_CWR: u8 = 128;
 
-// Why a fragment is refused.
-/// Its length is no multiple of 8, and more fragments follow.
+// Reasons why a fragment is rejected.
+/// Its length is not a multiple of 8, and more fragments follow.
 pub const FRAGMENT_UNALIGNED: u32 = 1;
-/// It ends behind the pool's limit.
+/// It ends after the pool's limit.
 pub const FRAGMENT_TOO_BIG: u32 = 2;
-/// It ends behind the known end, or is the last one and ends before that or before the end of what came.
+/// It ends after the known end, or is the last one and ends before that or before the end of an earlier fragment.
 pub const FRAGMENT_CONFLICTING_END: u32 = 3;
 
-// The greatest number of bytes of a payload in a pool.
-/// The greatest number of bytes of a payload in a pool that is made without a limit.
+// Limits.
+/// Maximum payload length in a pool without a limit of its own, in bytes.
 pub const MAX_PAYLOAD: u16 = 65535;
 
-/// A header, and which bytes of the frame it is.
+/// Kind of a header, its offset in the frame and its length.
 #[repr(C)]
 #[derive(Clone, Copy, Debug, Default, PartialEq, Eq, Hash)]
 pub struct Part {
-    /// The kind of the header, of the constants of its layer; 0 is none.
+    /// Kind of the header, a constant of its layer; 0 is none.
     pub kind: u32,
-    /// Where in the frame it begins.
+    /// Offset in the frame, in bytes.
     pub offset: usize,
-    /// The number of its bytes.
+    /// Length in bytes.
     pub len: usize,
 }
 
-/// The tag of a link extension.
+/// Tag of a link extension.
 #[repr(C)]
 #[derive(Clone, Copy, Debug, Default, PartialEq, Eq, Hash)]
 pub struct LinkExt {
     /// `EXT_VLAN` or `EXT_MACSEC`; 0 is none.
     pub kind: u32,
-    /// The identifier of a VLAN tag; 0 of MACsec.
+    /// VLAN identifier (VID); 0 for MACsec.
     pub vlan_id: u16,
-    /// Where in the frame it begins, behind the ether type that names it.
+    /// Offset in the frame, in bytes; the tag starts after its own ether type.
     pub offset: usize,
-    /// The number of its bytes, the ether type of what follows among them.
+    /// Length in bytes, including the ether type of the payload.
     pub len: usize,
 }
 
-/// What an IP header says, and its extension headers.
+/// Fields of an IP header and its extension headers.
 #[repr(C)]
 #[derive(Clone, Copy, Debug, Default, PartialEq, Eq, Hash)]
 pub struct Ip {
-    /// 4 or 6; 0 where there is no IP packet.
+    /// IP version: 4 or 6; 0 if the packet is not IP.
     pub version: u8,
-    /// The protocol number of the payload, behind the extension headers.
+    /// IP number (protocol) of the payload after the extension headers.
     pub number: u8,
-    /// 1 if the payload is one fragment of a longer one.
+    /// 1 if the payload is a fragment of a longer one.
     pub fragmented: u8,
-    /// 1 if the header says that more fragments follow.
+    /// 1 if "more fragments" is set.
     pub more_fragments: u8,
-    /// Where the fragment lies in the whole payload, in bytes.
+    /// Offset of the fragment in the reassembled payload, in bytes.
     pub fragment_offset: u16,
-    /// What fragments of one payload have in common; 0 in IPv6 without a fragment header.
+    /// Identification that all fragments of a payload share; 0 in IPv6 without a fragment header.
     pub identification: u32,
-    /// The IP header's bytes, without extension headers.
+    /// Length of the IP header without extension headers, in bytes.
     pub header_len: usize,
 }
 
-/// The payload of the last layer.
+/// Payload of the last layer.
 #[repr(C)]
 #[derive(Clone, Copy, Debug, Default, PartialEq, Eq, Hash)]
 pub struct Payload {
-    /// What set its end, of the constants `END_`.
+    /// Length field that limits it, a constant `END_`.
     pub len_source: u32,
-    /// 1 if bytes are missing that a length field says are there, of what is sliced laxly; else 0.
+    /// 1 if bytes that a length field counts are missing (lax slicing only); else 0.
     pub incomplete: u32,
-    /// Where in the frame it begins.
+    /// Offset in the frame, in bytes.
     pub offset: usize,
-    /// The number of its bytes.
+    /// Length in bytes.
     pub len: usize,
 }
 
-/// Why bytes are no frame.
+/// Kinds of errors.
 #[repr(C)]
 #[derive(Clone, Copy, Debug, Default, PartialEq, Eq, Hash)]
 pub struct Refusal {
-    /// Of the constants `REFUSAL_`.
+    /// Kind of the error, a constant `REFUSAL_`.
     pub kind: u32,
-    /// Of a refusal by length: of the constants `LAYER_`.
+    /// Layer of a length error, a constant `LAYER_`.
     pub layer: u32,
-    /// Of a refusal by length: what set `len`, of the constants `END_`.
+    /// Limit of `len` in a length error, a constant `END_`.
     pub len_source: u32,
-    /// The number that the bytes hold, of the kinds that name it.
+    /// Invalid value of a field, for the kinds that name it.
     pub number: u32,
-    /// Of a refusal by length: the number of bytes that the layer needs.
+    /// Number of bytes that the layer needs, in a length error.
     pub required_len: usize,
-    /// Of a refusal by length: the number of bytes at hand.
+    /// Number of available bytes, in a length error.
     pub len: usize,
-    /// Of a refusal by length: where in the frame the layer begins.
+    /// Offset of the layer in the frame, in a length error.
     pub layer_start_offset: usize,
 }
 
-/// What the layers of a frame are, or why bytes are no frame.
+/// Layers of a frame, or the error if the bytes are not a frame.
 #[repr(C)]
 #[derive(Clone, Copy, Debug, Default, PartialEq, Eq, Hash)]
 pub struct Packet {
-    /// The link header, of the constants `LINK_`.
+    /// Link header, with a constant `LINK_`.
     pub link: Part,
-    /// The tags of link extensions from the outside in, then all 0; a fourth is left as payload.
+    /// Tags of link extensions from the outermost on, then all 0; a fourth is payload.
     pub link_exts: [LinkExt; 3],
-    /// The number of tags.
+    /// Number of tags.
     pub link_ext_count: u32,
-    /// Of UDP and TCP, else 0.
+    /// Source port of UDP or TCP, else 0.
     pub source_port: u16,
-    /// Of UDP and TCP, else 0.
+    /// Destination port of UDP or TCP, else 0.
     pub destination_port: u16,
-    /// IP with its extension headers, or the whole ARP packet, of the constants `NET_`.
+    /// IP header with its extension headers, or whole ARP packet, with a constant `NET_`.
     pub net: Part,
-    /// What an IP header says; all 0 where there is none.
+    /// Fields of the IP header; all 0 if there is none.
     pub ip: Ip,
-    /// The transport header, of the constants `TRANSPORT_`; none in a fragment.
+    /// Transport header, with a constant `TRANSPORT_`; none in a fragment.
     pub transport: Part,
-    /// The payload of the last layer that was read.
+    /// Payload of the last layer.
     pub payload: Payload,
-    /// Why the bytes are no frame; all 0 of a frame.
+    /// Error, if the bytes are not a frame; all 0 for a frame.
     pub refusal: Refusal,
 }
 
-/// The headers before the transport header of a frame that is built.
+/// Headers before the transport header of a frame to build.
 #[repr(C)]
 #[derive(Clone, Copy, Debug, Default, PartialEq, Eq, Hash)]
 pub struct Route {
-    /// 4 or 6.
+    /// IP version: 4 or 6.
     pub version: u8,
-    /// 0: the frame begins with the IP header; else with an Ethernet II header.
+    /// 0 if the frame starts with the IP header; otherwise it starts with an Ethernet II header.
     pub with_ethernet: u8,
-    /// The number of hops that the packet may take.
+    /// Time to live (IPv4) or hop limit (IPv6).
     pub hop_limit: u8,
-    /// The sender's Ethernet address.
+    /// Source MAC address.
     pub ethernet_source: [u8; 6],
-    /// The receiver's Ethernet address.
+    /// Destination MAC address.
     pub ethernet_destination: [u8; 6],
-    /// The sender's address, where the version is 4.
+    /// Source IPv4 address, if the version is 4.
     pub ipv4_source: [u8; 4],
-    /// The receiver's address, where the version is 4.
+    /// Destination IPv4 address, if the version is 4.
     pub ipv4_destination: [u8; 4],
-    /// The sender's address, where the version is 6.
+    /// Source IPv6 address, if the version is 6.
     pub ipv6_source: [u8; 16],
-    /// The receiver's address, where the version is 6.
+    /// Destination IPv6 address, if the version is 6.
     pub ipv6_destination: [u8; 16],
 }
 
-/// The fields of a TCP header without options.
+/// Fields of a TCP header without options.
 #[repr(C)]
 #[derive(Clone, Copy, Debug, Default, PartialEq, Eq, Hash)]
 pub struct TcpFields {
-    /// The sender's port.
+    /// Source port.
     pub source_port: u16,
-    /// The receiver's port.
+    /// Destination port.
     pub destination_port: u16,
-    /// The number of the first byte of the payload.
+    /// Sequence number of the first payload byte, or of SYN if it is set.
     pub sequence_number: u32,
-    /// The number of the byte that the sender waits for, with `TCP_ACK`.
+    /// Next sequence number that the sender of the segment expects to receive, with `TCP_ACK`.
     pub acknowledgment_number: u32,
-    /// The number of bytes that the sender has room for.
+    /// Window: number of bytes that the sender of the segment is willing to receive.
     pub window_size: u16,
-    /// Where urgent data ends, with `TCP_URG`.
+    /// End of the urgent data as an offset from the sequence number, with `TCP_URG`.
     pub urgent_pointer: u16,
-    /// Of the constants `TCP_FIN` and so on, added up.
+    /// Sum of the constants `TCP_FIN` and so on.
     pub flags: u8,
 }
 
-/// A route with VLAN tags behind its Ethernet II header.
+/// A route with VLAN tags after its Ethernet II header.
 #[repr(C)]
 #[derive(Clone, Copy, Debug, Default, PartialEq, Eq, Hash)]
 pub struct TaggedRoute {
-    /// The route, whose `with_ethernet` is not 0 where there are tags.
+    /// The route; its `with_ethernet` must not be 0 if there are tags.
     pub route: Route,
-    /// The number of tags, 0 to 2.
+    /// Number of tags, 0 to 2.
     pub tag_count: u32,
-    /// The identifiers of the tags, each at most 4095, from the outside in.
+    /// VLAN identifiers, each at most 4095, from the outermost on.
     pub vlan_ids: [u16; 2],
 }
 
-/// What the header of a fragment says.
+/// Fields of a fragment.
 #[repr(C)]
 #[derive(Clone, Copy, Debug, Default, PartialEq, Eq, Hash)]
 pub struct FragmentFields {
-    /// The protocol number of the whole payload.
+    /// IP number (protocol) of the reassembled payload.
     pub ip_number: u8,
-    /// 0: this is the last fragment; else more follow.
+    /// 0 if this is the last fragment; otherwise more fragments follow.
     pub more_fragments: u8,
-    /// Where the fragment lies in the whole payload, in bytes: a multiple of 8.
+    /// Offset of the fragment in the reassembled payload, in bytes: a multiple of 8.
     pub fragment_offset: u16,
-    /// What fragments of one payload have in common; of IPv4 at most 65535.
+    /// Identification that all fragments of a payload share; in IPv4 at most 65535.
     pub identification: u32,
 }
 
-/// A pool of fragments, of which there are addresses alone.
+/// A pool of fragments; only its address is used.
 #[repr(C)]
 #[derive(Debug)]
 pub struct Pool {
     _private: [u8; 0],
 }
 
-/// What is told of a frame that is given to a pool.
+/// Answer of a pool to a frame.
 #[repr(C)]
 #[derive(Clone, Copy, Debug, Default, PartialEq, Eq, Hash)]
 pub struct PoolAnswer {
-    /// `REFUSED`: why the bytes are no frame.
+    /// Error of the bytes, with `REFUSED`.
     pub refusal: Refusal,
-    /// `FRAGMENT_REFUSED`: of the constants `FRAGMENT_`.
+    /// Reason why the fragment is rejected, with `FRAGMENT_REFUSED`: a constant `FRAGMENT_`.
     pub fragment_refusal: u32,
-    /// Of a payload: `END_IPV4` or `END_IPV6`, by the version of its fragments.
+    /// Length field of a payload's fragments: `END_IPV4` or `END_IPV6`, by their version.
     pub len_source: u32,
-    /// Of a payload: its protocol number.
+    /// IP number (protocol) of a payload.
     pub ip_number: u8,
-    /// Of a payload: the number of its bytes.
+    /// Length of a payload in bytes.
     pub len: usize,
 }
 
 extern "C" {
-    /// The version of the archive, to be compared with [`VERSION`].
+    /// Returns the version of the archive, to be compared with [`VERSION`].
     #[link_name = "etherparse_1_version"]
     pub fn etherparse_version() -> u32;
-    /// Slices the frame in `bytes`, and fills in each field of `packet`.
+    /// Slices the frame in `bytes`, and fills every field of `packet`.
     #[link_name = "etherparse_1_slice"]
     pub fn etherparse_slice(entry: u32, ether_type: u16, bytes: *const u8, len: usize, packet: *mut Packet) -> u32;
-    /// The same of bytes that a capture has cut, or whose length fields do not fit: up to the first layer that does not stand.
+    /// Slices a packet that was truncated by the capture, or whose length fields do not match, up to the first invalid
+    /// layer.
     #[link_name = "etherparse_1_slice_lax"]
     pub fn etherparse_slice_lax(entry: u32, ether_type: u16, bytes: *const u8, len: usize, packet: *mut Packet) -> u32;
-    /// Slices frames that stand one behind the other in `bytes`, each up to its own of `ends`.
+    /// Slices consecutive frames in `bytes`, which end at `ends`.
     #[link_name = "etherparse_1_slice_many"]
     pub fn etherparse_slice_many(
         entry: u32,
@@ -414,13 +415,13 @@ extern "C" {
         packets_len: usize,
         sliced: *mut usize,
     ) -> u32;
-    /// Writes the text of a refusal, ended by a zero byte, to the front of `buffer`.
+    /// Writes the text of an error and a zero byte to the start of `buffer`.
     #[link_name = "etherparse_1_refusal_text"]
     pub fn etherparse_refusal_text(refusal: *const Refusal, buffer: *mut u8, len: usize, written: *mut usize) -> u32;
-    /// The Internet checksum (RFC 1071) of some bytes.
+    /// Returns the Internet checksum (RFC 1071) of the bytes.
     #[link_name = "etherparse_1_checksum"]
     pub fn etherparse_checksum(bytes: *const u8, len: usize) -> u16;
-    /// Writes the frame of a UDP datagram to the front of `buffer`.
+    /// Writes the frame of a UDP datagram to the start of `buffer`.
     #[link_name = "etherparse_1_build_udp"]
     pub fn etherparse_build_udp(
         route: *const Route,
@@ -432,7 +433,7 @@ extern "C" {
         buffer_len: usize,
         written: *mut usize,
     ) -> u32;
-    /// Writes the frame of a TCP segment to the front of `buffer`.
+    /// Writes the frame of a TCP segment to the start of `buffer`.
     #[link_name = "etherparse_1_build_tcp"]
     pub fn etherparse_build_tcp(
         route: *const Route,
@@ -443,7 +444,7 @@ extern "C" {
         buffer_len: usize,
         written: *mut usize,
     ) -> u32;
-    /// Writes the frame of an echo message of ICMP or ICMPv6 to the front of `buffer`.
+    /// Writes the frame of an ICMP or ICMPv6 echo message to the start of `buffer`.
     #[link_name = "etherparse_1_build_icmp_echo"]
     pub fn etherparse_build_icmp_echo(
         route: *const Route,
@@ -456,7 +457,7 @@ extern "C" {
         buffer_len: usize,
         written: *mut usize,
     ) -> u32;
-    /// Writes the frame of a UDP datagram behind VLAN tags to the front of `buffer`.
+    /// Writes the frame of a UDP datagram after VLAN tags to the start of `buffer`.
     #[link_name = "etherparse_1_build_tagged_udp"]
     pub fn etherparse_build_tagged_udp(
         route: *const TaggedRoute,
@@ -468,7 +469,7 @@ extern "C" {
         buffer_len: usize,
         written: *mut usize,
     ) -> u32;
-    /// Writes the frame of a TCP segment behind VLAN tags, with options, to the front of `buffer`.
+    /// Writes the frame of a TCP segment with options after VLAN tags to the start of `buffer`.
     #[link_name = "etherparse_1_build_tagged_tcp"]
     pub fn etherparse_build_tagged_tcp(
         route: *const TaggedRoute,
@@ -481,7 +482,7 @@ extern "C" {
         buffer_len: usize,
         written: *mut usize,
     ) -> u32;
-    /// Writes the frame of an echo message behind VLAN tags to the front of `buffer`.
+    /// Writes the frame of an echo message after VLAN tags to the start of `buffer`.
     #[link_name = "etherparse_1_build_tagged_icmp_echo"]
     pub fn etherparse_build_tagged_icmp_echo(
         route: *const TaggedRoute,
@@ -494,7 +495,7 @@ extern "C" {
         buffer_len: usize,
         written: *mut usize,
     ) -> u32;
-    /// Writes the frame of a fragment of a longer payload to the front of `buffer`.
+    /// Writes the frame of a fragment of a longer payload to the start of `buffer`.
     #[link_name = "etherparse_1_build_fragment"]
     pub fn etherparse_build_fragment(
         route: *const TaggedRoute,
@@ -505,16 +506,16 @@ extern "C" {
         buffer_len: usize,
         written: *mut usize,
     ) -> u32;
-    /// Makes a pool without streams, whose address is left in `pool`.
+    /// Creates an empty pool and stores its address in `pool`.
     #[link_name = "etherparse_1_pool_new"]
     pub fn etherparse_pool_new(pool: *mut *mut Pool) -> u32;
-    /// The same of a pool in which no payload is longer than `limit` bytes.
+    /// Creates an empty pool with payloads of at most `limit` bytes.
     #[link_name = "etherparse_1_pool_with_limit"]
     pub fn etherparse_pool_with_limit(limit: u16, pool: *mut *mut Pool) -> u32;
     /// Frees a pool, which must not be used again.
     #[link_name = "etherparse_1_pool_free"]
     pub fn etherparse_pool_free(pool: *mut Pool);
-    /// Gives a frame to a pool; a payload that is complete with it stands at the front of `buffer`.
+    /// Passes a frame to a pool; a payload that it completes is written to the start of `buffer`.
     #[link_name = "etherparse_1_pool_push"]
     pub fn etherparse_pool_push(
         pool: *mut Pool,
@@ -528,19 +529,19 @@ extern "C" {
         buffer_len: usize,
         answer: *mut PoolAnswer,
     ) -> u32;
-    /// Hands out the payload that waits in a pool.
+    /// Copies the payload that waits in a pool to the start of `buffer`.
     #[link_name = "etherparse_1_pool_take"]
     pub fn etherparse_pool_take(pool: *mut Pool, buffer: *mut u8, buffer_len: usize, answer: *mut PoolAnswer) -> u32;
-    /// Gives up the payload that waits in a pool.
+    /// Discards the payload that waits in a pool.
     #[link_name = "etherparse_1_pool_discard"]
     pub fn etherparse_pool_discard(pool: *mut Pool);
-    /// Drops the streams whose last fragment that was taken came before `timestamp`.
+    /// Drops the streams whose last accepted fragment came before `timestamp`.
     #[link_name = "etherparse_1_pool_drop_older"]
     pub fn etherparse_pool_drop_older(pool: *mut Pool, timestamp: u64);
-    /// How many streams a pool holds.
+    /// Returns the number of streams in a pool.
     #[link_name = "etherparse_1_pool_streams"]
     pub fn etherparse_pool_streams(pool: *mut Pool) -> usize;
-    /// How many bytes of payloads a pool holds.
+    /// Returns the number of payload bytes in a pool.
     #[link_name = "etherparse_1_pool_bytes"]
     pub fn etherparse_pool_bytes(pool: *mut Pool) -> usize;
 }

@@ -1,6 +1,7 @@
-//! Times the wrapper beside the call that it makes: compare FILE ROUNDS [COLUMN], where FILE is a corpus of
-//! crates/slice_bench/corpora.py, as bindings/c/examples/compare.cc reads it. Says nanoseconds a frame, the fastest of
-//! the rounds. With COLUMN, a name that is printed, that one alone runs, so that its instructions can be counted.
+//! Compares the time of the wrapper with that of the call that it makes: compare FILE ROUNDS [COLUMN], where FILE is a
+//! corpus of crates/slice_bench/corpora.py, as bindings/c/examples/compare.cc reads it. Prints nanoseconds for each
+//! frame, of the fastest round. With COLUMN, a printed name, only that column runs, so that its instructions can be
+//! counted.
 use etherparse_c::{sys, Entry, SlicedPacket};
 use std::{env, error::Error, fs, hint::black_box, time::Instant};
 
@@ -8,7 +9,7 @@ fn by_call(frames: &[&[u8]]) -> usize {
     let mut told = sys::Packet::default();
     let mut sum = 0;
     for frame in frames {
-        // SAFETY: both pointers are of references that live as long as the call, and they do not overlap.
+        // SAFETY: both pointers come from references that outlive the call, and they do not overlap.
         let status = unsafe { sys::etherparse_slice(sys::ENTRY_ETHERNET, 0, frame.as_ptr(), frame.len(), &mut told) };
         sum += if status == sys::OK { told.payload.len } else { 0 };
     }
@@ -25,7 +26,7 @@ fn by_wrapper(frames: &[&[u8]]) -> usize {
     sum
 }
 
-/// The same where each packet is handed on, to what the compiler does not look into.
+/// Slices each frame into a new packet that is passed on to code that is opaque to the compiler.
 fn handed_on(frames: &[&[u8]]) -> usize {
     let mut sum = 0;
     for frame in frames {
@@ -36,7 +37,7 @@ fn handed_on(frames: &[&[u8]]) -> usize {
     sum
 }
 
-/// The same into one packet that is used again.
+/// Slices each frame into one packet that is reused.
 fn into_one_handed_on(frames: &[&[u8]]) -> usize {
     let (mut sum, mut packet) = (0, SlicedPacket::EMPTY);
     for frame in frames {
@@ -47,7 +48,7 @@ fn into_one_handed_on(frames: &[&[u8]]) -> usize {
     sum
 }
 
-/// A way to read frames: its name, and what sums what it reads.
+/// A way to read frames: its name, and a function that returns the sum of the values that it reads.
 type Column = (&'static str, fn(&[&[u8]]) -> usize);
 
 fn main() -> Result<(), Box<dyn Error>> {

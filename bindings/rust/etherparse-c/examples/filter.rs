@@ -1,4 +1,4 @@
-//! Prints the UDP datagrams of a capture of Ethernet II (classic pcap, little-endian) that go to a port.
+//! Prints the UDP datagrams to a port of an Ethernet II capture (classic pcap, little-endian).
 use etherparse_c::{SlicedPacket, TransportSlice};
 use std::{env, error::Error, fs};
 

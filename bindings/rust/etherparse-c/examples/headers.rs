@@ -1,4 +1,4 @@
-//! Reads the headers of a frame by value and prints their fields.
+//! Parses the headers of a frame into owned values and prints their fields.
 use etherparse_c::{PacketBuilder, PacketHeaders};
 
 fn main() {

@@ -1,20 +1,20 @@
-//! Building a frame by one call, into a buffer.
+//! Building of a frame by one call, into a buffer.
 
 use crate::{sys, IpNumber, OutOfMemory};
 use core::fmt;
 
-/// Why no frame was built.
+/// Reason why no frame was built.
 #[derive(Clone, Copy, Debug, PartialEq, Eq, Hash)]
 #[non_exhaustive]
 pub enum BuildError {
-    /// The buffer has too few bytes: this many are needed.
+    /// The buffer is too small; the length of the frame.
     TooSmall(usize),
-    /// The payload, or the options, are longer than the headers' length fields can count.
+    /// The payload or the options are too long for the headers' length fields.
     TooLong,
-    /// A number is not one that its field can have: a VLAN identifier above 4095, tags without an Ethernet II header,
-    /// an offset of a fragment that is no multiple of 8, an identification above 65535 in IPv4.
+    /// A number is not valid for its field: a VLAN identifier above 4095, tags without an Ethernet II header, a
+    /// fragment offset that is not a multiple of 8, or an identification above 65535 in IPv4.
     UnknownChoice,
-    /// There was no memory.
+    /// An allocation failed.
     OutOfMemory,
 }
 
@@ -31,37 +31,37 @@ impl fmt::Display for BuildError {
 
 impl core::error::Error for BuildError {}
 
-/// The addresses of an IP header of either version.
+/// Addresses of an IP header of either version.
 #[derive(Clone, Copy, Debug, PartialEq, Eq, Hash)]
 #[non_exhaustive]
 pub enum Addresses {
-    /// Of IPv4.
+    /// Addresses of IPv4.
     Ipv4 {
-        /// The sender's address.
+        /// Source address.
         source: [u8; 4],
-        /// The receiver's address.
+        /// Destination address.
         destination: [u8; 4],
     },
-    /// Of IPv6.
+    /// Addresses of IPv6.
     Ipv6 {
-        /// The sender's address.
+        /// Source address.
         source: [u8; 16],
-        /// The receiver's address.
+        /// Destination address.
         destination: [u8; 16],
     },
 }
 
-/// The headers before the transport header of a frame that is built.
+/// Headers before the transport header of a frame to build.
 #[derive(Clone, Copy, Debug, PartialEq, Eq, Hash)]
 pub struct Route {
-    /// The Ethernet addresses of sender and receiver, where the frame begins with an Ethernet II header.
+    /// Source and destination MAC address, if the frame starts with an Ethernet II header.
     pub ethernet: Option<([u8; 6], [u8; 6])>,
-    /// The identifiers of VLAN tags from the outside in, each at most 4095, the first ones set. They need an Ethernet
-    /// II header before them.
+    /// VLAN identifiers from the outermost on, each at most 4095; unused entries come last. Tags need an Ethernet II
+    /// header before them.
     pub vlan_ids: [Option<u16>; 2],
-    /// The addresses of the IP header.
+    /// Addresses of the IP header.
     pub addresses: Addresses,
-    /// The number of hops that the packet may take.
+    /// Time to live (IPv4) or hop limit (IPv6).
     pub hop_limit: u8,
 }
 
@@ -93,7 +93,7 @@ impl Route {
         tagged
     }
 
-    /// The number of bytes of the headers before the transport header.
+    /// Length of the headers before the transport header, in bytes.
     pub(crate) fn header_len(&self) -> usize {
         let ethernet = if self.ethernet.is_some() { 14 } else { 0 };
         let ip = match self.addresses {
@@ -104,45 +104,45 @@ impl Route {
     }
 }
 
-/// The flags of a TCP header, of which [`TcpFields`] has the sum.
+/// Flags of a TCP header; [`TcpFields`] has their sum.
 pub mod tcp_flag {
     use crate::sys;
 
-    /// No more data comes.
+    /// FIN: no more data from the sender.
     pub const FIN: u8 = sys::TCP_FIN;
-    /// The sequence number is the first.
+    /// SYN: synchronize sequence numbers.
     pub const SYN: u8 = sys::TCP_SYN;
-    /// The connection is broken off.
+    /// RST: reset the connection.
     pub const RST: u8 = sys::TCP_RST;
-    /// Hand what came to the program.
+    /// PSH: push buffered data to the application.
     pub const PSH: u8 = sys::TCP_PSH;
-    /// The acknowledgment number counts.
+    /// ACK: the acknowledgment number is valid.
     pub const ACK: u8 = sys::TCP_ACK;
-    /// The urgent pointer counts.
+    /// URG: the urgent pointer is valid.
     pub const URG: u8 = sys::TCP_URG;
-    /// A mark of congestion came.
+    /// ECE: ECN-Echo (RFC 3168).
     pub const ECE: u8 = sys::TCP_ECE;
-    /// The sender slowed down.
+    /// CWR: congestion window reduced (RFC 3168).
     pub const CWR: u8 = sys::TCP_CWR;
 }
 
-/// The fields of a TCP header that is built, without its options.
+/// Fields of a TCP header to build, without its options.
 pub use crate::sys::TcpFields;
 
-/// What the header of a fragment says that is built: that of IPv4, or of IPv6 its fragment header.
+/// Fields of a fragment to build: of the IPv4 header, or of the IPv6 fragment header.
 #[derive(Clone, Copy, Debug, PartialEq, Eq, Hash)]
 pub struct FragmentFields {
-    /// The protocol number of the whole payload.
+    /// IP number (protocol) of the reassembled payload.
     pub ip_number: IpNumber,
-    /// Whether more fragments follow: then the length is a multiple of 8, or who receives it refuses it.
+    /// Whether more fragments follow; a receiver then rejects the fragment unless its length is a multiple of 8.
     pub more_fragments: bool,
-    /// Where the fragment lies in the whole payload, in bytes: a multiple of 8.
+    /// Offset of the fragment in the reassembled payload, in bytes: a multiple of 8.
     pub fragment_offset: u16,
-    /// What fragments of one payload have in common; of IPv4 at most 65535.
+    /// Identification that all fragments of a payload share; in IPv4 at most 65535.
     pub identification: u32,
 }
 
-/// What is built behind the IP header.
+/// Headers to build after the IP header.
 #[derive(Clone, Copy, Debug, PartialEq, Eq)]
 pub(crate) enum Behind<'a> {
     Udp { source_port: u16, destination_port: u16 },
@@ -151,7 +151,7 @@ pub(crate) enum Behind<'a> {
     Fragment(FragmentFields),
 }
 
-/// A place for a frame that is built: so many bytes from an address on, which need not be initialized.
+/// Memory for a frame to build: `len` bytes at an address, which need not be initialized.
 pub(crate) struct Place {
     at: *mut u8,
     len: usize,
@@ -160,18 +160,19 @@ pub(crate) struct Place {
 impl Place {
     /// # Safety
     ///
-    /// So many bytes at the address may be written as long as the place is used, and nothing else refers to them.
+    /// The `len` bytes at the address are valid for writes as long as the place is used, and nothing else refers to
+    /// them.
     pub(crate) unsafe fn new(at: *mut u8, len: usize) -> Place {
         Place { at, len }
     }
 }
 
-/// Builds a frame, and answers the number of its bytes, which are initialized then.
+/// Builds a frame and returns its length; that many bytes are then initialized.
 pub(crate) fn build_at(route: &Route, behind: Behind<'_>, payload: &[u8], place: Place) -> Result<usize, BuildError> {
     let route = route.told();
     let (from, len, mut written) = (payload.as_ptr(), payload.len(), 0);
-    // SAFETY: all pointers are of references that live as long as the call, or of the place, and none overlap. An
-    // export reads nothing of the place.
+    // SAFETY: all pointers come from references that outlive the call, or from the place, and none overlap. An export
+    // does not read from the place.
     let status = unsafe {
         match behind {
             Behind::Udp { source_port, destination_port } if route.tag_count == 0 => sys::etherparse_build_udp(
@@ -250,14 +251,14 @@ pub(crate) fn build_at(route: &Route, behind: Behind<'_>, payload: &[u8], place:
     }
 }
 
-/// Builds a frame at the front of a buffer.
+/// Builds a frame at the start of a buffer.
 fn build(route: &Route, behind: Behind<'_>, payload: &[u8], buffer: &mut [u8]) -> Result<usize, BuildError> {
     // SAFETY: the place is the buffer, which nothing else refers to.
     let place = unsafe { Place::new(buffer.as_mut_ptr(), buffer.len()) };
     build_at(route, behind, payload, place)
 }
 
-/// Writes the frame of a UDP datagram to the front of `buffer`, and answers the number of its bytes.
+/// Writes the frame of a UDP datagram to the start of `buffer`, and returns its length in bytes.
 ///
 /// ```
 /// use etherparse_c::{build_udp, Addresses, BuildError, Route, SlicedPacket};
@@ -277,7 +278,7 @@ fn build(route: &Route, behind: Behind<'_>, payload: &[u8], buffer: &mut [u8]) -
 ///
 /// # Errors
 ///
-/// Why no frame was built; the buffer is then as it was.
+/// The reason why no frame was built; the buffer is then unchanged.
 pub fn build_udp(
     route: &Route,
     source_port: u16,
@@ -288,7 +289,8 @@ pub fn build_udp(
     build(route, Behind::Udp { source_port, destination_port }, payload, buffer)
 }
 
-/// The same of a TCP segment, with options of at most 40 bytes, which are filled up by zero bytes to words of 4.
+/// Writes the frame of a TCP segment to the start of `buffer`, and returns its length in bytes. The options have at
+/// most 40 bytes and are padded with zero bytes to a multiple of 4.
 ///
 /// ```
 /// use etherparse_c::{build_tcp, tcp_flag, Addresses, Route, SlicedPacket, TcpFields, TransportSlice};
@@ -311,7 +313,7 @@ pub fn build_udp(
 ///
 /// # Errors
 ///
-/// Why no frame was built; the buffer is then as it was.
+/// The reason why no frame was built; the buffer is then unchanged.
 pub fn build_tcp(
     route: &Route,
     fields: &TcpFields,
@@ -322,7 +324,8 @@ pub fn build_tcp(
     build(route, Behind::Tcp { fields: *fields, options }, payload, buffer)
 }
 
-/// The same of an echo request or reply, of ICMP or ICMPv6.
+/// Writes the frame of an echo request or reply, of ICMP or ICMPv6 by the IP version, to the start of `buffer`, and
+/// returns its length in bytes.
 ///
 /// ```
 /// use etherparse_c::{build_icmp_echo, checksum, Addresses, Route};
@@ -336,12 +339,12 @@ pub fn build_tcp(
 /// let mut buffer = [0; 64];
 /// let len = build_icmp_echo(&route, false, 1, 2, b"ping", &mut buffer).unwrap();
 /// assert_eq!((len, buffer[20], &buffer[24..32]), (32, 8, &[0, 1, 0, 2, b'p', b'i', b'n', b'g'][..]));
-/// assert_eq!(checksum(&buffer[20..len]), 0); // a sum with its checksum in it
+/// assert_eq!(checksum(&buffer[20..len]), 0); // the checksum of bytes that include their checksum is 0
 /// ```
 ///
 /// # Errors
 ///
-/// Why no frame was built; the buffer is then as it was.
+/// The reason why no frame was built; the buffer is then unchanged.
 pub fn build_icmp_echo(
     route: &Route,
     is_reply: bool,
@@ -353,12 +356,13 @@ pub fn build_icmp_echo(
     build(route, Behind::IcmpEcho { is_reply, id, seq }, payload, buffer)
 }
 
-/// The same of a fragment of a longer payload, whose bytes from `fragment_offset` on `payload` has. This call needs up
-/// to [`sys::STACK_OF_FRAGMENTS`] bytes of stack, all others at most [`sys::STACK`].
+/// Writes the frame of a fragment of a longer payload to the start of `buffer`, and returns its length in bytes;
+/// `payload` is the bytes at `fragment_offset`. This call needs up to [`sys::STACK_OF_FRAGMENTS`] bytes of stack, all
+/// others at most [`sys::STACK`].
 ///
 /// # Errors
 ///
-/// Why no frame was built; the buffer is then as it was.
+/// The reason why no frame was built; the buffer is then unchanged.
 pub fn build_fragment(
     route: &Route,
     fields: &FragmentFields,

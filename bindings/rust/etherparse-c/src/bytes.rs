@@ -1,5 +1,5 @@
-//! Numbers and arrays at fixed places of a header. Every header that a packet has is as long as its places need, by the
-//! contract of the call that told where it lies; one that were shorter would panic here.
+//! Numbers and arrays at fixed offsets of a header. Every header of a packet is long enough for them, by the contract
+//! of the call that returned its offset and length; a shorter header would panic here.
 
 #[inline]
 pub(crate) fn array_at<const N: usize>(header: &[u8], at: usize) -> [u8; N] {
@@ -18,7 +18,7 @@ pub(crate) fn u32_at(header: &[u8], at: usize) -> u32 {
     u32::from_be_bytes(array_at(header, at))
 }
 
-/// Whether a bit of a byte is set; bit 0 is the lowest.
+/// Returns whether a bit of a byte is set; bit 0 is the lowest.
 #[inline]
 pub(crate) fn bit_at(header: &[u8], at: usize, bit: u8) -> bool {
     header[at] >> bit & 1 == 1

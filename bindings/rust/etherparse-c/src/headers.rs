@@ -1,6 +1,6 @@
 use crate::{Entry, EtherType, LinkExtHeader, LinkHeader, NetHeaders, Refusal, SlicedPacket, TransportHeader};
 
-/// The headers of a frame by value, each with its fields.
+/// Owned headers of a frame, each with its fields.
 ///
 /// ```
 /// use etherparse_c::{NetHeaders, PacketHeaders, TransportHeader};
@@ -20,56 +20,56 @@ use crate::{Entry, EtherType, LinkExtHeader, LinkHeader, NetHeaders, Refusal, Sl
 #[non_exhaustive]
 #[must_use]
 pub struct PacketHeaders<'a> {
-    /// The link header.
+    /// Link header.
     pub link: Option<LinkHeader>,
-    /// The tags of link extensions from the outside in, the first ones set.
+    /// Tags of link extensions from the outermost on; unused entries come last.
     pub link_exts: [Option<LinkExtHeader>; 3],
     /// IP or ARP.
     pub net: Option<NetHeaders<'a>>,
-    /// The transport header; none in a fragment.
+    /// Transport header; none in a fragment.
     pub transport: Option<TransportHeader>,
-    /// The payload of the last layer.
+    /// Payload of the last layer.
     pub payload: &'a [u8],
 }
 
 impl<'a> PacketHeaders<'a> {
-    /// Reads the headers of a frame that begins with an Ethernet II header.
+    /// Parses the headers of a frame that starts with an Ethernet II header.
     ///
     /// # Errors
     ///
-    /// Why the bytes are no frame.
+    /// The error, if the bytes are not a frame.
     pub fn from_ethernet_slice(frame: &'a [u8]) -> Result<PacketHeaders<'a>, Refusal> {
         SlicedPacket::from_entry(Entry::Ethernet, frame).map(|packet| PacketHeaders::of(&packet))
     }
 
-    /// The same behind an ether type.
+    /// Parses the headers of the payload of an ether type, without a link header.
     ///
     /// # Errors
     ///
-    /// Why the bytes are no frame.
+    /// The error, if the bytes are not a frame.
     pub fn from_ether_type(ether_type: EtherType, bytes: &'a [u8]) -> Result<PacketHeaders<'a>, Refusal> {
         SlicedPacket::from_entry(Entry::EtherType(ether_type), bytes).map(|packet| PacketHeaders::of(&packet))
     }
 
-    /// The same of a Linux cooked capture (SLL v1).
+    /// Parses the headers of a Linux cooked capture (SLL v1).
     ///
     /// # Errors
     ///
-    /// Why the bytes are no frame.
+    /// The error, if the bytes are not a frame.
     pub fn from_linux_sll(frame: &'a [u8]) -> Result<PacketHeaders<'a>, Refusal> {
         SlicedPacket::from_entry(Entry::LinuxSll, frame).map(|packet| PacketHeaders::of(&packet))
     }
 
-    /// The same of an IP packet of either version.
+    /// Parses the headers of an IP packet of either version.
     ///
     /// # Errors
     ///
-    /// Why the bytes are no frame.
+    /// The error, if the bytes are not a frame.
     pub fn from_ip_slice(bytes: &'a [u8]) -> Result<PacketHeaders<'a>, Refusal> {
         SlicedPacket::from_entry(Entry::Ip, bytes).map(|packet| PacketHeaders::of(&packet))
     }
 
-    /// The headers of a packet that is sliced already.
+    /// Returns the headers of a packet that is already sliced.
     pub fn of(packet: &SlicedPacket<'a>) -> PacketHeaders<'a> {
         PacketHeaders {
             link: packet.link().map(|link| link.to_header()),

@@ -1,9 +1,9 @@
 use crate::{Entry, EtherType, Refusal, SlicedPacket};
 use core::ops::Deref;
 
-/// A packet of which bytes are missing, as captures cut them, or whose length fields say less or more than is there: its
-/// layers up to the first that does not stand, which are those of the [`SlicedPacket`] that it gives. A frame has the same
-/// layers as there.
+/// A packet that was truncated by the capture, or whose length fields do not match its bytes, sliced up to the first
+/// invalid layer. It dereferences to a [`SlicedPacket`] with these layers. A valid frame has the layers of strict
+/// slicing.
 ///
 /// ```
 /// use etherparse_c::err::Layer;
@@ -28,57 +28,58 @@ use core::ops::Deref;
 pub struct LaxSlicedPacket<'a>(SlicedPacket<'a>);
 
 impl<'a> LaxSlicedPacket<'a> {
-    /// The layers that stand of what begins with an Ethernet II header.
+    /// Slices a packet that starts with an Ethernet II header.
     ///
     /// # Errors
     ///
-    /// Why that header does not stand.
+    /// The error of that header, if it is invalid.
     #[inline]
     pub fn from_ethernet(bytes: &'a [u8]) -> Result<LaxSlicedPacket<'a>, Refusal> {
         LaxSlicedPacket::from_entry(Entry::Ethernet, bytes)
     }
 
-    /// Those of what begins with the header of a Linux cooked capture (SLL v1).
+    /// Slices a packet that starts with a Linux cooked capture header (SLL v1).
     ///
     /// # Errors
     ///
-    /// Why that header does not stand.
+    /// The error of that header, if it is invalid.
     #[inline]
     pub fn from_linux_sll(bytes: &'a [u8]) -> Result<LaxSlicedPacket<'a>, Refusal> {
         LaxSlicedPacket::from_entry(Entry::LinuxSll, bytes)
     }
 
-    /// Those of what an ether type says, without a link header.
+    /// Slices the payload of an ether type, without a link header.
     ///
     /// # Errors
     ///
-    /// None: a layer that does not stand is told by [`LaxSlicedPacket::stop`].
+    /// None: the error of an invalid layer is in [`LaxSlicedPacket::stop`].
     #[inline]
     pub fn from_ether_type(ether_type: EtherType, bytes: &'a [u8]) -> Result<LaxSlicedPacket<'a>, Refusal> {
         LaxSlicedPacket::from_entry(Entry::EtherType(ether_type), bytes)
     }
 
-    /// Those of an IP packet of either version.
+    /// Slices an IP packet of either version.
     ///
     /// # Errors
     ///
-    /// Why its header does not stand.
+    /// The error of its header, if it is invalid.
     #[inline]
     pub fn from_ip(bytes: &'a [u8]) -> Result<LaxSlicedPacket<'a>, Refusal> {
         LaxSlicedPacket::from_entry(Entry::Ip, bytes)
     }
 
-    /// Those of what begins with what `entry` says.
+    /// Slices a packet whose first header is `entry`.
     ///
     /// # Errors
     ///
-    /// Why the first header does not stand.
+    /// The error of the first header, if it is invalid.
     #[inline]
     pub fn from_entry(entry: Entry, bytes: &'a [u8]) -> Result<LaxSlicedPacket<'a>, Refusal> {
         SlicedPacket::lax(entry, bytes).map(LaxSlicedPacket)
     }
 
-    /// Why the layer behind the last one is none, where one must follow: what of it is there begins the payload.
+    /// Error of the layer after the last one, if a layer must follow and is invalid: the payload starts with its
+    /// available bytes.
     #[must_use]
     #[inline]
     pub fn stop(&self) -> Option<Refusal> {
@@ -86,7 +87,7 @@ impl<'a> LaxSlicedPacket<'a> {
         (refusal.kind != 0).then(|| Refusal::from(refusal))
     }
 
-    /// Whether bytes of the payload are missing that a length field says are there.
+    /// Returns whether bytes of the payload that a length field counts are missing.
     #[must_use]
     #[inline]
     pub fn is_incomplete(&self) -> bool {
@@ -97,7 +98,7 @@ impl<'a> LaxSlicedPacket<'a> {
 impl<'a> Deref for LaxSlicedPacket<'a> {
     type Target = SlicedPacket<'a>;
 
-    /// The layers that stand. Sliced again, the bytes may be refused.
+    /// Returns the valid layers. Strict slicing may reject the same bytes.
     #[inline]
     fn deref(&self) -> &SlicedPacket<'a> {
         &self.0

@@ -1,8 +1,8 @@
-//! Network frames: slices them into their layers, builds them, and puts fragmented payloads together, by the static
-//! library `libetherparse_c.a`, each of whose functions is proved against its contract.
+//! Slices network frames into their layers, builds them, and reassembles fragmented payloads, by the static library
+//! `libetherparse_c.a`; each of its functions is proved against its contract.
 //!
-//! These wrappers, which turn offsets into slices, are checked by the compiler and by their tests alone. Names are those
-//! of the Rust crate `etherparse`, where that has them; what a packet's fields are there are methods here.
+//! These wrappers, which turn offsets into slices, are checked only by the compiler and by their tests. Names are those
+//! of the Rust crate `etherparse`, if it has them; fields of a packet there are methods here.
 //!
 //! ```
 //! // Ethernet II, IPv4, UDP from port 21 to 1234, and 2 bytes
@@ -65,22 +65,22 @@ pub use sliced_packet::{Ip, LenSource, SlicedPacket};
 pub use transport::{IcmpHeader, IcmpSlice, TcpHeader, TcpSlice, TransportHeader, TransportSlice, UdpHeader, UdpSlice};
 pub use types::{EtherType, IpNumber, Options};
 
-/// What a frame begins with.
+/// First header of a frame.
 #[derive(Clone, Copy, Debug, PartialEq, Eq, Hash)]
 #[non_exhaustive]
 pub enum Entry {
-    /// An Ethernet II header.
+    /// Ethernet II header.
     Ethernet,
-    /// The header of a Linux cooked capture (SLL v1).
+    /// Linux cooked capture header (SLL v1).
     LinuxSll,
-    /// What an ether type says, without a link header.
+    /// Payload of an ether type, without a link header.
     EtherType(EtherType),
-    /// An IP header of either version.
+    /// IP header of either version.
     Ip,
 }
 
 impl Entry {
-    /// The number of the entry, and its ether type, which is 0 where none is read.
+    /// Returns the number of the entry and its ether type, which is 0 if it is not read.
     #[inline]
     fn numbers(self) -> (u32, u16) {
         match self {
@@ -92,18 +92,18 @@ impl Entry {
     }
 }
 
-/// The Internet checksum (RFC 1071) of some bytes.
+/// Returns the Internet checksum (RFC 1071) of the bytes.
 ///
 /// ```
 /// assert_eq!(etherparse_c::checksum(&[0x00, 0x01, 0xf2, 0x03, 0xf4, 0xf5, 0xf6, 0xf7]), 0x220d);
 /// ```
 #[must_use]
 pub fn checksum(bytes: &[u8]) -> u16 {
-    // SAFETY: the pointer is of a reference that lives as long as the call.
+    // SAFETY: the pointer comes from a reference that outlives the call.
     unsafe { sys::etherparse_checksum(bytes.as_ptr(), bytes.len()) }
 }
 
-/// The readme's example, which is tested with those here.
+/// The example of the readme, tested with the examples here.
 #[cfg(doctest)]
 #[doc = include_str!("../README.md")]
 struct Readme;

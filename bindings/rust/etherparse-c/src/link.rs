@@ -1,21 +1,21 @@
-//! Link headers, and the tags behind them.
+//! Link headers, and the tags after them.
 
 use crate::bytes::{array_at, bit_at, u16_at, u32_at};
 use crate::EtherType;
 use core::fmt;
 
-/// The link header of a frame.
+/// Link header of a frame.
 #[derive(Clone, Copy, Debug, PartialEq, Eq, Hash)]
 #[non_exhaustive]
 pub enum LinkSlice<'a> {
-    /// An Ethernet II header.
+    /// Ethernet II header.
     Ethernet2(Ethernet2Slice<'a>),
-    /// The header of a Linux cooked capture (SLL v1).
+    /// Linux cooked capture header (SLL v1).
     LinuxSll(LinuxSllSlice<'a>),
 }
 
 impl<'a> LinkSlice<'a> {
-    /// The bytes of the header.
+    /// Bytes of the header.
     #[must_use]
     pub fn header_slice(&self) -> &'a [u8] {
         match self {
@@ -24,7 +24,7 @@ impl<'a> LinkSlice<'a> {
         }
     }
 
-    /// The fields of the header.
+    /// Returns the fields of the header.
     #[must_use]
     pub fn to_header(&self) -> LinkHeader {
         match self {
@@ -34,61 +34,61 @@ impl<'a> LinkSlice<'a> {
     }
 }
 
-/// The fields of a link header.
+/// Fields of a link header.
 #[derive(Clone, Copy, Debug, PartialEq, Eq, Hash)]
 #[non_exhaustive]
 pub enum LinkHeader {
-    /// Of an Ethernet II header.
+    /// Fields of an Ethernet II header.
     Ethernet2(Ethernet2Header),
-    /// Of the header of a Linux cooked capture (SLL v1).
+    /// Fields of a Linux cooked capture header (SLL v1).
     LinuxSll(LinuxSllHeader),
 }
 
-/// The fields of an Ethernet II header.
+/// Fields of an Ethernet II header.
 #[derive(Clone, Copy, Debug, PartialEq, Eq, Hash)]
 pub struct Ethernet2Header {
-    /// The sender's address.
+    /// Source MAC address.
     pub source: [u8; 6],
-    /// The receiver's address.
+    /// Destination MAC address.
     pub destination: [u8; 6],
-    /// The type of what lies behind it, which may be a tag's.
+    /// Ether type of the payload, which may be that of a tag.
     pub ether_type: EtherType,
 }
 
-/// An Ethernet II header: 14 bytes.
+/// Ethernet II header: 14 bytes.
 #[derive(Clone, Copy, PartialEq, Eq, Hash)]
 pub struct Ethernet2Slice<'a>(pub(crate) &'a [u8]);
 
 impl<'a> Ethernet2Slice<'a> {
-    /// The bytes of the header.
+    /// Bytes of the header.
     #[must_use]
     #[inline]
     pub fn slice(&self) -> &'a [u8] {
         self.0
     }
 
-    /// The receiver's address (bytes 0 to 5).
+    /// Destination MAC address, bytes 0 to 5.
     #[must_use]
     #[inline]
     pub fn destination(&self) -> [u8; 6] {
         array_at(self.0, 0)
     }
 
-    /// The sender's address (bytes 6 to 11).
+    /// Source MAC address, bytes 6 to 11.
     #[must_use]
     #[inline]
     pub fn source(&self) -> [u8; 6] {
         array_at(self.0, 6)
     }
 
-    /// The type of what lies behind the header, which may be a tag's (bytes 12 and 13).
+    /// Ether type of the payload, bytes 12 and 13; may be that of a tag.
     #[must_use]
     #[inline]
     pub fn ether_type(&self) -> EtherType {
         EtherType(u16_at(self.0, 12))
     }
 
-    /// The fields of the header.
+    /// Returns the fields of the header.
     #[must_use]
     pub fn to_header(&self) -> Ethernet2Header {
         Ethernet2Header { source: self.source(), destination: self.destination(), ether_type: self.ether_type() }
@@ -101,69 +101,69 @@ impl fmt::Debug for Ethernet2Slice<'_> {
     }
 }
 
-/// The fields of the header of a Linux cooked capture (SLL v1).
+/// Fields of a Linux cooked capture header (SLL v1).
 #[derive(Clone, Copy, Debug, PartialEq, Eq, Hash)]
 pub struct LinuxSllHeader {
-    /// Whom the packet was for, by a number up to 7: 0 is this host, 4 that this host sent it.
+    /// Packet type, 0 to 7: 0 is sent to this host, 4 is sent by this host.
     pub packet_type: u16,
-    /// The kind of device, as in ARP.
+    /// ARP hardware type of the device (ARPHRD).
     pub arp_hrd_type: u16,
-    /// The number of bytes of the sender's address, which may be more than there is room for.
+    /// Length of the sender's address in bytes, which may be more than the field of 8 bytes holds.
     pub sender_address_valid_length: u16,
-    /// The sender's address, and 0 behind it.
+    /// Sender's link-layer address, padded with zeros.
     pub sender_address: [u8; 8],
-    /// The type of what lies behind it: of most kinds of devices an ether type.
+    /// Protocol type of the payload: an ether type for most hardware types.
     pub protocol_type: u16,
 }
 
-/// The header of a Linux cooked capture (SLL v1): 16 bytes.
+/// Linux cooked capture header (SLL v1): 16 bytes.
 #[derive(Clone, Copy, PartialEq, Eq, Hash)]
 pub struct LinuxSllSlice<'a>(pub(crate) &'a [u8]);
 
 impl<'a> LinuxSllSlice<'a> {
-    /// The bytes of the header.
+    /// Bytes of the header.
     #[must_use]
     #[inline]
     pub fn slice(&self) -> &'a [u8] {
         self.0
     }
 
-    /// Whom the packet was for (bytes 0 and 1), up to 7.
+    /// Packet type, bytes 0 and 1: 0 to 7.
     #[must_use]
     #[inline]
     pub fn packet_type(&self) -> u16 {
         u16_at(self.0, 0)
     }
 
-    /// The kind of device, as in ARP (bytes 2 and 3).
+    /// ARP hardware type of the device (ARPHRD), bytes 2 and 3.
     #[must_use]
     #[inline]
     pub fn arp_hrd_type(&self) -> u16 {
         u16_at(self.0, 2)
     }
 
-    /// The number of bytes of the sender's address (bytes 4 and 5), which may be more than 8.
+    /// Length of the sender's address in bytes, bytes 4 and 5; may be more than 8.
     #[must_use]
     #[inline]
     pub fn sender_address_valid_length(&self) -> u16 {
         u16_at(self.0, 4)
     }
 
-    /// The sender's address, and what lies behind it (bytes 6 to 13).
+    /// Sender's link-layer address and its padding, bytes 6 to 13.
     #[must_use]
     #[inline]
     pub fn sender_address(&self) -> [u8; 8] {
         array_at(self.0, 6)
     }
 
-    /// The type of what lies behind the header (bytes 14 and 15): of most kinds of devices an ether type.
+    /// Protocol type of the payload, bytes 14 and 15: an ether type for most hardware types.
     #[must_use]
     #[inline]
     pub fn protocol_type(&self) -> u16 {
         u16_at(self.0, 14)
     }
 
-    /// The fields of the header.
+    /// Returns the fields of the header.
     #[must_use]
     pub fn to_header(&self) -> LinuxSllHeader {
         LinuxSllHeader {
@@ -182,18 +182,18 @@ impl fmt::Debug for LinuxSllSlice<'_> {
     }
 }
 
-/// The tag of a link extension.
+/// Tag of a link extension.
 #[derive(Clone, Copy, Debug, PartialEq, Eq, Hash)]
 #[non_exhaustive]
 pub enum LinkExtSlice<'a> {
-    /// A VLAN tag.
+    /// VLAN tag.
     Vlan(SingleVlanSlice<'a>),
-    /// A MACsec tag.
+    /// MACsec tag.
     Macsec(MacsecSlice<'a>),
 }
 
 impl<'a> LinkExtSlice<'a> {
-    /// The bytes of the tag.
+    /// Bytes of the tag.
     #[must_use]
     pub fn header_slice(&self) -> &'a [u8] {
         match self {
@@ -202,7 +202,7 @@ impl<'a> LinkExtSlice<'a> {
         }
     }
 
-    /// The fields of the tag.
+    /// Returns the fields of the tag.
     #[must_use]
     pub fn to_header(&self) -> LinkExtHeader {
         match self {
@@ -212,70 +212,70 @@ impl<'a> LinkExtSlice<'a> {
     }
 }
 
-/// The fields of the tag of a link extension.
+/// Fields of the tag of a link extension.
 #[derive(Clone, Copy, Debug, PartialEq, Eq, Hash)]
 #[non_exhaustive]
 pub enum LinkExtHeader {
-    /// Of a VLAN tag.
+    /// Fields of a VLAN tag.
     Vlan(SingleVlanHeader),
-    /// Of a MACsec tag.
+    /// Fields of a MACsec tag.
     Macsec(MacsecHeader),
 }
 
-/// The fields of a VLAN tag (IEEE 802.1Q).
+/// Fields of a VLAN tag (IEEE 802.1Q).
 #[derive(Clone, Copy, Debug, PartialEq, Eq, Hash)]
 pub struct SingleVlanHeader {
-    /// The priority, up to 7.
+    /// Priority code point (PCP), 0 to 7.
     pub pcp: u8,
-    /// Whether the frame may be dropped first where there is congestion.
+    /// Drop eligible indicator (DEI): the frame may be dropped first under congestion.
     pub drop_eligible_indicator: bool,
-    /// The identifier of the VLAN, up to 4095.
+    /// VLAN identifier (VID), 0 to 4095.
     pub vlan_id: u16,
-    /// The type of what lies behind the tag.
+    /// Ether type of the payload.
     pub ether_type: EtherType,
 }
 
-/// A VLAN tag (IEEE 802.1Q): 4 bytes, behind the ether type that names it.
+/// VLAN tag (IEEE 802.1Q): 4 bytes, after its own ether type.
 #[derive(Clone, Copy, PartialEq, Eq, Hash)]
 pub struct SingleVlanSlice<'a>(pub(crate) &'a [u8]);
 
 impl<'a> SingleVlanSlice<'a> {
-    /// The bytes of the tag.
+    /// Bytes of the tag.
     #[must_use]
     #[inline]
     pub fn slice(&self) -> &'a [u8] {
         self.0
     }
 
-    /// The priority, up to 7 (the upper three bits of byte 0).
+    /// Priority code point (PCP), the upper 3 bits of byte 0: 0 to 7.
     #[must_use]
     #[inline]
     pub fn pcp(&self) -> u8 {
         self.0[0] >> 5
     }
 
-    /// Whether the frame may be dropped first where there is congestion.
+    /// Drop eligible indicator (DEI): the frame may be dropped first under congestion.
     #[must_use]
     #[inline]
     pub fn drop_eligible_indicator(&self) -> bool {
         bit_at(self.0, 0, 4)
     }
 
-    /// The identifier of the VLAN, up to 4095 (the lower twelve bits of bytes 0 and 1).
+    /// VLAN identifier (VID), the lower 12 bits of bytes 0 and 1: 0 to 4095.
     #[must_use]
     #[inline]
     pub fn vlan_identifier(&self) -> u16 {
         u16_at(self.0, 0) & 0xfff
     }
 
-    /// The type of what lies behind the tag (bytes 2 and 3).
+    /// Ether type of the payload, bytes 2 and 3.
     #[must_use]
     #[inline]
     pub fn ether_type(&self) -> EtherType {
         EtherType(u16_at(self.0, 2))
     }
 
-    /// The fields of the tag.
+    /// Returns the fields of the tag.
     #[must_use]
     pub fn to_header(&self) -> SingleVlanHeader {
         SingleVlanHeader {
@@ -293,53 +293,53 @@ impl fmt::Debug for SingleVlanSlice<'_> {
     }
 }
 
-/// The fields of a MACsec tag (IEEE 802.1AE).
+/// Fields of a MACsec tag (SecTAG, IEEE 802.1AE).
 #[derive(Clone, Copy, Debug, PartialEq, Eq, Hash)]
 pub struct MacsecHeader {
-    /// What was done to the payload.
+    /// Protection of the payload.
     pub ptype: MacsecPType,
-    /// Whether the channel is named by the sender's address.
+    /// End station (ES): the source MAC address identifies the secure channel.
     pub endstation_id: bool,
-    /// Whether the frame is for all of an optical network.
+    /// Single copy broadcast (SCB): the frame is a broadcast of an optical network (EPON).
     pub scb: bool,
-    /// The number of the association, up to 3.
+    /// Association number of the secure channel (AN), 0 to 3.
     pub an: u8,
-    /// The number of bytes behind the tag, where it is below 48; 0 says nothing.
+    /// Short length (SL): number of bytes after the SecTAG if it is below 48, else 0.
     pub short_len: u8,
-    /// The number of the packet.
+    /// Packet number (PN).
     pub packet_nr: u32,
-    /// The channel, where it is told.
+    /// Secure channel identifier (SCI), if present.
     pub sci: Option<u64>,
 }
 
-/// What was done to the payload behind a MACsec tag.
+/// Protection of the payload of a MACsec tag.
 #[derive(Clone, Copy, Debug, PartialEq, Eq, Hash)]
 pub enum MacsecPType {
-    /// Nothing: what lies behind the tag is of this type.
+    /// Unmodified payload of this ether type.
     Unmodified(EtherType),
-    /// It was changed, and not encrypted.
+    /// Modified, not encrypted.
     Modified,
-    /// It was encrypted, and else not changed.
+    /// Encrypted, otherwise unmodified.
     EncryptedUnmodified,
-    /// It was encrypted.
+    /// Encrypted.
     Encrypted,
 }
 
-/// A MACsec tag (IEEE 802.1AE), behind the ether type that names it: 6 bytes, 8 more with a channel, and 2 more where
-/// the ether type behind it can be read.
+/// MACsec tag (SecTAG, IEEE 802.1AE), after its own ether type: 6 bytes, 8 more with an SCI, and 2 more for the ether
+/// type of an unmodified payload.
 #[derive(Clone, Copy, PartialEq, Eq, Hash)]
 pub struct MacsecSlice<'a>(pub(crate) &'a [u8]);
 
 impl<'a> MacsecSlice<'a> {
-    /// The bytes of the tag.
+    /// Bytes of the tag.
     #[must_use]
     #[inline]
     pub fn slice(&self) -> &'a [u8] {
         self.0
     }
 
-    /// What was done to the payload (bits 3 and 2 of byte 0); where nothing was, the last two bytes of the tag are the
-    /// type of what lies behind it.
+    /// Protection of the payload, bits 3 and 2 of byte 0. The last two bytes of the tag are the ether type of an
+    /// unmodified payload.
     #[must_use]
     pub fn ptype(&self) -> MacsecPType {
         match self.0[0] >> 2 & 3 {
@@ -350,48 +350,48 @@ impl<'a> MacsecSlice<'a> {
         }
     }
 
-    /// Whether the channel is named by the sender's address (bit 6 of byte 0).
+    /// End station (ES), bit 6 of byte 0: the source MAC address identifies the secure channel.
     #[must_use]
     #[inline]
     pub fn endstation_id(&self) -> bool {
         bit_at(self.0, 0, 6)
     }
 
-    /// Whether the frame is for all of an optical network (bit 4 of byte 0).
+    /// Single copy broadcast (SCB), bit 4 of byte 0: the frame is a broadcast of an optical network (EPON).
     #[must_use]
     #[inline]
     pub fn scb(&self) -> bool {
         bit_at(self.0, 0, 4)
     }
 
-    /// The number of the association (the lowest two bits of byte 0).
+    /// Association number of the secure channel (AN), the lowest 2 bits of byte 0.
     #[must_use]
     #[inline]
     pub fn an(&self) -> u8 {
         self.0[0] & 3
     }
 
-    /// The number of bytes behind the tag, where it is below 48 (the lower six bits of byte 1); 0 says nothing.
+    /// Short length (SL), the lower 6 bits of byte 1: number of bytes after the SecTAG if it is below 48, else 0.
     #[must_use]
     #[inline]
     pub fn short_len(&self) -> u8 {
         self.0[1] & 0x3f
     }
 
-    /// The number of the packet (bytes 2 to 5).
+    /// Packet number (PN), bytes 2 to 5.
     #[must_use]
     #[inline]
     pub fn packet_nr(&self) -> u32 {
         u32_at(self.0, 2)
     }
 
-    /// The channel (bytes 6 to 13), where bit 5 of byte 0 says that it is told.
+    /// Secure channel identifier (SCI), bytes 6 to 13, if bit 5 of byte 0 is set.
     #[must_use]
     pub fn sci(&self) -> Option<u64> {
         bit_at(self.0, 0, 5).then(|| u64::from_be_bytes(array_at(self.0, 6)))
     }
 
-    /// The type of what lies behind the tag, where nothing was done to the payload.
+    /// Ether type of the payload, if it is unmodified.
     #[must_use]
     pub fn next_ether_type(&self) -> Option<EtherType> {
         match self.ptype() {
@@ -400,7 +400,7 @@ impl<'a> MacsecSlice<'a> {
         }
     }
 
-    /// The fields of the tag.
+    /// Returns the fields of the tag.
     #[must_use]
     pub fn to_header(&self) -> MacsecHeader {
         MacsecHeader {

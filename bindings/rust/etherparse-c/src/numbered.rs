@@ -1,6 +1,6 @@
-//! Kinds that the declared calls tell by number.
+//! Kinds that the declared calls return as numbers.
 
-/// Defines enums of kinds, each with the number that the declarations name, and finds the kind of a number.
+/// Defines enums of kinds, each with the number of its declaration, and a conversion from a number to its kind.
 macro_rules! numbered {
     ($($(#[$about:meta])* pub enum $name:ident {
         $($(#[$meaning:meta])* $kind:ident = $number:ident,)*

@@ -2,15 +2,15 @@ use crate::building::{build_at, Behind, Place};
 use crate::{tcp_flag, Addresses, BuildError, FragmentFields, Options, Route, TcpFields};
 use alloc::vec::Vec;
 
-/// Builds a frame header by header, from the outside in. Lengths, checksums, ether types and protocol numbers are
-/// filled in.
+/// Builds a frame header by header, from the outermost to the innermost. Lengths, checksums, ether types and IP numbers
+/// are filled in.
 ///
 /// ```
 /// use etherparse_c::PacketBuilder;
 ///
-/// let builder = PacketBuilder::ethernet2([1, 2, 3, 4, 5, 6], [7, 8, 9, 10, 11, 12]) // from, to
-///     .ipv4([192, 168, 1, 1], [192, 168, 1, 2], 20) // from, to, hops
-///     .udp(21, 1234); // from, to
+/// let builder = PacketBuilder::ethernet2([1, 2, 3, 4, 5, 6], [7, 8, 9, 10, 11, 12]) // source, destination
+///     .ipv4([192, 168, 1, 1], [192, 168, 1, 2], 20) // source, destination, TTL
+///     .udp(21, 1234); // source, destination
 /// let payload = [1, 2, 3, 4, 5, 6, 7, 8];
 /// let mut frame = Vec::new();
 /// builder.write(&mut frame, &payload)?;
@@ -21,23 +21,23 @@ use alloc::vec::Vec;
 pub struct PacketBuilder;
 
 impl PacketBuilder {
-    /// Begins with an Ethernet II header.
+    /// Starts with an Ethernet II header.
     pub fn ethernet2(source: [u8; 6], destination: [u8; 6]) -> EthernetStep {
         EthernetStep { ethernet: (source, destination), vlan_ids: [None; 2] }
     }
 
-    /// Begins with an IPv4 header, which says not to fragment.
+    /// Starts with an IPv4 header, with "don't fragment" set.
     pub fn ipv4(source: [u8; 4], destination: [u8; 4], time_to_live: u8) -> IpStep {
         IpStep::new(None, Addresses::Ipv4 { source, destination }, time_to_live)
     }
 
-    /// Begins with an IPv6 header.
+    /// Starts with an IPv6 header.
     pub fn ipv6(source: [u8; 16], destination: [u8; 16], hop_limit: u8) -> IpStep {
         IpStep::new(None, Addresses::Ipv6 { source, destination }, hop_limit)
     }
 }
 
-/// A frame that has an Ethernet II header, and up to two VLAN tags.
+/// A frame with an Ethernet II header, and up to two VLAN tags.
 #[derive(Clone, Copy, Debug, PartialEq, Eq, Hash)]
 #[must_use]
 pub struct EthernetStep {
@@ -46,28 +46,28 @@ pub struct EthernetStep {
 }
 
 impl EthernetStep {
-    /// Puts a VLAN tag with this identifier, at most 4095, behind the header.
+    /// Adds a VLAN tag with this identifier, at most 4095.
     pub fn single_vlan(self, id: u16) -> EthernetStep {
         EthernetStep { vlan_ids: [Some(id), None], ..self }
     }
 
-    /// Puts two VLAN tags with these identifiers, each at most 4095, behind the header.
+    /// Adds two VLAN tags with these identifiers, each at most 4095.
     pub fn double_vlan(self, outer: u16, inner: u16) -> EthernetStep {
         EthernetStep { vlan_ids: [Some(outer), Some(inner)], ..self }
     }
 
-    /// Puts an IPv4 header, which says not to fragment, behind them.
+    /// Adds an IPv4 header, with "don't fragment" set.
     pub fn ipv4(self, source: [u8; 4], destination: [u8; 4], time_to_live: u8) -> IpStep {
         IpStep::new(Some(self), Addresses::Ipv4 { source, destination }, time_to_live)
     }
 
-    /// Puts an IPv6 header behind them.
+    /// Adds an IPv6 header.
     pub fn ipv6(self, source: [u8; 16], destination: [u8; 16], hop_limit: u8) -> IpStep {
         IpStep::new(Some(self), Addresses::Ipv6 { source, destination }, hop_limit)
     }
 }
 
-/// A frame that has an IP header.
+/// A frame with an IP header.
 #[derive(Clone, Copy, Debug, PartialEq, Eq, Hash)]
 #[must_use]
 pub struct IpStep {
@@ -80,34 +80,34 @@ impl IpStep {
         IpStep { route: Route { ethernet: behind.map(|step| step.ethernet), vlan_ids, addresses, hop_limit } }
     }
 
-    /// Puts a UDP header behind it.
+    /// Adds a UDP header.
     pub fn udp(self, source_port: u16, destination_port: u16) -> UdpStep {
         UdpStep { route: self.route, source_port, destination_port }
     }
 
-    /// Puts a TCP header behind it.
+    /// Adds a TCP header.
     pub fn tcp(self, source_port: u16, destination_port: u16, sequence_number: u32, window_size: u16) -> TcpStep {
         let fields = TcpFields { source_port, destination_port, sequence_number, window_size, ..Default::default() };
         TcpStep { route: self.route, fields, options: Options::NONE }
     }
 
-    /// Puts the header of an echo request behind it, of ICMP, or of ICMPv6 where the IP header is one of IPv6.
+    /// Adds the header of an echo request, of ICMP, or of ICMPv6 after an IPv6 header.
     pub fn icmp_echo_request(self, id: u16, seq: u16) -> IcmpEchoStep {
         IcmpEchoStep { route: self.route, is_reply: false, id, seq }
     }
 
-    /// Puts the header of an echo reply behind it, of ICMP, or of ICMPv6 where the IP header is one of IPv6.
+    /// Adds the header of an echo reply, of ICMP, or of ICMPv6 after an IPv6 header.
     pub fn icmp_echo_reply(self, id: u16, seq: u16) -> IcmpEchoStep {
         IcmpEchoStep { route: self.route, is_reply: true, id, seq }
     }
 
-    /// Has the IP header say that the frame carries a fragment of a longer payload; IPv6 gets a fragment header.
+    /// Marks the payload as a fragment of a longer one; IPv6 gets a fragment header.
     pub fn fragment(self, fields: FragmentFields) -> FragmentStep {
         FragmentStep { route: self.route, fields }
     }
 }
 
-/// A frame with a UDP header: ready for a payload.
+/// A frame with a UDP header, ready for a payload.
 #[derive(Clone, Copy, Debug, PartialEq, Eq, Hash)]
 #[must_use]
 pub struct UdpStep {
@@ -116,7 +116,7 @@ pub struct UdpStep {
     destination_port: u16,
 }
 
-/// A frame with a TCP header: ready for a payload.
+/// A frame with a TCP header, ready for a payload.
 #[derive(Clone, Copy, Debug, PartialEq, Eq, Hash)]
 #[must_use]
 pub struct TcpStep {
@@ -125,7 +125,7 @@ pub struct TcpStep {
     options: Options,
 }
 
-/// A frame with the header of an ICMP echo message: ready for a payload.
+/// A frame with the header of an ICMP echo message, ready for a payload.
 #[derive(Clone, Copy, Debug, PartialEq, Eq, Hash)]
 #[must_use]
 pub struct IcmpEchoStep {
@@ -135,7 +135,7 @@ pub struct IcmpEchoStep {
     seq: u16,
 }
 
-/// A frame that carries a fragment: ready for its bytes.
+/// A frame with a fragment, ready for its bytes.
 #[derive(Clone, Copy, Debug, PartialEq, Eq, Hash)]
 #[must_use]
 pub struct FragmentStep {
@@ -150,63 +150,63 @@ impl TcpStep {
         self
     }
 
-    /// Says that no more data comes.
+    /// Sets FIN: no more data from the sender.
     pub fn fin(self) -> TcpStep {
         self.flag(tcp_flag::FIN)
     }
 
-    /// Says that the sequence number is the first.
+    /// Sets SYN: synchronize sequence numbers.
     pub fn syn(self) -> TcpStep {
         self.flag(tcp_flag::SYN)
     }
 
-    /// Says that the connection is broken off.
+    /// Sets RST: reset the connection.
     pub fn rst(self) -> TcpStep {
         self.flag(tcp_flag::RST)
     }
 
-    /// Asks to hand what came to the program.
+    /// Sets PSH: push buffered data to the application.
     pub fn psh(self) -> TcpStep {
         self.flag(tcp_flag::PSH)
     }
 
-    /// Says which byte the sender waits for.
+    /// Sets ACK and the acknowledgment number.
     pub fn ack(mut self, acknowledgment_number: u32) -> TcpStep {
         self.fields.acknowledgment_number = acknowledgment_number;
         self.flag(tcp_flag::ACK)
     }
 
-    /// Says where urgent data ends.
+    /// Sets URG and the urgent pointer.
     pub fn urg(mut self, urgent_pointer: u16) -> TcpStep {
         self.fields.urgent_pointer = urgent_pointer;
         self.flag(tcp_flag::URG)
     }
 
-    /// Says that a mark of congestion came.
+    /// Sets ECE: ECN-Echo (RFC 3168).
     pub fn ece(self) -> TcpStep {
         self.flag(tcp_flag::ECE)
     }
 
-    /// Says that the sender slowed down.
+    /// Sets CWR: congestion window reduced (RFC 3168).
     pub fn cwr(self) -> TcpStep {
         self.flag(tcp_flag::CWR)
     }
 
-    /// Puts these options into the header, filled up by zero bytes to words of 4.
+    /// Sets the options, which are padded with zero bytes to a multiple of 4.
     ///
     /// # Errors
     ///
-    /// They have more than 40 bytes.
+    /// The options have more than 40 bytes.
     pub fn options_raw(self, options: &[u8]) -> Result<TcpStep, BuildError> {
         Ok(TcpStep { options: Options::new(options).ok_or(BuildError::TooLong)?, ..self })
     }
 }
 
-/// The calls that end a frame.
+/// Calls that complete a frame.
 trait Ending {
     fn route(&self) -> &Route;
 
-    /// The number of bytes between the IP header and the payload.
+    /// Length of the headers between the IP header and the payload, in bytes.
     fn header_len(&self) -> usize;
 
     fn behind(&self) -> Behind<'_>;
@@ -218,10 +218,10 @@ trait Ending {
     fn append(&self, frame: &mut Vec<u8>, payload: &[u8]) -> Result<(), BuildError> {
         frame.try_reserve(self.frame_len(payload.len())).map_err(|_| BuildError::OutOfMemory)?;
         let room = frame.spare_capacity_mut();
-        // SAFETY: the place is the room behind the frame's bytes, which nothing else refers to.
+        // SAFETY: the place is the spare capacity after the frame's bytes, which nothing else refers to.
         let place = unsafe { Place::new(room.as_mut_ptr().cast(), room.len()) };
         let written = build_at(self.route(), self.behind(), payload, place)?;
-        // SAFETY: so many bytes of the room were written.
+        // SAFETY: `written` bytes of the spare capacity are initialized.
         unsafe { frame.set_len(frame.len() + written) };
         Ok(())
     }
@@ -286,21 +286,21 @@ impl Ending for FragmentStep {
     }
 }
 
-/// Gives a step the calls that end a frame, as its own.
+/// Defines the calls that complete a frame as methods of a step.
 macro_rules! endings {
     ($($step:ident)*) => {$(
         impl $step {
-            /// The number of bytes of the frame with a payload of so many.
+            /// Returns the length of the frame with a payload of `payload_len` bytes.
             #[must_use]
             pub fn size(&self, payload_len: usize) -> usize {
                 self.frame_len(payload_len)
             }
 
-            /// Appends the frame with this payload.
+            /// Appends the frame with this payload. Allocates if the vector has too little spare capacity.
             ///
             /// # Errors
             ///
-            /// Why no frame was built; nothing is appended then.
+            /// The reason why no frame was built; nothing is then appended.
             pub fn write(&self, frame: &mut Vec<u8>, payload: &[u8]) -> Result<(), BuildError> {
                 self.append(frame, payload)
             }

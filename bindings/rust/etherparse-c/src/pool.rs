@@ -3,7 +3,7 @@ use alloc::vec::Vec;
 use core::fmt;
 use core::ptr;
 
-/// There was no memory.
+/// An allocation failed.
 #[derive(Clone, Copy, Debug, PartialEq, Eq, Hash)]
 pub struct OutOfMemory;
 
@@ -15,19 +15,20 @@ impl fmt::Display for OutOfMemory {
 
 impl core::error::Error for OutOfMemory {}
 
-/// Why a pool did not take a frame. Its streams are as they were.
+/// Reason why a pool did not accept a frame. Its streams are unchanged.
 #[derive(Clone, Copy, Debug, PartialEq, Eq, Hash)]
 #[non_exhaustive]
 pub enum PushError {
-    /// The bytes are no frame.
+    /// The bytes are not a frame.
     Refused(Refusal),
-    /// The fragment's length is no multiple of 8, and more fragments follow.
+    /// The fragment's length is not a multiple of 8, and more fragments follow.
     Unaligned,
-    /// The fragment ends behind the pool's limit.
+    /// The fragment ends after the pool's limit.
     TooBig,
-    /// The fragment ends behind the known end, or is the last one and ends before that or before the end of what came.
+    /// The fragment ends after the known end, or is the last one and ends before that or before the end of an earlier
+    /// fragment.
     ConflictingEnd,
-    /// There was no memory for the fragment.
+    /// An allocation for the fragment failed.
     OutOfMemory,
 }
 
@@ -58,20 +59,20 @@ impl core::error::Error for PushError {
     }
 }
 
-/// A payload that was put together from fragments.
+/// Payload reassembled from fragments.
 #[derive(Clone, Copy, Debug, PartialEq, Eq, Hash)]
 #[non_exhaustive]
 #[must_use]
 pub struct Payload<'a> {
-    /// Its protocol number.
+    /// IP number (protocol) of the payload.
     pub ip_number: IpNumber,
-    /// The total length of IPv4 or the payload length of IPv6, by the version of its fragments.
+    /// Total length of IPv4 or payload length of IPv6, by the version of the fragments.
     pub len_source: LenSource,
-    /// Its bytes, which stand until the pool is used again.
+    /// Bytes of the payload, valid until the pool is used again.
     pub bytes: &'a [u8],
 }
 
-/// Puts the fragmented payloads of many streams together, each as if it were alone.
+/// Reassembles the fragmented payloads of many streams, each as if it were alone.
 ///
 /// ```
 /// use etherparse_c::{Entry, IpNumber, Pool, PushError};
@@ -86,17 +87,17 @@ pub struct Payload<'a> {
 /// let mut pool = Pool::with_limit(16)?;
 /// assert_eq!(pool.push(Entry::Ip, &fragment(1, 0, b"xy"), 1, 0), Ok(None));
 /// assert_eq!(pool.push(Entry::Ip, &fragment(0, 1, b"1234"), 2, 0), Err(PushError::Unaligned));
-/// assert_eq!(pool.push(Entry::Ip, &fragment(0, 1, b"12345678"), 2, 1), Ok(None)); // of another channel
+/// assert_eq!(pool.push(Entry::Ip, &fragment(0, 1, b"12345678"), 2, 1), Ok(None)); // on another channel
 /// let payload = pool.push(Entry::Ip, &fragment(0, 1, b"12345678"), 2, 0)?.unwrap();
 /// assert_eq!((payload.ip_number, payload.bytes), (IpNumber::UDP, &b"12345678xy"[..]));
 /// assert_eq!(pool.push(Entry::Ip, &fragment(2, 0, b"z"), 3, 1), Err(PushError::TooBig));
 ///
-/// pool.drop_older(3); // that of channel 1 began at 2
+/// pool.drop_older(3); // drops the stream of channel 1, whose timestamp is 2
 /// assert_eq!(pool.push(Entry::Ip, &fragment(1, 0, b"xy"), 3, 1), Ok(None));
 /// # Ok::<(), PushError>(())
 /// ```
 ///
-/// A pool may be handed to another thread, and is for one call at a time.
+/// A pool can be sent to another thread, and is used by one call at a time.
 ///
 /// ```
 /// fn sent<T: Send>() {}
@@ -110,17 +111,17 @@ pub struct Payload<'a> {
 #[must_use]
 pub struct Pool {
     pool: ptr::NonNull<sys::Pool>,
-    /// Where payloads are handed out: as many bytes as the longest may have, so that none ever waits in the pool.
+    /// Buffer for returned payloads, as long as the longest payload can be, so that none ever waits in the pool.
     buffer: Vec<u8>,
 }
 
-// SAFETY: the header says that a pool may be handed to another thread between two calls; calls take it by `&mut`, but
-// for those that count, which are not for two threads at once either: so it is not `Sync`, which a pointer is not by
-// itself.
+// SAFETY: by the header a pool may be passed to another thread between two calls. Calls take it by `&mut`, except for
+// those that count, which must not run in two threads at once either: so it is not `Sync`, as its pointer is not.
 unsafe impl Send for Pool {}
 
 impl Pool {
-    /// A pool without streams. No payload has more than 65535 bytes; it keeps as many to hand payloads out.
+    /// Creates an empty pool with payloads of at most 65535 bytes. It allocates a buffer of that length for returned
+    /// payloads.
     ///
     /// ```
     /// let pool: Result<etherparse_c::Pool, etherparse_c::OutOfMemory> = etherparse_c::Pool::new();
@@ -129,20 +130,20 @@ impl Pool {
     ///
     /// # Errors
     ///
-    /// There was no memory.
+    /// An allocation failed.
     pub fn new() -> Result<Pool, OutOfMemory> {
-        // SAFETY: the pointer is of a reference that lives as long as the call.
+        // SAFETY: the pointer comes from a reference that outlives the call.
         Pool::made(sys::MAX_PAYLOAD, |pool| unsafe { sys::etherparse_pool_new(pool) })
     }
 
-    /// The same of a pool in which no payload has more than `limit` bytes: a fragment that ends behind it is refused.
-    /// Where frames may be hostile, set one, and drop old streams.
+    /// Creates an empty pool with payloads of at most `limit` bytes: a fragment that ends after the limit is rejected.
+    /// If frames may be hostile, set a limit and drop old streams.
     ///
     /// # Errors
     ///
-    /// There was no memory.
+    /// An allocation failed.
     pub fn with_limit(limit: u16) -> Result<Pool, OutOfMemory> {
-        // SAFETY: as above.
+        // SAFETY: the pointer comes from a reference that outlives the call.
         Pool::made(limit, |pool| unsafe { sys::etherparse_pool_with_limit(limit, pool) })
     }
 
@@ -156,12 +157,12 @@ impl Pool {
         Ok(Pool { pool, buffer })
     }
 
-    /// Gives it a frame, which may carry a fragment, and answers the payload that is complete with it, if any. The
-    /// timestamp is for [`Pool::drop_older`]; fragments of different channels are never put together.
+    /// Passes a frame, which may carry a fragment, to the pool, and returns the payload that it completes, if any. The
+    /// timestamp is for [`Pool::drop_older`]; fragments of different channels are never combined.
     ///
     /// # Errors
     ///
-    /// Why the frame is not taken.
+    /// The reason why the frame is not accepted.
     pub fn push(
         &mut self,
         entry: Entry,
@@ -171,8 +172,8 @@ impl Pool {
     ) -> Result<Option<Payload<'_>>, PushError> {
         let (entry, ether_type) = entry.numbers();
         let mut answer = sys::PoolAnswer::default();
-        // SAFETY: the pool is one that was made and not freed. The other pointers are of references that live as long
-        // as the call, and none overlap.
+        // SAFETY: the pool was created and not freed. The other pointers come from references that outlive the call,
+        // and none overlap.
         let status = unsafe {
             sys::etherparse_pool_push(
                 self.pool.as_ptr(),
@@ -203,12 +204,12 @@ impl Pool {
         }
     }
 
-    /// The same of a frame that is sliced already. One that carries no fragment is not looked at once more, since a
-    /// pool takes nothing of it.
+    /// Passes a frame that is already sliced to the pool, and returns the payload that it completes, if any. A frame
+    /// without a fragment is not sliced again, since a pool ignores it.
     ///
     /// # Errors
     ///
-    /// Why the fragment is not taken.
+    /// The reason why the fragment is not accepted.
     pub fn process_sliced_packet(
         &mut self,
         packet: &SlicedPacket<'_>,
@@ -221,31 +222,31 @@ impl Pool {
         self.push(packet.entry(), packet.frame(), timestamp, channel)
     }
 
-    /// How many streams the pool holds.
+    /// Returns the number of streams in the pool.
     #[must_use]
     pub fn streams(&self) -> usize {
-        // SAFETY: the pool is one that was made and not freed.
+        // SAFETY: the pool was created and not freed.
         unsafe { sys::etherparse_pool_streams(self.pool.as_ptr()) }
     }
 
-    /// How many bytes of payloads the pool holds: of each stream up to the greatest end that came. It looks at each
-    /// stream.
+    /// Returns the number of payload bytes in the pool: of each stream up to the greatest end of its fragments.
+    /// Iterates over all streams.
     #[must_use]
     pub fn bytes(&self) -> usize {
-        // SAFETY: the pool is one that was made and not freed.
+        // SAFETY: the pool was created and not freed.
         unsafe { sys::etherparse_pool_bytes(self.pool.as_ptr()) }
     }
 
-    /// Drops the streams whose last fragment that was taken came before `timestamp`. It looks at each stream, so call
-    /// it once in a while, and not for each packet.
+    /// Drops the streams whose last accepted fragment came before `timestamp`. Iterates over all streams, so call it
+    /// once in a while, and not for each packet.
     pub fn drop_older(&mut self, timestamp: u64) {
-        // SAFETY: the pool is one that was made and not freed.
+        // SAFETY: the pool was created and not freed.
         unsafe { sys::etherparse_pool_drop_older(self.pool.as_ptr(), timestamp) };
     }
 }
 
 impl fmt::Debug for Pool {
-    /// Without the bytes of payloads.
+    /// Formats without the bytes of payloads.
     fn fmt(&self, f: &mut fmt::Formatter<'_>) -> fmt::Result {
         f.debug_struct("Pool").finish_non_exhaustive()
     }
@@ -253,7 +254,7 @@ impl fmt::Debug for Pool {
 
 impl Drop for Pool {
     fn drop(&mut self) {
-        // SAFETY: the pool is one that was made and not freed, and is used no more.
+        // SAFETY: the pool was created and not freed, and is not used afterwards.
         unsafe { sys::etherparse_pool_free(self.pool.as_ptr()) };
     }
 }

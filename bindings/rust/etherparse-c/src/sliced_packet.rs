@@ -9,45 +9,45 @@ use core::mem::MaybeUninit;
 use core::net::IpAddr;
 
 numbered! {
-    /// What set the end of some bytes.
+    /// Length field that limits some bytes.
     pub enum LenSource {
-        /// The end of the slice that was passed.
+        /// None: the length of the slice that was passed.
         Slice = END_SLICE,
-        /// The short length of a MACsec tag.
+        /// Short length (SL) of a MACsec tag.
         MacsecShortLength = END_MACSEC,
-        /// The total length of an IPv4 header.
+        /// Total length of an IPv4 header.
         Ipv4HeaderTotalLen = END_IPV4,
-        /// The payload length of an IPv6 header.
+        /// Payload length of an IPv6 header.
         Ipv6HeaderPayloadLen = END_IPV6,
-        /// The length of a UDP header.
+        /// Length of a UDP header.
         UdpHeaderLen = END_UDP,
-        /// The address lengths of an ARP packet.
+        /// Address lengths of an ARP packet.
         ArpAddrLengths = END_ARP,
     }
 }
 
-/// What an IP header says, and its extension headers.
+/// Fields of an IP header and its extension headers.
 #[derive(Clone, Copy, Debug, PartialEq, Eq, Hash)]
 #[non_exhaustive]
 pub struct Ip {
-    /// 4 or 6.
+    /// IP version: 4 or 6.
     pub version: u8,
-    /// The protocol number of the payload, behind the extension headers.
+    /// IP number (protocol) of the payload after the extension headers.
     pub number: IpNumber,
-    /// Whether the payload is one fragment of a longer one.
+    /// Whether the payload is a fragment of a longer one.
     pub fragmented: bool,
-    /// Whether the header says that more fragments follow.
+    /// Whether "more fragments" is set.
     pub more_fragments: bool,
-    /// Where the fragment lies in the whole payload, in bytes.
+    /// Offset of the fragment in the reassembled payload, in bytes.
     pub fragment_offset: u16,
-    /// What the fragments of one payload have in common; 0 in IPv6 without a fragment header.
+    /// Identification that all fragments of a payload share; 0 in IPv6 without a fragment header.
     pub identification: u32,
-    /// The number of bytes of the IP header without its extension headers.
+    /// Length of the IP header without its extension headers, in bytes.
     pub header_len: usize,
 }
 
-/// A frame, sliced into its layers from the outside in: what the library told of it, and the frame. Its layers are made
-/// where they are asked for, as slices of the frame.
+/// A frame sliced into its layers: the library's description, and the frame. The accessors of layers create slices of
+/// the frame.
 ///
 /// ```
 /// use etherparse_c::{NetSlice, SlicedPacket, TransportSlice};
@@ -71,38 +71,38 @@ pub struct Ip {
 #[derive(Clone, Copy)]
 #[must_use]
 pub struct SlicedPacket<'a> {
-    /// It is initialized in every packet that is answered.
+    /// Initialized in every packet that is returned.
     told: MaybeUninit<sys::Packet>,
     frame: &'a [u8],
     entry: Entry,
 }
 
 impl<'a> SlicedPacket<'a> {
-    /// Slices a frame that begins with an Ethernet II header.
+    /// Slices a frame that starts with an Ethernet II header.
     ///
     /// # Errors
     ///
-    /// Why the bytes are no frame.
+    /// The error, if the bytes are not a frame.
     #[inline]
     pub fn from_ethernet(frame: &'a [u8]) -> Result<SlicedPacket<'a>, Refusal> {
         SlicedPacket::from_entry(Entry::Ethernet, frame)
     }
 
-    /// Slices a frame that begins with the header of a Linux cooked capture (SLL v1).
+    /// Slices a frame that starts with a Linux cooked capture header (SLL v1).
     ///
     /// # Errors
     ///
-    /// Why the bytes are no frame.
+    /// The error, if the bytes are not a frame.
     #[inline]
     pub fn from_linux_sll(frame: &'a [u8]) -> Result<SlicedPacket<'a>, Refusal> {
         SlicedPacket::from_entry(Entry::LinuxSll, frame)
     }
 
-    /// Slices what an ether type says, without a link header.
+    /// Slices the payload of an ether type, without a link header.
     ///
     /// # Errors
     ///
-    /// Why the bytes are no frame.
+    /// The error, if the bytes are not a frame.
     #[inline]
     pub fn from_ether_type(ether_type: EtherType, bytes: &'a [u8]) -> Result<SlicedPacket<'a>, Refusal> {
         SlicedPacket::from_entry(Entry::EtherType(ether_type), bytes)
@@ -112,13 +112,13 @@ impl<'a> SlicedPacket<'a> {
     ///
     /// # Errors
     ///
-    /// Why the bytes are no frame.
+    /// The error, if the bytes are not a frame.
     #[inline]
     pub fn from_ip(bytes: &'a [u8]) -> Result<SlicedPacket<'a>, Refusal> {
         SlicedPacket::from_entry(Entry::Ip, bytes)
     }
 
-    /// Slices a frame that begins with what `entry` says.
+    /// Slices a frame whose first header is `entry`.
     ///
     /// ```
     /// use etherparse_c::{Entry, EtherType, SlicedPacket};
@@ -137,7 +137,7 @@ impl<'a> SlicedPacket<'a> {
     ///
     /// # Errors
     ///
-    /// Why the bytes are no frame.
+    /// The error, if the bytes are not a frame.
     #[inline]
     pub fn from_entry(entry: Entry, frame: &'a [u8]) -> Result<SlicedPacket<'a>, Refusal> {
         let mut packet = SlicedPacket { told: MaybeUninit::uninit(), frame, entry };
@@ -145,8 +145,8 @@ impl<'a> SlicedPacket<'a> {
         Ok(packet)
     }
 
-    /// Slices a frame into a packet that is there, whatever it was before; where the bytes are no frame, it has no layer. In
-    /// a loop whose packets are handed on, this saves copying 240 bytes a frame.
+    /// Slices a frame into an existing packet, whose previous content is replaced; if the bytes are not a frame, the
+    /// packet has no layers. In a hot loop that passes packets on, this saves a copy of 240 bytes for each frame.
     ///
     /// ```
     /// use etherparse_c::{Entry, SlicedPacket};
@@ -165,18 +165,18 @@ impl<'a> SlicedPacket<'a> {
     ///
     /// # Errors
     ///
-    /// Why the bytes are no frame.
+    /// The error, if the bytes are not a frame.
     #[inline]
     pub fn slice_into(&mut self, entry: Entry, frame: &'a [u8]) -> Result<(), Refusal> {
         (self.frame, self.entry) = (frame, entry);
         self.fill_in()
     }
 
-    /// A packet without a layer, of no bytes.
+    /// Packet without layers, of no bytes.
     pub const EMPTY: SlicedPacket<'static> =
         SlicedPacket { told: MaybeUninit::zeroed(), frame: &[], entry: Entry::Ethernet };
 
-    /// The layers that stand of bytes that begin with what `entry` says.
+    /// Slices a packet laxly, whose first header is `entry`.
     #[inline]
     pub(crate) fn lax(entry: Entry, frame: &'a [u8]) -> Result<SlicedPacket<'a>, Refusal> {
         let mut packet = SlicedPacket { told: MaybeUninit::uninit(), frame, entry };
@@ -184,13 +184,13 @@ impl<'a> SlicedPacket<'a> {
         Ok(packet)
     }
 
-    /// Asks what the frame's layers are.
+    /// Fills the description of the frame's layers.
     #[inline]
     fn fill_in(&mut self) -> Result<(), Refusal> {
         self.fill_in_by(sys::etherparse_slice)
     }
 
-    /// The same by one of the calls that slice.
+    /// Fills the description by one of the slicing calls.
     #[inline]
     fn fill_in_by(
         &mut self,
@@ -198,52 +198,53 @@ impl<'a> SlicedPacket<'a> {
     ) -> Result<(), Refusal> {
         let (entry, ether_type) = self.entry.numbers();
         let frame = self.frame;
-        // SAFETY: both pointers are of what lives as long as the call, and they do not overlap.
+        // SAFETY: both pointers point to memory that outlives the call, and they do not overlap.
         let status = unsafe { slice(entry, ether_type, frame.as_ptr(), frame.len(), self.told.as_mut_ptr()) };
-        // Whatever the call answers, it wrote each field, by its contract; what stood there is of no use to it.
+        // By its contract the call wrote each field, whatever its status; the previous content is not read.
         if status == sys::OK {
             Ok(())
         } else {
-            Err(Refusal::from(self.told().refusal)) // an entry here is always one that is known
+            Err(Refusal::from(self.told().refusal)) // an entry is always known here
         }
     }
 
-    /// The frame that was sliced.
+    /// Bytes of the frame.
     #[must_use]
     #[inline]
     pub fn frame(&self) -> &'a [u8] {
         self.frame
     }
 
-    /// What the frame was sliced from.
+    /// First header of the frame.
     #[must_use]
     #[inline]
     pub fn entry(&self) -> Entry {
         self.entry
     }
 
-    /// What the library told of the frame, in numbers.
+    /// Description of the frame, as the library's numbers.
     #[must_use]
     #[inline]
     pub fn told(&self) -> &sys::Packet {
-        // SAFETY: the call that filled it in wrote each field.
+        // SAFETY: the call that filled it wrote each field.
         unsafe { self.told.assume_init_ref() }
     }
 
-    /// Some bytes of the frame.
+    /// Returns `len` bytes of the frame at `offset`.
     #[inline]
     fn bytes(&self, offset: usize, len: usize) -> &'a [u8] {
         &self.frame[offset..offset + len]
     }
 
-    /// Where the bytes end that lie behind the tags: where the short length of a MACsec tag cuts, or else with the frame.
+    /// Returns the end of the bytes after the tags: limited by the short length of a MACsec tag, or the end of the
+    /// frame.
     #[inline]
     fn end_behind_tags(&self) -> usize {
         let mut end = self.frame.len();
         for tag in self.told().link_exts.iter().filter(|tag| tag.kind == sys::EXT_MACSEC) {
             let bytes = self.bytes(tag.offset, tag.len);
             let short_len = usize::from(bytes[1] & 0x3f);
-            // it counts what follows the tag proper, which has 6 bytes, or 14 with an identifier
+            // it counts the bytes after the SecTAG, which has 6 bytes, or 14 with an SCI
             let says = tag.offset + if bytes[0] & 0x20 == 0 { 6 } else { 14 } + short_len;
             if short_len != 0 && (tag.offset + tag.len..=end).contains(&says) {
                 end = says;
@@ -252,7 +253,7 @@ impl<'a> SlicedPacket<'a> {
         end
     }
 
-    /// The link header.
+    /// Link header.
     #[must_use]
     #[inline]
     pub fn link(&self) -> Option<LinkSlice<'a>> {
@@ -264,7 +265,7 @@ impl<'a> SlicedPacket<'a> {
         }
     }
 
-    /// The tags of link extensions from the outside in, the first ones set. A fourth is left as payload.
+    /// Tags of link extensions from the outermost on; unused entries come last. A fourth tag is payload.
     #[must_use]
     #[inline]
     pub fn link_exts(&self) -> [Option<LinkExtSlice<'a>>; 3] {
@@ -275,12 +276,12 @@ impl<'a> SlicedPacket<'a> {
         })
     }
 
-    /// The identifiers of the VLAN tags, from the outside in.
+    /// Identifiers of the VLAN tags, from the outermost on.
     ///
     /// ```
     /// use etherparse_c::{EtherType, SlicedPacket};
     ///
-    /// let tagged = [0, 7, 0x81, 0, 0xe0, 42, 0x88, 0xcc]; // behind the ether type of a service tag
+    /// let tagged = [0, 7, 0x81, 0, 0xe0, 42, 0x88, 0xcc]; // after the ether type of a service tag
     /// let packet = SlicedPacket::from_ether_type(EtherType::PROVIDER_BRIDGING, &tagged)?;
     /// assert!(packet.vlan_ids().eq([7, 42]));
     /// assert_eq!(packet.link_exts()[1].map(|tag| tag.header_slice()), Some(&tagged[4..]));
@@ -292,14 +293,14 @@ impl<'a> SlicedPacket<'a> {
         tags.filter(|tag| tag.kind == sys::EXT_VLAN).map(|tag| tag.vlan_id)
     }
 
-    /// The net layer: IP with its extension headers, or ARP.
+    /// Network layer: IP with its extension headers, or ARP.
     #[must_use]
     #[inline]
     pub fn net(&self) -> Option<NetSlice<'a>> {
         let (part, ip) = (&self.told().net, &self.told().ip);
         let headers = self.bytes(part.offset, part.len);
         let (header_len, number, fragmented) = (ip.header_len, IpNumber(ip.number), ip.fragmented != 0);
-        // the numbers of bytes from the header on: those that are there, and those up to the end that it says
+        // number of bytes from the header on: available ones, and those that its length field counts
         let there = self.end_behind_tags() - part.offset;
         let says = match part.kind {
             sys::NET_IPV4 => usize::from(u16_at(headers, 2)),
@@ -316,7 +317,7 @@ impl<'a> SlicedPacket<'a> {
         }
     }
 
-    /// What the IP header says, and its extension headers.
+    /// Fields of the IP header and its extension headers.
     #[must_use]
     #[inline]
     pub fn ip(&self) -> Option<Ip> {
@@ -332,7 +333,7 @@ impl<'a> SlicedPacket<'a> {
         })
     }
 
-    /// The addresses of sender and receiver, of IP.
+    /// Source and destination address of IP.
     ///
     /// ```
     /// use etherparse_c::SlicedPacket;
@@ -350,14 +351,14 @@ impl<'a> SlicedPacket<'a> {
         self.net()?.ip_addresses()
     }
 
-    /// Whether the payload is one fragment of a longer one; false where there is no IP packet.
+    /// Whether the payload is a fragment of a longer one; false if the packet is not IP.
     #[must_use]
     #[inline]
     pub fn is_ip_payload_fragmented(&self) -> bool {
         self.told().ip.fragmented != 0
     }
 
-    /// The transport layer; none in a fragment.
+    /// Transport layer; none in a fragment.
     #[must_use]
     #[inline]
     pub fn transport(&self) -> Option<TransportSlice<'a>> {
@@ -375,7 +376,7 @@ impl<'a> SlicedPacket<'a> {
         }
     }
 
-    /// The ports of sender and receiver, of UDP and TCP.
+    /// Source and destination port of UDP or TCP.
     #[must_use]
     #[inline]
     pub fn ports(&self) -> Option<(u16, u16)> {
@@ -383,21 +384,21 @@ impl<'a> SlicedPacket<'a> {
             .then_some((self.told().source_port, self.told().destination_port))
     }
 
-    /// The payload of the last layer. Behind an ARP packet there is none.
+    /// Payload of the last layer; empty after an ARP packet.
     #[must_use]
     #[inline]
     pub fn payload(&self) -> &'a [u8] {
         self.bytes(self.told().payload.offset, self.told().payload.len)
     }
 
-    /// Where in the frame the payload begins.
+    /// Offset of the payload in the frame, in bytes.
     #[must_use]
     #[inline]
     pub fn payload_offset(&self) -> usize {
         self.told().payload.offset
     }
 
-    /// What set the payload's end.
+    /// Length field that limits the payload.
     #[must_use]
     #[inline]
     pub fn payload_len_source(&self) -> LenSource {
@@ -406,7 +407,7 @@ impl<'a> SlicedPacket<'a> {
 }
 
 impl PartialEq for SlicedPacket<'_> {
-    /// Whether the frames have the same bytes, sliced from the same entry.
+    /// Compares the bytes and the first headers of the frames.
     fn eq(&self, other: &Self) -> bool {
         self.entry == other.entry && self.frame == other.frame
     }
@@ -421,7 +422,7 @@ impl core::hash::Hash for SlicedPacket<'_> {
 }
 
 impl fmt::Debug for SlicedPacket<'_> {
-    /// Its layers.
+    /// Formats the layers.
     fn fmt(&self, f: &mut fmt::Formatter<'_>) -> fmt::Result {
         let mut told = f.debug_struct("SlicedPacket");
         told.field("link", &self.link()).field("link_exts", &self.link_exts()).field("net", &self.net());

@@ -4,22 +4,22 @@ use crate::bytes::{array_at, bit_at, u16_at, u32_at};
 use crate::Options;
 use core::fmt;
 
-/// The transport layer of a packet.
+/// Transport layer of a packet.
 #[derive(Clone, Copy, Debug, PartialEq, Eq, Hash)]
 #[non_exhaustive]
 pub enum TransportSlice<'a> {
-    /// A UDP datagram.
+    /// UDP datagram.
     Udp(UdpSlice<'a>),
-    /// A TCP segment.
+    /// TCP segment.
     Tcp(TcpSlice<'a>),
-    /// An ICMP message.
+    /// ICMP message.
     Icmpv4(IcmpSlice<'a>),
-    /// An ICMPv6 message.
+    /// ICMPv6 message.
     Icmpv6(IcmpSlice<'a>),
 }
 
 impl<'a> TransportSlice<'a> {
-    /// The datagram, if it is UDP.
+    /// Returns the datagram, if it is UDP.
     #[must_use]
     #[inline]
     pub fn udp(&self) -> Option<UdpSlice<'a>> {
@@ -29,7 +29,7 @@ impl<'a> TransportSlice<'a> {
         }
     }
 
-    /// The segment, if it is TCP.
+    /// Returns the segment, if it is TCP.
     #[must_use]
     #[inline]
     pub fn tcp(&self) -> Option<TcpSlice<'a>> {
@@ -39,7 +39,7 @@ impl<'a> TransportSlice<'a> {
         }
     }
 
-    /// The bytes of the header.
+    /// Bytes of the header.
     #[must_use]
     pub fn header_slice(&self) -> &'a [u8] {
         match self {
@@ -49,7 +49,7 @@ impl<'a> TransportSlice<'a> {
         }
     }
 
-    /// What lies behind the header.
+    /// Payload after the header.
     #[must_use]
     pub fn payload(&self) -> &'a [u8] {
         match self {
@@ -59,7 +59,7 @@ impl<'a> TransportSlice<'a> {
         }
     }
 
-    /// The fields of the header.
+    /// Returns the fields of the header.
     #[must_use]
     pub fn to_header(&self) -> TransportHeader {
         match self {
@@ -71,88 +71,88 @@ impl<'a> TransportSlice<'a> {
     }
 }
 
-/// The fields of a transport header.
+/// Fields of a transport header.
 #[derive(Clone, Copy, Debug, PartialEq, Eq, Hash)]
 #[non_exhaustive]
 pub enum TransportHeader {
-    /// Of UDP.
+    /// Fields of UDP.
     Udp(UdpHeader),
-    /// Of TCP.
+    /// Fields of TCP.
     Tcp(TcpHeader),
-    /// Of ICMP.
+    /// Fields of ICMP.
     Icmpv4(IcmpHeader),
-    /// Of ICMPv6.
+    /// Fields of ICMPv6.
     Icmpv6(IcmpHeader),
 }
 
-/// The fields of a UDP header (RFC 768).
+/// Fields of a UDP header (RFC 768).
 #[derive(Clone, Copy, Debug, PartialEq, Eq, Hash)]
 pub struct UdpHeader {
-    /// The sender's port.
+    /// Source port.
     pub source_port: u16,
-    /// The receiver's port.
+    /// Destination port.
     pub destination_port: u16,
-    /// The number of bytes of header and payload; 0 says nothing.
+    /// Length of header and payload in bytes; 0 limits nothing.
     pub length: u16,
-    /// The checksum, which is not verified; 0 is none.
+    /// Checksum, not verified; 0 is none.
     pub checksum: u16,
 }
 
-/// A UDP datagram (RFC 768): a header of 8 bytes, and its payload.
+/// UDP datagram (RFC 768): a header of 8 bytes, and its payload.
 #[derive(Clone, Copy, PartialEq, Eq, Hash)]
 pub struct UdpSlice<'a>(pub(crate) &'a [u8]);
 
 impl<'a> UdpSlice<'a> {
-    /// The bytes of header and payload.
+    /// Bytes of header and payload.
     #[must_use]
     #[inline]
     pub fn slice(&self) -> &'a [u8] {
         self.0
     }
 
-    /// The bytes of the header.
+    /// Bytes of the header.
     #[must_use]
     #[inline]
     pub fn header_slice(&self) -> &'a [u8] {
         &self.0[..8]
     }
 
-    /// What lies behind the header, up to the end that the length says.
+    /// Payload after the header, limited by the length.
     #[must_use]
     #[inline]
     pub fn payload(&self) -> &'a [u8] {
         &self.0[8..]
     }
 
-    /// The sender's port (bytes 0 and 1).
+    /// Source port, bytes 0 and 1.
     #[must_use]
     #[inline]
     pub fn source_port(&self) -> u16 {
         u16_at(self.0, 0)
     }
 
-    /// The receiver's port (bytes 2 and 3).
+    /// Destination port, bytes 2 and 3.
     #[must_use]
     #[inline]
     pub fn destination_port(&self) -> u16 {
         u16_at(self.0, 2)
     }
 
-    /// The number of bytes of header and payload (bytes 4 and 5); 0 says nothing.
+    /// Length of header and payload in bytes, bytes 4 and 5; 0 limits nothing.
     #[must_use]
     #[inline]
     pub fn length(&self) -> u16 {
         u16_at(self.0, 4)
     }
 
-    /// The checksum (bytes 6 and 7), which is not verified; 0 is none.
+    /// Checksum, bytes 6 and 7; not verified; 0 is none.
     #[must_use]
     #[inline]
     pub fn checksum(&self) -> u16 {
         u16_at(self.0, 6)
     }
 
-    /// The fields of the header.
+    /// Returns the fields of the header.
     #[must_use]
     pub fn to_header(&self) -> UdpHeader {
         UdpHeader {
@@ -170,46 +170,46 @@ impl fmt::Debug for UdpSlice<'_> {
     }
 }
 
-/// The fields of a TCP header (RFC 9293, 3.1).
+/// Fields of a TCP header (RFC 9293, 3.1).
 #[derive(Clone, Copy, Debug, PartialEq, Eq, Hash)]
 pub struct TcpHeader {
-    /// The sender's port.
+    /// Source port.
     pub source_port: u16,
-    /// The receiver's port.
+    /// Destination port.
     pub destination_port: u16,
-    /// The number of the first byte of the payload.
+    /// Sequence number of the first payload byte, or of SYN if it is set.
     pub sequence_number: u32,
-    /// The number of the byte that the sender waits for, with [`ack`](TcpHeader::ack).
+    /// Next sequence number that the sender of the segment expects to receive, with [`ack`](TcpHeader::ack).
     pub acknowledgment_number: u32,
-    /// A mark that is used no more (RFC 3540).
+    /// NS: ECN nonce sum, no longer used (RFC 3540).
     pub ns: bool,
-    /// No more data comes.
+    /// FIN: no more data from the sender.
     pub fin: bool,
-    /// The sequence number is the first.
+    /// SYN: synchronize sequence numbers.
     pub syn: bool,
-    /// The connection is broken off.
+    /// RST: reset the connection.
     pub rst: bool,
-    /// Hand what came to the program.
+    /// PSH: push buffered data to the application.
     pub psh: bool,
-    /// The acknowledgment number counts.
+    /// ACK: the acknowledgment number is valid.
     pub ack: bool,
-    /// The urgent pointer counts.
+    /// URG: the urgent pointer is valid.
     pub urg: bool,
-    /// A mark of congestion came.
+    /// ECE: ECN-Echo (RFC 3168).
     pub ece: bool,
-    /// The sender slowed down.
+    /// CWR: congestion window reduced (RFC 3168).
     pub cwr: bool,
-    /// The number of bytes that the sender has room for.
+    /// Window: number of bytes that the sender of the segment is willing to receive.
     pub window_size: u16,
-    /// The checksum, which is not verified.
+    /// Checksum, not verified.
     pub checksum: u16,
-    /// Where urgent data ends, with [`urg`](TcpHeader::urg).
+    /// End of the urgent data as an offset from the sequence number, with [`urg`](TcpHeader::urg).
     pub urgent_pointer: u16,
-    /// The options, as they lie in the header.
+    /// Options, as in the header.
     pub options: Options,
 }
 
-/// A TCP segment (RFC 9293, 3.1): a header of 20 to 60 bytes, and its payload.
+/// TCP segment (RFC 9293, 3.1): a header of 20 to 60 bytes, and its payload.
 #[derive(Clone, Copy, PartialEq, Eq, Hash)]
 pub struct TcpSlice<'a> {
     pub(crate) slice: &'a [u8],
@@ -217,154 +217,154 @@ pub struct TcpSlice<'a> {
 }
 
 impl<'a> TcpSlice<'a> {
-    /// The bytes of header and payload.
+    /// Bytes of header and payload.
     #[must_use]
     #[inline]
     pub fn slice(&self) -> &'a [u8] {
         self.slice
     }
 
-    /// The bytes of the header with its options.
+    /// Bytes of the header with its options.
     #[must_use]
     #[inline]
     pub fn header_slice(&self) -> &'a [u8] {
         &self.slice[..self.header_len]
     }
 
-    /// What lies behind the header.
+    /// Payload after the header.
     #[must_use]
     #[inline]
     pub fn payload(&self) -> &'a [u8] {
         &self.slice[self.header_len..]
     }
 
-    /// The sender's port (bytes 0 and 1).
+    /// Source port, bytes 0 and 1.
     #[must_use]
     #[inline]
     pub fn source_port(&self) -> u16 {
         u16_at(self.slice, 0)
     }
 
-    /// The receiver's port (bytes 2 and 3).
+    /// Destination port, bytes 2 and 3.
     #[must_use]
     #[inline]
     pub fn destination_port(&self) -> u16 {
         u16_at(self.slice, 2)
     }
 
-    /// The number of the first byte of the payload (bytes 4 to 7).
+    /// Sequence number of the first payload byte, or of SYN if it is set, bytes 4 to 7.
     #[must_use]
     #[inline]
     pub fn sequence_number(&self) -> u32 {
         u32_at(self.slice, 4)
     }
 
-    /// The number of the byte that the sender waits for (bytes 8 to 11).
+    /// Acknowledgment number, bytes 8 to 11: next sequence number that the sender of the segment expects to receive.
     #[must_use]
     #[inline]
     pub fn acknowledgment_number(&self) -> u32 {
         u32_at(self.slice, 8)
     }
 
-    /// The number of bytes of the header by fours, 5 to 15 (the upper half of byte 12).
+    /// Data offset in units of 4 bytes, the upper 4 bits of byte 12: 5 to 15.
     #[must_use]
     #[inline]
     pub fn data_offset(&self) -> u8 {
         self.slice[12] >> 4
     }
 
-    /// A mark that is used no more (RFC 3540; bit 0 of byte 12).
+    /// NS: ECN nonce sum, no longer used (RFC 3540), bit 0 of byte 12.
     #[must_use]
     #[inline]
     pub fn ns(&self) -> bool {
         bit_at(self.slice, 12, 0)
     }
 
-    /// No more data comes (bit 0 of byte 13).
+    /// FIN: no more data from the sender, bit 0 of byte 13.
     #[must_use]
     #[inline]
     pub fn fin(&self) -> bool {
         bit_at(self.slice, 13, 0)
     }
 
-    /// The sequence number is the first (bit 1 of byte 13).
+    /// SYN: synchronize sequence numbers, bit 1 of byte 13.
     #[must_use]
     #[inline]
     pub fn syn(&self) -> bool {
         bit_at(self.slice, 13, 1)
     }
 
-    /// The connection is broken off (bit 2 of byte 13).
+    /// RST: reset the connection, bit 2 of byte 13.
     #[must_use]
     #[inline]
     pub fn rst(&self) -> bool {
         bit_at(self.slice, 13, 2)
     }
 
-    /// Hand what came to the program (bit 3 of byte 13).
+    /// PSH: push buffered data to the application, bit 3 of byte 13.
     #[must_use]
     #[inline]
     pub fn psh(&self) -> bool {
         bit_at(self.slice, 13, 3)
     }
 
-    /// The acknowledgment number counts (bit 4 of byte 13).
+    /// ACK: the acknowledgment number is valid, bit 4 of byte 13.
     #[must_use]
     #[inline]
     pub fn ack(&self) -> bool {
         bit_at(self.slice, 13, 4)
     }
 
-    /// The urgent pointer counts (bit 5 of byte 13).
+    /// URG: the urgent pointer is valid, bit 5 of byte 13.
     #[must_use]
     #[inline]
     pub fn urg(&self) -> bool {
         bit_at(self.slice, 13, 5)
     }
 
-    /// A mark of congestion came (bit 6 of byte 13).
+    /// ECE: ECN-Echo (RFC 3168), bit 6 of byte 13.
     #[must_use]
     #[inline]
     pub fn ece(&self) -> bool {
         bit_at(self.slice, 13, 6)
     }
 
-    /// The sender slowed down (bit 7 of byte 13).
+    /// CWR: congestion window reduced (RFC 3168), bit 7 of byte 13.
     #[must_use]
     #[inline]
     pub fn cwr(&self) -> bool {
         bit_at(self.slice, 13, 7)
     }
 
-    /// The number of bytes that the sender has room for (bytes 14 and 15).
+    /// Window, bytes 14 and 15: number of bytes that the sender of the segment is willing to receive.
     #[must_use]
     #[inline]
     pub fn window_size(&self) -> u16 {
         u16_at(self.slice, 14)
     }
 
-    /// The checksum (bytes 16 and 17), which is not verified.
+    /// Checksum, bytes 16 and 17; not verified.
     #[must_use]
     #[inline]
     pub fn checksum(&self) -> u16 {
         u16_at(self.slice, 16)
     }
 
-    /// Where urgent data ends (bytes 18 and 19).
+    /// Urgent pointer, bytes 18 and 19: end of the urgent data as an offset from the sequence number.
     #[must_use]
     #[inline]
     pub fn urgent_pointer(&self) -> u16 {
         u16_at(self.slice, 18)
     }
 
-    /// The options (from byte 20 on).
+    /// Options, from byte 20 on.
     #[must_use]
     #[inline]
     pub fn options(&self) -> &'a [u8] {
         &self.slice[20..self.header_len]
     }
 
-    /// The fields of the header.
+    /// Returns the fields of the header.
     #[must_use]
     pub fn to_header(&self) -> TcpHeader {
         TcpHeader {
@@ -395,20 +395,20 @@ impl fmt::Debug for TcpSlice<'_> {
     }
 }
 
-/// The fields that all ICMP messages have in common.
+/// Fields common to all ICMP messages.
 #[derive(Clone, Copy, Debug, PartialEq, Eq, Hash)]
 pub struct IcmpHeader {
-    /// The kind of message.
+    /// Type of the message.
     pub type_u8: u8,
-    /// What it says more closely.
+    /// Code of the message.
     pub code_u8: u8,
-    /// The checksum, which is not verified.
+    /// Checksum, not verified.
     pub checksum: u16,
-    /// What the kind of message makes of it: of an echo message its identifier and its sequence number.
+    /// Bytes whose meaning depends on the type: for an echo message its identifier and its sequence number.
     pub bytes5to8: [u8; 4],
 }
 
-/// A message of ICMP (RFC 792) or ICMPv6 (RFC 4443): a header of 8 bytes, of timestamps of ICMP 20, and its payload.
+/// Message of ICMP (RFC 792) or ICMPv6 (RFC 4443): a header of 8 bytes, or 20 for ICMP timestamps, and its payload.
 #[derive(Clone, Copy, PartialEq, Eq, Hash)]
 pub struct IcmpSlice<'a> {
     pub(crate) slice: &'a [u8],
@@ -416,56 +416,56 @@ pub struct IcmpSlice<'a> {
 }
 
 impl<'a> IcmpSlice<'a> {
-    /// The bytes of header and payload.
+    /// Bytes of header and payload.
     #[must_use]
     #[inline]
     pub fn slice(&self) -> &'a [u8] {
         self.slice
     }
 
-    /// The bytes of the header.
+    /// Bytes of the header.
     #[must_use]
     #[inline]
     pub fn header_slice(&self) -> &'a [u8] {
         &self.slice[..self.header_len]
     }
 
-    /// What lies behind the header.
+    /// Payload after the header.
     #[must_use]
     #[inline]
     pub fn payload(&self) -> &'a [u8] {
         &self.slice[self.header_len..]
     }
 
-    /// The kind of message (byte 0).
+    /// Type of the message, byte 0.
     #[must_use]
     #[inline]
     pub fn type_u8(&self) -> u8 {
         self.slice[0]
     }
 
-    /// What it says more closely (byte 1).
+    /// Code of the message, byte 1.
     #[must_use]
     #[inline]
     pub fn code_u8(&self) -> u8 {
         self.slice[1]
     }
 
-    /// The checksum (bytes 2 and 3), which is not verified.
+    /// Checksum, bytes 2 and 3; not verified.
     #[must_use]
     #[inline]
     pub fn checksum(&self) -> u16 {
         u16_at(self.slice, 2)
     }
 
-    /// What the kind of message makes of bytes 4 to 7.
+    /// Bytes 4 to 7, whose meaning depends on the type.
     #[must_use]
     #[inline]
     pub fn bytes5to8(&self) -> [u8; 4] {
         array_at(self.slice, 4)
     }
 
-    /// The fields that all messages have.
+    /// Returns the fields common to all messages.
     #[must_use]
     pub fn to_header(&self) -> IcmpHeader {
         IcmpHeader {

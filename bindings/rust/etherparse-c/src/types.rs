@@ -1,8 +1,8 @@
-//! Numbers of protocols, by their names.
+//! Named numbers of protocols.
 
 use core::fmt;
 
-/// What follows a link header or a tag, by its number (IEEE 802).
+/// Ether type: protocol after a link header or a tag (IEEE 802).
 #[derive(Clone, Copy, Debug, PartialEq, Eq, PartialOrd, Ord, Hash)]
 pub struct EtherType(pub u16);
 
@@ -13,13 +13,13 @@ impl EtherType {
     pub const IPV6: EtherType = EtherType(0x86dd);
     /// Address Resolution Protocol.
     pub const ARP: EtherType = EtherType(0x0806);
-    /// A VLAN tag (IEEE 802.1Q).
+    /// VLAN tag (IEEE 802.1Q).
     pub const VLAN_TAGGED_FRAME: EtherType = EtherType(0x8100);
-    /// A service tag (IEEE 802.1ad).
+    /// Service tag (IEEE 802.1ad).
     pub const PROVIDER_BRIDGING: EtherType = EtherType(0x88a8);
-    /// An older number of a second VLAN tag.
+    /// Older ether type of a second VLAN tag.
     pub const VLAN_DOUBLE_TAGGED_FRAME: EtherType = EtherType(0x9100);
-    /// A MACsec tag (IEEE 802.1AE).
+    /// MACsec tag (IEEE 802.1AE).
     pub const MACSEC: EtherType = EtherType(0x88e5);
 }
 
@@ -29,7 +29,7 @@ impl fmt::LowerHex for EtherType {
     }
 }
 
-/// What an IP header or an extension header carries, by its protocol number.
+/// IP number: protocol of the payload of an IP header or extension header.
 #[derive(Clone, Copy, Debug, PartialEq, Eq, PartialOrd, Ord, Hash)]
 pub struct IpNumber(pub u8);
 
@@ -40,15 +40,15 @@ impl IpNumber {
     pub const TCP: IpNumber = IpNumber(6);
     /// User Datagram Protocol (RFC 768).
     pub const UDP: IpNumber = IpNumber(17);
-    /// The fragment header of IPv6 (RFC 8200, 4.5).
+    /// Fragment header of IPv6 (RFC 8200, 4.5).
     pub const IPV6_FRAGMENTATION_HEADER: IpNumber = IpNumber(44);
-    /// The authentication header (RFC 4302).
+    /// Authentication header (RFC 4302).
     pub const AUTHENTICATION_HEADER: IpNumber = IpNumber(51);
-    /// ICMP of IPv6 (RFC 4443).
+    /// ICMP for IPv6 (RFC 4443).
     pub const IPV6_ICMP: IpNumber = IpNumber(58);
 }
 
-/// The options of an IPv4 or a TCP header: up to 40 bytes, kept by value.
+/// Options of an IPv4 or TCP header: up to 40 bytes, stored inline.
 #[derive(Clone, Copy)]
 pub struct Options {
     bytes: [u8; 40],
@@ -59,7 +59,7 @@ impl Options {
     /// No options.
     pub const NONE: Options = Options { bytes: [0; 40], len: 0 };
 
-    /// These options, or nothing, where they have more than 40 bytes.
+    /// Returns these options, or `None` if they have more than 40 bytes.
     ///
     /// ```
     /// use etherparse_c::Options;

@@ -1,4 +1,4 @@
-//! That each field is read from its place, and that what is built has the fields that it was given.
+//! Tests that each field is read from its offset, and that a built frame has the given fields.
 
 use etherparse_c::{
     tcp_flag, Addresses, ArpPacketSlice, BuildError, EtherType, FragmentFields, IpNumber, Ipv4HeaderSlice,
@@ -30,7 +30,7 @@ fn arp<'a>(packet: &SlicedPacket<'a>) -> ArpPacketSlice<'a> {
 
 #[test]
 fn fields_of_ipv4_and_tcp() {
-    // every field another number, the reserved bits set
+    // each field has its own value; the reserved bits are set
     let packet: [u8; 49] = [
         0x46,
         0b1011_0110,
@@ -116,7 +116,7 @@ fn fields_of_ipv4_and_tcp() {
     assert_eq!(by_value, segment.to_header());
     assert_eq!((by_value.sequence_number, by_value.cwr, by_value.syn), (0x0102_0304, true, false));
     assert_eq!((by_value.urgent_pointer, &by_value.options[..]), (0x0d0e, &[2, 4, 5, 6][..]));
-    // what is equal is one in a set
+    // equal values are one element of a set
     assert_eq!(HashSet::from([headers, PacketHeaders::of(&sliced)]).len(), 1);
     assert_eq!(HashSet::from([sliced, SlicedPacket::from_ip(&packet).unwrap()]).len(), 1);
 }
@@ -129,7 +129,7 @@ fn fields_of_ipv6_and_udp() {
     let sliced = SlicedPacket::from_ether_type(EtherType::IPV6, &packet).unwrap();
     let Some(NetSlice::Ipv6(ip)) = sliced.net() else { panic!("{sliced:?}") };
     assert_eq!((ip.extensions(), ip.payload_ip_number(), ip.is_payload_fragmented()), (&[][..], IpNumber::UDP, false));
-    assert_eq!(ip.payload(), &packet[40..]); // what the datagram does not count too
+    assert_eq!(ip.payload(), &packet[40..]); // includes bytes that the datagram does not count
     let header = ip.header();
     assert_eq!((header.version(), header.traffic_class(), header.flow_label()), (6, 0xab, 0x12345));
     assert_eq!((header.payload_length(), header.next_header(), header.hop_limit()), (19, IpNumber::UDP, 61));
@@ -149,7 +149,7 @@ fn fields_of_links_tags_and_arp() {
         &TO[..],
         &FROM,
         &[0x88, 0xe5],                                                  // Ethernet II
-        &[0b0111_0010, 0, 0, 0, 0, 5, 1, 2, 3, 4, 5, 6, 7, 8, 0x81, 0], // MACsec with a channel
+        &[0b0111_0010, 0, 0, 0, 0, 5, 1, 2, 3, 4, 5, 6, 7, 8, 0x81, 0], // MACsec with an SCI
         &[0b1011_0000, 42, 8, 6],                                       // VLAN
         &[0, 1, 8, 0, 6, 4, 0, 2, 1, 2, 3, 4, 5, 6, 10, 0, 0, 1, 7, 8, 9, 10, 11, 12, 10, 0, 0, 2], // ARP
     ];
@@ -202,7 +202,7 @@ fn ipv6_without_a_length_ends_with_what_carries_it() {
         let Some(NetSlice::Ipv6(ip)) = sliced.net() else { panic!("{sliced:?}") };
         assert_eq!((ip.payload().len(), sliced.payload()), (len, &[5][..]));
     }
-    // a short length is below 48, so that a header of 40 bytes has 3 behind it
+    // a short length is below 48, so only 3 bytes can follow a header of 40 bytes
     let mut none = [&tagged(2 + 40 + 3)[..8], &datagram[..40], &[5, 6, 7, 8]].concat();
     none[14] = 59; // no next header
     let sliced = SlicedPacket::from_ether_type(EtherType::MACSEC, &none).unwrap();
@@ -225,7 +225,7 @@ fn builders_build() {
     assert_eq!((segment.window_size(), segment.urgent_pointer(), segment.payload()), (512, 3, &b"hello"[..]));
     assert_eq!(ipv4(&sliced).ttl(), 20);
 
-    // the same by one call
+    // as above, by one call
     let addresses = Addresses::Ipv4 { source: [10, 0, 0, 1], destination: [10, 0, 0, 2] };
     let route = Route { ethernet: Some((FROM, TO)), vlan_ids: [None; 2], addresses, hop_limit: 20 };
     let mut buffer = [0; 100];
@@ -260,7 +260,7 @@ fn builders_build() {
     assert_eq!(frame, [7]);
 }
 
-/// Tags, options and fragments, by the exports that have them.
+/// Tags, options and fragments, by the exports for them.
 #[test]
 fn builders_build_tags_options_and_fragments() {
     let ethernet = PacketBuilder::ethernet2(FROM, TO);
@@ -287,7 +287,7 @@ fn builders_build_tags_options_and_fragments() {
     assert_eq!(tcp(&sliced).options(), [2, 4, 5, 6, 1, 0, 0, 0]);
     assert_eq!(tcp(&sliced).payload(), [9]);
 
-    // in both versions, and put together from packets that are sliced already
+    // in both IP versions, reassembled from packets that are already sliced
     let payload: Vec<u8> = (0..100).collect();
     for step in [PacketBuilder::ipv4([10, 0, 0, 1], [10, 0, 0, 2], 20), PacketBuilder::ipv6([1; 16], [2; 16], 20)] {
         let mut pool = Pool::with_limit(100).unwrap();
@@ -314,14 +314,14 @@ fn builders_build_tags_options_and_fragments() {
         }
         assert_eq!(whole, Some(payload.clone()));
         assert_eq!((pool.streams(), pool.bytes()), (0, 0));
-        // what is no fragment is not looked at
+        // packets without a fragment are ignored
         frame.clear();
         step.udp(1, 2).write(&mut frame, b"hello").unwrap();
         assert_eq!(pool.process_sliced_packet(&SlicedPacket::from_ip(&frame).unwrap(), 2, 0), Ok(None));
     }
 }
 
-/// A pool that is handed to another thread holds what it was given before.
+/// A pool that is sent to another thread keeps its fragments.
 #[test]
 fn pools_are_handed_on() {
     let fragment = |offset: u8, more: u8, payload: &[u8]| {

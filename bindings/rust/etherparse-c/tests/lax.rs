@@ -1,13 +1,13 @@
-//! What is read of packets that are cut, or whose length fields do not fit.
+//! Lax slicing of packets that are truncated, or whose length fields do not match.
 
 use etherparse_c::err::Layer;
 use etherparse_c::{Entry, EtherType, LaxSlicedPacket, LenSource, NetSlice, PacketHeaders, SlicedPacket};
 
-/// Ethernet II, a MACsec tag whose short length counts all, IPv4 with an authentication header, UDP and 2 bytes.
+/// Ethernet II, a MACsec tag whose short length counts all bytes, IPv4 with an authentication header, UDP and 2 bytes.
 const MACSEC: [u8; 64] = [
     7, 8, 9, 10, 11, 12, 1, 2, 3, 4, 5, 6, 0x88, 0xe5, 0, 44, 0, 0, 0, 9, 8, 0, // Ethernet II, MACsec
     0x45, 0, 0, 42, 0, 0, 0, 0, 64, 51, 0, 0, 10, 0, 0, 1, 10, 0, 0, 2, // IPv4
-    17, 1, 0, 0, 0, 0, 0, 1, 0, 0, 0, 2, // the authentication header
+    17, 1, 0, 0, 0, 0, 0, 1, 0, 0, 0, 2, // authentication header
     0, 21, 4, 210, 0, 10, 0, 0, 1, 2, // UDP
 ];
 
@@ -18,7 +18,7 @@ const VLAN: [u8; 76] = [
     210, 0, 10, 0, 0, 1, 2,
 ];
 
-/// The layers of what is read stand one behind the other, and no call on them goes wrong.
+/// Asserts that the layers follow one another, and that no accessor panics.
 fn look_at(bytes: &[u8]) {
     let Ok(packet) = LaxSlicedPacket::from_ethernet(bytes) else {
         assert!(bytes.len() < 14);
@@ -79,7 +79,8 @@ fn what_is_missing_is_told() {
     assert_eq!(packet.payload_len_source(), LenSource::Slice);
     assert!(packet.ip().is_some_and(|ip| ip.identification == 9));
 
-    // the tag says 2 bytes more than there are, which IPv4 does not miss, but where its length says nothing
+    // the short length counts 2 missing bytes, which are part of the IPv4 packet only if its total length limits
+    // nothing
     let mut counted = MACSEC;
     (counted[15], counted[59]) = (46, 0);
     let told = |bytes: &[u8; 64]| {

@@ -1,5 +1,5 @@
-//! That the declarations here, those of the C header and those of the Rattle crate say the same layouts and calls (the
-//! numbers are compared in numbers.rs), and what the calls answer.
+//! Tests that the declarations here, in the C header and in the Rattle crate have equal layouts and calls (numbers.rs
+//! compares the numbers), and tests the results of the calls.
 
 use etherparse_c::sys::{
     self, FragmentFields, Ip, LinkExt, Packet, Part, Payload, PoolAnswer, Refusal, Route, TaggedRoute, TcpFields,
@@ -8,7 +8,7 @@ use etherparse_c::{Entry, EtherType, IpNumber, SlicedPacket};
 use std::collections::{BTreeMap, HashMap};
 use std::mem::{offset_of, size_of};
 
-/// A struct's fields with their offsets, its size and its alignment, by C's rules.
+/// Fields of a struct with their offsets, its size and its alignment, by C's rules.
 #[derive(Clone, Debug, PartialEq)]
 struct Layout {
     fields: Vec<(String, usize)>,
@@ -16,7 +16,7 @@ struct Layout {
     align: usize,
 }
 
-/// The layout of fields of a name, a type and a number of elements.
+/// Returns the layout of fields, each with a name, a type and a number of elements.
 fn layout(fields: Vec<(String, String, usize)>, known: &HashMap<String, Layout>) -> Layout {
     let (mut end, mut most, mut offsets) = (0usize, 1, Vec::new());
     for (name, kind, count) in fields {
@@ -38,7 +38,7 @@ fn layout(fields: Vec<(String, String, usize)>, known: &HashMap<String, Layout>)
     Layout { fields: offsets, size: end.next_multiple_of(most), align: most }
 }
 
-/// The layouts of the structs of a Rattle file.
+/// Returns the layouts of the structs of a Rattle file.
 fn of_rattle(text: &str) -> HashMap<String, Layout> {
     let mut known = HashMap::new();
     for part in text.split("pub struct ").skip(1) {
@@ -61,7 +61,7 @@ fn of_rattle(text: &str) -> HashMap<String, Layout> {
     known
 }
 
-/// The layouts of the structs of the C header, by their names in Rattle.
+/// Returns the layouts of the structs of the C header, by their names in Rattle.
 fn of_c(text: &str) -> HashMap<String, Layout> {
     let named = |name: &str| -> String {
         name.trim_start_matches("etherparse_").split('_').map(|word| word[..1].to_uppercase() + &word[1..]).collect()
@@ -70,7 +70,7 @@ fn of_c(text: &str) -> HashMap<String, Layout> {
     for part in text.split("\nstruct etherparse_").skip(1) {
         let (name, rest) = part.split_once(" {").unwrap_or((part, ""));
         if name.contains(';') || name.contains('(') || name == "block" {
-            continue; // its fields are not told, or it is what memory is asked by
+            continue; // an opaque struct, or the result of an allocation
         }
         let body = rest.split("\n}").next().unwrap();
         let fields = body.lines().filter_map(|line| {
@@ -132,21 +132,21 @@ fn layouts_are_the_same() {
     }
 }
 
-/// The word that a text begins with.
+/// Returns the first word of a text.
 fn first_word(text: &str) -> &str {
     text.split(|c: char| !c.is_ascii_alphanumeric()).next().unwrap()
 }
 
-/// A call: its name, its parameters, each with how it is passed, and how its result is.
+/// Calls by name: the parameters, each with how it is passed, and how the result is passed.
 type Calls = BTreeMap<String, (Vec<(String, &'static str)>, Option<&'static str>)>;
 
-/// How a value of a type is passed; of an address, whether what is there may be written.
+/// Returns how a value of a type is passed, and for an address whether it may be written to.
 fn passed(kind: &str) -> &'static str {
     match kind.split(' ').next().unwrap() {
         _ if kind.contains("&mut") || kind.contains("*mut") => "mut ptr",
         _ if kind.starts_with("const ") || kind.starts_with(['&', '*']) => "const ptr",
         _ if kind.contains('*') => "mut ptr",
-        "OwnedPool" => "mut ptr", // a struct of one address
+        "OwnedPool" => "mut ptr", // a struct with one address
         "u8" | "uint8_t" => "u8",
         "u16" | "uint16_t" => "u16",
         "u32" | "uint32_t" => "u32",
@@ -156,7 +156,7 @@ fn passed(kind: &str) -> &'static str {
     }
 }
 
-/// A parameter. The number of bytes at an address has no name of its own in Rattle, and what a pool answers another.
+/// Returns a parameter. A length has no name of its own in Rattle, and the answer of a pool has another one.
 fn parameter(name: &str, kind: &str) -> (String, &'static str) {
     let name = match name {
         "told" => "answer",
@@ -166,8 +166,8 @@ fn parameter(name: &str, kind: &str) -> (String, &'static str) {
     (name.to_string(), passed(kind))
 }
 
-/// The calls that a text of Rust or Rattle declares, each behind this word. A `Global` is not passed, and a slice is
-/// passed as its address and its length. The number of bytes, or of others, at an address is called `len`.
+/// Returns the calls that a Rust or Rattle text declares, each after `word`. A `Global` is not passed, and a slice is
+/// passed as its address and its length, which is called `len`.
 fn calls_of(text: &str, word: &str) -> Calls {
     let one = |declared: &str| {
         let (name, rest) = declared.split_once('(').unwrap();
@@ -183,7 +183,7 @@ fn calls_of(text: &str, word: &str) -> Calls {
     text.split(word).skip(1).map(one).collect()
 }
 
-/// The exports that the C header declares, all in one place.
+/// Returns the exports that the C header declares, all in one section.
 fn calls_of_c(text: &str) -> Calls {
     let (_, linked) = text.split_once("/* ---- What is linked.").unwrap();
     let (linked, _) = linked.split_once("/* The version of the archive").unwrap();
@@ -200,7 +200,7 @@ fn calls_of_c(text: &str) -> Calls {
     declared.split(';').filter_map(one).collect()
 }
 
-/// The exports that the sources of `etherparse-c-sys` declare, each by the name that is linked.
+/// Returns the exports that the sources of `etherparse-c-sys` declare, by the names that are linked.
 fn calls_of_rust(text: &str) -> Calls {
     let calls = calls_of(text, "    pub fn ");
     let linked: Vec<_> = text.split("#[link_name = \"").skip(1).map(|part| part.split('"').next().unwrap()).collect();
@@ -216,7 +216,7 @@ fn calls_are_the_same() {
     let top = concat!(env!("CARGO_MANIFEST_DIR"), "/../../..");
     let read = |path: &str| std::fs::read_to_string(format!("{top}/{path}")).unwrap();
     let c = calls_of_c(&read("bindings/c/etherparse.h"));
-    // in whichever source of the crate they are declared
+    // all sources of the crate
     let sources = std::fs::read_dir(format!("{top}/crates/etherparse_c/src")).unwrap();
     let sources = sources.map(|file| std::fs::read_to_string(file.unwrap().path()).unwrap_or_default());
     let rattle = calls_of(&sources.collect::<String>(), "pub extern \"C\" fn ");
@@ -228,7 +228,7 @@ fn calls_are_the_same() {
     }
 }
 
-/// Every frame that is cut anywhere is a frame or refused, with parts that lie in it, one behind the other.
+/// A frame truncated at any byte is accepted or rejected; its parts follow one another within it.
 #[test]
 fn parts_lie_in_the_frame() {
     let frame = [
@@ -265,7 +265,7 @@ fn parts_lie_in_the_frame() {
     assert!(whole.vlan_ids().eq([42]));
 }
 
-/// Each kind of layer, and each end of a payload, has its name.
+/// Each kind of layer, and each length source, has its name.
 #[test]
 fn kinds_have_their_names() {
     use etherparse_c::{LenSource, LinkExtSlice, LinkSlice, NetSlice, TransportSlice};
@@ -365,7 +365,7 @@ fn kinds_have_their_names() {
         });
         assert_eq!((told_link, told_tag, told_net, told_transport), (link, tag, net, transport));
         assert_eq!(packet.payload_len_source(), end);
-        // what has a kind is printed with its fields
+        // values with a kind are printed with their fields
         let printed = format!("{packet:?}");
         for name in [link, tag, net, transport] {
             assert!(printed.contains(&format!("({name}")) || printed.contains(name), "{name} in {printed}");
@@ -373,7 +373,7 @@ fn kinds_have_their_names() {
     }
 }
 
-/// The text of each kind of refusal.
+/// Text of each kind of error.
 #[test]
 fn refusals_have_their_texts() {
     let kinds = [
@@ -438,13 +438,13 @@ fn refusals_have_their_texts() {
     }
 }
 
-/// A frame of each kind of refusal, with the number that the kind speaks of.
+/// A frame for each kind of error, with the number of the kind.
 #[test]
 fn refusals_have_their_kinds() {
     use etherparse_c::err::{Layer, LenError};
     use etherparse_c::{LenSource, RefusalKind};
     let (v4, v6) = (Entry::EtherType(EtherType::IPV4), Entry::EtherType(EtherType::IPV6));
-    // headers of IP with 12 bytes behind them
+    // IP headers with 12 bytes after them
     let ipv4 = |number: u8, behind: [u8; 12]| {
         [&[0x45, 0, 0, 32, 0, 0, 0, 0, 64, number, 0, 0, 10, 0, 0, 1, 10, 0, 0, 2][..], &behind].concat()
     };
@@ -490,14 +490,14 @@ fn refusals_have_their_kinds() {
     assert_eq!((none.kind(), none.number(), none.len_error()), (None, None, None));
 }
 
-/// A text is written where it has room, and else nothing is.
+/// A text is written if the buffer is large enough; otherwise nothing is written.
 #[test]
 fn texts_need_room() {
     let refusal = Refusal { kind: 12, ..Refusal::default() };
     for len in 0..30 {
         let mut buffer = [7; 30];
         let mut written = 0;
-        // SAFETY: the buffer has at least as many bytes as is said.
+        // SAFETY: the buffer has at least the passed length.
         let status = unsafe { sys::etherparse_refusal_text(&refusal, buffer.as_mut_ptr(), len, &mut written) };
         let is_there = len >= 19;
         assert_eq!((status, written), (if is_there { 0 } else { 3 }, 19));
@@ -507,7 +507,7 @@ fn texts_need_room() {
     }
 }
 
-/// The fragment of an IPv4 packet with this identification, at an offset in units of 8 bytes.
+/// Returns the fragment of an IPv4 packet with this identification, at an offset in units of 8 bytes.
 fn fragment(identification: u8, offset: u8, more: bool, payload: &[u8]) -> Vec<u8> {
     let len = 20 + payload.len() as u8;
     let flags = u8::from(more) << 5;
@@ -516,11 +516,12 @@ fn fragment(identification: u8, offset: u8, more: bool, payload: &[u8]) -> Vec<u
     packet
 }
 
-/// A pool through the declared calls: what each answers, and what it leaves in the buffer.
+/// A pool through the declared calls: their results, and the content of the buffer.
 #[test]
 fn pools_answer() {
     let mut pool = std::ptr::null_mut();
-    // SAFETY: the pointers of all calls are of variables here, which do not overlap; the pool is made first, freed last.
+    // SAFETY: the pointers of all calls point to local variables, which do not overlap; the pool is created first and
+    // freed last.
     unsafe {
         assert_eq!(sys::etherparse_pool_with_limit(32, &mut pool), 0);
     }
@@ -542,14 +543,14 @@ fn pools_answer() {
     let mut buffer = [7; 20];
     assert_eq!(take(&mut buffer), (0, 0, 0, 0));
 
-    // what is no frame, no entry, and no fragment
+    // invalid frame, invalid entry, and a frame without a fragment
     let whole = fragment(1, 0, false, &[0, 21, 4, 210, 0, 8, 0, 0]);
     let (status, answer) = push(3, &whole[..19], 1, 0, &mut buffer);
     assert_eq!((status, answer.refusal.kind, answer.fragment_refusal, answer.len), (1, 1, 0, 0));
     assert_eq!(push(4, &whole, 1, 0, &mut buffer), (2, nothing));
     assert_eq!(push(3, &whole, 1, 0, &mut buffer), (0, nothing));
 
-    // refused fragments
+    // rejected fragments
     let refused = |kind: u32| (7, PoolAnswer { fragment_refusal: kind, ..nothing });
     assert_eq!(push(3, &fragment(1, 0, true, b"1234"), 1, 0, &mut buffer), refused(1));
     assert_eq!(push(3, &fragment(1, 4, false, b"1"), 1, 0, &mut buffer), refused(2));
@@ -557,7 +558,7 @@ fn pools_answer() {
     assert_eq!(push(3, &fragment(1, 1, true, b"abcdefgh"), 1, 0, &mut buffer), refused(3));
     assert_eq!(buffer, [7; 20]);
 
-    // two streams, of which the second is longer than the buffer
+    // two streams; the second one is longer than the buffer
     let told = |len: usize| PoolAnswer { ip_number: 17, len_source: 2, len, ..nothing };
     assert_eq!(push(3, &fragment(2, 2, false, b"ijklmnop"), 2, 0, &mut buffer), (0, nothing));
     assert_eq!(push(3, &fragment(2, 0, true, b"ABCDEFGH"), 2, 0, &mut buffer), (0, nothing));
@@ -573,7 +574,7 @@ fn pools_answer() {
     assert_eq!(room, *b"ABCDEFGHabcdefghijklmnop\x07");
     assert_eq!(take(&mut room), (0, 0, 0, 0));
 
-    // what is dropped begins anew, by its last fragment's time
+    // a dropped stream starts again, by the time of its last fragment
     assert_eq!(push(3, &fragment(4, 1, false, b"x"), 4, 0, &mut buffer), (0, nothing));
     assert_eq!(push(3, &fragment(4, 1, false, b"x"), 5, 1, &mut buffer), (0, nothing));
     unsafe { sys::etherparse_pool_drop_older(pool, 5) };
@@ -582,7 +583,7 @@ fn pools_answer() {
     unsafe { sys::etherparse_pool_free(pool) };
 }
 
-/// A pool of the greatest limit, and the wrapper's own buffer.
+/// A pool of the maximum limit, and the wrapper's own buffer.
 #[test]
 fn pools_hand_out_long_payloads() {
     use etherparse_c::{Pool, PushError};

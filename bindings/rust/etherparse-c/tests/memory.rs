@@ -1,16 +1,16 @@
-//! What is answered for want of memory of Rust's own: the buffer of a pool. That of the static library is another
-//! (`bindings/c/etherparse_heap.c`), whose requests `bindings/c/examples/statuses.c` refuses.
+//! Tests the error if Rust's allocator fails for the buffer of a pool. The static library has another allocator
+//! (`bindings/c/etherparse_heap.c`), whose allocations fail in `bindings/c/tests/statuses.c`.
 
 use etherparse_c::{OutOfMemory, Pool};
 use std::alloc::{GlobalAlloc, Layout, System};
 use std::ptr;
 
-/// The system's memory, without blocks of the size that the pool here asks for.
+/// The system's allocator, which fails for blocks of the size that the pool here allocates.
 struct Refusing;
 
 const REFUSED: usize = 54_321;
 
-// SAFETY: each block is the system's, and is given back to it.
+// SAFETY: each block is allocated and freed by the system's allocator.
 unsafe impl GlobalAlloc for Refusing {
     unsafe fn alloc(&self, layout: Layout) -> *mut u8 {
         if layout.size() == REFUSED {

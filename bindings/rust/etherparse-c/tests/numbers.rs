@@ -1,5 +1,5 @@
-//! That each number that the C header names is the same in the Rattle sources, in their definitions and here. All are
-//! read as texts, so that a number that is changed in one of them is found without building that one.
+//! Tests that each number that the C header names is equal in the Rattle sources, in their definitions and here. All
+//! are read as texts, so that a changed number is found without a build.
 
 use std::collections::{BTreeMap, BTreeSet};
 
@@ -8,13 +8,13 @@ fn read(path: &str) -> String {
     std::fs::read_to_string(&path).unwrap_or_else(|error| panic!("{path}: {error}"))
 }
 
-/// A Rattle source or definition of the static library.
+/// Reads a Rattle source or definition of the static library.
 fn read_rattle(file: &str) -> String {
     let folder = if file.ends_with(".rt") { "src" } else { "specs" };
     read(&format!("crates/etherparse_c/{folder}/{file}"))
 }
 
-/// The word that a text begins with, behind an opening bracket, if there is one.
+/// Returns the first word of a text, after an opening bracket, if any.
 fn word(text: &str) -> &str {
     let text = text.trim_start_matches('(');
     let end = text.find(|c: char| c != '_' && !c.is_ascii_alphanumeric()).unwrap_or(text.len());
@@ -25,7 +25,7 @@ fn number(text: &str) -> Option<u32> {
     word(text).replace('_', "").parse().ok()
 }
 
-/// Of each line with these parts, the words behind them, where there are some. An empty part is the line's beginning.
+/// Returns for each line with both parts the words after them, if any. An empty part is the start of the line.
 fn pairs<'a>(text: &'a str, before: &'a str, between: &'a str) -> impl Iterator<Item = (&'a str, &'a str)> + 'a {
     text.lines().filter_map(move |line| {
         let line = line.trim_start();
@@ -35,7 +35,7 @@ fn pairs<'a>(text: &'a str, before: &'a str, between: &'a str) -> impl Iterator<
     })
 }
 
-/// The numbers that the C header names, without the names' first word.
+/// Returns the numbers that the C header names, without the first word of the names.
 fn of_c() -> BTreeMap<String, u32> {
     let header = read("bindings/c/etherparse.h");
     let named = header.split("ETHERPARSE_").skip(1).filter_map(|text| {
@@ -47,18 +47,18 @@ fn of_c() -> BTreeMap<String, u32> {
     named.collect()
 }
 
-/// A name as it is compared, whether it is written with capitals or with lines between its words.
+/// Returns a name as it is compared, in lower case and without underscores.
 fn plain(name: &str) -> String {
     name.replace('_', "").to_lowercase()
 }
 
-/// Names that begin with the same word in the C header, and where the Rattle crate gives them their numbers.
+/// Names with a common first word in the C header, and the places of their numbers in the Rattle crate.
 struct Named {
     first: &'static str,
     count: usize,
-    /// Whether Rattle's names may say more than C's.
+    /// Whether Rattle's names may be longer than C's.
     may_say_more: bool,
-    /// A file, what stands before the first of name and number, and what before the second.
+    /// A file, the text before the first of name and number, and the text before the second.
     places: &'static [(&'static str, &'static str, &'static str)],
 }
 
@@ -119,7 +119,7 @@ const NAMED: [Named; 9] = [
     },
 ];
 
-/// Each kind of refusal by content, and the variants of `SliceError` and of the error in it that have its number.
+/// Each kind of error in a field, and the variants of `SliceError` and of its inner error with its number.
 const REFUSALS: [(&str, &str, &str); 13] = [
     ("SLL_PACKET_TYPE", "LinuxSll", "UnsupportedPacketTypeField"),
     ("SLL_ARP_HARDWARE", "LinuxSll", "UnsupportedArpHardwareId"),
@@ -136,8 +136,8 @@ const REFUSALS: [(&str, &str, &str); 13] = [
     ("TCP_DATA_OFFSET", "Tcp", "DataOffsetTooSmall"),
 ];
 
-/// Of a text that gives refusals their numbers: the variants of each, and its number. `before` stands before the outer
-/// variant, `inner` before the variant of each error in it, and `number_behind` before the number.
+/// Returns the variants and the number of each error in a text. `before` is the text before the outer variant, `inner`
+/// before the variant of its inner error, and `number_behind` before the number.
 fn refusals(text: &str, before: &str, inner: &str, number_behind: &str) -> BTreeMap<(String, String), u32> {
     let told = text.split(before).skip(1).filter_map(|case| {
         let (variants, rest) = case.split_once(number_behind)?;
@@ -147,13 +147,13 @@ fn refusals(text: &str, before: &str, inner: &str, number_behind: &str) -> BTree
     told.collect()
 }
 
-/// The number behind `kind` in a record, the first one behind a text.
+/// Returns the number after `kind` in the first record after a text.
 fn kind_behind(text: &str, before: &str, kind: &str) -> u32 {
     let (_, record) = text.split_once(before).unwrap_or_else(|| panic!("no {before}"));
     number(record.split_once(kind).unwrap().1).unwrap()
 }
 
-/// Compares, and notes which names of the header were compared.
+/// Compares a number, and records that the name of the header was compared.
 fn same(c: &BTreeMap<String, u32>, compared: &mut BTreeSet<String>, name: String, number: u32, place: &str) {
     assert_eq!(c.get(&name), Some(&number), "{name} in {place}");
     compared.insert(name);
@@ -171,7 +171,7 @@ fn rattle_has_the_numbers_of_the_c_header() {
     }
     for named in NAMED {
         let names: Vec<_> = c.iter().filter_map(|(name, it)| Some((name.strip_prefix(named.first)?, *it))).collect();
-        // the statuses have a name that begins as those of refused fragments do
+        // the name of a status starts as those of rejected fragments
         let names: Vec<_> = names.into_iter().filter(|(name, _)| *name != "REFUSED").collect();
         assert_eq!(names.len(), named.count, "{}", named.first);
         for (file, before, between) in named.places {
@@ -180,7 +180,7 @@ fn rattle_has_the_numbers_of_the_c_header() {
                 Some(it) => Some((second, it)),
                 None => Some((first, number(second)?)),
             });
-            // 0 is for none, where it has no name
+            // 0 is none, if it has no name
             let told: Vec<_> = told.filter(|(_, it)| *it != 0 || names.iter().any(|(_, other)| *other == 0)).collect();
             assert_eq!(told.len(), named.count, "{} in {file}: {told:?}", named.first);
             for (theirs, it) in told {
@@ -229,9 +229,9 @@ fn rattle_has_the_numbers_of_the_c_header() {
     let (_, law) = text.split_once("pub fn text_lengths()").unwrap();
     let longest = c["REFUSAL_TEXT_MAX"] - 1; // without its zero byte
     assert!(law.split("pub fn ").next().unwrap().contains(&format!("≤ {longest} ")), "the greatest text");
-    // what the sources of the crate say elsewhere, or tests measure
+    // defined elsewhere in the sources of the crate, or measured by tests
     let elsewhere = ["REFUSAL_TEXT_MAX", "STACK", "STACK_OF_FRAGMENTS", "VERSION"];
-    // each other name was compared; the definitions say statuses by their numbers alone, and the limit in a contract
+    // every other name was compared; the definitions have statuses as bare numbers, and the limit in a contract
     let all: BTreeSet<_> = c.keys().filter(|name| !elsewhere.contains(&name.as_str())).cloned().collect();
     assert_eq!(in_sources, all);
     let without: BTreeSet<_> = all.difference(&in_definitions).map(String::as_str).collect();
@@ -249,13 +249,13 @@ fn rust_has_the_numbers_of_the_c_header() {
     assert_eq!(declared.collect::<BTreeMap<_, _>>(), of_c());
 }
 
-/// That each kind here has the name of its number.
+/// Each kind here has the name of its number.
 #[test]
 fn rust_kinds_have_the_names_of_their_numbers() {
     let files = ["building", "err", "lib", "refusal", "sliced_packet"]
         .map(|name| read(&format!("bindings/rust/etherparse-c/src/{name}.rs")));
     let text = files.concat();
-    // the first word of the header's names, how many there are, and what stands before a kind and before its number
+    // the first word of the header's names, their count, and the text before a kind and before its number
     let named = [
         ("LAYER_", 21, "", " = LAYER_"),
         ("REFUSAL_", 14, "", " = REFUSAL_"),

@@ -1,58 +1,61 @@
-//! Refusals where the IP version is open.
+//! Errors of parsing IP headers and packets of either version, which the version field determines.
 
 use crate::err::len_error::LenError;
 use crate::err::{ip_auth, ipv6_exts};
 use thiserror::Error;
 
-/// What is wrong in the bytes of an IP header.
+/// Invalid field of an IPv4 or IPv6 header.
 #[derive(Clone, Debug, PartialEq, Eq, Hash, Drop, Error)]
 pub enum HeaderError {
-    /// The version is neither 4 nor 6.
+    /// The version field of the IP header is neither 4 nor 6.
     #[error("UnsupportedIpVersion {version_number}")]
     UnsupportedIpVersion { version_number: u8 },
-    /// The internet header length of IPv4 is below 5 words of 4 bytes.
+    /// The internet header length (IHL) of the IPv4 header is below 5 words of 4 bytes.
     #[error("Ipv4HeaderLengthSmallerThanHeader {ihl}")]
     Ipv4HeaderLengthSmallerThanHeader { ihl: u8 },
 }
 
-/// What is wrong in the bytes of an IP header or of its extension headers.
+/// Invalid field of an IPv4 or IPv6 header or of its extension headers.
 #[derive(Clone, Debug, PartialEq, Eq, Hash, Drop, Error)]
 #[error(transparent)]
 pub enum HeadersError {
-    /// In the IP header.
+    /// Invalid field of the IPv4 or IPv6 header itself.
     Ip(HeaderError),
-    /// In the extension header of IPv4.
+    /// Invalid authentication header after an IPv4 header.
     Ipv4Ext(ip_auth::HeaderError),
-    /// In the extension headers of IPv6.
+    /// Invalid IPv6 extension header.
     Ipv6Ext(ipv6_exts::HeaderError),
 }
 
-/// Why no IP headers could be read from a slice.
+/// Error when parsing an IPv4 or IPv6 header with its extension headers from a slice.
 #[derive(Clone, Debug, PartialEq, Eq, Hash, Drop, Error)]
 #[error(transparent)]
 pub enum HeadersSliceError {
-    /// Too few bytes.
+    /// Too few bytes for the IP header, for an extension header, or for the length field of the IP header. Or an IPv4
+    /// total length below the header length.
     Len(LenError),
-    /// The bytes are no IP headers.
+    /// The IP header or an extension header has an invalid field.
     Content(HeadersError),
 }
 
-/// Why no IP packet could be read from a slice.
+/// Error when parsing an IPv4 or IPv6 packet (headers and payload) from a slice.
 #[derive(Clone, Debug, PartialEq, Eq, Hash, Drop, Error)]
 #[error(transparent)]
 pub enum SliceError {
-    /// Too few bytes.
+    /// Too few bytes for the IP header, for an extension header, or for the length field of the IP header. Or an IPv4
+    /// total length below the header length.
     Len(LenError),
-    /// The bytes are no IP headers.
+    /// The IP header or an extension header has an invalid field.
     IpHeaders(HeadersError),
 }
 
-/// Why nothing could be read laxly from a slice that is to begin with an IP header: the header itself is refused.
+/// Error when parsing a slice laxly as an IP packet: the IP header itself is invalid or truncated. Invalid headers
+/// after it do not make lax parsing fail.
 #[derive(Clone, Debug, PartialEq, Eq, Hash, Drop, Error)]
 #[error(transparent)]
 pub enum LaxHeaderSliceError {
-    /// Too few bytes for the header.
+    /// The slice has too few bytes for the IP header.
     Len(LenError),
-    /// The bytes are no IP header.
+    /// The IP header has an invalid field.
     Content(HeaderError),
 }

@@ -1,22 +1,22 @@
-//! Refusals of authentication headers (RFC 4302).
+//! Errors of parsing authentication headers (RFC 4302).
 
 use crate::err::len_error::LenError;
 use thiserror::Error;
 
-/// What is wrong in the bytes of an authentication header.
+/// Invalid field of an authentication header (RFC 4302).
 #[derive(Clone, Debug, PartialEq, Eq, Hash, Drop, Error)]
 pub enum HeaderError {
-    /// The payload length field is 0.
+    /// The payload length field of the authentication header is 0 (RFC 4302, 2.2).
     #[error("ZeroPayloadLen")]
     ZeroPayloadLen,
 }
 
-/// Why no authentication header could be read from a slice.
+/// Error when parsing an authentication header from a slice.
 #[derive(Clone, Debug, PartialEq, Eq, Hash, Drop, Error)]
 #[error(transparent)]
 pub enum HeaderSliceError {
-    /// Too few bytes.
+    /// The slice has too few bytes for the authentication header.
     Len(LenError),
-    /// The bytes are no authentication header.
+    /// The authentication header has an invalid field.
     Content(HeaderError),
 }

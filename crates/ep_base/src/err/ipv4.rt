@@ -1,38 +1,39 @@
-//! Refusals of IPv4 headers and packets (RFC 791).
+//! Errors of parsing IPv4 headers and packets (RFC 791).
 
 use crate::err::ip_auth;
 use crate::err::len_error::LenError;
 use thiserror::Error;
 
-/// What is wrong in the bytes of an IPv4 header.
+/// Invalid field of an IPv4 header.
 #[derive(Clone, Debug, PartialEq, Eq, Hash, Drop, Error)]
 pub enum HeaderError {
-    /// The version is not 4.
+    /// The version field of the IPv4 header is not 4.
     #[error("UnexpectedVersion {version_number}")]
     UnexpectedVersion { version_number: u8 },
-    /// The internet header length is below 5 words of 4 bytes.
+    /// The internet header length (IHL) of the IPv4 header is below 5 words of 4 bytes.
     #[error("HeaderLengthSmallerThanHeader {ihl}")]
     HeaderLengthSmallerThanHeader { ihl: u8 },
 }
 
-/// Why no IPv4 header could be read from a slice.
+/// Error when parsing an IPv4 header from a slice.
 #[derive(Clone, Debug, PartialEq, Eq, Hash, Drop, Error)]
 #[error(transparent)]
 pub enum HeaderSliceError {
-    /// Too few bytes.
+    /// The slice has too few bytes for the IPv4 header.
     Len(LenError),
-    /// The bytes are no IPv4 header.
+    /// The IPv4 header has an invalid field.
     Content(HeaderError),
 }
 
-/// Why no IPv4 packet could be read from a slice.
+/// Error when parsing an IPv4 packet (header, authentication header if present, and payload) from a slice.
 #[derive(Clone, Debug, PartialEq, Eq, Hash, Drop, Error)]
 #[error(transparent)]
 pub enum SliceError {
-    /// Too few bytes.
+    /// Too few bytes for the IPv4 header, for the authentication header, or for the total length field. Or a total
+    /// length below the header length.
     Len(LenError),
-    /// The header's bytes are no IPv4 header.
+    /// The IPv4 header has an invalid field.
     Header(HeaderError),
-    /// The bytes of an extension header are none.
+    /// The authentication header after the IPv4 header has an invalid field.
     Exts(ip_auth::HeaderError),
 }

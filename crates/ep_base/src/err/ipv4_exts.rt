@@ -1,23 +1,24 @@
-//! Refusals of a walk along the extension headers of IPv4.
+//! Errors of writing the only extension header of IPv4, the authentication header.
 
 use crate::ip_number::IpNumber;
 use thiserror::Error;
 
-/// Why the next header fields do not lead to each extension header.
+/// Error of an authentication header in an IPv4 packet that the protocol field before it does not reference.
 #[derive(Clone, Debug, PartialEq, Eq, Hash, Drop, Error)]
 pub enum ExtsWalkError {
-    /// No next header field leads to the header of this number.
+    /// The IPv4 protocol number does not reference the extension header with the number `missing_ext` (51:
+    /// authentication header).
     #[error("ExtNotReferenced {}", .missing_ext.0)]
     ExtNotReferenced { missing_ext: IpNumber },
 }
 
-/// Why extension headers were not written.
+/// Error when writing the extension header of an IPv4 packet, the authentication header.
 #[derive(Clone, Debug, PartialEq, Eq, Hash, Drop, Error)]
 pub enum HeaderWriteError {
-    /// The next header fields do not lead to each extension header.
+    /// The protocol number before the authentication header does not reference it.
     #[error(transparent)]
     Content(ExtsWalkError),
-    /// There was no memory for the bytes.
+    /// The allocation for the written extension header failed.
     #[error("out of memory")]
     OutOfMemory,
 }
@@ -25,7 +26,7 @@ pub enum HeaderWriteError {
 impl HeaderWriteError {
     ghost use Rattle.std.specs.Prelude.{◌≡◌, ◌↔◌, IsTrue};
 
-    /// Whether memory was wanting.
+    /// Returns true if writing the extension header failed because an allocation failed.
     #[inline]
     pub fn is_out_of_memory(&self) -> bool
         ensures { IsTrue result ↔ (self.now ≡ HeaderWriteError.OutOfMemory) }

@@ -1,35 +1,35 @@
-//! Refusals of IPv6 headers and packets (RFC 8200).
+//! Errors of parsing IPv6 headers and packets (RFC 8200).
 
 use crate::err::ipv6_exts;
 use crate::err::len_error::LenError;
 use thiserror::Error;
 
-/// What is wrong in the bytes of an IPv6 header.
+/// Invalid field of an IPv6 header.
 #[derive(Clone, Debug, PartialEq, Eq, Hash, Drop, Error)]
 pub enum HeaderError {
-    /// The version is not 6.
+    /// The version field of the IPv6 header is not 6.
     #[error("UnexpectedVersion {version_number}")]
     UnexpectedVersion { version_number: u8 },
 }
 
-/// Why no IPv6 header could be read from a slice.
+/// Error when parsing an IPv6 header from a slice.
 #[derive(Clone, Debug, PartialEq, Eq, Hash, Drop, Error)]
 #[error(transparent)]
 pub enum HeaderSliceError {
-    /// Too few bytes.
+    /// The slice has too few bytes for the IPv6 header.
     Len(LenError),
-    /// The bytes are no IPv6 header.
+    /// The IPv6 header has an invalid field.
     Content(HeaderError),
 }
 
-/// Why no IPv6 packet could be read from a slice.
+/// Error when parsing an IPv6 packet (header, extension headers and payload) from a slice.
 #[derive(Clone, Debug, PartialEq, Eq, Hash, Drop, Error)]
 #[error(transparent)]
 pub enum SliceError {
-    /// Too few bytes.
+    /// Too few bytes for the IPv6 header, for an extension header, or for the payload length field of the IPv6 header.
     Len(LenError),
-    /// The header's bytes are no IPv6 header.
+    /// The IPv6 header has an invalid field.
     Header(HeaderError),
-    /// The bytes of an extension header are none.
+    /// An IPv6 extension header is misplaced or has an invalid field.
     Exts(ipv6_exts::HeaderError),
 }

@@ -1,49 +1,51 @@
-//! Refusals of the extension headers of IPv6 (RFC 8200, 4).
+//! Errors of parsing and writing IPv6 extension headers (RFC 8200, 4).
 
 use crate::err::ip_auth;
 use crate::err::len_error::LenError;
 use crate::ip_number::IpNumber;
 use thiserror::Error;
 
-/// What is wrong in the bytes of the extension headers.
+/// Misplaced IPv6 extension header, or an IPv6 extension header with an invalid field.
 #[derive(Clone, Debug, PartialEq, Eq, Hash, Drop, Error)]
 pub enum HeaderError {
-    /// A hop by hop header is not the first extension header.
+    /// An IPv6 hop-by-hop options header is present, but is not the first extension header.
     #[error("HopByHopNotAtStart")]
     HopByHopNotAtStart,
-    /// The bytes of an authentication header are none.
+    /// An authentication header in the chain of IPv6 extension headers has an invalid field.
     #[error(transparent)]
     IpAuth(ip_auth::HeaderError),
 }
 
-/// Why no chain of extension headers could be read from a slice.
+/// Error when parsing a chain of IPv6 extension headers from a slice.
 #[derive(Clone, Debug, PartialEq, Eq, Hash, Drop, Error)]
 #[error(transparent)]
 pub enum HeaderSliceError {
-    /// Too few bytes.
+    /// The slice has too few bytes for one of the IPv6 extension headers.
     Len(LenError),
-    /// The bytes are no chain of extension headers.
+    /// An IPv6 extension header is misplaced or has an invalid field.
     Content(HeaderError),
 }
 
-/// Why the next header fields do not lead to each extension header.
+/// Error of a set of IPv6 extension headers: following the next header fields does not reach all of them in a valid
+/// order.
 #[derive(Clone, Debug, PartialEq, Eq, Hash, Drop, Error)]
 pub enum ExtsWalkError {
-    /// A hop by hop header is not the first extension header.
+    /// The number of the IPv6 hop-by-hop options header is referenced by an extension header, not by the IPv6 header.
     #[error("HopByHopNotAtStart")]
     HopByHopNotAtStart,
-    /// No next header field leads to the header of this number.
+    /// Following the next header fields does not reach the IPv6 extension header with the protocol number
+    /// `missing_ext`.
     #[error("ExtNotReferenced {}", .missing_ext.0)]
     ExtNotReferenced { missing_ext: IpNumber },
 }
 
-/// Why extension headers were not written.
+/// Error when writing IPv6 extension headers.
 #[derive(Clone, Debug, PartialEq, Eq, Hash, Drop, Error)]
 pub enum HeaderWriteError {
-    /// The next header fields do not lead to each extension header.
+    /// Following the next header fields does not reach all IPv6 extension headers in a valid order.
     #[error(transparent)]
     Content(ExtsWalkError),
-    /// There was no memory for the bytes.
+    /// The allocation for the written IPv6 extension headers failed.
     #[error("out of memory")]
     OutOfMemory,
 }
@@ -51,7 +53,7 @@ pub enum HeaderWriteError {
 impl HeaderWriteError {
     ghost use Rattle.std.specs.Prelude.{◌≡◌, ◌↔◌, IsTrue};
 
-    /// Whether memory was wanting.
+    /// Returns true if writing the IPv6 extension headers failed because an allocation failed.
     #[inline]
     pub fn is_out_of_memory(&self) -> bool
         ensures { IsTrue result ↔ (self.now ≡ HeaderWriteError.OutOfMemory) }

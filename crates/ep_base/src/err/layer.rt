@@ -1,57 +1,57 @@
-//! The layers that a refusal may name.
+//! Headers and packets that errors name as the layer with a length error, or at which lax parsing stopped.
 
 ghost use Rattle.std.specs.Prelude.{◌≡◌};
 ghost use Rattle.ep_base.specs.Names.{layer_name};
 
-/// The layer in which bytes were missing.
+/// Header or packet that an error names: the layer with a length error, or the layer at which lax parsing stopped.
 #[derive(Clone, Debug, PartialEq, Eq, Hash, Drop)]
 pub enum Layer {
-    /// The header of Ethernet II.
+    /// Ethernet II header (IEEE 802.3), 14 bytes.
     Ethernet2Header,
-    /// The header of a Linux cooked capture (SLL v1).
+    /// Header of a Linux cooked capture (SLL v1), 16 bytes.
     LinuxSllHeader,
-    /// A VLAN tag (IEEE 802.1Q).
+    /// VLAN tag (IEEE 802.1Q), without the ether type that announces it.
     VlanHeader,
-    /// A MACsec tag (IEEE 802.1AE).
+    /// MACsec tag (IEEE 802.1AE), including the ether type of an unmodified payload.
     MacsecHeader,
-    /// A MACsec tag and the payload whose length it names.
+    /// MACsec tag together with its payload, whose length the short length field of the tag states.
     MacsecPacket,
-    /// An ARP packet (RFC 826).
+    /// ARP packet (RFC 826).
     Arp,
-    /// An IP header whose version is not read yet.
+    /// IP header whose first byte, which contains the version field, is missing or invalid.
     IpHeader,
-    /// The header of IPv4 (RFC 791).
+    /// IPv4 header (RFC 791).
     Ipv4Header,
-    /// An IPv4 packet, as long as its total length says.
+    /// IPv4 header together with the payload, as long as the total length field of the header states.
     Ipv4Packet,
-    /// An authentication header (RFC 4302).
+    /// Authentication header (RFC 4302).
     IpAuthHeader,
-    /// The header of IPv6 (RFC 8200).
+    /// IPv6 header (RFC 8200).
     Ipv6Header,
-    /// An IPv6 packet, as long as its payload length says.
+    /// IPv6 header together with the payload, whose length the payload length field of the header states.
     Ipv6Packet,
-    /// An extension header of IPv6 of any other kind (RFC 8200, 4).
+    /// IPv6 extension header other than the fragment header and the authentication header (RFC 8200, 4).
     Ipv6ExtHeader,
-    /// The fragment header of IPv6 (RFC 8200, 4.5).
+    /// IPv6 fragment header (RFC 8200, 4.5).
     Ipv6FragHeader,
-    /// The header of UDP (RFC 768).
+    /// UDP header (RFC 768).
     UdpHeader,
-    /// The payload of UDP, as long as the length of its header says.
+    /// UDP header together with the payload, as long as the length field of the header states.
     UdpPayload,
-    /// The header of TCP (RFC 9293).
+    /// TCP header (RFC 9293).
     TcpHeader,
-    /// An ICMP message over IPv4 (RFC 792).
+    /// ICMP message over IPv4 (RFC 792), of any type.
     Icmpv4,
-    /// An ICMP timestamp message (RFC 792).
+    /// ICMP timestamp message over IPv4 (RFC 792, type 13).
     Icmpv4Timestamp,
-    /// An ICMP timestamp reply message (RFC 792).
+    /// ICMP timestamp reply message over IPv4 (RFC 792, type 14).
     Icmpv4TimestampReply,
-    /// An ICMP message over IPv6 (RFC 4443).
+    /// ICMPv6 message (RFC 4443).
     Icmpv6,
 }
 
 impl Layer {
-    /// The variant's name.
+    /// Returns the name of the layer as text: the identifier of its enum variant, such as `Ipv4Header`.
     pub fn name(&self) -> &'static str
         ensures { result.now ≡ layer_name self.now }
     {

@@ -1,25 +1,26 @@
-//! Refusals of Linux cooked capture headers (SLL v1).
+//! Errors of parsing headers of Linux cooked captures (SLL v1).
 
 use crate::err::len_error::LenError;
 use thiserror::Error;
 
-/// What is wrong in the bytes of an SLL header.
+/// Unsupported field of the header of a Linux cooked capture (SLL v1).
 #[derive(Clone, Debug, PartialEq, Eq, Hash, Drop, Error)]
 pub enum HeaderError {
-    /// The packet type is above 7.
+    /// The packet type field of the Linux cooked capture header (SLL v1) is above 7.
     #[error("UnsupportedPacketTypeField {packet_type}")]
     UnsupportedPacketTypeField { packet_type: u16 },
-    /// The ARPHRD number is none of those whose protocol field is known.
+    /// The ARPHRD hardware type of the Linux cooked capture header (SLL v1) is none of those whose protocol field this
+    /// library can interpret.
     #[error("UnsupportedArpHardwareId {arp_hardware_type}")]
     UnsupportedArpHardwareId { arp_hardware_type: u16 },
 }
 
-/// Why no SLL header could be read from a slice.
+/// Error when parsing the header of a Linux cooked capture (SLL v1) from a slice.
 #[derive(Clone, Debug, PartialEq, Eq, Hash, Drop, Error)]
 #[error(transparent)]
 pub enum HeaderSliceError {
-    /// Too few bytes.
+    /// The slice has too few bytes for the header of a Linux cooked capture (SLL v1): 16.
     Len(LenError),
-    /// The bytes are no SLL header.
+    /// The header of the Linux cooked capture (SLL v1) has an unsupported field.
     Content(HeaderError),
 }

@@ -1,25 +1,25 @@
-//! Refusals of MACsec tags (IEEE 802.1AE, 9).
+//! Errors of parsing MACsec tags (IEEE 802.1AE, 9).
 
 use crate::err::len_error::LenError;
 use thiserror::Error;
 
-/// What is wrong in the bytes of a MACsec tag.
+/// Invalid field of a MACsec tag (IEEE 802.1AE, 9).
 #[derive(Clone, Debug, PartialEq, Eq, Hash, Drop, Error)]
 pub enum HeaderError {
-    /// The version bit is set.
+    /// The version bit (V) of the MACsec tag is set.
     #[error("UnexpectedVersion")]
     UnexpectedVersion,
-    /// An unmodified payload has no room for its ether type.
+    /// The short length of the MACsec tag is 1, but an unmodified payload begins with an ether type of 2 bytes.
     #[error("InvalidUnmodifiedShortLen")]
     InvalidUnmodifiedShortLen,
 }
 
-/// Why no MACsec tag could be read from a slice.
+/// Error when parsing a MACsec tag, alone or with its payload, from a slice.
 #[derive(Clone, Debug, PartialEq, Eq, Hash, Drop, Error)]
 #[error(transparent)]
 pub enum HeaderSliceError {
-    /// Too few bytes.
+    /// The slice has too few bytes for the MACsec tag, or for the payload length that its short length states.
     Len(LenError),
-    /// The bytes are no MACsec tag.
+    /// The MACsec tag has an invalid field.
     Content(HeaderError),
 }

@@ -1,18 +1,18 @@
-//! A number above its bound.
+//! Error of a number above the maximum of its header field or payload length.
 
 use crate::err::value_type::ValueType;
 use std::fmt::Display;
 use thiserror::Error;
 
-/// A number is above what its field can hold.
+/// Error of a number (of type `T`) that is too big for its header field or payload length.
 #[derive(Clone, Debug, PartialEq, Eq, Hash, Drop, Error)]
 #[error_bound(T: Display)]
 #[error("{}: {actual} is above {max_allowed}", .value_type.name())]
 pub struct ValueTooBigError<T> {
-    /// The number that was refused.
+    /// Number that was rejected as too big.
     pub actual: T,
-    /// The greatest number that is accepted.
+    /// Greatest number that would have been accepted.
     pub max_allowed: T,
-    /// What the number was meant for.
+    /// Header field or payload length that the rejected number was meant for.
     pub value_type: ValueType,
 }

@@ -1,45 +1,48 @@
-//! What a refused number was meant for.
+//! Header fields and payload lengths that reject numbers above a maximum.
 
 ghost use Rattle.std.specs.Prelude.{◌≡◌};
 ghost use Rattle.ep_base.specs.Names.{value_type_name};
 
-/// What a number that is too big was meant for.
+/// Header field or payload length that a rejected number was too big for.
 #[derive(Clone, Debug, PartialEq, Eq, Hash, Drop)]
 pub enum ValueType {
-    /// The identifier of a VLAN, 12 bits.
+    /// Identifier (VID) of a VLAN tag, 12 bits.
     VlanId,
-    /// The priority of a VLAN tag, 3 bits.
+    /// Priority code point of a VLAN tag, 3 bits.
     VlanPcp,
-    /// The offset of a fragment in units of 8 bytes, 13 bits.
+    /// Fragment offset of an IPv4 header or IPv6 fragment header, in units of 8 bytes, 13 bits.
     IpFragmentOffset,
-    /// The differentiated services code point of IPv4, 6 bits.
+    /// Differentiated services code point of an IPv4 header, 6 bits.
     Ipv4Dscp,
-    /// The explicit congestion notification of IPv4, 2 bits.
+    /// Explicit congestion notification of an IPv4 header, 2 bits.
     Ipv4Ecn,
-    /// The flow label of IPv6, 20 bits.
+    /// Flow label of an IPv6 header, 20 bits.
     Ipv6FlowLabel,
-    /// The short length of a MACsec tag, 6 bits.
+    /// Short length of a MACsec tag, 6 bits.
     MacsecShortLen,
-    /// The association number of a MACsec tag, 2 bits.
+    /// Association number of a MACsec tag, 2 bits.
     MacsecAn,
-    /// The length in bytes of what is behind an IPv4 header.
+    /// Length in bytes of the payload after an IPv4 header.
     Ipv4PayloadLength,
-    /// The length in bytes of what is behind an IPv6 header.
+    /// Length in bytes of the payload after an IPv6 header.
     Ipv6PayloadLength,
-    /// The length in bytes of a UDP payload over IPv4.
+    /// Length in bytes of a UDP payload over IPv4.
     UdpPayloadLengthIpv4,
-    /// The length in bytes of a UDP payload over IPv6.
+    /// Length in bytes of a UDP payload over IPv6.
     UdpPayloadLengthIpv6,
-    /// The length in bytes of a TCP payload over IPv4.
+    /// Length in bytes of a TCP payload over IPv4, or of the entire segment if the checksum of a `TcpSlice` is
+    /// computed.
     TcpPayloadLengthIpv4,
-    /// The length in bytes of a TCP payload over IPv6.
+    /// Length in bytes of a TCP payload over IPv6, or of the entire segment if the checksum of a `TcpSlice` is
+    /// computed.
     TcpPayloadLengthIpv6,
-    /// The length in bytes of an ICMPv6 payload.
+    /// Length in bytes of the data after an ICMPv6 header.
     Icmpv6PayloadLength,
 }
 
 impl ValueType {
-    /// The variant's name.
+    /// Returns the name of the header field or payload length as text: the identifier of its enum variant, such as
+    /// `VlanId`.
     pub fn name(&self) -> &'static str
         ensures { result.now ≡ value_type_name self.now }
     {

@@ -1,43 +1,43 @@
-//! Laws of the errors, each the contract of a function that does nothing.
+//! Laws of comparing and cloning errors: each is a function whose contract states the law.
 
-ghost use Rattle.ep_base.specs.NumberComparisons.{TellsSame, ClonesExactly};
+ghost use Rattle.ep_base.specs.NumberComparisons.{DecidesEquality, ClonesExactly};
 
 use crate::err::{ip, ip_auth, ip_exts, ipv4, ipv4_exts, ipv6, ipv6_exts, linux_sll, macsec, tcp};
 use crate::laws;
 
-/// Errors are equal where they are the same variant with the same parts.
+/// States that two errors of a header or packet are equal exactly if they are the same variant with equal fields.
 pub fn equalities()
-    ensures ip_header { TellsSame ⟦<ip::HeaderError as PartialEq>⟧.eq }
-    ensures ip_headers { TellsSame ⟦<ip::HeadersError as PartialEq>⟧.eq }
-    ensures ip_headers_slice { TellsSame ⟦<ip::HeadersSliceError as PartialEq>⟧.eq }
-    ensures ip_slice { TellsSame ⟦<ip::SliceError as PartialEq>⟧.eq }
-    ensures ip_lax_header_slice { TellsSame ⟦<ip::LaxHeaderSliceError as PartialEq>⟧.eq }
-    ensures ip_auth_header { TellsSame ⟦<ip_auth::HeaderError as PartialEq>⟧.eq }
-    ensures ip_auth_header_slice { TellsSame ⟦<ip_auth::HeaderSliceError as PartialEq>⟧.eq }
-    ensures ip_exts_walk { TellsSame ⟦<ip_exts::ExtsWalkError as PartialEq>⟧.eq }
-    ensures ipv4_header { TellsSame ⟦<ipv4::HeaderError as PartialEq>⟧.eq }
-    ensures ipv4_header_slice { TellsSame ⟦<ipv4::HeaderSliceError as PartialEq>⟧.eq }
-    ensures ipv4_slice { TellsSame ⟦<ipv4::SliceError as PartialEq>⟧.eq }
-    ensures ipv4_exts_walk { TellsSame ⟦<ipv4_exts::ExtsWalkError as PartialEq>⟧.eq }
-    ensures ipv4_exts_write { TellsSame ⟦<ipv4_exts::HeaderWriteError as PartialEq>⟧.eq }
-    ensures ipv6_header { TellsSame ⟦<ipv6::HeaderError as PartialEq>⟧.eq }
-    ensures ipv6_header_slice { TellsSame ⟦<ipv6::HeaderSliceError as PartialEq>⟧.eq }
-    ensures ipv6_slice { TellsSame ⟦<ipv6::SliceError as PartialEq>⟧.eq }
-    ensures ipv6_exts_header { TellsSame ⟦<ipv6_exts::HeaderError as PartialEq>⟧.eq }
-    ensures ipv6_exts_header_slice { TellsSame ⟦<ipv6_exts::HeaderSliceError as PartialEq>⟧.eq }
-    ensures ipv6_exts_walk { TellsSame ⟦<ipv6_exts::ExtsWalkError as PartialEq>⟧.eq }
-    ensures ipv6_exts_write { TellsSame ⟦<ipv6_exts::HeaderWriteError as PartialEq>⟧.eq }
-    ensures linux_sll_header { TellsSame ⟦<linux_sll::HeaderError as PartialEq>⟧.eq }
-    ensures linux_sll_header_slice { TellsSame ⟦<linux_sll::HeaderSliceError as PartialEq>⟧.eq }
-    ensures macsec_header { TellsSame ⟦<macsec::HeaderError as PartialEq>⟧.eq }
-    ensures macsec_header_slice { TellsSame ⟦<macsec::HeaderSliceError as PartialEq>⟧.eq }
-    ensures tcp_header { TellsSame ⟦<tcp::HeaderError as PartialEq>⟧.eq }
-    ensures tcp_header_slice { TellsSame ⟦<tcp::HeaderSliceError as PartialEq>⟧.eq }
+    ensures ip_header { DecidesEquality ⟦<ip::HeaderError as PartialEq>⟧.eq }
+    ensures ip_headers { DecidesEquality ⟦<ip::HeadersError as PartialEq>⟧.eq }
+    ensures ip_headers_slice { DecidesEquality ⟦<ip::HeadersSliceError as PartialEq>⟧.eq }
+    ensures ip_slice { DecidesEquality ⟦<ip::SliceError as PartialEq>⟧.eq }
+    ensures ip_lax_header_slice { DecidesEquality ⟦<ip::LaxHeaderSliceError as PartialEq>⟧.eq }
+    ensures ip_auth_header { DecidesEquality ⟦<ip_auth::HeaderError as PartialEq>⟧.eq }
+    ensures ip_auth_header_slice { DecidesEquality ⟦<ip_auth::HeaderSliceError as PartialEq>⟧.eq }
+    ensures ip_exts_walk { DecidesEquality ⟦<ip_exts::ExtsWalkError as PartialEq>⟧.eq }
+    ensures ipv4_header { DecidesEquality ⟦<ipv4::HeaderError as PartialEq>⟧.eq }
+    ensures ipv4_header_slice { DecidesEquality ⟦<ipv4::HeaderSliceError as PartialEq>⟧.eq }
+    ensures ipv4_slice { DecidesEquality ⟦<ipv4::SliceError as PartialEq>⟧.eq }
+    ensures ipv4_exts_walk { DecidesEquality ⟦<ipv4_exts::ExtsWalkError as PartialEq>⟧.eq }
+    ensures ipv4_exts_write { DecidesEquality ⟦<ipv4_exts::HeaderWriteError as PartialEq>⟧.eq }
+    ensures ipv6_header { DecidesEquality ⟦<ipv6::HeaderError as PartialEq>⟧.eq }
+    ensures ipv6_header_slice { DecidesEquality ⟦<ipv6::HeaderSliceError as PartialEq>⟧.eq }
+    ensures ipv6_slice { DecidesEquality ⟦<ipv6::SliceError as PartialEq>⟧.eq }
+    ensures ipv6_exts_header { DecidesEquality ⟦<ipv6_exts::HeaderError as PartialEq>⟧.eq }
+    ensures ipv6_exts_header_slice { DecidesEquality ⟦<ipv6_exts::HeaderSliceError as PartialEq>⟧.eq }
+    ensures ipv6_exts_walk { DecidesEquality ⟦<ipv6_exts::ExtsWalkError as PartialEq>⟧.eq }
+    ensures ipv6_exts_write { DecidesEquality ⟦<ipv6_exts::HeaderWriteError as PartialEq>⟧.eq }
+    ensures linux_sll_header { DecidesEquality ⟦<linux_sll::HeaderError as PartialEq>⟧.eq }
+    ensures linux_sll_header_slice { DecidesEquality ⟦<linux_sll::HeaderSliceError as PartialEq>⟧.eq }
+    ensures macsec_header { DecidesEquality ⟦<macsec::HeaderError as PartialEq>⟧.eq }
+    ensures macsec_header_slice { DecidesEquality ⟦<macsec::HeaderSliceError as PartialEq>⟧.eq }
+    ensures tcp_header { DecidesEquality ⟦<tcp::HeaderError as PartialEq>⟧.eq }
+    ensures tcp_header_slice { DecidesEquality ⟦<tcp::HeaderSliceError as PartialEq>⟧.eq }
 {
     laws::equalities();
 }
 
-/// A clone is there whatever memory there is, and is the same as its source.
+/// States that cloning an error of a header or packet never fails, and that the clone is equal to its source.
 pub fn clones()
     ensures ip_header { ClonesExactly ⟦<ip::HeaderError as Clone>⟧.is_infallible ⟦<ip::HeaderError as Clone>⟧.is_clone }
     ensures ip_headers { ClonesExactly

@@ -4,7 +4,7 @@ ghost use Rattle.ep_base.specs.Bounded.{TriesNumber};
 use crate::err::{ValueTooBigError, ValueType};
 use std::marker::Model;
 
-/// The offset of a fragment in units of 8 bytes, 13 bits (RFC 791, 3.1 and RFC 8200, 4.5).
+/// Fragment offset of an IP packet in units of 8 bytes, 13 bits (RFC 791, 3.1 and RFC 8200, 4.5).
 #[derive(Clone, Copy, Debug, PartialEq, Eq, PartialOrd, Ord, Hash)]
 pub struct IpFragOffset {
     number: u16,
@@ -25,10 +25,10 @@ impl Model for IpFragOffset {
 impl IpFragOffset {
     ghost use Rattle.ep_base.specs.declared.err.value_type.ValueType.TheVariants as value_type;
 
-    /// The number 0.
+    /// Fragment offset 0: the start of the payload.
     pub const ZERO: IpFragOffset = IpFragOffset { number: 0 };
 
-    /// The number, where it is at most 8191.
+    /// Creates a fragment offset of `value` units of 8 bytes, or returns an error if `value` is above 8191.
     #[inline]
     pub fn try_new(value: u16) -> Result<IpFragOffset, ValueTooBigError<u16>>
         ensures { TriesNumber 8191 value_type.IpFragmentOffset value result }
@@ -44,7 +44,7 @@ impl IpFragOffset {
         }
     }
 
-    /// The offset as a number, at most 8191.
+    /// Fragment offset in units of 8 bytes, at most 8191.
     #[inline]
     pub fn value(self) -> u16
         ensures value { result ≡ self }
@@ -53,7 +53,7 @@ impl IpFragOffset {
         self.number
     }
 
-    /// The offset in bytes: 8 times the value.
+    /// Fragment offset in bytes, at most 65528: 8 times the number in the header field.
     #[inline]
     pub fn byte_offset(self) -> u16
         ensures { result ≡ 8 * self }

@@ -4,7 +4,7 @@ ghost use Rattle.ep_base.specs.Bounded.{TriesNumber};
 use crate::err::{ValueTooBigError, ValueType};
 use std::marker::Model;
 
-/// The differentiated services code point, 6 bits (RFC 2474, 3).
+/// Differentiated services code point (DSCP) of an IPv4 header, 6 bits (RFC 2474, 3).
 #[derive(Clone, Copy, Debug, PartialEq, Eq, PartialOrd, Ord, Hash)]
 pub struct Ipv4Dscp {
     number: u8,
@@ -25,10 +25,10 @@ impl Model for Ipv4Dscp {
 impl Ipv4Dscp {
     ghost use Rattle.ep_base.specs.declared.err.value_type.ValueType.TheVariants as value_type;
 
-    /// The number 0.
+    /// Differentiated services code point 0.
     pub const ZERO: Ipv4Dscp = Ipv4Dscp { number: 0 };
 
-    /// The number, where it is at most 63.
+    /// Creates a differentiated services code point, or returns an error if `value` is above 63.
     #[inline]
     pub fn try_new(value: u8) -> Result<Ipv4Dscp, ValueTooBigError<u8>>
         ensures { TriesNumber 63 value_type.Ipv4Dscp value result }
@@ -44,7 +44,7 @@ impl Ipv4Dscp {
         }
     }
 
-    /// The code point as a number, at most 63.
+    /// Differentiated services code point as a number, at most 63.
     #[inline]
     pub fn value(self) -> u8
         ensures value { result ≡ self }

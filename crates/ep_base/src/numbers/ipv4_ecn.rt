@@ -4,7 +4,7 @@ ghost use Rattle.ep_base.specs.Bounded.{TriesNumber};
 use crate::err::{ValueTooBigError, ValueType};
 use std::marker::Model;
 
-/// The explicit congestion notification, 2 bits (RFC 3168, 5).
+/// Explicit congestion notification (ECN) field of an IPv4 header, 2 bits (RFC 3168, 5).
 #[derive(Clone, Copy, Debug, PartialEq, Eq, PartialOrd, Ord, Hash)]
 pub struct Ipv4Ecn {
     number: u8,
@@ -25,10 +25,10 @@ impl Model for Ipv4Ecn {
 impl Ipv4Ecn {
     ghost use Rattle.ep_base.specs.declared.err.value_type.ValueType.TheVariants as value_type;
 
-    /// The number 0.
+    /// Explicit congestion notification field with the value 0 (not ECN-capable transport).
     pub const ZERO: Ipv4Ecn = Ipv4Ecn { number: 0 };
 
-    /// The number, where it is at most 3.
+    /// Creates an explicit congestion notification field, or returns an error if `value` is above 3.
     #[inline]
     pub fn try_new(value: u8) -> Result<Ipv4Ecn, ValueTooBigError<u8>>
         ensures { TriesNumber 3 value_type.Ipv4Ecn value result }
@@ -44,7 +44,7 @@ impl Ipv4Ecn {
         }
     }
 
-    /// The notification as a number, at most 3.
+    /// Explicit congestion notification field as a number, at most 3.
     #[inline]
     pub fn value(self) -> u8
         ensures value { result ≡ self }

@@ -4,7 +4,7 @@ ghost use Rattle.ep_base.specs.Bounded.{TriesNumber};
 use crate::err::{ValueTooBigError, ValueType};
 use std::marker::Model;
 
-/// The flow label of IPv6, 20 bits (RFC 8200, 3).
+/// Flow label of an IPv6 header, 20 bits (RFC 8200, 3).
 #[derive(Clone, Copy, Debug, PartialEq, Eq, PartialOrd, Ord, Hash)]
 pub struct Ipv6FlowLabel {
     number: u32,
@@ -25,10 +25,10 @@ impl Model for Ipv6FlowLabel {
 impl Ipv6FlowLabel {
     ghost use Rattle.ep_base.specs.declared.err.value_type.ValueType.TheVariants as value_type;
 
-    /// The number 0.
+    /// IPv6 flow label 0.
     pub const ZERO: Ipv6FlowLabel = Ipv6FlowLabel { number: 0 };
 
-    /// The number, where it is at most 1048575.
+    /// Creates an IPv6 flow label, or returns an error if `value` is above 1048575.
     #[inline]
     pub fn try_new(value: u32) -> Result<Ipv6FlowLabel, ValueTooBigError<u32>>
         ensures { TriesNumber 1048575 value_type.Ipv6FlowLabel value result }
@@ -44,7 +44,7 @@ impl Ipv6FlowLabel {
         }
     }
 
-    /// The flow label as a number, at most 1048575.
+    /// IPv6 flow label as a number, at most 1048575.
     #[inline]
     pub fn value(self) -> u32
         ensures value { result ≡ self }

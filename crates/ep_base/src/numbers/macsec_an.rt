@@ -4,7 +4,7 @@ ghost use Rattle.ep_base.specs.Bounded.{TriesNumber};
 use crate::err::{ValueTooBigError, ValueType};
 use std::marker::Model;
 
-/// The association number of a MACsec tag, 2 bits (IEEE 802.1AE, 9.6).
+/// Association number (AN) of a MACsec tag, 2 bits (IEEE 802.1AE, 9.6).
 #[derive(Clone, Copy, Debug, PartialEq, Eq, PartialOrd, Ord, Hash)]
 pub struct MacsecAn {
     number: u8,
@@ -25,10 +25,10 @@ impl Model for MacsecAn {
 impl MacsecAn {
     ghost use Rattle.ep_base.specs.declared.err.value_type.ValueType.TheVariants as value_type;
 
-    /// The number 0.
+    /// MACsec association number 0.
     pub const ZERO: MacsecAn = MacsecAn { number: 0 };
 
-    /// The number, where it is at most 3.
+    /// Creates a MACsec association number, or returns an error if `value` is above 3.
     #[inline]
     pub fn try_new(value: u8) -> Result<MacsecAn, ValueTooBigError<u8>>
         ensures { TriesNumber 3 value_type.MacsecAn value result }
@@ -44,7 +44,7 @@ impl MacsecAn {
         }
     }
 
-    /// The association number as a number, at most 3.
+    /// MACsec association number, at most 3.
     #[inline]
     pub fn value(self) -> u8
         ensures value { result ≡ self }

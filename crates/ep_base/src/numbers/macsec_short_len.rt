@@ -4,7 +4,7 @@ ghost use Rattle.ep_base.specs.Bounded.{TriesNumber};
 use crate::err::{ValueTooBigError, ValueType};
 use std::marker::Model;
 
-/// The short length of a MACsec tag, 6 bits (IEEE 802.1AE, 9.7).
+/// Short length (SL) of a MACsec tag, 6 bits (IEEE 802.1AE, 9.7).
 #[derive(Clone, Copy, Debug, PartialEq, Eq, PartialOrd, Ord, Hash)]
 pub struct MacsecShortLen {
     number: u8,
@@ -25,10 +25,10 @@ impl Model for MacsecShortLen {
 impl MacsecShortLen {
     ghost use Rattle.ep_base.specs.declared.err.value_type.ValueType.TheVariants as value_type;
 
-    /// The number 0.
+    /// MACsec short length 0: the tag states no payload length.
     pub const ZERO: MacsecShortLen = MacsecShortLen { number: 0 };
 
-    /// The number, where it is at most 63.
+    /// Creates the short length of a MACsec tag, or returns an error if `value` is above 63.
     #[inline]
     pub fn try_new(value: u8) -> Result<MacsecShortLen, ValueTooBigError<u8>>
         ensures { TriesNumber 63 value_type.MacsecShortLen value result }
@@ -44,7 +44,7 @@ impl MacsecShortLen {
         }
     }
 
-    /// The short length as a number, at most 63.
+    /// Short length of a MACsec tag as a number, at most 63.
     #[inline]
     pub fn value(self) -> u8
         ensures value { result ≡ self }

@@ -4,7 +4,7 @@ ghost use Rattle.ep_base.specs.Bounded.{TriesNumber};
 use crate::err::{ValueTooBigError, ValueType};
 use std::marker::Model;
 
-/// The identifier of a VLAN, 12 bits (IEEE 802.1Q, 9.6).
+/// VLAN identifier (VID), 12 bits (IEEE 802.1Q, 9.6).
 #[derive(Clone, Copy, Debug, PartialEq, Eq, PartialOrd, Ord, Hash, Default)]
 pub struct VlanId {
     number: u16,
@@ -25,10 +25,10 @@ impl Model for VlanId {
 impl VlanId {
     ghost use Rattle.ep_base.specs.declared.err.value_type.ValueType.TheVariants as value_type;
 
-    /// The number 0.
+    /// VLAN identifier 0.
     pub const ZERO: VlanId = VlanId { number: 0 };
 
-    /// The number, where it is at most 4095.
+    /// Creates a VLAN identifier, or returns an error if `value` is above 4095.
     #[inline]
     pub fn try_new(value: u16) -> Result<VlanId, ValueTooBigError<u16>>
         ensures { TriesNumber 4095 value_type.VlanId value result }
@@ -44,7 +44,7 @@ impl VlanId {
         }
     }
 
-    /// The VLAN identifier as a number, at most 4095.
+    /// VLAN identifier as a number, at most 4095.
     #[inline]
     pub fn value(self) -> u16
         ensures value { result ≡ self }

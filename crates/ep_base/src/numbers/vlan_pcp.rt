@@ -4,7 +4,7 @@ ghost use Rattle.ep_base.specs.Bounded.{TriesNumber};
 use crate::err::{ValueTooBigError, ValueType};
 use std::marker::Model;
 
-/// The priority code point of a VLAN tag, 3 bits (IEEE 802.1Q, 9.6).
+/// Priority code point (PCP) of a VLAN tag, 3 bits (IEEE 802.1Q, 9.6).
 #[derive(Clone, Copy, Debug, PartialEq, Eq, PartialOrd, Ord, Hash)]
 pub struct VlanPcp {
     number: u8,
@@ -25,10 +25,10 @@ impl Model for VlanPcp {
 impl VlanPcp {
     ghost use Rattle.ep_base.specs.declared.err.value_type.ValueType.TheVariants as value_type;
 
-    /// The number 0.
+    /// VLAN priority code point 0.
     pub const ZERO: VlanPcp = VlanPcp { number: 0 };
 
-    /// The number, where it is at most 7.
+    /// Creates the priority code point of a VLAN tag, or returns an error if `value` is above 7.
     #[inline]
     pub fn try_new(value: u8) -> Result<VlanPcp, ValueTooBigError<u8>>
         ensures { TriesNumber 7 value_type.VlanPcp value result }
@@ -44,7 +44,7 @@ impl VlanPcp {
         }
     }
 
-    /// The priority as a number, at most 7.
+    /// Priority code point of a VLAN tag as a number, at most 7.
     #[inline]
     pub fn value(self) -> u8
         ensures value { result ≡ self }

@@ -1,15 +1,16 @@
-//! Why a frame was not written to a slice.
+//! Error of writing a built frame to a slice.
 
 use crate::err::BuildWriteError;
 use thiserror::Error;
 
-/// Why a frame was not written to a slice.
+/// Reason why a built frame was not written to a slice.
 #[derive(Clone, Debug, PartialEq, Eq, Drop, Error)]
 pub enum BuildSliceWriteError {
-    /// The slice has too few bytes: the frame has this many.
+    /// The slice is shorter than the frame. The value is the length of the frame in bytes.
     #[error("slice is too small: the frame has {0} bytes")]
     Space(usize),
-    /// There is no such frame. This is never want of memory, which is not taken.
+    /// The frame cannot be built from its headers and payload. Never `OutOfMemory`, since writing to a slice doesn't
+    /// allocate.
     #[error(transparent)]
     Build(BuildWriteError),
 }

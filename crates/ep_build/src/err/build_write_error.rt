@@ -1,28 +1,33 @@
-//! Why a frame was not written.
+//! Error of building a frame and writing it.
 
 use ep_base::err::{ValueTooBigError, ipv4_exts, ipv6_exts};
 use thiserror::Error;
 
-/// Why a frame was not written. Each `write` of the builder refuses in the order `PayloadLen`, `Icmpv6InIpv4`,
-/// `OutOfMemory`, and never answers the other three, since it links the extension headers before it writes them.
+/// Reason why a built frame was not written. The `write` functions of the packet builder check in the order
+/// `PayloadLen`, `Icmpv6InIpv4`, `OutOfMemory`. They never return the other three: they set the next header values
+/// themselves, and an `ArpPacket` has addresses of the lengths that it states.
 #[derive(Clone, Debug, PartialEq, Eq, Drop, Error)]
 pub enum BuildWriteError {
-    /// Extension headers, transport header and payload are longer than the length field of IP can count.
+    /// The IP packet is too long for its length field, which can count 65535 bytes: extension headers, transport header
+    /// and payload, and in IPv4 also the IPv4 header.
     #[error(transparent)]
     PayloadLen(ValueTooBigError<usize>),
-    /// ICMPv6 is summed with the addresses of an IPv6 header (RFC 4443, 2.3), which IPv4 does not have.
+    /// An ICMPv6 header follows an IPv4 header. Its checksum needs the addresses of an IPv6 header (RFC 4443, 2.3).
     #[error("Error: ICMPv6 can not be combined with an IPv4 headers (checksum can not be calculated).")]
     Icmpv6InIpv4,
-    /// There was no memory for the bytes.
+    /// Out of memory: the buffer that the frame is appended to could not grow.
     #[error("out of memory")]
     OutOfMemory,
-    /// The numbers do not lead to the extension header of IPv4.
+    /// The frame has an IPv4 authentication header, but the protocol field of the IPv4 header is not 51, its number.
+    /// The packet builder never returns this.
     #[error(transparent)]
     Ipv4Exts(ipv4_exts::ExtsWalkError),
-    /// The numbers do not lead to each extension header of IPv6.
+    /// The frame has an IPv6 extension header that the chain of next header values does not lead to, or hop-by-hop
+    /// options that are not the first header of the chain. The packet builder never returns this.
     #[error(transparent)]
     Ipv6Exts(ipv6_exts::ExtsWalkError),
-    /// The addresses of an ARP packet have other lengths than it says.
+    /// The addresses of the ARP packet have other lengths than its length fields state. The packet builder never
+    /// returns this.
     #[error("address size defined in the ARP header does not match the actual size")]
     ArpHeaderNotMatch,
 }
@@ -32,7 +37,7 @@ impl BuildWriteError {
     ghost use Rattle.std.specs.Option.{option_copied};
     ghost use Rattle.ep_build.specs.BuildErrors.{payload_len_in, ipv4_exts_in, ipv6_exts_in};
 
-    /// Whether memory was wanting.
+    /// Returns true if writing the frame failed because the buffer could not grow.
     #[inline]
     pub fn is_out_of_memory(&self) -> bool
         ensures { IsTrue result ↔ (self.now ≡ BuildWriteError.OutOfMemory) }
@@ -40,7 +45,8 @@ impl BuildWriteError {
         matches!(self, BuildWriteError::OutOfMemory)
     }
 
-    /// The length that does not fit, if it is one.
+    /// Returns the length that is too big, and its maximum, if the frame is too long for the length field of IP; `None`
+    /// for another error.
     #[inline]
     pub fn payload_len(&self) -> Option<&ValueTooBigError<usize>>
         ensures { option_copied result ≡ payload_len_in self.now }
@@ -51,7 +57,7 @@ impl BuildWriteError {
         }
     }
 
-    /// The refusal of the extension header of IPv4, if it is one.
+    /// Returns the reason that concerns the IPv4 authentication header; `None` if the error is another one.
     #[inline]
     pub fn ipv4_exts(&self) -> Option<&ipv4_exts::ExtsWalkError>
         ensures { option_copied result ≡ ipv4_exts_in self.now }
@@ -62,7 +68,7 @@ impl BuildWriteError {
         }
     }
 
-    /// The refusal of the extension headers of IPv6, if it is one.
+    /// Returns the reason that concerns the IPv6 extension headers; `None` if the error is another one.
     #[inline]
     pub fn ipv6_exts(&self) -> Option<&ipv6_exts::ExtsWalkError>
         ensures { option_copied result ≡ ipv6_exts_in self.now }
@@ -73,7 +79,7 @@ impl BuildWriteError {
         }
     }
 
-    /// Whether an ICMPv6 header stood behind an IPv4 header.
+    /// Returns true if the frame was not built because an ICMPv6 header follows an IPv4 header.
     #[inline]
     pub fn is_icmpv6_in_ipv4(&self) -> bool
         ensures { IsTrue result ↔ (self.now ≡ BuildWriteError.Icmpv6InIpv4) }

@@ -1,4 +1,4 @@
-//! The step of an ARP packet.
+//! The builder of a frame that ends with an ARP packet.
 
 ghost use Rattle.std.specs.Prelude.{◌≡◌, ◌+◌, ◌<◌, ◌≤◌, ◌++◌, [], length, IfErr, OnOk, OnErr, vec_len, vec_capacity};
 ghost use Rattle.ep_build.specs.BuiltFrames.{built_frame, built_size};
@@ -11,9 +11,9 @@ use crate::writing::write_arp;
 use ep_link::ArpPacket;
 
 impl PacketBuilderStep<ArpPacket> {
-    /// Appends the frame of the headers and the packet. Where there is no memory, which comes only where the buffer
-    /// would have to grow, it is as it was. The frame is read back as this packet, behind a cooked header where its
-    /// packet type is a known one.
+    /// Appends the frame: link header, VLAN tags and ARP packet. It runs out of memory only if the buffer has to grow;
+    /// then the buffer is unchanged. Both parsers read this ARP packet back from the frame; after a Linux cooked
+    /// capture header, if its packet type is a known one.
     pub fn write(self, buf: &mut Vec<u8>) -> Result<(), BuildWriteError>
         ensures ok { OnOk result (buf.new.items ≡ buf.old.items ++ built_frame (arp_held self) []) }
         ensures err { OnErr result (buf.new.items ≡ buf.old.items) }
@@ -25,7 +25,7 @@ impl PacketBuilderStep<ArpPacket> {
         write_arp(&self.before, &self.last, buf)
     }
 
-    /// The number of bytes of the frame.
+    /// Length in bytes of the frame that `write` appends: link header, VLAN tags and ARP packet.
     #[inline]
     pub fn size(&self) -> usize
         ensures value { result ≡ built_size (arp_held self.now) 0 }

@@ -1,4 +1,4 @@
-//! Which headers a step holds.
+//! The types of the headers that a frame builder contains, by the innermost one.
 
 ghost use Rattle.std.specs.Prelude.{◌≡◌, ◌≤◌, length};
 ghost use Rattle.ep_transport.specs.TransportHeaders.{transport_bytes, transport_header_len};
@@ -13,13 +13,13 @@ use ep_link::{ArpPacket, Ethernet2Header, LinuxSllHeader, VlanHeader};
 use ep_packet::IpHeaders;
 use ep_transport::{Icmpv4Header, Icmpv6Header, TcpHeader, TransportHeader, UdpHeader};
 
-/// A header that may be the last of a step, with the headers that the step then holds before it. No other crate can
-/// name this trait, so these are all steps.
+/// Header that can be the innermost one of a frame being built, with the type of the headers before it: implemented by
+/// link, VLAN, ARP, IP and transport headers. No other crate can name this trait, so no other combinations exist.
 pub trait HoldsHeaders: Drop {
-    /// The headers before the last one.
+    /// Type of the headers of the frame before the innermost one.
     type Before: Drop;
 
-    /// The last header, as it was given.
+    /// Type of the innermost header, in the form in which the caller passed it.
     type Held: Drop;
 }
 
@@ -77,15 +77,16 @@ impl HoldsHeaders for Icmpv6Header {
     type Held = Icmpv6Header;
 }
 
-/// A header that a net layer may follow. No other crate can name this trait either.
+/// Header that a network layer can follow: implemented by Ethernet II, Linux cooked capture and VLAN headers. No other
+/// crate can name this trait.
 pub trait CarriesNet: HoldsHeaders {
     ghost use Rattle.ep_build.specs.declared.link_part.LinkPart.{LinkPart};
     ghost use Rattle.ep_build.specs.declared.packet_builder.PacketBuilderStep.{PacketBuilderStep};
 
-    /// What stands in front of the net layer.
+    /// The link header and VLAN tags of the frame, before its network layer, for contracts.
     ghost link: { PacketBuilderStep Self Self.Before Self.Held → LinkPart };
 
-    /// The link part of a step of this header.
+    /// Returns the link header and VLAN tags of a frame whose innermost header so far is of this type.
     fn link_part(step: PacketBuilderStep<Self>) -> LinkPart
         ensures { result ≡ link step };
 }
@@ -123,18 +124,19 @@ impl CarriesNet for VlanHeader {
     }
 }
 
-/// A transport header. No other crate can name this trait either.
+/// Transport header that ends the headers of a frame: implemented by UDP, TCP, ICMPv4 and ICMPv6 headers. No other
+/// crate can name this trait.
 pub trait IsTransport: HoldsHeaders {
     ghost use Rattle.ep_transport.specs.declared.transport_header.TransportHeader.{TransportHeader};
 
-    /// What it is among the transport headers.
+    /// The UDP, TCP, ICMPv4 or ICMPv6 header as a `TransportHeader`, for contracts.
     ghost kind: { Self → TransportHeader };
 
-    /// The header, as one of the transport headers.
+    /// Converts the UDP, TCP, ICMPv4 or ICMPv6 header into a `TransportHeader`.
     fn into_transport(self) -> TransportHeader
         ensures { result ≡ kind self };
 
-    /// The number of bytes of the header.
+    /// Length of the UDP, TCP, ICMPv4 or ICMPv6 header in bytes, at most 60.
     fn transport_len(&self) -> usize
         ensures value { result ≡ transport_header_len (kind self.now) }
         ensures bytes { length (transport_bytes (kind self.now)) ≡ transport_header_len (kind self.now) }

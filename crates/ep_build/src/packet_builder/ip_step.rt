@@ -1,4 +1,5 @@
-//! The step of IP headers: the transport header behind them, or a payload of another protocol.
+//! The builder of a frame whose innermost header is IP, which a transport header or a payload of another protocol can
+//! follow.
 
 ghost use Rattle.std.specs.Prelude.{◌≡◌, ◌+◌, ◌<◌, ◌≤◌, ◌^◌, ◌++◌, ℕ, List, length, Err, IfErr, OnOk, OnErr, vec_len, vec_capacity};
 ghost use Rattle.ep_transport.specs.Tcp.{default_tcp_header};
@@ -8,8 +9,8 @@ ghost use Rattle.ep_transport.specs.declared.transport_header.TransportHeader.Th
 ghost use Rattle.ep_base.specs.declared.ip_number.IpNumber.{IpNumber};
 ghost use Rattle.ep_build.specs.BuildErrors.{IsBuildable, IsBuildError};
 ghost use Rattle.ep_build.specs.BuiltFrames.{built_frame, built_size};
-ghost use Rattle.ep_build.specs.Placing.{FillsFront};
-ghost use Rattle.ep_build.specs.Steps.{IpStepReadsBack, held_behind, ip_held, ip_step_size, transport_held};
+ghost use Rattle.ep_build.specs.Placing.{FillsStart};
+ghost use Rattle.ep_build.specs.Steps.{IpStepReadsBack, held_after, ip_held, ip_step_size, transport_held};
 
 use super::PacketBuilderStep;
 use super::holds_headers::HoldsHeaders;
@@ -17,8 +18,8 @@ use crate::err::{BuildSliceWriteError, BuildWriteError};
 use crate::facts::link_fits;
 use crate::ip_part::IpPart;
 use crate::link_part::LinkPart;
-use crate::placing::place_ip_part;
-use crate::writing::write_ip_part;
+use crate::placing::place_ip_step;
+use crate::writing::append_ip_step;
 use ep_base::IpNumber;
 use ep_packet::IpHeaders;
 use ep_transport::{
@@ -26,16 +27,16 @@ use ep_transport::{
 };
 
 impl PacketBuilderStep<IpHeaders> {
-    /// An ICMP message (RFC 792) of this type.
+    /// Appends an ICMPv4 header (RFC 792) of this type to the headers of the frame.
     #[inline(always)]
     pub fn icmpv4(self, icmp_type: Icmpv4Type) -> PacketBuilderStep<Icmpv4Header>
         ensures { transport_held transport.Icmpv4 result
-            ≡ held_behind self (transport.Icmpv4 (record { icmp_type = icmp_type; checksum = 0 })) }
+            ≡ held_after self (transport.Icmpv4 (record { icmp_type = icmp_type; checksum = 0 })) }
     {
         self.followed_by(Icmpv4Header::new(icmp_type))
     }
 
-    /// An ICMP message (RFC 792) of this type and code, with these bytes 4 to 7 of its header.
+    /// Appends an ICMPv4 header (RFC 792) with the given type, code and bytes 4 to 7 to the headers of the frame.
     #[inline(always)]
     pub fn icmpv4_raw(
         self,
@@ -43,7 +44,7 @@ impl PacketBuilderStep<IpHeaders> {
         code_u8: u8,
         bytes5to8: [u8; 4],
     ) -> PacketBuilderStep<Icmpv4Header>
-        ensures { transport_held transport.Icmpv4 result ≡ held_behind self (transport.Icmpv4 (record {
+        ensures { transport_held transport.Icmpv4 result ≡ held_after self (transport.Icmpv4 (record {
           icmp_type = v4.Unknown type_u8 code_u8 bytes5to8;
           checksum = 0;
         })) }
@@ -55,10 +56,11 @@ impl PacketBuilderStep<IpHeaders> {
         })
     }
 
-    /// A request to send back the payload, with this identifier and number.
+    /// Appends an ICMPv4 echo request header (type 8) with this identifier and sequence number to the headers of the
+    /// frame.
     #[inline(always)]
     pub fn icmpv4_echo_request(self, id: u16, seq: u16) -> PacketBuilderStep<Icmpv4Header>
-        ensures { transport_held transport.Icmpv4 result ≡ held_behind self (transport.Icmpv4 (record {
+        ensures { transport_held transport.Icmpv4 result ≡ held_after self (transport.Icmpv4 (record {
           icmp_type = v4.EchoRequest (record { id = id; seq = seq });
           checksum = 0;
         })) }
@@ -66,10 +68,11 @@ impl PacketBuilderStep<IpHeaders> {
         self.icmpv4(Icmpv4Type::EchoRequest(IcmpEchoHeader { id, seq }))
     }
 
-    /// The answer to such a request.
+    /// Appends an ICMPv4 echo reply header (type 0) with this identifier and sequence number to the headers of the
+    /// frame.
     #[inline(always)]
     pub fn icmpv4_echo_reply(self, id: u16, seq: u16) -> PacketBuilderStep<Icmpv4Header>
-        ensures { transport_held transport.Icmpv4 result ≡ held_behind self (transport.Icmpv4 (record {
+        ensures { transport_held transport.Icmpv4 result ≡ held_after self (transport.Icmpv4 (record {
           icmp_type = v4.EchoReply (record { id = id; seq = seq });
           checksum = 0;
         })) }
@@ -77,16 +80,16 @@ impl PacketBuilderStep<IpHeaders> {
         self.icmpv4(Icmpv4Type::EchoReply(IcmpEchoHeader { id, seq }))
     }
 
-    /// An ICMPv6 message (RFC 4443) of this type.
+    /// Appends an ICMPv6 header (RFC 4443) of this type to the headers of the frame.
     #[inline(always)]
     pub fn icmpv6(self, icmp_type: Icmpv6Type) -> PacketBuilderStep<Icmpv6Header>
         ensures { transport_held transport.Icmpv6 result
-            ≡ held_behind self (transport.Icmpv6 (record { icmp_type = icmp_type; checksum = 0 })) }
+            ≡ held_after self (transport.Icmpv6 (record { icmp_type = icmp_type; checksum = 0 })) }
     {
         self.followed_by(Icmpv6Header::new(icmp_type))
     }
 
-    /// An ICMPv6 message (RFC 4443) of this type and code, with these bytes 4 to 7 of its header.
+    /// Appends an ICMPv6 header (RFC 4443) with the given type, code and bytes 4 to 7 to the headers of the frame.
     #[inline(always)]
     pub fn icmpv6_raw(
         self,
@@ -94,7 +97,7 @@ impl PacketBuilderStep<IpHeaders> {
         code_u8: u8,
         bytes5to8: [u8; 4],
     ) -> PacketBuilderStep<Icmpv6Header>
-        ensures { transport_held transport.Icmpv6 result ≡ held_behind self (transport.Icmpv6 (record {
+        ensures { transport_held transport.Icmpv6 result ≡ held_after self (transport.Icmpv6 (record {
           icmp_type = v6.Unknown type_u8 code_u8 bytes5to8;
           checksum = 0;
         })) }
@@ -106,10 +109,11 @@ impl PacketBuilderStep<IpHeaders> {
         })
     }
 
-    /// A request to send back the payload, with this identifier and number.
+    /// Appends an ICMPv6 echo request header (type 128) with this identifier and sequence number to the headers of the
+    /// frame.
     #[inline(always)]
     pub fn icmpv6_echo_request(self, id: u16, seq: u16) -> PacketBuilderStep<Icmpv6Header>
-        ensures { transport_held transport.Icmpv6 result ≡ held_behind self (transport.Icmpv6 (record {
+        ensures { transport_held transport.Icmpv6 result ≡ held_after self (transport.Icmpv6 (record {
           icmp_type = v6.EchoRequest (record { id = id; seq = seq });
           checksum = 0;
         })) }
@@ -117,10 +121,11 @@ impl PacketBuilderStep<IpHeaders> {
         self.icmpv6(Icmpv6Type::EchoRequest(IcmpEchoHeader { id, seq }))
     }
 
-    /// The answer to such a request.
+    /// Appends an ICMPv6 echo reply header (type 129) with this identifier and sequence number to the headers of the
+    /// frame.
     #[inline(always)]
     pub fn icmpv6_echo_reply(self, id: u16, seq: u16) -> PacketBuilderStep<Icmpv6Header>
-        ensures { transport_held transport.Icmpv6 result ≡ held_behind self (transport.Icmpv6 (record {
+        ensures { transport_held transport.Icmpv6 result ≡ held_after self (transport.Icmpv6 (record {
           icmp_type = v6.EchoReply (record { id = id; seq = seq });
           checksum = 0;
         })) }
@@ -128,10 +133,10 @@ impl PacketBuilderStep<IpHeaders> {
         self.icmpv6(Icmpv6Type::EchoReply(IcmpEchoHeader { id, seq }))
     }
 
-    /// A UDP header (RFC 768) of these ports.
+    /// Appends a UDP header (RFC 768) with these ports to the headers of the frame.
     #[inline(always)]
     pub fn udp(self, source_port: u16, destination_port: u16) -> PacketBuilderStep<UdpHeader>
-        ensures { transport_held transport.Udp result ≡ held_behind self (transport.Udp (record {
+        ensures { transport_held transport.Udp result ≡ held_after self (transport.Udp (record {
           source_port = source_port;
           destination_port = destination_port;
           length = 0;
@@ -146,7 +151,8 @@ impl PacketBuilderStep<IpHeaders> {
         })
     }
 
-    /// A TCP header (RFC 9293, 3.1) of these ports, this sequence number and this window, without flags and options.
+    /// Appends a TCP header (RFC 9293, 3.1) with the given ports, sequence number and window, without flags and
+    /// options, to the headers of the frame.
     #[inline(always)]
     pub fn tcp(
         self,
@@ -155,7 +161,7 @@ impl PacketBuilderStep<IpHeaders> {
         sequence_number: u32,
         window_size: u16,
     ) -> PacketBuilderStep<TcpHeader>
-        ensures { transport_held transport.Tcp result ≡ held_behind self (transport.Tcp (record default_tcp_header {
+        ensures { transport_held transport.Tcp result ≡ held_after self (transport.Tcp (record default_tcp_header {
           source_port = source_port;
           destination_port = destination_port;
           sequence_number = sequence_number;
@@ -165,19 +171,19 @@ impl PacketBuilderStep<IpHeaders> {
         self.tcp_header(TcpHeader::new(source_port, destination_port, sequence_number, window_size))
     }
 
-    /// This TCP header (RFC 9293, 3.1).
+    /// Appends the given TCP header (RFC 9293, 3.1) to the headers of the frame.
     #[inline(always)]
     pub fn tcp_header(self, tcp_header: TcpHeader) -> PacketBuilderStep<TcpHeader>
-        ensures { transport_held transport.Tcp result ≡ held_behind self (transport.Tcp tcp_header) }
+        ensures { transport_held transport.Tcp result ≡ held_after self (transport.Tcp tcp_header) }
     {
         self.followed_by(tcp_header)
     }
 
-    /// Appends the frame of the headers and this payload, in which the headers lead to this number. A refusal leaves
-    /// the buffer as it was: the payload and the extension headers are longer than the length field can count, or there
-    /// is no memory, which comes only where the buffer would have to grow. Where the headers say that the payload is a
-    /// fragment (RFC 791, 3.2; RFC 8200, 4.5), and the number is none of an extension header, the frame is read back as
-    /// that fragment, behind a cooked header where its packet type is a known one.
+    /// Appends the frame: link and IP headers, and a payload of the given protocol number, which the next header values
+    /// are set to lead to. It is an error if the IP packet is too long for its length field, or if the buffer cannot
+    /// grow; the buffer is then unchanged. If the IP headers mark a fragment (RFC 791, 3.2; RFC 8200, 4.5), and the
+    /// number is not that of an extension header, both parsers read that fragment back; after a Linux cooked capture
+    /// header, if its packet type is a known one.
     #[inline(always)]
     pub fn write(
         self,
@@ -196,7 +202,7 @@ impl PacketBuilderStep<IpHeaders> {
             < vec_len buf.old + built_size (ip_held self last_next_header_ip_number) (length payload.now) }
         ensures capacity { vec_capacity buf.old ≤ vec_capacity buf.new }
     {
-        write_ip_part(
+        append_ip_step(
             self.before,
             self.last,
             last_next_header_ip_number,
@@ -205,9 +211,9 @@ impl PacketBuilderStep<IpHeaders> {
         )
     }
 
-    /// Writes the frame of the headers and this payload to the front of the slice, and gives the number of its bytes.
-    /// What stands behind the frame stays as it was. A refusal leaves the slice as it was: it has too few bytes, or the
-    /// payload and the extension headers are longer than the length field can count. Memory is not taken.
+    /// Writes the frame (link and IP headers, and the payload) to the start of the slice, and returns its length in
+    /// bytes. The bytes after the frame are unchanged. On an error the whole slice is unchanged: it is too short, or
+    /// the IP packet is too long for its length field. It doesn't allocate.
     #[inline(always)]
     pub fn write_to_slice(
         self,
@@ -215,11 +221,11 @@ impl PacketBuilderStep<IpHeaders> {
         last_next_header_ip_number: IpNumber,
         payload: &[u8],
     ) -> Result<usize, BuildSliceWriteError>
-        ensures filled { FillsFront (ip_held self last_next_header_ip_number) payload.now
+        ensures filled { FillsStart (ip_held self last_next_header_ip_number) payload.now
             slice.old slice.new result }
         ensures fragment { OnOk result (IpStepReadsBack self last_next_header_ip_number payload.now) }
     {
-        place_ip_part(
+        place_ip_step(
             self.before,
             self.last,
             last_next_header_ip_number,
@@ -228,7 +234,8 @@ impl PacketBuilderStep<IpHeaders> {
         )
     }
 
-    /// The number of bytes of the frame with a payload of this many bytes. Their sum must be a `usize`.
+    /// Length in bytes of the frame (link and IP headers) with a payload of `payload_size` bytes. The sum must fit a
+    /// `usize`.
     #[inline(always)]
     pub fn size(&self, payload_size: usize) -> usize
         requires { ip_step_size self.now payload_size < 2 ^ 64 }
@@ -240,7 +247,7 @@ impl PacketBuilderStep<IpHeaders> {
         self.before.header_len() + self.last.header_len() + payload_size
     }
 
-    /// The step of a transport header behind these.
+    /// Returns the builder of the frame with a transport header after the IP headers.
     #[inline(always)]
     fn followed_by<H: HoldsHeaders<Before = (LinkPart, IpPart), Held = H>>(
         self,

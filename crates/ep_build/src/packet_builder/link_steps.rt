@@ -1,4 +1,5 @@
-//! The steps behind which a net layer stands: link headers and VLAN tags.
+//! The builders of frames that a network layer can follow next: those whose innermost header is a link header or a VLAN
+//! tag.
 
 ghost use Rattle.std.specs.Prelude.{◌≡◌};
 ghost use Rattle.ep_link.specs.ArpSlices.{arp_of};
@@ -7,7 +8,7 @@ ghost use Rattle.ep_build.specs.Steps.{arp_held, ip_link, ip_step_headers, vlan_
 ghost use Rattle.ep_build.specs.Steps.{ipv4_headers_between, ipv6_headers_between, tag_of};
 
 use super::holds_headers::CarriesNet;
-use super::{PacketBuilderStep, ip_behind, ipv4_between, ipv6_between};
+use super::{PacketBuilderStep, ip_step_after, ipv4_between, ipv6_between};
 use crate::ip_part::IpPart;
 use crate::link_part::LinkPart;
 use ep_base::{EtherType, VlanId, VlanPcp};
@@ -15,7 +16,8 @@ use ep_link::{ArpPacket, DoubleVlanHeader, Ethernet2Header, SingleVlanHeader, Vl
 use ep_packet::IpHeaders;
 
 impl<Link: CarriesNet> PacketBuilderStep<Link> {
-    /// An IPv4 header (RFC 791, 3.1) of these addresses and this number of hops, and else the default's fields.
+    /// Appends an IPv4 header (RFC 791, 3.1) with these addresses and this time to live to the headers of the frame.
+    /// "Don't fragment" is set, DSCP, ECN, identification and fragment offset are 0, and there are no options.
     #[inline(always)]
     pub fn ipv4(
         self,
@@ -26,14 +28,14 @@ impl<Link: CarriesNet> PacketBuilderStep<Link> {
         ensures link { ip_link result ≡ Link.link self }
         ensures headers { ip_step_headers result ≡ ipv4_headers_between source destination time_to_live }
     {
-        ip_behind(
+        ip_step_after(
             Link::link_part(self),
             ipv4_between(source, destination, time_to_live),
         )
     }
 
-    /// An IPv6 header (RFC 8200, 3) of these addresses and this number of hops, with the traffic class and the flow
-    /// label 0.
+    /// Appends an IPv6 header (RFC 8200, 3) with these addresses and this hop limit to the headers of the frame.
+    /// Traffic class and flow label are 0.
     #[inline(always)]
     pub fn ipv6(
         self,
@@ -44,22 +46,22 @@ impl<Link: CarriesNet> PacketBuilderStep<Link> {
         ensures link { ip_link result ≡ Link.link self }
         ensures headers { ip_step_headers result ≡ ipv6_headers_between source destination hop_limit }
     {
-        ip_behind(
+        ip_step_after(
             Link::link_part(self),
             ipv6_between(source, destination, hop_limit),
         )
     }
 
-    /// These IP headers.
+    /// Appends the given IP header and its extension headers to the headers of the frame.
     #[inline(always)]
     pub fn ip(self, ip_headers: IpHeaders) -> PacketBuilderStep<IpHeaders>
         ensures link { ip_link result ≡ Link.link self }
         ensures headers { ip_step_headers result ≡ ip_headers }
     {
-        ip_behind(Link::link_part(self), IpPart::Any(ip_headers))
+        ip_step_after(Link::link_part(self), IpPart::Any(ip_headers))
     }
 
-    /// This ARP packet (RFC 826), which ends the frame.
+    /// Appends the given ARP packet (RFC 826), which ends the frame.
     #[inline(always)]
     pub fn arp(self, packet: ArpPacket) -> PacketBuilderStep<ArpPacket>
         ensures { arp_held result ≡ held_arp (Link.link self) (arp_of packet) }
@@ -72,7 +74,7 @@ impl<Link: CarriesNet> PacketBuilderStep<Link> {
 }
 
 impl PacketBuilderStep<Ethernet2Header> {
-    /// These VLAN tags (IEEE 802.1Q, 9.6), one or two.
+    /// Appends one or two VLAN tags (IEEE 802.1Q, 9.6) to the Ethernet II header of the frame.
     #[inline(always)]
     pub fn vlan(self, vlan: VlanHeader) -> PacketBuilderStep<VlanHeader>
         ensures { vlan_link result ≡ LinkPart.Tagged self.last vlan }
@@ -83,7 +85,8 @@ impl PacketBuilderStep<Ethernet2Header> {
         }
     }
 
-    /// One VLAN tag of this identifier, of priority 0 and not to be dropped first.
+    /// Appends a VLAN tag with this identifier to the Ethernet II header of the frame. Priority and drop eligible
+    /// indicator are 0.
     #[inline(always)]
     pub fn single_vlan(self, vlan_identifier: VlanId) -> PacketBuilderStep<VlanHeader>
         ensures { vlan_link result ≡ LinkPart.Tagged self.last (VlanHeader.Single (tag_of vlan_identifier)) }
@@ -91,7 +94,8 @@ impl PacketBuilderStep<Ethernet2Header> {
         self.vlan(VlanHeader::Single(tag_of(vlan_identifier)))
     }
 
-    /// Two VLAN tags of these identifiers, of priority 0 and not to be dropped first.
+    /// Appends two VLAN tags with the given outer and inner identifier to the Ethernet II header of the frame.
+    /// Priorities and drop eligible indicators are 0.
     #[inline(always)]
     pub fn double_vlan(
         self,
@@ -110,7 +114,7 @@ impl PacketBuilderStep<Ethernet2Header> {
     }
 }
 
-/// A VLAN tag of this identifier, whose other fields are 0.
+/// Returns a VLAN tag with this identifier, whose other fields are 0.
 #[inline(always)]
 fn tag_of(identifier: VlanId) -> SingleVlanHeader
     ensures { result ≡ tag_of identifier }

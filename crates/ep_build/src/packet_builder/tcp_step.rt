@@ -1,4 +1,4 @@
-//! The flags and the options of the step of a TCP header.
+//! Flags and options of the TCP header of a frame being built.
 
 ghost use Rattle.std.specs.Prelude.{◌≡◌, ◌<◌, ◌≤◌, ◌^◌, ◌-◌, length, min, true, MatchResult};
 ghost use Rattle.ep_transport.specs.TcpOptionBytes.{in_words, options_bytes};
@@ -9,7 +9,7 @@ use super::PacketBuilderStep;
 use ep_transport::{TcpHeader, TcpOptionElement, TcpOptionWriteError};
 
 impl PacketBuilderStep<TcpHeader> {
-    /// The nonce sum of congestion notification (RFC 3540) is set.
+    /// Sets the TCP flag NS: the nonce sum of explicit congestion notification (RFC 3540).
     #[inline(always)]
     pub fn ns(mut self) -> PacketBuilderStep<TcpHeader>
         ensures { result ≡ with_header self (record (transport_header self) { ns = true }) }
@@ -18,7 +18,7 @@ impl PacketBuilderStep<TcpHeader> {
         self
     }
 
-    /// The sender has no more data.
+    /// Sets the TCP flag FIN: no more data from the sender.
     #[inline(always)]
     pub fn fin(mut self) -> PacketBuilderStep<TcpHeader>
         ensures { result ≡ with_header self (record (transport_header self) { fin = true }) }
@@ -27,7 +27,7 @@ impl PacketBuilderStep<TcpHeader> {
         self
     }
 
-    /// The sequence numbers are to be agreed on.
+    /// Sets the TCP flag SYN: synchronize sequence numbers.
     #[inline(always)]
     pub fn syn(mut self) -> PacketBuilderStep<TcpHeader>
         ensures { result ≡ with_header self (record (transport_header self) { syn = true }) }
@@ -36,7 +36,7 @@ impl PacketBuilderStep<TcpHeader> {
         self
     }
 
-    /// The connection is reset.
+    /// Sets the TCP flag RST: reset the connection.
     #[inline(always)]
     pub fn rst(mut self) -> PacketBuilderStep<TcpHeader>
         ensures { result ≡ with_header self (record (transport_header self) { rst = true }) }
@@ -45,7 +45,7 @@ impl PacketBuilderStep<TcpHeader> {
         self
     }
 
-    /// What was received is to be handed on.
+    /// Sets the TCP flag PSH: push buffered data to the application.
     #[inline(always)]
     pub fn psh(mut self) -> PacketBuilderStep<TcpHeader>
         ensures { result ≡ with_header self (record (transport_header self) { psh = true }) }
@@ -54,7 +54,7 @@ impl PacketBuilderStep<TcpHeader> {
         self
     }
 
-    /// The next place in the receiver's stream that is waited for is this one.
+    /// Sets the TCP flag ACK and the acknowledgment number: the next sequence number that the sender expects.
     #[inline(always)]
     pub fn ack(mut self, acknowledgment_number: u32) -> PacketBuilderStep<TcpHeader>
         ensures { result ≡ with_header self (record (transport_header self) {
@@ -67,7 +67,7 @@ impl PacketBuilderStep<TcpHeader> {
         self
     }
 
-    /// The urgent data end here, counted from the sequence number.
+    /// Sets the TCP flag URG and the urgent pointer: the end of the urgent data, counted from the sequence number.
     #[inline(always)]
     pub fn urg(mut self, urgent_pointer: u16) -> PacketBuilderStep<TcpHeader>
         ensures { result ≡ with_header self (record (transport_header self) {
@@ -80,7 +80,7 @@ impl PacketBuilderStep<TcpHeader> {
         self
     }
 
-    /// Congestion was seen (RFC 3168).
+    /// Sets the TCP flag ECE: congestion was experienced (ECN-Echo, RFC 3168).
     #[inline(always)]
     pub fn ece(mut self) -> PacketBuilderStep<TcpHeader>
         ensures { result ≡ with_header self (record (transport_header self) { ece = true }) }
@@ -89,7 +89,7 @@ impl PacketBuilderStep<TcpHeader> {
         self
     }
 
-    /// The sender has reduced its window (RFC 3168).
+    /// Sets the TCP flag CWR: congestion window reduced (RFC 3168).
     #[inline(always)]
     pub fn cwr(mut self) -> PacketBuilderStep<TcpHeader>
         ensures { result ≡ with_header self (record (transport_header self) { cwr = true }) }
@@ -98,7 +98,8 @@ impl PacketBuilderStep<TcpHeader> {
         self
     }
 
-    /// These options, whose bytes are at most 40, filled up by zero bytes to words of 4. A refusal drops the step.
+    /// Sets the options of the TCP header from option elements: at most 40 bytes, padded with zero bytes to a multiple
+    /// of 4. More bytes are an error, which drops the frame built so far.
     #[inline(always)]
     pub fn options(
         self,
@@ -110,7 +111,8 @@ impl PacketBuilderStep<TcpHeader> {
             (λ error. (40 < length (options_bytes options.now))
             × (error ≡ NotEnoughSpace (min (length (options_bytes options.now)) (2 ^ 64 - 1)))) }
     {
-        // The header is taken out and lent, so that the step, which has room for any IP headers, stays no value in memory.
+        // Only the header is borrowed, so that the step, with its space for any IP headers, need not be a value in
+        // memory.
         let mut header = self.last;
         match header.set_options(options) {
             Ok(()) => Ok(PacketBuilderStep {
@@ -121,7 +123,8 @@ impl PacketBuilderStep<TcpHeader> {
         }
     }
 
-    /// Options of these bytes, at most 40, filled up by zero bytes to words of 4. A refusal drops the step.
+    /// Sets the options of the TCP header from their bytes: at most 40, padded with zero bytes to a multiple of 4. More
+    /// bytes are an error, which drops the frame built so far.
     #[inline(always)]
     pub fn options_raw(
         self,
@@ -132,7 +135,8 @@ impl PacketBuilderStep<TcpHeader> {
             × (step ≡ with_header self (record (transport_header self) { options = in_words options.now })))
             (λ error. (40 < length options.now) × (error ≡ NotEnoughSpace (length options.now))) }
     {
-        // The header is taken out and lent, so that the step, which has room for any IP headers, stays no value in memory.
+        // Only the header is borrowed, so that the step, with its space for any IP headers, need not be a value in
+        // memory.
         let mut header = self.last;
         match header.set_options_raw(options) {
             Ok(()) => Ok(PacketBuilderStep {

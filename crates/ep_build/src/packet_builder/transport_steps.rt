@@ -1,9 +1,9 @@
-//! The steps of transport headers: the payload behind them ends the frame.
+//! The builders of frames whose innermost header is a transport header, which the payload follows.
 
 ghost use Rattle.std.specs.Prelude.{◌≡◌, ◌+◌, ◌<◌, ◌≤◌, ◌^◌, ◌++◌, ℕ, List, length, Err, IfErr, OnOk, OnErr, vec_len, vec_capacity};
 ghost use Rattle.ep_build.specs.BuildErrors.{IsBuildable, IsBuildError};
 ghost use Rattle.ep_build.specs.BuiltFrames.{built_frame, built_size};
-ghost use Rattle.ep_build.specs.Placing.{FillsFront};
+ghost use Rattle.ep_build.specs.Placing.{FillsStart};
 ghost use Rattle.ep_build.specs.Steps.{StepReadsBack, transport_held};
 
 use super::PacketBuilderStep;
@@ -12,17 +12,16 @@ use crate::err::{BuildSliceWriteError, BuildWriteError};
 use crate::facts::link_fits;
 use crate::ip_part::IpPart;
 use crate::link_part::LinkPart;
-use crate::placing::place_behind;
-use crate::writing::write_behind;
+use crate::placing::place_transport_step;
+use crate::writing::append_transport_step;
 
 impl<
     Transport: HoldsHeaders<Before = (LinkPart, IpPart), Held = Transport> + IsTransport,
 > PacketBuilderStep<Transport> {
-    /// Appends the frame of the headers and this payload. A refusal leaves the buffer as it was: headers and payload
-    /// are longer than the length field of IP can count, the transport header is of ICMPv6 behind IPv4, or there is no
-    /// memory, which comes only where the buffer would have to grow. The frame is read back with this transport header
-    /// and payload where the packet is no fragment, an ICMPv4 message has the length of its type, and a cooked header
-    /// a known packet type.
+    /// Appends the frame: all headers, and the payload. On an error the buffer is unchanged: the IP packet is too long
+    /// for its length field, the transport header is ICMPv6 after IPv4, or the buffer cannot grow. Both parsers read
+    /// the bytes of this transport header and payload back, if the packet is no fragment, an ICMPv4 message has the
+    /// length of its type, and a Linux cooked capture header has a known packet type.
     #[inline(always)]
     pub fn write(self, buf: &mut Vec<u8>, payload: &[u8]) -> Result<(), BuildWriteError>
         ensures ok { let held = transport_held Transport.kind self in
@@ -38,27 +37,27 @@ impl<
     {
         let transport = self.last.into_transport();
         let (link, ip) = self.before;
-        write_behind(link, ip, transport, payload, buf)
+        append_transport_step(link, ip, transport, payload, buf)
     }
 
-    /// Writes the frame of the headers and this payload to the front of the slice, and gives the number of its bytes.
-    /// What stands behind the frame stays as it was. A refusal leaves the slice as it was: it has too few bytes, or a
-    /// refusal of `write` but for want of memory, which is not taken.
+    /// Writes the frame (all headers, and the payload) to the start of the slice, and returns its length in bytes. The
+    /// bytes after the frame are unchanged. On an error the whole slice is unchanged: it is too short, the frame is too
+    /// long for the length field of IP, or ICMPv6 follows IPv4. It doesn't allocate.
     #[inline(always)]
     pub fn write_to_slice(
         self,
         slice: &mut [u8],
         payload: &[u8],
     ) -> Result<usize, BuildSliceWriteError>
-        ensures filled { FillsFront (transport_held Transport.kind self) payload.now slice.old slice.new result }
+        ensures filled { FillsStart (transport_held Transport.kind self) payload.now slice.old slice.new result }
         ensures read_back { OnOk result (StepReadsBack Transport.kind self payload.now) }
     {
         let transport = self.last.into_transport();
         let (link, ip) = self.before;
-        place_behind(link, ip, transport, payload, slice)
+        place_transport_step(link, ip, transport, payload, slice)
     }
 
-    /// The number of bytes of the frame with a payload of this many bytes. Their sum must be a `usize`.
+    /// Length in bytes of the frame with a payload of `payload_size` bytes. The sum must fit a `usize`.
     #[inline(always)]
     pub fn size(&self, payload_size: usize) -> usize
         requires { built_size (transport_held Transport.kind self.now) payload_size < 2 ^ 64 }

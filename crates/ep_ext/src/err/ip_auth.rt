@@ -1,4 +1,4 @@
-//! Refusals of authentication headers (RFC 4302).
+//! Errors of the IP authentication header (RFC 4302).
 
 mod icv_len_error;
 

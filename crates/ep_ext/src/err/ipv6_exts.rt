@@ -1,4 +1,4 @@
-//! Refusals of the extension headers of IPv6 (RFC 8200, 4).
+//! Errors of the IPv6 extension headers (RFC 8200, 4).
 
 mod ext_payload_len_error;
 

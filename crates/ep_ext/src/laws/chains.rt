@@ -1,4 +1,5 @@
-//! What holds of every chain of extension headers, each law the contract of a function that does nothing.
+//! Laws about chains of IPv4 and IPv6 extension headers: each is the contract of a function that does nothing, and
+//! holds for all bytes and values.
 
 ghost use Rattle.std.specs.Prelude.{◌≡◌, ◌≤◌, ◌+◌, ◌⊎◌, ◌++◌, ℕ, List, [], None, Ok, true, false, length};
 ghost use Rattle.ep_base.specs.declared.err.ipv6_exts.ExtsWalkError.{ExtsWalkError};
@@ -18,24 +19,26 @@ ghost use Rattle.ep_ext.specs.ShownChains.{shown_parts};
 
 use crate::{Ipv4Extensions, Ipv4ExtensionsSlice, Ipv6Extensions};
 
-/// Bytes of a number are a chain in each reading, of one list of headers, one last number and one rest, or are refused
-/// with one error, and never both.
+/// States that any bytes, with the IP number of the first header, either are one valid chain of extension headers, and
+/// then its headers, the payload's IP number and the bytes after it are unique, or are rejected with exactly one error.
+/// This holds for both parsers (slices and owned headers).
 pub fn extension_chain()
     ensures { (version : IpVersion) (reading : Reading) (number : ℕ) (bytes : List ℕ) → AreBytes bytes
         → IsDecided (IsExtensionChain version reading number bytes)
         (RefusesExtensionChain version reading number bytes) }
 {}
 
-/// A chain in the reading of slices in which no kind stands twice is one in the reading of headers.
+/// States that a chain of extension headers that the slicing parser accepts, and that has no two headers of one type,
+/// is accepted by the parser for owned headers with the same result.
 pub fn chain_without_second_kind()
     ensures { (version : IpVersion) (number : ℕ) (bytes : List ℕ) (chain : ExtensionChain)
         → IsExtensionChain version slices number bytes chain → NoKindTwice [] chain.parts
         → IsExtensionChain version headers number bytes chain }
 {}
 
-/// A chain in the reading of headers is one in that of slices too, unless it is of IPv6 and stops where a header of a
-/// kind that was taken would come next. What is refused in the reading of headers is refused in that of slices, with
-/// the same error.
+/// States that a chain of extension headers that the parser for owned headers accepts is accepted by the slicing parser
+/// with the same result. The exception is an IPv6 chain that ends before a second header of one type. Bytes that the
+/// parser for owned headers rejects are rejected by the slicing parser with the same error.
 pub fn chain_of_headers()
     ensures chain { (version : IpVersion) (number : ℕ) (bytes : List ℕ) (chain : ExtensionChain)
         → IsExtensionChain version headers number bytes chain → IsExtensionChain version slices number bytes chain
@@ -45,8 +48,8 @@ pub fn chain_of_headers()
         → RefusesExtensionChain version slices number bytes error }
 {}
 
-/// A chain is the bytes of its headers, whatever their reserved bits, and then the rest. As many bytes are before the
-/// rest as the headers have that are written.
+/// States that the bytes of a parsed chain of extension headers are the wire formats of its headers, with any values in
+/// the reserved bits, followed by the bytes after the chain. Writing the headers gives as many bytes as were parsed.
 pub fn chain_bytes()
     ensures parts { (version : IpVersion) (reading : Reading) (number : ℕ) (bytes : List ℕ) (chain : ExtensionChain)
         → IsExtensionChain version reading number bytes chain
@@ -56,8 +59,8 @@ pub fn chain_bytes()
         → length bytes ≡ length (parts_bytes chain.parts) + length chain.rest }
 {}
 
-/// The value of a chain of IPv6 has as many bytes as the chain has before its rest, and fragments exactly where the
-/// chain's fragment header does.
+/// States that the owned headers parsed from an IPv6 extension header chain have the length of the chain in the bytes.
+/// They state that the packet carries a fragment if and only if a fragment header of the chain does.
 pub fn chain_value()
     ensures len { (number : ℕ) (bytes : List ℕ) (chain : ExtensionChain)
         → IsExtensionChain ipv6 headers number bytes chain
@@ -67,16 +70,17 @@ pub fn chain_value()
         → chain_fragments (ipv6_parts (extensions_of chain.parts)) ≡ chain_fragments chain.parts }
 {}
 
-/// The headers that bytes show are those of the chain that they are, where they are one, and no more than there are
-/// bytes.
+/// States that the headers that iteration finds in the bytes of a valid IPv6 extension header chain are the headers of
+/// the chain. In any bytes, there are at most as many headers as bytes.
 pub fn shown_headers()
     ensures chain { (number : ℕ) (bytes : List ℕ) (parts : List ExtensionPart) (last : ℕ) (rest : List ℕ)
         → IsExtensionChain ipv6 slices number bytes (chain_of parts last rest) → shown_parts number bytes ≡ parts }
     ensures bound { (number : ℕ) (bytes : List ℕ) → length (shown_parts number bytes) ≤ length bytes }
 {}
 
-/// The headers of IPv4 that lead to a number are written where they begin at the first one, and these bytes, with any
-/// bytes behind them, are their chain, unless the number is an authentication header's again.
+/// States that after `set_next_headers`, IPv4 extension headers can be written with the IP number that it returned.
+/// Parsing the written bytes, followed by any bytes, returns these headers, unless the payload's IP number is that of
+/// an authentication header.
 pub fn linked_ipv4()
     ensures walk { (extensions : Ipv4Extensions) (last : IpNumber)
         → ipv4_walk (ipv4_linked extensions last) (ipv4_first extensions last) ≡ Ok last }
@@ -87,15 +91,16 @@ pub fn linked_ipv4()
         (chain_of (ipv4_parts (ipv4_linked extensions last)) last.0 rest) }
 {}
 
-/// The numbers lead from the first one through all headers of IPv6, along one list of headers to one last number, or
-/// are refused with one error, and never both.
+/// States that the next header fields of owned IPv6 extension headers, followed from a first IP number, either lead to
+/// all headers and to exactly one IP number of the payload, or give exactly one error.
 pub fn walk_ipv6()
     ensures { (extensions : Ipv6Extensions) (first : ℕ)
         → IsDecided (IsWalk extensions first) (RefusesWalk extensions first) }
 {}
 
-/// The headers of IPv6 that lead to a number are written, all of them and without refusal, where they begin at the
-/// first one, and are the value of their chain.
+/// States that after `set_next_headers`, all IPv6 extension headers can be written with the IP number that it returned.
+/// Parsing the written bytes, followed by any bytes, returns these headers, unless the payload's IP number is that of
+/// an extension header.
 pub fn linked_ipv6()
     ensures walk { (extensions : Ipv6Extensions) (last : IpNumber) → WalksAll (ipv6_linked extensions last)
         (ipv6_first extensions last).0 (ipv6_parts (ipv6_linked extensions last)) last.0 }
@@ -110,8 +115,9 @@ pub fn linked_ipv6()
         (chain_of (ipv6_parts (ipv6_linked extensions last)) last.0 rest) }
 {}
 
-/// The headers that are written along the numbers have as many bytes as all headers of the value. Where the numbers
-/// lead to no further header, they are a chain, with any bytes behind them.
+/// States that writing IPv6 extension headers in the order of their next header fields gives the total length of all
+/// headers. Parsing the written bytes, followed by any bytes, returns these headers, unless the payload's IP number is
+/// that of an extension header.
 pub fn written_ipv6()
     ensures len { (extensions : Ipv6Extensions) (first : ℕ) (parts : List ExtensionPart) (last : ℕ)
         → WalksAll extensions first parts last
@@ -121,7 +127,7 @@ pub fn written_ipv6()
         → IsExtensionChain ipv6 headers first (parts_bytes parts ++ rest) (chain_of parts last rest) }
 {}
 
-/// The default of each type, which has no headers.
+/// Returns the default values of the IPv4 (owned and sliced) and IPv6 extension headers, all without headers.
 pub fn no_headers() -> (Ipv4Extensions, Ipv4ExtensionsSlice<'static>, Ipv6Extensions)
     ensures ipv4 { result.0.auth ≡ None }
     ensures ipv4_slices { result.1.auth ≡ None }

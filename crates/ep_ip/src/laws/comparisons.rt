@@ -1,8 +1,8 @@
-//! What the comparisons and clones of headers and slices look at, each law the contract of a function that does
-//! nothing.
+//! Theorems (laws) about comparing and cloning IP headers and slices. Each law is the contract of a function that does
+//! nothing else.
 
 ghost use Rattle.std.specs.Prelude.{◌≡◌, ◌↔◌, IsTrue};
-ghost use Rattle.ep_base.specs.NumberComparisons.{TellsSame, ClonesExactly};
+ghost use Rattle.ep_base.specs.NumberComparisons.{DecidesEquality, ClonesExactly};
 ghost use Rattle.ep_ip.specs.declared.ip_slice.IpSlice.{IpSlice};
 ghost use Rattle.ep_ip.specs.declared.ipv4_header_slice.Ipv4HeaderSlice.{Ipv4HeaderSlice};
 ghost use Rattle.ep_ip.specs.declared.ipv4_slice.Ipv4Slice.{Ipv4Slice};
@@ -17,15 +17,16 @@ use crate::{
     Ipv6HeaderSlice, Ipv6Slice,
 };
 
-/// Headers are equal where each field is, options by their bytes. Slices are equal where they show the same.
+/// Law: two IP headers are equal (`==`) if and only if all their fields are equal; options are compared by their bytes.
+/// Two slices of IP headers or packets are equal if and only if their contents are equal.
 pub fn equalities()
-    ensures ipv4_options { TellsSame ⟦<Ipv4Options as PartialEq>⟧.eq }
-    ensures options_error { TellsSame ⟦<BadOptionsLen as PartialEq>⟧.eq }
-    ensures ipv4_header { TellsSame ⟦<Ipv4Header as PartialEq>⟧.eq }
+    ensures ipv4_options { DecidesEquality ⟦<Ipv4Options as PartialEq>⟧.eq }
+    ensures options_error { DecidesEquality ⟦<BadOptionsLen as PartialEq>⟧.eq }
+    ensures ipv4_header { DecidesEquality ⟦<Ipv4Header as PartialEq>⟧.eq }
     ensures ipv4_header_slice { (a b : Ipv4HeaderSlice) → IsTrue (⟦<Ipv4HeaderSlice<'static> as PartialEq>⟧.eq a b)
         ↔ (ipv4_header_slice_bytes a ≡ ipv4_header_slice_bytes b) }
     ensures ipv4_slice { (a b : Ipv4Slice) → IsTrue (⟦<Ipv4Slice<'static> as PartialEq>⟧.eq a b) ↔ ShowSameIpv4 a b }
-    ensures ipv6_header { TellsSame ⟦<Ipv6Header as PartialEq>⟧.eq }
+    ensures ipv6_header { DecidesEquality ⟦<Ipv6Header as PartialEq>⟧.eq }
     ensures ipv6_header_slice { (a b : Ipv6HeaderSlice) → IsTrue (⟦<Ipv6HeaderSlice<'static> as PartialEq>⟧.eq a b)
         ↔ (ipv6_header_slice_bytes a ≡ ipv6_header_slice_bytes b) }
     ensures ipv6_slice { (a b : Ipv6Slice) → IsTrue (⟦<Ipv6Slice<'static> as PartialEq>⟧.eq a b) ↔ ShowSameIpv6 a b }
@@ -35,7 +36,7 @@ pub fn equalities()
     ep_ext::laws::comparisons();
 }
 
-/// A clone is there whatever memory there is, and is the same as its source.
+/// Law: cloning an IP header, options or slice never fails, even if memory is exhausted, and a clone equals its source.
 pub fn clones()
     ensures ipv4_options { ClonesExactly ⟦<Ipv4Options as Clone>⟧.is_infallible ⟦<Ipv4Options as Clone>⟧.is_clone }
     ensures options_error { ClonesExactly ⟦<BadOptionsLen as Clone>⟧.is_infallible ⟦<BadOptionsLen as Clone>⟧.is_clone }

@@ -1,4 +1,5 @@
-//! What the comparisons and clones of slices look at, each law the contract of a function that does nothing.
+//! Laws about comparing and cloning the slices of lax slicing: each is the contract of a function that only calls other
+//! laws.
 
 ghost use Rattle.std.specs.Prelude.{◌≡◌, ◌↔◌, IsTrue};
 ghost use Rattle.ep_base.specs.NumberComparisons.{ClonesExactly};
@@ -23,8 +24,9 @@ use ep_link::LinkSlice;
 use ep_packet::err::SliceError;
 use ep_transport::TransportSlice;
 
-/// Slices are equal where they show the same, and bytes of it are missing in both or in neither. Packets are equal where
-/// each of their layers is, by the equality of the layer, and why the walk stopped.
+/// States when `==` is true for each type of lax slicing. Payloads are equal if all their fields are (including whether
+/// bytes are missing), tags and IP packets if the bytes of their headers and their payloads are. Packets are equal if
+/// all their layers are, and the errors at which slicing stopped.
 pub fn equalities()
     ensures ether_payloads { (a b : LaxEtherPayloadSlice) →
         IsTrue (⟦<LaxEtherPayloadSlice<'static> as PartialEq>⟧.eq a b) ↔ ((a.incomplete ≡ b.incomplete)
@@ -55,7 +57,7 @@ pub fn equalities()
     ep_ext::laws::comparisons();
 }
 
-/// A clone is there whatever memory there is, and is the same as its source.
+/// States that cloning a slice or packet of lax slicing never fails, and the clone is equal to its source.
 pub fn clones()
     ensures ether_payloads { ClonesExactly
         ⟦<LaxEtherPayloadSlice<'static> as Clone>⟧.is_infallible ⟦<LaxEtherPayloadSlice<'static> as Clone>⟧.is_clone }

@@ -1,21 +1,21 @@
-//! An address in an ARP packet (RFC 826).
+//! Hardware and protocol addresses of ARP packets (RFC 826), owned.
 
 ghost use Rattle.std.specs.Prelude.{◌≡◌, ◌≤◌, length};
 
 use std::marker::Model;
 
-/// The bytes of one address of an ARP packet: at most 255.
+/// Hardware or protocol address of an ARP packet, at most 255 bytes.
 #[derive(Clone, Debug, PartialEq, Eq, Drop)]
 pub(crate) struct ArpAddress {
-    /// The address, and then zero bytes.
+    /// Bytes of the ARP address, padded with zero bytes to 255.
     bytes: [u8; 255],
-    /// The number of bytes of the address.
+    /// Number of bytes of the ARP address; the rest of the array is not used.
     len: u8,
 }
 
 impl Model for ArpAddress {
     ghost use Rattle.std.specs.Prelude.{◌≡◌, ℕ, ◌-◌, ◌≤◌, List, ◌++◌, length, take, drop, replicate};
-    ghost use Rattle.ep_base.specs.Padding.{padded, padded_front};
+    ghost use Rattle.ep_base.specs.Padding.{padded, padded_prefix};
     ghost use Rattle.std.proofs.Common.{arith, length-take-le};
 
     ghost Value = { List ℕ };
@@ -28,16 +28,16 @@ impl Model for ArpAddress {
     ghost inverse = { λ address. record { bytes = padded 255 address; len = length address } };
 
     ghost inverse_ok = { λ a h i. record {
-      bytes = padded_front 255 a.len a.bytes h.0 h.1 h.2 i;
+      bytes = padded_prefix 255 a.len a.bytes h.0 h.1 h.2 i;
       len = length-take-le a.len a.bytes (Prim.omega (arith, h.0, h.1)) i;
     } };
 }
 
 impl ArpAddress {
-    /// The greatest number of bytes.
+    /// Maximum length of an address in an ARP packet in bytes.
     pub(crate) const MAX_LEN: usize = 255;
 
-    /// A copy of the bytes.
+    /// Copies a hardware or protocol address of at most 255 bytes from `slice`.
     #[inline]
     pub(crate) fn copy_of(slice: &[u8]) -> ArpAddress
         requires { length slice.now ≤ 255 }
@@ -51,7 +51,7 @@ impl ArpAddress {
         }
     }
 
-    /// The bytes of the address.
+    /// Bytes of the ARP address, at most 255.
     #[inline]
     pub(crate) fn as_slice(&self) -> &[u8]
         ensures value { result.now ≡ self.now }
@@ -60,7 +60,7 @@ impl ArpAddress {
         &self.bytes[..self.len as usize]
     }
 
-    /// The number of bytes of the address.
+    /// Length of the ARP address in bytes.
     #[inline]
     pub(crate) fn len(&self) -> u8
         ensures { result ≡ length self.now }

@@ -1,12 +1,13 @@
-//! The kind of a link layer's hardware (ARPHRD).
+//! Hardware types of link layers (ARPHRD), as ARP packets and Linux cooked captures contain them.
 
-/// The kind of hardware that addresses belong to: the number of RFC 826, to which Linux adds its own.
+/// Hardware type of link layer addresses (ARPHRD): a number defined for ARP (RFC 826), or an additional number of
+/// Linux.
 #[derive(Clone, Copy, Debug, PartialEq, Eq, PartialOrd, Ord, Hash)]
 pub struct ArpHardwareId(pub u16);
 
 impl ArpHardwareId {
-    /// Ethernet.
+    /// Hardware type of Ethernet: 1.
     pub const ETHERNET: ArpHardwareId = ArpHardwareId(1);
-    /// The loopback device of Linux.
+    /// Hardware type of the Linux loopback device: 772.
     pub const LOOPBACK: ArpHardwareId = ArpHardwareId(772);
 }

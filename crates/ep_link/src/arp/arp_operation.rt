@@ -1,6 +1,6 @@
-//! What an ARP packet does (RFC 826).
+//! Operation numbers of ARP packets (RFC 826): request and reply.
 
-/// What an ARP packet does: the operation of RFC 826.
+/// Operation number of an ARP packet (RFC 826), such as request or reply.
 #[derive(Clone, Copy, Debug, PartialEq, Eq, PartialOrd, Ord, Hash)]
 pub struct ArpOperation(pub u16);
 
@@ -8,12 +8,12 @@ impl ArpOperation {
     ghost use Rattle.std.specs.Prelude.{◌≡◌, option_copied};
     ghost use Rattle.ep_link.specs.Arp.{arp_operation_name};
 
-    /// A request for the hardware address of a protocol address.
+    /// ARP operation 1: request for the hardware address that belongs to a protocol address.
     pub const REQUEST: ArpOperation = ArpOperation(1);
-    /// The reply to such a request.
+    /// ARP operation 2: reply to an ARP request.
     pub const REPLY: ArpOperation = ArpOperation(2);
 
-    /// The name of the constant with this number, `REQUEST` or `REPLY`; none where no constant has it.
+    /// Returns the name of the ARP operation, `REQUEST` or `REPLY`, or `None` for any other number.
     pub fn name(self) -> Option<&'static str>
         ensures { option_copied result ≡ arp_operation_name self.0 }
     {

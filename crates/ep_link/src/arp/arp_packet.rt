@@ -1,4 +1,4 @@
-//! An ARP packet (RFC 826).
+//! ARP packets as owned values (RFC 826).
 
 ghost use Rattle.std.specs.Prelude.{◌≡◌, length};
 
@@ -12,14 +12,14 @@ use ep_base::EtherType;
 use ep_base::err::LenError;
 use std::alloc::AllocError;
 
-/// An ARP packet (RFC 826): 8 bytes and four addresses, of at most 255 bytes each.
+/// ARP packet (RFC 826): 8 bytes followed by four addresses of at most 255 bytes each.
 #[derive(Debug, PartialEq, Eq, Drop)]
 pub struct ArpPacket {
-    /// What the hardware addresses belong to, bytes 0 and 1.
+    /// Hardware type of the hardware addresses in the ARP packet, bytes 0 and 1.
     pub hw_addr_type: ArpHardwareId,
-    /// What the protocol addresses belong to, bytes 2 and 3.
+    /// Ether type of the protocol addresses in the ARP packet, bytes 2 and 3.
     pub proto_addr_type: EtherType,
-    /// What the packet does, bytes 6 and 7.
+    /// Operation of the ARP packet (such as request or reply), bytes 6 and 7.
     pub operation: ArpOperation,
     sender_hw_addr: ArpAddress,
     sender_protocol_addr: ArpAddress,
@@ -54,15 +54,18 @@ impl ArpPacket {
     ghost use Rattle.ep_link.specs.Arp.{Arp, FitsArp, IsArp, RefusesArp, RefusesArpAddresses, arp_bytes, arp_len};
     ghost use Rattle.ep_link.specs.ArpSlices.{arp_of};
 
-    /// The number of bytes of a packet with the longest addresses.
+    /// Maximum length of an ARP packet in bytes: 8 bytes and four addresses of 255 bytes each.
     pub const MAX_LEN: usize = 1028;
 
-    /// The number of bytes in front of the addresses.
+    /// Length in bytes of the fields before the addresses of an ARP packet.
     pub(crate) const FIXED_LEN: usize = 8;
 
-    /// A packet of these addresses, which it copies. The two hardware addresses have one length, the two protocol
-    /// addresses have one length, and no address is longer than 255 bytes. What does not fit is refused in this order:
-    /// hardware addresses before protocol addresses, lengths that differ before lengths that are too great.
+    /// Creates an ARP packet, and copies the four addresses into it.
+    ///
+    /// # Errors
+    ///
+    /// Both hardware addresses must have the same length of at most 255 bytes, and so must both protocol addresses. The
+    /// hardware addresses are checked before the protocol addresses, and different lengths before lengths above 255.
     pub fn new(
         hw_addr_type: ArpHardwareId,
         proto_addr_type: EtherType,
@@ -119,7 +122,7 @@ impl ArpPacket {
         })
     }
 
-    /// The packet at the front of the slice.
+    /// Parses the ARP packet at the start of `slice`, and ignores the bytes after it.
     pub fn from_slice(slice: &[u8]) -> Result<ArpPacket, LenError>
         ensures ok { IfOk result (λ packet. (left : List ℕ) × IsArp slice.now (arp_of packet, left)) }
         ensures only { (read : Arp × List ℕ) → IsArp slice.now read
@@ -130,7 +133,7 @@ impl ArpPacket {
         Ok(packet.to_header())
     }
 
-    /// The number of bytes of a hardware address, byte 4.
+    /// Length of each hardware address in the ARP packet in bytes, byte 4.
     #[inline]
     pub fn hw_addr_size(&self) -> u8
         ensures { result ≡ length (arp_of self.now).sender_hw_addr }
@@ -138,7 +141,7 @@ impl ArpPacket {
         self.sender_hw_addr.len()
     }
 
-    /// The number of bytes of a protocol address, byte 5.
+    /// Length of each protocol address in the ARP packet in bytes, byte 5.
     #[inline]
     pub fn protocol_addr_size(&self) -> u8
         ensures { result ≡ length (arp_of self.now).sender_protocol_addr }
@@ -146,7 +149,7 @@ impl ArpPacket {
         self.sender_protocol_addr.len()
     }
 
-    /// The sender's hardware address, from byte 8 on.
+    /// Sender hardware address of the ARP packet, starting at byte 8.
     #[inline]
     pub fn sender_hw_addr(&self) -> &[u8]
         ensures value { result.now ≡ (arp_of self.now).sender_hw_addr }
@@ -155,7 +158,7 @@ impl ArpPacket {
         self.sender_hw_addr.as_slice()
     }
 
-    /// The sender's protocol address, behind the sender's hardware address.
+    /// Sender protocol address of the ARP packet, after the sender hardware address.
     #[inline]
     pub fn sender_protocol_addr(&self) -> &[u8]
         ensures value { result.now ≡ (arp_of self.now).sender_protocol_addr }
@@ -164,7 +167,7 @@ impl ArpPacket {
         self.sender_protocol_addr.as_slice()
     }
 
-    /// The target's hardware address, behind the addresses of the sender.
+    /// Target hardware address of the ARP packet, after the sender protocol address.
     #[inline]
     pub fn target_hw_addr(&self) -> &[u8]
         ensures value { result.now ≡ (arp_of self.now).target_hw_addr }
@@ -173,7 +176,7 @@ impl ArpPacket {
         self.target_hw_addr.as_slice()
     }
 
-    /// The target's protocol address, behind the target's hardware address.
+    /// Target protocol address of the ARP packet, after the target hardware address.
     #[inline]
     pub fn target_protocol_addr(&self) -> &[u8]
         ensures value { result.now ≡ (arp_of self.now).target_protocol_addr }
@@ -182,7 +185,7 @@ impl ArpPacket {
         self.target_protocol_addr.as_slice()
     }
 
-    /// The number of bytes of the packet, with its addresses.
+    /// Length of the ARP packet in bytes, including its addresses.
     #[inline]
     pub fn packet_len(&self) -> usize
         ensures value { result ≡ arp_len (arp_of self.now) }
@@ -194,7 +197,7 @@ impl ArpPacket {
             + 2 * self.protocol_addr_size() as usize
     }
 
-    /// The packet as it stands on the wire.
+    /// Returns the wire bytes of the ARP packet, at most 1028.
     pub fn to_bytes(&self) -> ArrayVec<u8, 1028>
         ensures bytes { result.items ≡ arp_bytes (arp_of self.now) }
         ensures fits { FitsArp (arp_of self.now) }
@@ -225,8 +228,8 @@ impl ArpPacket {
         bytes
     }
 
-    /// Appends the packet's bytes. A refusal leaves the buffer as it was, and comes only where the buffer would have to
-    /// grow.
+    /// Appends the wire bytes of the ARP packet to `buf`. Allocates only if the capacity of `buf` is too small; if the
+    /// allocation fails, `buf` is unchanged.
     pub fn write(&self, buf: &mut Vec<u8>) -> Result<(), AllocError>
         ensures ok { OnOk result (buf.new.items ≡ buf.old.items ++ arp_bytes (arp_of self.now)) }
         ensures err { OnErr result (buf.new.items ≡ buf.old.items) }

@@ -1,4 +1,4 @@
-//! An ARP packet in a slice (RFC 826).
+//! ARP packets (RFC 826) whose fields are read from a slice without copying it.
 
 ghost use Rattle.std.specs.Prelude.{◌≡◌, ◌≤◌, length};
 ghost use Rattle.ep_link.specs.Arp.{arp_len_of};
@@ -9,7 +9,7 @@ use crate::arp::arp_packet::ArpPacket;
 use ep_base::err::{Layer, LenError};
 use ep_base::{EtherType, LenSource};
 
-/// The bytes of a whole packet.
+/// Bytes of exactly one complete ARP packet.
 #[derive(Clone, Copy, Debug, PartialEq, Eq)]
 struct ArpBytes<'a> {
     slice: &'a [u8],
@@ -17,7 +17,7 @@ struct ArpBytes<'a> {
     ghost whole: { length slice.now ≡ arp_len_of slice.now },
 }
 
-/// An ARP packet (RFC 826) that lies in a slice: 8 bytes and four addresses, of at most 255 bytes each.
+/// Slice of an ARP packet (RFC 826): 8 bytes followed by four addresses of at most 255 bytes each.
 #[derive(Clone, Debug, PartialEq, Eq, Drop)]
 pub struct ArpPacketSlice<'a> {
     bytes: ArpBytes<'a>,
@@ -28,7 +28,7 @@ impl<'a> ArpPacketSlice<'a> {
     ghost use Rattle.ep_link.specs.Arp.{Arp, IsArp, RefusesArp, arp_len};
     ghost use Rattle.ep_link.specs.ArpSlices.{arp_of, arp_slice_bytes, arp_slice_packet, arp_slice_parts};
 
-    /// The packet at the front of the slice.
+    /// Parses the ARP packet at the start of `slice`, and ignores the bytes after it.
     pub fn from_slice(slice: &'a [u8]) -> Result<ArpPacketSlice<'a>, LenError>
         ensures ok { IfOk result (λ shown. (left : List ℕ) × (slice.now ≡ arp_slice_bytes shown ++ left)
             × IsArp slice.now (arp_slice_parts shown left)) }
@@ -60,7 +60,7 @@ impl<'a> ArpPacketSlice<'a> {
         })
     }
 
-    /// The bytes of the packet.
+    /// All bytes of the ARP packet.
     #[inline]
     pub fn slice(&self) -> &'a [u8]
         ensures { result.now ≡ arp_slice_bytes self.now }
@@ -68,7 +68,7 @@ impl<'a> ArpPacketSlice<'a> {
         self.bytes.slice
     }
 
-    /// The number of bytes of the packet, with its addresses.
+    /// Length of the ARP packet in bytes, including its addresses.
     #[inline]
     pub fn packet_len(&self) -> usize
         ensures bytes { result ≡ length (arp_slice_bytes self.now) }
@@ -77,7 +77,7 @@ impl<'a> ArpPacketSlice<'a> {
         self.bytes.slice.len()
     }
 
-    /// The number of bytes of the header, which is the whole packet.
+    /// Length of the entire ARP packet in bytes, since an ARP packet has no payload.
     #[inline]
     pub fn header_len(&self) -> usize
         ensures { result ≡ arp_len (arp_slice_packet self.now) }
@@ -85,7 +85,7 @@ impl<'a> ArpPacketSlice<'a> {
         self.packet_len()
     }
 
-    /// The bytes of the packet that stand behind its addresses: none, since an ARP packet has no payload.
+    /// Empty slice, since an ARP packet has no payload.
     #[inline]
     pub fn payload(&self) -> &'a [u8]
         ensures { result.now ≡ [] }
@@ -93,7 +93,7 @@ impl<'a> ArpPacketSlice<'a> {
         &self.bytes.slice[self.header_len()..]
     }
 
-    /// What the hardware addresses belong to, bytes 0 and 1.
+    /// Hardware type of the hardware addresses in the ARP packet, bytes 0 and 1.
     #[inline]
     pub fn hw_addr_type(&self) -> ArpHardwareId
         ensures { result ≡ (arp_slice_packet self.now).hw_addr_type }
@@ -101,7 +101,7 @@ impl<'a> ArpPacketSlice<'a> {
         ArpHardwareId(u16::from_be_bytes([self.bytes.slice[0], self.bytes.slice[1]]))
     }
 
-    /// What the protocol addresses belong to, bytes 2 and 3.
+    /// Ether type of the protocol addresses in the ARP packet, bytes 2 and 3.
     #[inline]
     pub fn proto_addr_type(&self) -> EtherType
         ensures { result ≡ (arp_slice_packet self.now).proto_addr_type }
@@ -109,7 +109,7 @@ impl<'a> ArpPacketSlice<'a> {
         EtherType(u16::from_be_bytes([self.bytes.slice[2], self.bytes.slice[3]]))
     }
 
-    /// The number of bytes of a hardware address, byte 4.
+    /// Length of each hardware address in the ARP packet in bytes, byte 4.
     #[inline]
     pub fn hw_addr_size(&self) -> u8
         ensures { result ≡ length (arp_slice_packet self.now).sender_hw_addr }
@@ -117,7 +117,7 @@ impl<'a> ArpPacketSlice<'a> {
         self.bytes.slice[4]
     }
 
-    /// The number of bytes of a protocol address, byte 5.
+    /// Length of each protocol address in the ARP packet in bytes, byte 5.
     #[inline]
     pub fn protocol_addr_size(&self) -> u8
         ensures { result ≡ length (arp_slice_packet self.now).sender_protocol_addr }
@@ -125,7 +125,7 @@ impl<'a> ArpPacketSlice<'a> {
         self.bytes.slice[5]
     }
 
-    /// What the packet does, bytes 6 and 7.
+    /// Operation of the ARP packet (such as request or reply), bytes 6 and 7.
     #[inline]
     pub fn operation(&self) -> ArpOperation
         ensures { result ≡ (arp_slice_packet self.now).operation }
@@ -133,7 +133,7 @@ impl<'a> ArpPacketSlice<'a> {
         ArpOperation(u16::from_be_bytes([self.bytes.slice[6], self.bytes.slice[7]]))
     }
 
-    /// The sender's hardware address, from byte 8 on.
+    /// Sender hardware address of the ARP packet, starting at byte 8.
     #[inline]
     pub fn sender_hw_addr(&self) -> &'a [u8]
         ensures value { result.now ≡ (arp_slice_packet self.now).sender_hw_addr }
@@ -143,7 +143,7 @@ impl<'a> ArpPacketSlice<'a> {
         &self.bytes.slice[8..8 + hw]
     }
 
-    /// The sender's protocol address, behind the sender's hardware address.
+    /// Sender protocol address of the ARP packet, after the sender hardware address.
     #[inline]
     pub fn sender_protocol_addr(&self) -> &'a [u8]
         ensures value { result.now ≡ (arp_slice_packet self.now).sender_protocol_addr }
@@ -154,7 +154,7 @@ impl<'a> ArpPacketSlice<'a> {
         &self.bytes.slice[8 + hw..8 + hw + protocol]
     }
 
-    /// The target's hardware address, behind the addresses of the sender.
+    /// Target hardware address of the ARP packet, after the sender protocol address.
     #[inline]
     pub fn target_hw_addr(&self) -> &'a [u8]
         ensures value { result.now ≡ (arp_slice_packet self.now).target_hw_addr }
@@ -165,7 +165,7 @@ impl<'a> ArpPacketSlice<'a> {
         &self.bytes.slice[8 + hw + protocol..8 + 2 * hw + protocol]
     }
 
-    /// The target's protocol address, behind the target's hardware address.
+    /// Target protocol address of the ARP packet, after the target hardware address.
     #[inline]
     pub fn target_protocol_addr(&self) -> &'a [u8]
         ensures value { result.now ≡ (arp_slice_packet self.now).target_protocol_addr }
@@ -176,7 +176,7 @@ impl<'a> ArpPacketSlice<'a> {
         &self.bytes.slice[8 + 2 * hw + protocol..8 + 2 * hw + 2 * protocol]
     }
 
-    /// The packet as a value.
+    /// Returns the ARP packet as an owned value, with copies of its addresses.
     pub fn to_header(&self) -> ArpPacket
         ensures { arp_of result ≡ arp_slice_packet self.now }
     {

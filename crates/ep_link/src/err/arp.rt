@@ -1,4 +1,4 @@
-//! Why no ARP packet can be made of some addresses (RFC 826).
+//! Errors when creating an ARP packet from addresses (RFC 826).
 
 mod arp_hw_addr_error;
 mod arp_new_error;

@@ -1,4 +1,4 @@
-//! The header of Ethernet II (IEEE 802.3, clause 3).
+//! Ethernet II headers as owned values (IEEE 802.3, clause 3).
 
 ghost use Rattle.std.specs.Prelude.{◌≡◌, ◌++◌, ◌+◌, ◌<◌, ◌≤◌, length, [], IfOk, IfErr, OnOk, OnErr, IsOkAnd, vec_len, vec_capacity};
 ghost use Rattle.ep_base.specs.Tables.{Parts, parts_of};
@@ -9,22 +9,22 @@ use ep_base::EtherType;
 use ep_base::err::LenError;
 use std::alloc::AllocError;
 
-/// The header of an Ethernet II frame (IEEE 802.3, clause 3), 14 bytes. The frame check sequence is no part of it.
+/// Ethernet II header (IEEE 802.3, clause 3), 14 bytes. The frame check sequence is not part of it.
 #[derive(Clone, Debug, PartialEq, Eq, Drop)]
 pub struct Ethernet2Header {
-    /// The sender's address, bytes 6 to 11.
+    /// Source MAC address of the Ethernet II header, bytes 6 to 11.
     pub source: [u8; 6],
-    /// The receiver's address, bytes 0 to 5.
+    /// Destination MAC address of the Ethernet II header, bytes 0 to 5.
     pub destination: [u8; 6],
-    /// What the payload is, bytes 12 and 13.
+    /// Ether type of the Ethernet II payload, bytes 12 and 13 of the header.
     pub ether_type: EtherType,
 }
 
 impl Ethernet2Header {
-    /// The number of bytes of a header.
+    /// Length of an Ethernet II header in bytes.
     pub const LEN: usize = 14;
 
-    /// The header at the front of the slice, and the bytes behind it.
+    /// Parses the Ethernet II header at the start of `slice`, and returns it with the bytes after it.
     #[inline]
     pub fn from_slice(slice: &[u8]) -> Result<(Ethernet2Header, &[u8]), LenError>
         ensures ok { IfOk result (λ read. IsEthernet2 slice.now (parts_of read.0 read.1.now [])) }
@@ -36,7 +36,7 @@ impl Ethernet2Header {
         Ok((slice.to_header(), slice.payload_slice()))
     }
 
-    /// The number of bytes of the header: 14.
+    /// Length of an Ethernet II header in bytes: 14.
     #[inline]
     pub fn header_len(&self) -> usize
         ensures value { result ≡ 14 }
@@ -45,7 +45,7 @@ impl Ethernet2Header {
         Ethernet2Header::LEN
     }
 
-    /// The header as it stands on the wire.
+    /// Returns the wire bytes of the Ethernet II header.
     #[inline]
     pub fn to_bytes(&self) -> [u8; 14]
         ensures { result ≡ ethernet2_bytes self.now }
@@ -56,8 +56,8 @@ impl Ethernet2Header {
         [d0, d1, d2, d3, d4, d5, s0, s1, s2, s3, s4, s5, t0, t1]
     }
 
-    /// Appends the header's bytes. A refusal leaves the buffer as it was, and comes only where the buffer would have to
-    /// grow.
+    /// Appends the wire bytes of the Ethernet II header to `buf`. Allocates only if the capacity of `buf` is too small;
+    /// if the allocation fails, `buf` is unchanged.
     pub fn write(&self, buf: &mut Vec<u8>) -> Result<(), AllocError>
         ensures ok { OnOk result (buf.new.items ≡ buf.old.items ++ ethernet2_bytes self.now) }
         ensures err { OnErr result (buf.new.items ≡ buf.old.items) }

@@ -1,10 +1,10 @@
-//! An Ethernet II frame in a slice (IEEE 802.3, clause 3).
+//! Ethernet II frames (IEEE 802.3, clause 3) whose fields are read from a slice without copying it.
 
 use crate::link::ethernet2_header::Ethernet2Header;
 use ep_base::err::{Layer, LenError};
 use ep_base::{AtLeast, EtherPayloadSlice, EtherType, LenSource};
 
-/// An Ethernet II frame without its frame check sequence (IEEE 802.3, clause 3) that lies in a slice.
+/// Slice of an Ethernet II frame (header and payload) without frame check sequence (IEEE 802.3, clause 3).
 #[derive(Clone, Debug, PartialEq, Eq, Drop)]
 pub struct Ethernet2Slice<'a> {
     bytes: AtLeast<'a, 14>,
@@ -19,7 +19,8 @@ impl<'a> Ethernet2Slice<'a> {
     ghost use Rattle.ep_link.specs.Ethernet2Slices.{ethernet2_slice_bytes, ethernet2_slice_header};
     ghost use Rattle.ep_link.specs.Ethernet2Slices.{ethernet2_slice_payload, ethernet2_slice_parts};
 
-    /// The frame that the slice is: header and payload, with no frame check sequence at its end.
+    /// Parses `slice` as an Ethernet II frame: 14 bytes of header, and all other bytes as payload, without a frame
+    /// check sequence.
     pub fn from_slice_without_fcs(slice: &'a [u8]) -> Result<Ethernet2Slice<'a>, LenError>
         ensures ok { IfOk result (λ shown. (left : List ℕ) × (slice.now ≡ ethernet2_slice_bytes shown ++ left)
             × IsEthernet2 slice.now (ethernet2_slice_parts shown left)) }
@@ -40,7 +41,7 @@ impl<'a> Ethernet2Slice<'a> {
         })
     }
 
-    /// All bytes: header and payload.
+    /// All bytes of the Ethernet II frame: header and payload.
     #[inline]
     pub fn slice(&self) -> &'a [u8]
         ensures { result.now ≡ ethernet2_slice_bytes self.now }
@@ -48,7 +49,7 @@ impl<'a> Ethernet2Slice<'a> {
         self.bytes.slice
     }
 
-    /// The number of bytes of the header: 14.
+    /// Length of an Ethernet II header in bytes: 14.
     #[inline]
     pub fn header_len(&self) -> usize
         ensures { result ≡ 14 }
@@ -56,7 +57,7 @@ impl<'a> Ethernet2Slice<'a> {
         Ethernet2Header::LEN
     }
 
-    /// The receiver's address, bytes 0 to 5.
+    /// Destination MAC address of the Ethernet II frame, bytes 0 to 5.
     #[inline]
     pub fn destination(&self) -> [u8; 6]
         ensures { result ≡ (ethernet2_slice_header self.now).destination }
@@ -65,7 +66,7 @@ impl<'a> Ethernet2Slice<'a> {
         [bytes[0], bytes[1], bytes[2], bytes[3], bytes[4], bytes[5]]
     }
 
-    /// The sender's address, bytes 6 to 11.
+    /// Source MAC address of the Ethernet II frame, bytes 6 to 11.
     #[inline]
     pub fn source(&self) -> [u8; 6]
         ensures { result ≡ (ethernet2_slice_header self.now).source }
@@ -74,7 +75,7 @@ impl<'a> Ethernet2Slice<'a> {
         [bytes[6], bytes[7], bytes[8], bytes[9], bytes[10], bytes[11]]
     }
 
-    /// What the payload is, bytes 12 and 13.
+    /// Ether type of the Ethernet II payload, bytes 12 and 13 of the frame.
     #[inline]
     pub fn ether_type(&self) -> EtherType
         ensures { result ≡ (ethernet2_slice_header self.now).ether_type }
@@ -82,7 +83,7 @@ impl<'a> Ethernet2Slice<'a> {
         EtherType(u16::from_be_bytes([self.bytes.slice[12], self.bytes.slice[13]]))
     }
 
-    /// The header as a value.
+    /// Returns the Ethernet II header as an owned value.
     #[inline]
     pub fn to_header(&self) -> Ethernet2Header
         ensures { result ≡ ethernet2_slice_header self.now }
@@ -94,7 +95,7 @@ impl<'a> Ethernet2Slice<'a> {
         }
     }
 
-    /// The bytes behind the header.
+    /// Payload of the Ethernet II frame: the bytes after the header.
     #[inline]
     pub fn payload_slice(&self) -> &'a [u8]
         ensures { result.now ≡ ethernet2_slice_payload self.now }
@@ -102,7 +103,8 @@ impl<'a> Ethernet2Slice<'a> {
         &self.bytes.slice[Ethernet2Header::LEN..]
     }
 
-    /// The bytes behind the header, with their type.
+    /// Payload of the Ethernet II frame with its ether type. No length field limits it: it extends to the end of the
+    /// slice.
     #[inline]
     pub fn payload(&self) -> EtherPayloadSlice<'a>
         ensures ether_type { result.ether_type ≡ (ethernet2_slice_header self.now).ether_type }

@@ -1,4 +1,4 @@
-//! The header of a link layer.
+//! Owned link headers of either type: Ethernet II or Linux cooked capture.
 
 ghost use Rattle.std.specs.Prelude.{◌≡◌, ◌++◌, ◌+◌, ◌<◌, ◌≤◌, length, OnOk, OnErr, vec_len, vec_capacity};
 ghost use Rattle.ep_link.specs.LinkSlices.{link_bytes, link_header_len};
@@ -8,17 +8,17 @@ use crate::link::linux_sll_header::LinuxSllHeader;
 use arrayvec::ArrayVec;
 use std::alloc::AllocError;
 
-/// The header of a link layer.
+/// Link header, owned: Ethernet II or Linux cooked capture (SLL v1).
 #[derive(Clone, Debug, PartialEq, Eq, Drop)]
 pub enum LinkHeader {
-    /// Ethernet II.
+    /// Ethernet II header, 14 bytes.
     Ethernet2(Ethernet2Header),
-    /// A Linux cooked capture (SLL v1).
+    /// Header of a Linux cooked capture (SLL v1), 16 bytes.
     LinuxSll(LinuxSllHeader),
 }
 
 impl LinkHeader {
-    /// The number of bytes of the header: 14 or 16.
+    /// Length of the link header in bytes: 14 for Ethernet II, 16 for a Linux cooked capture.
     #[inline]
     pub fn header_len(&self) -> usize
         ensures value { result ≡ link_header_len self.now }
@@ -30,7 +30,7 @@ impl LinkHeader {
         }
     }
 
-    /// The header as it stands on the wire.
+    /// Returns the wire bytes of the link header: 14 for Ethernet II, 16 for a Linux cooked capture.
     pub fn to_bytes(&self) -> ArrayVec<u8, 16>
         ensures { result.items ≡ link_bytes self.now }
     {
@@ -46,8 +46,8 @@ impl LinkHeader {
         bytes
     }
 
-    /// Appends the header's bytes. A refusal leaves the buffer as it was, and comes only where the buffer would have to
-    /// grow.
+    /// Appends the wire bytes of the link header to `buf`. Allocates only if the capacity of `buf` is too small; if the
+    /// allocation fails, `buf` is unchanged.
     pub fn write(&self, buf: &mut Vec<u8>) -> Result<(), AllocError>
         ensures ok { OnOk result (buf.new.items ≡ buf.old.items ++ link_bytes self.now) }
         ensures err { OnErr result (buf.new.items ≡ buf.old.items) }

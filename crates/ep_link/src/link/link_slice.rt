@@ -1,4 +1,4 @@
-//! The link layer of a sliced frame.
+//! Link layers of sliced frames: a link header with its payload, or a payload without link header.
 
 ghost use Rattle.std.specs.Prelude.{◌≡◌, option_map};
 ghost use Rattle.ep_link.specs.EtherPayloads.{ether_payload_of};
@@ -12,21 +12,21 @@ use crate::link::linux_sll_protocol_type::LinuxSllProtocolType;
 use crate::link::linux_sll_slice::LinuxSllSlice;
 use ep_base::{EtherPayloadSlice, LenSource};
 
-/// The link layer of a sliced frame.
+/// Link layer of a sliced frame: an Ethernet II or Linux cooked capture header with its payload, or only the payload.
 #[derive(Clone, Debug, PartialEq, Eq, Drop)]
 pub enum LinkSlice<'a> {
-    /// An Ethernet II header and its payload.
+    /// Ethernet II header and its payload.
     Ethernet2(Ethernet2Slice<'a>),
-    /// The header of a Linux cooked capture and its payload.
+    /// Header of a Linux cooked capture (SLL v1) and its payload.
     LinuxSll(LinuxSllSlice<'a>),
-    /// No header: a payload whose type the caller gave.
+    /// Payload without a link header. The caller stated its ether type.
     EtherPayload(EtherPayloadSlice<'a>),
-    /// No header: the payload of a Linux cooked capture.
+    /// Payload of a Linux cooked capture (SLL v1), without the header.
     LinuxSllPayload(LinuxSllPayloadSlice<'a>),
 }
 
 impl<'a> LinkSlice<'a> {
-    /// The bytes of header and payload: of the payload alone where the link layer has no header.
+    /// Bytes of the link header and its payload, or of the payload alone if the link layer has no header.
     #[inline]
     pub fn slice(&self) -> &'a [u8]
         ensures { result.now ≡ link_slice_bytes self.now }
@@ -39,7 +39,7 @@ impl<'a> LinkSlice<'a> {
         }
     }
 
-    /// The header as a value, where the link layer has one.
+    /// Returns the link header as an owned value, or `None` if the link layer has no header.
     pub fn to_header(&self) -> Option<LinkHeader>
         ensures { result ≡ link_header_of (link_layer_of self.now) }
     {
@@ -50,7 +50,7 @@ impl<'a> LinkSlice<'a> {
         }
     }
 
-    /// The number of bytes of the header: 14 or 16, and 0 where the link layer has none.
+    /// Length of the link header in bytes: 14 for Ethernet II, 16 for a Linux cooked capture, 0 if there is no header.
     #[inline]
     pub fn header_len(&self) -> usize
         ensures { result ≡ link_layer_header_len (link_layer_of self.now) }
@@ -62,7 +62,7 @@ impl<'a> LinkSlice<'a> {
         }
     }
 
-    /// The bytes of the payload.
+    /// Bytes of the link layer's payload.
     #[inline]
     pub fn payload_slice(&self) -> &'a [u8]
         ensures { result.now ≡ link_layer_payload (link_layer_of self.now) }
@@ -75,8 +75,8 @@ impl<'a> LinkSlice<'a> {
         }
     }
 
-    /// The payload with its ether type, where it has one: that of a Linux cooked capture does where the protocol field
-    /// holds an ether type.
+    /// Payload of the link layer with its ether type. Returns `None` for the payload of a Linux cooked capture whose
+    /// protocol field is not an ether type.
     pub fn ether_payload(&self) -> Option<EtherPayloadSlice<'a>>
         ensures { option_map ether_payload_of result ≡ link_ether_payload (link_layer_of self.now) }
     {
@@ -97,7 +97,7 @@ impl<'a> LinkSlice<'a> {
     }
 }
 
-/// The payload of a Linux cooked capture with its ether type, where its protocol is one.
+/// Returns the payload of a Linux cooked capture with its ether type, or `None` if its protocol is not an ether type.
 fn typed_payload<'a>(
     protocol_type: &LinuxSllProtocolType,
     payload: &'a [u8],

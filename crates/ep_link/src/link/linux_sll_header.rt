@@ -1,4 +1,4 @@
-//! The header of a Linux cooked capture (SLL v1).
+//! Headers of Linux cooked captures (SLL v1) as owned values.
 
 ghost use Rattle.std.specs.Prelude.{◌≡◌, ◌++◌, ◌+◌, ◌<◌, ◌≤◌, length, [], IfOk, IfErr, OnOk, OnErr, IsOkAnd, vec_len, vec_capacity};
 ghost use Rattle.ep_base.specs.Tables.{Parts, parts_of};
@@ -11,27 +11,27 @@ use crate::link::linux_sll_slice::LinuxSllSlice;
 use ep_base::err::linux_sll::HeaderSliceError;
 use std::alloc::AllocError;
 
-/// The header of a Linux cooked capture (SLL v1), 16 bytes.
+/// Header of a Linux cooked capture (SLL v1), 16 bytes.
 #[derive(Clone, Debug, PartialEq, Eq, Drop)]
 pub struct LinuxSllHeader {
-    /// Which way the packet went, bytes 0 and 1.
+    /// Packet type of the Linux cooked capture header, bytes 0 and 1: to whom or by whom the packet was sent.
     pub packet_type: LinuxSllPacketType,
-    /// The kind of the device's hardware (ARPHRD), bytes 2 and 3.
+    /// ARPHRD hardware type of the captured device, bytes 2 and 3 of the Linux cooked capture header.
     pub arp_hrd_type: ArpHardwareId,
-    /// The length of the sender's address, bytes 4 and 5. Of an address that is longer than 8 bytes, the first 8 stand
-    /// in the header.
+    /// Length of the sender's link layer address in bytes, bytes 4 and 5 of the Linux cooked capture header. If it is
+    /// greater than 8, the header contains only the first 8 bytes of the address.
     pub sender_address_valid_length: u16,
-    /// The sender's address, filled up to 8 bytes, bytes 6 to 13.
+    /// Link layer address of the sender, padded to 8 bytes, bytes 6 to 13 of the Linux cooked capture header.
     pub sender_address: [u8; 8],
-    /// What the payload is, bytes 14 and 15.
+    /// Protocol of the payload, bytes 14 and 15 of the Linux cooked capture header.
     pub protocol_type: LinuxSllProtocolType,
 }
 
 impl LinuxSllHeader {
-    /// The number of bytes of a header.
+    /// Length of a Linux cooked capture header (SLL v1) in bytes.
     pub const LEN: usize = 16;
 
-    /// The header at the front of the slice, and the bytes behind it.
+    /// Parses the Linux cooked capture header (SLL v1) at the start of `slice`, and returns it with the bytes after it.
     #[inline]
     pub fn from_slice(slice: &[u8]) -> Result<(LinuxSllHeader, &[u8]), HeaderSliceError>
         ensures ok { IfOk result (λ read. IsLinuxSll slice.now (parts_of read.0 read.1.now [])) }
@@ -43,7 +43,7 @@ impl LinuxSllHeader {
         Ok((slice.to_header(), slice.payload_slice()))
     }
 
-    /// The number of bytes of the header: 16.
+    /// Length of a Linux cooked capture header (SLL v1) in bytes: 16.
     #[inline]
     pub fn header_len(&self) -> usize
         ensures value { result ≡ 16 }
@@ -52,7 +52,8 @@ impl LinuxSllHeader {
         LinuxSllHeader::LEN
     }
 
-    /// The header as it stands on the wire, even one that no bytes would be read as.
+    /// Returns the wire bytes of the Linux cooked capture header, even if its fields are unsupported or inconsistent,
+    /// so that parsing the bytes would not return this header.
     #[inline]
     pub fn to_bytes(&self) -> [u8; 16]
         ensures { result ≡ linux_sll_bytes self.now }
@@ -67,8 +68,8 @@ impl LinuxSllHeader {
         ]
     }
 
-    /// Appends the header's bytes. A refusal leaves the buffer as it was, and comes only where the buffer would have to
-    /// grow.
+    /// Appends the wire bytes of the Linux cooked capture header to `buf`. Allocates only if the capacity of `buf` is
+    /// too small; if the allocation fails, `buf` is unchanged.
     pub fn write(&self, buf: &mut Vec<u8>) -> Result<(), AllocError>
         ensures ok { OnOk result (buf.new.items ≡ buf.old.items ++ linux_sll_bytes self.now) }
         ensures err { OnErr result (buf.new.items ≡ buf.old.items) }

@@ -1,12 +1,12 @@
-//! The payload of a Linux cooked capture in a slice (SLL v1).
+//! Payloads of Linux cooked captures (SLL v1) with their protocol.
 
 use crate::link::linux_sll_protocol_type::LinuxSllProtocolType;
 
-/// The payload of a Linux cooked capture (SLL v1), with what it is.
+/// Payload of a Linux cooked capture (SLL v1), with its protocol.
 #[derive(Clone, Debug, PartialEq, Eq, Drop)]
 pub struct LinuxSllPayloadSlice<'a> {
-    /// What the payload is.
+    /// Protocol of the Linux cooked capture's payload.
     pub protocol_type: LinuxSllProtocolType,
-    /// The payload's bytes.
+    /// Bytes after the header of the Linux cooked capture.
     pub payload: &'a [u8],
 }

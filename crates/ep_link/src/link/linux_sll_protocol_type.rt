@@ -1,4 +1,4 @@
-//! What the payload of a Linux cooked capture is (SLL v1).
+//! Protocol field of Linux cooked captures (SLL v1).
 
 ghost use Rattle.std.specs.Prelude.{◌≡◌};
 ghost use Rattle.ep_link.specs.LinuxSll.{knows_hardware, protocol_ether_type, protocol_number, protocol_of};
@@ -6,39 +6,41 @@ ghost use Rattle.ep_link.specs.LinuxSll.{knows_hardware, protocol_ether_type, pr
 use crate::arp::ArpHardwareId;
 use ep_base::EtherType;
 
-/// What the payload of a Linux cooked capture is (SLL v1). The kind of the hardware says how the number is read.
+/// Protocol of the payload of a Linux cooked capture (SLL v1), the last field of the header. The ARPHRD hardware type
+/// of the header determines how the number is interpreted.
 #[derive(Clone, Debug, PartialEq, Eq, Drop)]
 pub enum LinuxSllProtocolType {
-    /// An ether type, from 0x0600 on.
+    /// Ether type of the payload, 0x0600 or greater (hardware types Ethernet and loopback).
     EtherType(EtherType),
-    /// One of Linux's own numbers, below 0x0600, where an ether type could stand.
+    /// Linux specific protocol number, below 0x0600, in place of an ether type (hardware types Ethernet and loopback).
     LinuxNonstandardEtherType(u16),
-    /// A number that says nothing.
+    /// Number without a meaning, which is ignored (hardware types Frame Relay and IEEE 802.11 with radiotap header).
     Ignored(u16),
-    /// A netlink protocol.
+    /// Netlink protocol (hardware type netlink).
     NetlinkProtocolType(u16),
-    /// The protocol of a GRE tunnel.
+    /// Protocol type of a GRE tunnel (hardware type GRE over IP).
     GenericRoutingEncapsulationProtocolType(u16),
 }
 
-/// Ethernet.
+/// ARPHRD hardware type of Ethernet: 1.
 const ETHERNET: u16 = ArpHardwareId::ETHERNET.0;
-/// A Frame Relay access device.
+/// ARPHRD hardware type of a Frame Relay access device.
 const FRAME_RELAY: u16 = 770;
-/// The loopback device.
+/// ARPHRD hardware type of the Linux loopback device: 772.
 const LOOPBACK: u16 = ArpHardwareId::LOOPBACK.0;
-/// A GRE tunnel over IP.
+/// ARPHRD hardware type of a GRE tunnel over IP.
 const GRE: u16 = 778;
-/// IEEE 802.11 with a radiotap header.
+/// ARPHRD hardware type of IEEE 802.11 with a radiotap header.
 const RADIOTAP: u16 = 803;
-/// Netlink.
+/// ARPHRD hardware type of netlink.
 const NETLINK: u16 = 824;
 
-/// The least ether type (IEEE 802.3, clause 3.2.6).
+/// Least number that is an ether type (IEEE 802.3, 3.2.6).
 const LEAST_ETHER_TYPE: u16 = 0x0600;
 
 impl LinuxSllProtocolType {
-    /// Whether it is known what the number says at this kind of hardware.
+    /// Returns true if the protocol field of a Linux cooked capture can be interpreted for this ARPHRD hardware type:
+    /// Ethernet, Frame Relay, loopback, GRE, radiotap or netlink.
     #[inline]
     pub(crate) fn is_known(hardware: ArpHardwareId) -> bool
         ensures { result ≡ knows_hardware hardware.0 }
@@ -49,7 +51,8 @@ impl LinuxSllProtocolType {
         )
     }
 
-    /// What the number says at this kind of hardware, where that is a known one.
+    /// Interprets the protocol field `number` of a Linux cooked capture by its ARPHRD hardware type, which must be a
+    /// supported one.
     #[inline]
     pub(crate) fn of(hardware: ArpHardwareId, number: u16) -> LinuxSllProtocolType
         ensures { result ≡ protocol_of hardware.0 number }
@@ -65,7 +68,7 @@ impl LinuxSllProtocolType {
         }
     }
 
-    /// The number, as it stands in the header.
+    /// Protocol number as the header of a Linux cooked capture contains it.
     #[inline]
     pub fn number(&self) -> u16
         ensures { result ≡ protocol_number self.now }
@@ -79,7 +82,7 @@ impl LinuxSllProtocolType {
         }
     }
 
-    /// The ether type of the payload, where the number is one.
+    /// Ether type of the payload, or `None` if the protocol field of the Linux cooked capture is not an ether type.
     #[inline]
     pub fn ether_type(&self) -> Option<EtherType>
         ensures { result ≡ protocol_ether_type self.now }

@@ -1,4 +1,4 @@
-//! A packet of a Linux cooked capture in a slice (SLL v1).
+//! Packets of Linux cooked captures (SLL v1) whose fields are read from a slice without copying it.
 
 use crate::arp::ArpHardwareId;
 use crate::link::linux_sll_header::LinuxSllHeader;
@@ -9,7 +9,7 @@ use ep_base::err::linux_sll::{HeaderError, HeaderSliceError};
 use ep_base::err::{Layer, LenError};
 use ep_base::{AtLeast, LenSource};
 
-/// A packet of a Linux cooked capture (SLL v1) that lies in a slice: header and payload.
+/// Slice of a packet of a Linux cooked capture (SLL v1): header and payload.
 #[derive(Clone, Debug, PartialEq, Eq, Drop)]
 pub struct LinuxSllSlice<'a> {
     bytes: AtLeast<'a, 16>,
@@ -23,7 +23,8 @@ impl<'a> LinuxSllSlice<'a> {
     ghost use Rattle.ep_link.specs.LinuxSllSlices.{linux_sll_slice_bytes, linux_sll_slice_header};
     ghost use Rattle.ep_link.specs.LinuxSllSlices.{linux_sll_slice_payload, linux_sll_slice_parts};
 
-    /// The packet that the slice is: header and payload.
+    /// Parses `slice` as a packet of a Linux cooked capture (SLL v1): 16 bytes of header, and all other bytes as
+    /// payload.
     pub fn from_slice(slice: &'a [u8]) -> Result<LinuxSllSlice<'a>, HeaderSliceError>
         ensures ok { IfOk result (λ shown. (left : List ℕ) × (slice.now ≡ linux_sll_slice_bytes shown ++ left)
             × IsLinuxSll slice.now (linux_sll_slice_parts shown left)) }
@@ -57,7 +58,7 @@ impl<'a> LinuxSllSlice<'a> {
         })
     }
 
-    /// All bytes: header and payload.
+    /// All bytes of the Linux cooked capture's packet: header and payload.
     #[inline]
     pub fn slice(&self) -> &'a [u8]
         ensures { result.now ≡ linux_sll_slice_bytes self.now }
@@ -65,7 +66,7 @@ impl<'a> LinuxSllSlice<'a> {
         self.bytes.slice
     }
 
-    /// The number of bytes of the header: 16.
+    /// Length of a Linux cooked capture header (SLL v1) in bytes: 16.
     #[inline]
     pub fn header_len(&self) -> usize
         ensures { result ≡ 16 }
@@ -73,7 +74,7 @@ impl<'a> LinuxSllSlice<'a> {
         LinuxSllHeader::LEN
     }
 
-    /// Which way the packet went, bytes 0 and 1.
+    /// Packet type of the Linux cooked capture header, bytes 0 and 1: to whom or by whom the packet was sent.
     #[inline]
     pub fn packet_type(&self) -> LinuxSllPacketType
         ensures { result ≡ (linux_sll_slice_header self.now).packet_type }
@@ -81,7 +82,7 @@ impl<'a> LinuxSllSlice<'a> {
         LinuxSllPacketType(u16::from_be_bytes([self.bytes.slice[0], self.bytes.slice[1]]))
     }
 
-    /// The kind of the device's hardware (ARPHRD), bytes 2 and 3.
+    /// ARPHRD hardware type of the captured device, bytes 2 and 3 of the Linux cooked capture header.
     #[inline]
     pub fn arp_hrd_type(&self) -> ArpHardwareId
         ensures { result ≡ (linux_sll_slice_header self.now).arp_hrd_type }
@@ -89,8 +90,8 @@ impl<'a> LinuxSllSlice<'a> {
         ArpHardwareId(u16::from_be_bytes([self.bytes.slice[2], self.bytes.slice[3]]))
     }
 
-    /// The length of the sender's address, bytes 4 and 5. Of an address that is longer than 8 bytes, the first 8 stand
-    /// in the header.
+    /// Length of the sender's link layer address in bytes, bytes 4 and 5 of the Linux cooked capture header. If it is
+    /// greater than 8, the header contains only the first 8 bytes of the address.
     #[inline]
     pub fn sender_address_valid_length(&self) -> u16
         ensures { result ≡ (linux_sll_slice_header self.now).sender_address_valid_length }
@@ -98,7 +99,7 @@ impl<'a> LinuxSllSlice<'a> {
         u16::from_be_bytes([self.bytes.slice[4], self.bytes.slice[5]])
     }
 
-    /// The sender's address, filled up to 8 bytes, bytes 6 to 13.
+    /// Link layer address of the sender, padded to 8 bytes, bytes 6 to 13 of the Linux cooked capture header.
     #[inline]
     pub fn sender_address(&self) -> [u8; 8]
         ensures { result ≡ (linux_sll_slice_header self.now).sender_address }
@@ -109,7 +110,7 @@ impl<'a> LinuxSllSlice<'a> {
         ]
     }
 
-    /// What the payload is, bytes 14 and 15, which the kind of the hardware says how to read.
+    /// Protocol of the payload, bytes 14 and 15 of the Linux cooked capture header, interpreted by its hardware type.
     #[inline]
     pub fn protocol_type(&self) -> LinuxSllProtocolType
         ensures { result ≡ (linux_sll_slice_header self.now).protocol_type }
@@ -118,7 +119,7 @@ impl<'a> LinuxSllSlice<'a> {
         LinuxSllProtocolType::of(self.arp_hrd_type(), number)
     }
 
-    /// The header as a value.
+    /// Returns the Linux cooked capture header as an owned value.
     #[inline]
     pub fn to_header(&self) -> LinuxSllHeader
         ensures { result ≡ linux_sll_slice_header self.now }
@@ -132,7 +133,7 @@ impl<'a> LinuxSllSlice<'a> {
         }
     }
 
-    /// The bytes behind the header.
+    /// Payload of the Linux cooked capture's packet: the bytes after the header.
     #[inline]
     pub fn payload_slice(&self) -> &'a [u8]
         ensures { result.now ≡ linux_sll_slice_payload self.now }
@@ -140,7 +141,7 @@ impl<'a> LinuxSllSlice<'a> {
         &self.bytes.slice[LinuxSllHeader::LEN..]
     }
 
-    /// The bytes behind the header, with what they are.
+    /// Payload of the Linux cooked capture's packet, with its protocol.
     #[inline]
     pub fn payload(&self) -> LinuxSllPayloadSlice<'a>
         ensures protocol_type { result.protocol_type ≡ (linux_sll_slice_header self.now).protocol_type }

@@ -1,4 +1,4 @@
-//! Two VLAN tags, one behind the other (IEEE 802.1Q, 9.6).
+//! Two successive VLAN tags (IEEE 802.1Q, 9.6) as owned values.
 
 ghost use Rattle.std.specs.Prelude.{◌≡◌, ◌++◌, ◌+◌, ◌<◌, ◌≤◌, [], IfOk, IfErr, OnOk, OnErr, IsOkAnd, length, vec_len, vec_capacity};
 ghost use Rattle.ep_base.specs.Tables.{Parts, parts_of};
@@ -8,21 +8,21 @@ use crate::link_ext::{SingleVlanHeader, SingleVlanSlice};
 use ep_base::err::LenError;
 use std::alloc::AllocError;
 
-/// Two VLAN tags, one behind the other (IEEE 802.1Q, 9.6), 8 bytes.
+/// Two VLAN tags (IEEE 802.1Q, 9.6), 8 bytes.
 #[derive(Clone, Debug, PartialEq, Eq, Drop)]
 pub struct DoubleVlanHeader {
-    /// The tag that stands first, bytes 0 to 3.
+    /// Outer VLAN tag of two, bytes 0 to 3.
     pub outer: SingleVlanHeader,
-    /// The tag behind it, bytes 4 to 7.
+    /// Inner VLAN tag of two, bytes 4 to 7.
     pub inner: SingleVlanHeader,
 }
 
 impl DoubleVlanHeader {
-    /// The number of bytes of two tags.
+    /// Length of two successive VLAN tags in bytes.
     pub const LEN: usize = 8;
 
-    /// The two tags at the front of the slice, whatever the type of the outer one says, and the bytes behind them. A
-    /// refusal of the inner tag has offset 4.
+    /// Parses two VLAN tags at the start of `slice`, and returns them with the bytes after them. The ether type in the
+    /// outer tag, which should announce the inner one, is not checked. An error of the inner tag has offset 4.
     pub fn from_slice(slice: &[u8]) -> Result<(DoubleVlanHeader, &[u8]), LenError>
         ensures ok { IfOk result (λ read. IsDoubleVlan slice.now (parts_of read.0 read.1.now [])) }
         ensures only { (tagged : Parts DoubleVlanHeader) → IsDoubleVlan slice.now tagged
@@ -42,7 +42,7 @@ impl DoubleVlanHeader {
         }
     }
 
-    /// The number of bytes of the two tags: 8.
+    /// Length of two successive VLAN tags in bytes: 8.
     #[inline]
     pub fn header_len(&self) -> usize
         ensures { result ≡ 8 }
@@ -50,7 +50,7 @@ impl DoubleVlanHeader {
         DoubleVlanHeader::LEN
     }
 
-    /// The tags as they stand on the wire, the outer one first.
+    /// Returns the wire bytes of both VLAN tags, the outer one first.
     #[inline]
     pub fn to_bytes(&self) -> [u8; 8]
         ensures { result ≡ double_vlan_bytes self.now }
@@ -60,8 +60,8 @@ impl DoubleVlanHeader {
         [o0, o1, o2, o3, i0, i1, i2, i3]
     }
 
-    /// Appends the bytes of the tags. A refusal leaves the buffer as it was, and comes only where the buffer would have
-    /// to grow.
+    /// Appends the wire bytes of both VLAN tags to `buf`. Allocates only if the capacity of `buf` is too small; if the
+    /// allocation fails, `buf` is unchanged.
     pub fn write(&self, buf: &mut Vec<u8>) -> Result<(), AllocError>
         ensures ok { OnOk result (buf.new.items ≡ buf.old.items ++ double_vlan_bytes self.now) }
         ensures err { OnErr result (buf.new.items ≡ buf.old.items) }

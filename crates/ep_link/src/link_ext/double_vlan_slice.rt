@@ -1,14 +1,14 @@
-//! Two VLAN tags in slices (IEEE 802.1Q, 9.6).
+//! Two VLAN tags (IEEE 802.1Q, 9.6) whose fields are read from a slice without copying it.
 
 use crate::link_ext::{DoubleVlanHeader, SingleVlanSlice};
 use ep_base::EtherPayloadSlice;
 
-/// Two VLAN tags, one behind the other (IEEE 802.1Q, 9.6), that lie in slices.
+/// Slices of two VLAN tags (IEEE 802.1Q, 9.6) with their payloads. A MACsec tag may be between them.
 #[derive(Clone, Debug, PartialEq, Eq, Drop)]
 pub struct DoubleVlanSlice<'a> {
-    /// The tag that stands first, and what follows it.
+    /// Outer VLAN tag with its payload, which starts with the inner VLAN tag, or with a MACsec tag between the two.
     pub outer: SingleVlanSlice<'a>,
-    /// The tag behind it, and what follows that.
+    /// Inner VLAN tag with its payload.
     pub inner: SingleVlanSlice<'a>,
 }
 
@@ -17,7 +17,7 @@ impl<'a> DoubleVlanSlice<'a> {
     ghost use Rattle.ep_base.specs.declared.len_source.LenSource.TheVariants as source;
     ghost use Rattle.ep_link.specs.VlanSlices.{double_vlan_slice_header, double_vlan_slice_payload};
 
-    /// The tags as values.
+    /// Returns both VLAN tags as owned values.
     #[inline]
     pub fn to_header(&self) -> DoubleVlanHeader
         ensures { result ≡ double_vlan_slice_header self.now }
@@ -28,7 +28,8 @@ impl<'a> DoubleVlanSlice<'a> {
         }
     }
 
-    /// The bytes behind the inner tag, with their type.
+    /// Payload after the inner VLAN tag, with its ether type: all bytes to the end of the inner tag's slice. Its length
+    /// source is `Slice`, even if the short length of a MACsec tag limits that slice.
     #[inline]
     pub fn payload(&self) -> EtherPayloadSlice<'a>
         ensures ether_type { result.ether_type ≡ (double_vlan_slice_header self.now).inner.ether_type }

@@ -1,4 +1,4 @@
-//! The tag of a link extension.
+//! Owned tags between the link header and the network layer: VLAN or MACsec.
 
 ghost use Rattle.std.specs.Prelude.{◌≡◌, ◌≤◌, ◌++◌, ◌+◌, ◌<◌, length, OnOk, OnErr, vec_len, vec_capacity};
 ghost use Rattle.ep_link.specs.LinkExtensions.{link_ext_bytes, link_ext_header_len, link_ext_next_type};
@@ -8,12 +8,12 @@ use arrayvec::ArrayVec;
 use ep_base::{EtherType, VlanId, VlanPcp};
 use std::alloc::AllocError;
 
-/// The tag of a link extension, between the link header and the net layer.
+/// VLAN or MACsec tag between the link header and the network layer, owned.
 #[derive(Clone, Debug, PartialEq, Eq, Drop)]
 pub enum LinkExtHeader {
-    /// A VLAN tag (IEEE 802.1Q).
+    /// VLAN tag (IEEE 802.1Q), 4 bytes.
     Vlan(SingleVlanHeader),
-    /// A MACsec tag (IEEE 802.1AE).
+    /// MACsec tag (IEEE 802.1AE), 6 to 16 bytes.
     Macsec(MacsecHeader),
 }
 
@@ -24,7 +24,7 @@ impl Default for LinkExtHeader {
 
     ghost is_default = { λ tag. tag ≡ header.Vlan (vlan_header_of (0 ∷ 0 ∷ 0 ∷ 0 ∷ [])) };
 
-    /// The VLAN tag of four bytes 0.
+    /// Returns a VLAN tag of four zero bytes.
     fn default() -> LinkExtHeader {
         LinkExtHeader::Vlan(SingleVlanHeader {
             pcp: VlanPcp::ZERO,
@@ -36,7 +36,7 @@ impl Default for LinkExtHeader {
 }
 
 impl LinkExtHeader {
-    /// The number of bytes of the tag: 4 for VLAN, 6 to 16 for MACsec.
+    /// Length of the VLAN or MACsec tag in bytes: 4 for VLAN, 6 to 16 for MACsec.
     #[inline]
     pub fn header_len(&self) -> usize
         ensures value { result ≡ link_ext_header_len self.now }
@@ -49,7 +49,7 @@ impl LinkExtHeader {
         }
     }
 
-    /// The type of what follows the tag. Behind a MACsec tag it can be read only where the payload is unmodified.
+    /// Ether type of the payload after the VLAN or MACsec tag, or `None` if a MACsec payload is modified or encrypted.
     #[inline]
     pub fn next_ether_type(&self) -> Option<EtherType>
         ensures { result ≡ link_ext_next_type self.now }
@@ -60,7 +60,7 @@ impl LinkExtHeader {
         }
     }
 
-    /// The tag as it stands on the wire.
+    /// Returns the wire bytes of the VLAN or MACsec tag, 4 to 16.
     pub fn to_bytes(&self) -> ArrayVec<u8, 16>
         ensures { result.items ≡ link_ext_bytes self.now }
     {
@@ -74,8 +74,8 @@ impl LinkExtHeader {
         }
     }
 
-    /// Appends the tag's bytes. A refusal leaves the buffer as it was, and comes only where the buffer would have to
-    /// grow.
+    /// Appends the wire bytes of the VLAN or MACsec tag to `buf`. Allocates only if the capacity of `buf` is too small;
+    /// if the allocation fails, `buf` is unchanged.
     pub fn write(&self, buf: &mut Vec<u8>) -> Result<(), AllocError>
         ensures ok { OnOk result (buf.new.items ≡ buf.old.items ++ link_ext_bytes self.now) }
         ensures err { OnErr result (buf.new.items ≡ buf.old.items) }

@@ -1,4 +1,4 @@
-//! A link extension of a sliced frame.
+//! Link extensions (VLAN or MACsec tags with their payloads) of sliced frames.
 
 ghost use Rattle.std.specs.Prelude.{◌≡◌};
 ghost use Rattle.std.specs.Option.{option_map};
@@ -10,12 +10,12 @@ use crate::link_ext::{LinkExtHeader, MacsecSlice, SingleVlanSlice};
 use ep_base::err::macsec::HeaderSliceError;
 use ep_base::{EtherPayloadSlice, EtherType, ether_type};
 
-/// A link extension of a sliced frame, between the link header and the net layer.
+/// Link extension of a sliced frame: a VLAN or MACsec tag after the link header, with its payload.
 #[derive(Clone, Debug, PartialEq, Eq, Drop)]
 pub enum LinkExtSlice<'a> {
-    /// A VLAN tag (IEEE 802.1Q) and its payload.
+    /// VLAN tag (IEEE 802.1Q) and its payload.
     Vlan(SingleVlanSlice<'a>),
-    /// A MACsec tag (IEEE 802.1AE) and its payload.
+    /// MACsec tag (IEEE 802.1AE) and its payload.
     Macsec(MacsecSlice<'a>),
 }
 
@@ -26,7 +26,7 @@ impl Default for LinkExtSlice<'_> {
 
     ghost is_default = { λ extension. link_extension_of extension ≡ vlan (vlan_header_of (0 ∷ 0 ∷ 0 ∷ 0 ∷ [])) [] };
 
-    /// The VLAN tag of four bytes 0, and no payload.
+    /// Returns a VLAN tag of four zero bytes with an empty payload.
     fn default() -> Self {
         LinkExtSlice::Vlan(SingleVlanSlice::zeros())
     }
@@ -37,7 +37,8 @@ impl<'a> LinkExtSlice<'a> {
     ghost use Rattle.ep_link.specs.LinkExtensions.{BeginsLinkExtension, IsLinkExtension, LinkExtension};
     ghost use Rattle.ep_link.specs.LinkExtensions.{RefusesLinkExtension, link_ext_slice_bytes};
 
-    /// The link extension that bytes of this type are, with its payload; none where the type begins no extension.
+    /// Parses `slice` as a VLAN or MACsec tag with its payload, if `ether_type` announces one. Returns `Ok(None)` for
+    /// any other ether type.
     pub fn from_ether_type(
         ether_type: EtherType,
         slice: &'a [u8],
@@ -65,7 +66,7 @@ impl<'a> LinkExtSlice<'a> {
         }
     }
 
-    /// The number of bytes of the tag: 4 for VLAN, 6 to 16 for MACsec.
+    /// Length of the VLAN or MACsec tag in bytes: 4 for VLAN, 6 to 16 for MACsec.
     #[inline]
     pub fn header_len(&self) -> usize
         ensures { result ≡ link_ext_header_len (extension_header (link_extension_of self.now)) }
@@ -76,7 +77,7 @@ impl<'a> LinkExtSlice<'a> {
         }
     }
 
-    /// The tag as a value.
+    /// Returns the VLAN or MACsec tag as an owned value.
     pub fn to_header(&self) -> LinkExtHeader
         ensures { result ≡ extension_header (link_extension_of self.now) }
     {
@@ -86,7 +87,7 @@ impl<'a> LinkExtSlice<'a> {
         }
     }
 
-    /// The type of the payload. Behind a MACsec tag it can be read only where the payload is unmodified.
+    /// Ether type of the payload after the VLAN or MACsec tag, or `None` if a MACsec payload is modified or encrypted.
     #[inline]
     pub fn next_ether_type(&self) -> Option<EtherType>
         ensures { result ≡ extension_type (link_extension_of self.now) }
@@ -97,7 +98,7 @@ impl<'a> LinkExtSlice<'a> {
         }
     }
 
-    /// The bytes of the payload.
+    /// Bytes of the payload after the VLAN or MACsec tag.
     #[inline]
     pub fn payload_slice(&self) -> &'a [u8]
         ensures { result.now ≡ extension_payload (link_extension_of self.now) }
@@ -108,7 +109,8 @@ impl<'a> LinkExtSlice<'a> {
         }
     }
 
-    /// The payload with its type. Behind a MACsec tag it can be read only where the payload is unmodified.
+    /// Payload after the VLAN or MACsec tag with its ether type, or `None` if a MACsec payload is modified or
+    /// encrypted.
     #[inline]
     pub fn ether_payload(&self) -> Option<EtherPayloadSlice<'a>>
         ensures { option_map ether_payload_of result ≡ extension_ether_payload (link_extension_of self.now) }

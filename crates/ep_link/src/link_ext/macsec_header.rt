@@ -1,4 +1,4 @@
-//! A MACsec tag (IEEE 802.1AE, 9).
+//! MACsec tags (IEEE 802.1AE, 9) as owned values.
 
 ghost use Rattle.std.specs.Prelude.{◌≡◌, ◌≤◌, ◌++◌, ◌+◌, ◌<◌, IfOk, IfErr, OnOk, OnErr, IsOkAnd, List, ℕ, length, vec_len, vec_capacity};
 ghost use Rattle.ep_link.specs.Macsec.{IsMacsecHeader, RefusesMacsecHeader, macsec_bytes};
@@ -10,36 +10,42 @@ use ep_base::err::macsec::HeaderSliceError;
 use ep_base::{EtherType, MacsecAn, MacsecShortLen};
 use std::alloc::AllocError;
 
-/// A MACsec tag (IEEE 802.1AE, 9) with the ether type of an unmodified payload: 6 to 16 bytes.
+/// MACsec tag (IEEE 802.1AE, 9), including the ether type of an unmodified payload: 6 to 16 bytes.
 #[derive(Clone, Debug, PartialEq, Eq, Drop)]
 pub struct MacsecHeader {
-    /// What was done to the payload, the flags 0x08 and 0x04 of byte 0; an unmodified payload's type is the last two
-    /// bytes.
+    /// Modification of the MACsec payload (none, modified or encrypted): flags E (0x08) and C (0x04) of byte 0. For an
+    /// unmodified payload, the last two bytes of the tag are its ether type.
     pub ptype: MacsecPType,
-    /// Whether the sender's address names the secure channel (ES), the flag 0x40 of byte 0.
+    /// End station flag (ES) of the MACsec tag: the source MAC address identifies the secure channel (byte 0, bit
+    /// 0x40).
     pub endstation_id: bool,
-    /// Whether the secure channel supports the single copy broadcast of a passive optical network (SCB), the flag 0x10
-    /// of byte 0.
+    /// Single copy broadcast flag (SCB) of the MACsec tag: the secure channel supports the single copy broadcast of a
+    /// passive optical network (byte 0, bit 0x10).
     pub scb: bool,
-    /// The association number, the lower 2 bits of byte 0.
+    /// Association number (AN) of the MACsec tag, the lower 2 bits of byte 0.
     pub an: MacsecAn,
-    /// The short length, the lower 6 bits of byte 1: the number of bytes from byte 6 (or 14) on that belong to the
-    /// packet, an unmodified payload's type among them; 0 where all do.
+    /// Short length (SL) of the MACsec tag, the lower 6 bits of byte 1. It counts the payload bytes after the packet
+    /// number and the optional secure channel identifier, including the ether type of an unmodified payload. 0 means
+    /// that the payload extends to the end of the frame.
     pub short_len: MacsecShortLen,
-    /// The packet number, bytes 2 to 5.
+    /// Packet number (PN) of the MACsec tag, bytes 2 to 5.
     pub packet_nr: u32,
-    /// The secure channel identifier, bytes 6 to 13, which is there if the flag SC (0x20) of byte 0 is set.
+    /// Secure channel identifier (SCI) of the MACsec tag, bytes 6 to 13, or `None` if the SC flag (0x20) of byte 0 is
+    /// not set.
     pub sci: Option<u64>,
 }
 
 impl MacsecHeader {
-    /// The number of bytes of a tag without secure channel identifier, before a modified payload.
+    /// Minimum length of a MACsec tag in bytes: no secure channel identifier, and no ether type, since the payload is
+    /// modified.
     pub const MIN_LEN: usize = 6;
 
-    /// The number of bytes of a tag with secure channel identifier, and with the type of an unmodified payload.
+    /// Maximum length of a MACsec tag in bytes: with a secure channel identifier, and with the ether type of an
+    /// unmodified payload.
     pub const MAX_LEN: usize = 16;
 
-    /// The tag at the front of the slice, and all bytes behind it, which its short length does not cut here.
+    /// Parses the MACsec tag at the start of `slice`, and returns it with all bytes after it, even those beyond the
+    /// short length.
     pub fn from_slice(slice: &[u8]) -> Result<(MacsecHeader, &[u8]), HeaderSliceError>
         ensures ok { IfOk result (λ read. IsMacsecHeader slice.now (read.0, read.1.now)) }
         ensures only { (header : MacsecHeader) (rest : List ℕ) → IsMacsecHeader slice.now (header, rest)
@@ -50,7 +56,7 @@ impl MacsecHeader {
         Ok((header.to_header(), &slice[header.header_len()..]))
     }
 
-    /// The number of bytes of the tag, with the type of an unmodified payload.
+    /// Length of the MACsec tag in bytes, including the ether type of an unmodified payload: 6 to 16.
     #[inline]
     pub fn header_len(&self) -> usize
         ensures value { result ≡ macsec_header_len self.now }
@@ -65,7 +71,7 @@ impl MacsecHeader {
         MacsecHeader::MIN_LEN + sci_len + type_len
     }
 
-    /// The type of the payload, which can be read where the payload is unmodified.
+    /// Ether type of the MACsec payload, or `None` if the payload is modified or encrypted.
     #[inline]
     pub fn next_ether_type(&self) -> Option<EtherType>
         ensures { result ≡ ptype_type self.now.ptype }
@@ -76,7 +82,7 @@ impl MacsecHeader {
         }
     }
 
-    /// The tag as it stands on the wire (IEEE 802.1AE, 9.3), with its reserved bits 0.
+    /// Returns the wire bytes of the MACsec tag (IEEE 802.1AE, 9.3), with reserved bits 0.
     pub fn to_bytes(&self) -> ArrayVec<u8, 16>
         ensures { result.items ≡ macsec_bytes self.now }
     {
@@ -93,8 +99,8 @@ impl MacsecHeader {
         bytes
     }
 
-    /// Appends the tag's bytes. A refusal leaves the buffer as it was, and comes only where the buffer would have to
-    /// grow.
+    /// Appends the wire bytes of the MACsec tag to `buf`. Allocates only if the capacity of `buf` is too small; if the
+    /// allocation fails, `buf` is unchanged.
     pub fn write(&self, buf: &mut Vec<u8>) -> Result<(), AllocError>
         ensures ok { OnOk result (buf.new.items ≡ buf.old.items ++ macsec_bytes self.now) }
         ensures err { OnErr result (buf.new.items ≡ buf.old.items) }
@@ -104,7 +110,7 @@ impl MacsecHeader {
         buf.extend_from_slice(self.to_bytes().as_slice())
     }
 
-    /// The first 6 bytes of the tag on the wire: flags and association number, short length, packet number.
+    /// Returns the first 6 wire bytes of the MACsec tag: flags and association number, short length, packet number.
     fn fixed_bytes(&self) -> [u8; 6]
         ensures bytes { result ++ sci_bytes self.now.sci ++ ptype_bytes self.now.ptype ≡ macsec_bytes self.now }
         ensures len { length result ≡ 6 }

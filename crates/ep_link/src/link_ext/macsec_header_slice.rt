@@ -1,30 +1,30 @@
-//! A MACsec tag in a slice (IEEE 802.1AE, 9).
+//! MACsec tags (IEEE 802.1AE, 9) whose fields are read from a slice without copying it.
 
 ghost use Rattle.std.specs.Prelude.{◌≡◌, ◌<◌, ◌≤◌, length, slice_index};
 ghost use Rattle.ep_base.specs.Readings.{len_error};
 ghost use Rattle.ep_base.specs.declared.err.layer.Layer.TheVariants as layer;
 ghost use Rattle.ep_base.specs.declared.err.macsec.HeaderSliceError.TheVariants as header_error;
 ghost use Rattle.ep_base.specs.declared.len_source.LenSource.TheVariants as source;
-ghost use Rattle.ep_link.specs.Macsec.{HasNoRoomForType, tag_len_of};
+ghost use Rattle.ep_link.specs.Macsec.{IsTooShortForType, tag_len_of};
 
 use crate::link_ext::{MacsecHeader, MacsecPType};
 use ep_base::err::macsec::{HeaderError, HeaderSliceError};
 use ep_base::err::{Layer, LenError};
 use ep_base::{EtherType, LenSource, MacsecAn, MacsecShortLen};
 
-/// A MACsec tag (IEEE 802.1AE, 9) that lies in a slice, with the ether type of an unmodified payload: 6 to 16 bytes.
+/// Slice of a MACsec tag (IEEE 802.1AE, 9), including the ether type of an unmodified payload: 6 to 16 bytes.
 #[derive(Clone, Debug, PartialEq, Eq, Drop)]
 pub struct MacsecHeaderSlice<'a> {
-    tag: WholeTag<'a>,
+    tag: TagBytes<'a>,
 }
 
-/// The bytes of a tag, of which none is missing.
+/// Bytes of exactly one complete MACsec tag.
 #[derive(Clone, Copy, Debug, PartialEq, Eq)]
-struct WholeTag<'a> {
+struct TagBytes<'a> {
     slice: &'a [u8],
     ghost fixed: { 6 ≤ length slice.now },
     ghost version: { slice_index slice.now 0 < 128 },
-    ghost room: { ¬ HasNoRoomForType slice.now },
+    ghost room: { ¬ IsTooShortForType slice.now },
     ghost whole: { length slice.now ≡ tag_len_of slice.now },
 }
 
@@ -35,7 +35,8 @@ impl<'a> MacsecHeaderSlice<'a> {
     ghost use Rattle.ep_link.specs.Macsec.{ptype_type, modification_of, short_len_of, payload_len_of};
     ghost use Rattle.ep_link.specs.MacsecSlices.{macsec_header_slice_bytes, macsec_header_slice_header};
 
-    /// The tag at the front of the slice, whose short length cuts nothing here.
+    /// Parses the MACsec tag at the start of `slice`. The short length is not compared with the number of bytes after
+    /// the tag.
     pub fn from_slice(slice: &'a [u8]) -> Result<MacsecHeaderSlice<'a>, HeaderSliceError>
         ensures ok { IfOk result (λ header. (rest : List ℕ) × (slice.now ≡ macsec_header_slice_bytes header ++ rest)
             × IsMacsecHeader slice.now (macsec_header_slice_header header, rest)) }
@@ -44,7 +45,7 @@ impl<'a> MacsecHeaderSlice<'a> {
         ensures err { IfErr result (RefusesMacsecHeader slice.now) }
     {
         if slice.len() < MacsecHeader::MIN_LEN {
-            return Err(too_short(MacsecHeader::MIN_LEN, slice.len()));
+            return Err(tag_len_error(MacsecHeader::MIN_LEN, slice.len()));
         }
         if slice[0] >> 7 != 0 {
             return Err(HeaderSliceError::Content(HeaderError::UnexpectedVersion));
@@ -57,16 +58,16 @@ impl<'a> MacsecHeaderSlice<'a> {
         let type_len = if modification == 0 { 2 } else { 0 };
         let header_len = MacsecHeader::MIN_LEN + sci_len + type_len;
         if slice.len() < header_len {
-            return Err(too_short(header_len, slice.len()));
+            return Err(tag_len_error(header_len, slice.len()));
         }
         Ok(MacsecHeaderSlice {
-            tag: WholeTag {
+            tag: TagBytes {
                 slice: &slice[..header_len],
             },
         })
     }
 
-    /// The bytes of the tag, with the type of an unmodified payload.
+    /// Bytes of the MACsec tag, including the ether type of an unmodified payload.
     #[inline]
     pub fn slice(&self) -> &'a [u8]
         ensures { result.now ≡ macsec_header_slice_bytes self.now }
@@ -74,7 +75,7 @@ impl<'a> MacsecHeaderSlice<'a> {
         self.tag.slice
     }
 
-    /// The number of bytes of the tag, with the type of an unmodified payload.
+    /// Length of the MACsec tag in bytes, including the ether type of an unmodified payload: 6 to 16.
     #[inline]
     pub fn header_len(&self) -> usize
         ensures bytes { result ≡ length (macsec_header_slice_bytes self.now) }
@@ -83,8 +84,8 @@ impl<'a> MacsecHeaderSlice<'a> {
         self.tag.slice.len()
     }
 
-    /// What was done to the payload, the flags 0x08 and 0x04 of byte 0. The type of an unmodified payload is the last
-    /// two bytes.
+    /// Modification of the MACsec payload (none, modified or encrypted): flags E (0x08) and C (0x04) of byte 0. For an
+    /// unmodified payload, the last two bytes of the tag are its ether type.
     #[inline]
     pub fn ptype(&self) -> MacsecPType
         ensures { result ≡ (macsec_header_slice_header self.now).ptype }
@@ -101,7 +102,8 @@ impl<'a> MacsecHeaderSlice<'a> {
         }
     }
 
-    /// Whether the sender's address names the secure channel (ES), the flag 0x40 of byte 0.
+    /// End station flag (ES) of the MACsec tag: the source MAC address identifies the secure channel (byte 0, bit
+    /// 0x40).
     #[inline]
     pub fn endstation_id(&self) -> bool
         ensures { result ≡ (macsec_header_slice_header self.now).endstation_id }
@@ -109,8 +111,8 @@ impl<'a> MacsecHeaderSlice<'a> {
         (self.tag.slice[0] >> 6) & 1 == 1
     }
 
-    /// Whether the secure channel supports the single copy broadcast of a passive optical network (SCB), the flag 0x10
-    /// of byte 0.
+    /// Single copy broadcast flag (SCB) of the MACsec tag: the secure channel supports the single copy broadcast of a
+    /// passive optical network (byte 0, bit 0x10).
     #[inline]
     pub fn scb(&self) -> bool
         ensures { result ≡ (macsec_header_slice_header self.now).scb }
@@ -118,7 +120,7 @@ impl<'a> MacsecHeaderSlice<'a> {
         (self.tag.slice[0] >> 4) & 1 == 1
     }
 
-    /// The association number, the lower 2 bits of byte 0.
+    /// Association number (AN) of the MACsec tag, the lower 2 bits of byte 0.
     #[inline]
     pub fn an(&self) -> MacsecAn
         ensures { result ≡ (macsec_header_slice_header self.now).an }
@@ -126,7 +128,7 @@ impl<'a> MacsecHeaderSlice<'a> {
         MacsecAn::try_new(self.tag.slice[0] & 3).unwrap()
     }
 
-    /// The short length, the lower 6 bits of byte 1.
+    /// Short length (SL) of the MACsec tag, the lower 6 bits of byte 1.
     #[inline]
     pub fn short_len(&self) -> MacsecShortLen
         ensures { result ≡ (macsec_header_slice_header self.now).short_len }
@@ -134,7 +136,7 @@ impl<'a> MacsecHeaderSlice<'a> {
         MacsecShortLen::try_new(self.tag.slice[1] & 0x3f).unwrap()
     }
 
-    /// The packet number, bytes 2 to 5.
+    /// Packet number (PN) of the MACsec tag, bytes 2 to 5.
     #[inline]
     pub fn packet_nr(&self) -> u32
         ensures { result ≡ (macsec_header_slice_header self.now).packet_nr }
@@ -143,7 +145,8 @@ impl<'a> MacsecHeaderSlice<'a> {
         u32::from_be_bytes([bytes[2], bytes[3], bytes[4], bytes[5]])
     }
 
-    /// The secure channel identifier, bytes 6 to 13, which is there if the flag SC (0x20) of byte 0 is set.
+    /// Secure channel identifier (SCI) of the MACsec tag, bytes 6 to 13, or `None` if the SC flag (0x20) of byte 0 is
+    /// not set.
     #[inline]
     pub fn sci(&self) -> Option<u64>
         ensures { result ≡ (macsec_header_slice_header self.now).sci }
@@ -157,7 +160,7 @@ impl<'a> MacsecHeaderSlice<'a> {
         ]))
     }
 
-    /// The type of the payload, which can be read where the payload is unmodified.
+    /// Ether type of the MACsec payload, or `None` if the payload is modified or encrypted.
     #[inline]
     pub fn next_ether_type(&self) -> Option<EtherType>
         ensures { result ≡ ptype_type (macsec_header_slice_header self.now).ptype }
@@ -168,7 +171,8 @@ impl<'a> MacsecHeaderSlice<'a> {
         }
     }
 
-    /// The number of payload bytes that a short length other than 0 demands.
+    /// Length in bytes of the payload after the MACsec tag according to its short length, or `None` if the short length
+    /// is 0.
     #[inline]
     pub(crate) fn payload_len(&self) -> Option<usize>
         ensures { MatchOption result (short_len_of (macsec_header_slice_bytes self.now) ≡ 0)
@@ -183,7 +187,7 @@ impl<'a> MacsecHeaderSlice<'a> {
         Some(short_len - type_len)
     }
 
-    /// The flags E and C as a number of two bits: 0 where the payload is unmodified.
+    /// Flags E and C of the MACsec tag as a 2 bit number, with E as the upper bit: 0 if the payload is unmodified.
     #[inline]
     fn modification(&self) -> u8
         ensures value { result ≡ modification_of (macsec_header_slice_bytes self.now) }
@@ -192,7 +196,7 @@ impl<'a> MacsecHeaderSlice<'a> {
         (self.tag.slice[0] >> 2) & 3
     }
 
-    /// The tag as a value.
+    /// Returns the MACsec tag as an owned value.
     pub fn to_header(&self) -> MacsecHeader
         ensures { result ≡ macsec_header_slice_header self.now }
     {
@@ -208,8 +212,8 @@ impl<'a> MacsecHeaderSlice<'a> {
     }
 }
 
-/// Too few bytes for a tag.
-fn too_short(required_len: usize, len: usize) -> HeaderSliceError
+/// Returns the length error of a MACsec tag that needs `required_len` bytes in a slice of `len` bytes.
+fn tag_len_error(required_len: usize, len: usize) -> HeaderSliceError
     ensures { result ≡ header_error.Len (len_error required_len len source.Slice layer.MacsecHeader) }
 {
     HeaderSliceError::Len(LenError::at_start(

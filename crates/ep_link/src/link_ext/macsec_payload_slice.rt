@@ -1,14 +1,14 @@
-//! The payload of a MACsec packet in a slice (IEEE 802.1AE, 9).
+//! Payloads after MACsec tags (IEEE 802.1AE, 9) in a slice.
 
 use crate::link_ext::MacsecHeaderSlice;
 use ep_base::{EtherPayloadSlice, LenSource};
 
-/// The payload of a MACsec packet (IEEE 802.1AE, 9) that lies in a slice.
+/// Payload after a MACsec tag (IEEE 802.1AE, 9): unmodified with its ether type, or modified.
 #[derive(Clone, Debug, PartialEq, Eq, Drop)]
 pub enum MacsecPayloadSlice<'a> {
-    /// The payload as it was sent, with its type.
+    /// Unmodified MACsec payload, with its ether type.
     Unmodified(EtherPayloadSlice<'a>),
-    /// A payload that is changed or encrypted, so that nothing is known of its type.
+    /// Bytes of a modified or encrypted MACsec payload, whose ether type is unknown.
     Modified(&'a [u8]),
 }
 
@@ -17,7 +17,7 @@ impl<'a> MacsecPayloadSlice<'a> {
     ghost use Rattle.ep_link.specs.Macsec.{macsec_payload, macsec_payload_bytes};
     ghost use Rattle.ep_link.specs.MacsecSlices.{macsec_header_slice_header, macsec_payload_of};
 
-    /// The payload's bytes.
+    /// Bytes of the MACsec payload.
     #[inline]
     pub fn slice(&self) -> &'a [u8]
         ensures { result.now ≡ macsec_payload_bytes (macsec_payload_of self.now) }
@@ -28,8 +28,9 @@ impl<'a> MacsecPayloadSlice<'a> {
         }
     }
 
-    /// The payload of this tag, which has these bytes.
-    pub(crate) fn behind(
+    /// Returns `payload` as the payload after the MACsec tag `header`: with the tag's ether type if it is unmodified,
+    /// and as modified bytes otherwise.
+    pub(crate) fn of_tag(
         header: &MacsecHeaderSlice<'a>,
         payload: &'a [u8],
     ) -> MacsecPayloadSlice<'a>

@@ -1,18 +1,18 @@
-//! A MACsec packet in slices (IEEE 802.1AE, 9).
+//! MACsec tags with their payloads (IEEE 802.1AE, 9) in slices.
 
 use crate::link_ext::{MacsecHeader, MacsecHeaderSlice, MacsecPayloadSlice};
 use ep_base::err::macsec::HeaderSliceError;
 use ep_base::err::{Layer, LenError};
 use ep_base::{EtherPayloadSlice, EtherType, LenSource};
 
-/// A MACsec tag (IEEE 802.1AE, 9) and its payload that lie in slices. The short length cuts the payload. The integrity
-/// check value is not told from the payload: a short length other than 0 leaves it behind, and without one it ends the
+/// Slices of a MACsec tag (IEEE 802.1AE, 9) and its payload. If the short length of the tag is not 0, it limits the
+/// payload, and the integrity check value is not part of it. Otherwise the integrity check value is at the end of the
 /// payload.
 #[derive(Clone, Debug, PartialEq, Eq, Drop)]
 pub struct MacsecSlice<'a> {
-    /// The tag.
+    /// MACsec tag, including the ether type of an unmodified payload.
     pub header: MacsecHeaderSlice<'a>,
-    /// The payload.
+    /// Payload after the MACsec tag.
     pub payload: MacsecPayloadSlice<'a>,
 }
 
@@ -27,7 +27,8 @@ impl<'a> MacsecSlice<'a> {
     ghost use Rattle.ep_link.specs.MacsecSlices.{macsec_header_slice_bytes, macsec_slice_bytes};
     ghost use Rattle.ep_link.specs.MacsecSlices.{macsec_slice_header, macsec_slice_parts, macsec_slice_payload};
 
-    /// The packet at the front of the slice. Its short length cuts it.
+    /// Parses the MACsec tag and its payload at the start of `slice`. The short length of the tag limits the payload if
+    /// it is not 0.
     pub fn from_slice(slice: &'a [u8]) -> Result<MacsecSlice<'a>, HeaderSliceError>
         ensures ok { IfOk result (λ shown. (left : List ℕ) × (slice.now ≡ macsec_slice_bytes shown ++ left)
             × IsMacsec slice.now (macsec_slice_parts shown left)) }
@@ -51,11 +52,11 @@ impl<'a> MacsecSlice<'a> {
                 Layer::MacsecPacket,
             )));
         }
-        let payload = MacsecPayloadSlice::behind(&header, &slice[header_len..end]);
+        let payload = MacsecPayloadSlice::of_tag(&header, &slice[header_len..end]);
         Ok(MacsecSlice { header, payload })
     }
 
-    /// The number of bytes of the tag, with the type of an unmodified payload.
+    /// Length of the MACsec tag in bytes, including the ether type of an unmodified payload: 6 to 16.
     #[inline]
     pub fn header_len(&self) -> usize
         ensures bytes { result ≡ length (macsec_header_slice_bytes self.now.header) }
@@ -64,7 +65,7 @@ impl<'a> MacsecSlice<'a> {
         self.header.header_len()
     }
 
-    /// The tag as a value.
+    /// Returns the MACsec tag as an owned value.
     #[inline]
     pub fn to_header(&self) -> MacsecHeader
         ensures { result ≡ macsec_slice_header self.now }
@@ -72,7 +73,7 @@ impl<'a> MacsecSlice<'a> {
         self.header.to_header()
     }
 
-    /// The type of the payload, where it is unmodified.
+    /// Ether type of the MACsec payload, or `None` if the payload is modified or encrypted.
     #[inline]
     pub fn next_ether_type(&self) -> Option<EtherType>
         ensures { result ≡ macsec_payload_type (macsec_slice_payload self.now) }
@@ -83,7 +84,7 @@ impl<'a> MacsecSlice<'a> {
         }
     }
 
-    /// The payload with its type, where it is unmodified.
+    /// MACsec payload with its ether type, or `None` if the payload is modified or encrypted.
     #[inline]
     pub fn ether_payload(&self) -> Option<EtherPayloadSlice<'a>>
         ensures { option_map ether_payload_of result ≡ macsec_ether_payload (macsec_slice_payload self.now) }

@@ -1,4 +1,4 @@
-//! A VLAN tag (IEEE 802.1Q, 9.6).
+//! VLAN tags (IEEE 802.1Q, 9.6) as owned values.
 
 ghost use Rattle.std.specs.Prelude.{◌≡◌, ◌++◌, ◌+◌, ◌<◌, ◌≤◌, [], IfOk, IfErr, OnOk, OnErr, IsOkAnd, length, vec_len, vec_capacity};
 ghost use Rattle.ep_base.specs.Tables.{Parts, parts_of};
@@ -9,25 +9,25 @@ use ep_base::err::LenError;
 use ep_base::{EtherType, VlanId, VlanPcp};
 use std::alloc::AllocError;
 
-/// A VLAN tag behind the ether type that says that it is one (IEEE 802.1Q, 9.6): the tag control information, and the
-/// type of what follows the tag. 4 bytes.
+/// VLAN tag (IEEE 802.1Q, 9.6), 4 bytes: the tag control information and the ether type of the payload. The tag's own
+/// ether type is in the header before it.
 #[derive(Clone, Debug, PartialEq, Eq, Drop)]
 pub struct SingleVlanHeader {
-    /// The priority of the frame (PCP), the upper 3 bits of byte 0.
+    /// Priority code point (PCP) of the VLAN tag, the upper 3 bits of byte 0.
     pub pcp: VlanPcp,
-    /// Whether the frame may be dropped first under load (DEI), the fourth highest bit of byte 0.
+    /// Drop eligible indicator (DEI) of the VLAN tag: the frame may be dropped first in congestion (byte 0, bit 0x10).
     pub drop_eligible_indicator: bool,
-    /// The VLAN that the frame belongs to (VID), the lower 12 bits of bytes 0 and 1.
+    /// VLAN identifier (VID) of the VLAN tag, the lower 12 bits of bytes 0 and 1.
     pub vlan_id: VlanId,
-    /// What follows the tag, bytes 2 and 3.
+    /// Ether type of the payload after the VLAN tag, bytes 2 and 3.
     pub ether_type: EtherType,
 }
 
 impl SingleVlanHeader {
-    /// The number of bytes of a tag.
+    /// Length of a VLAN tag in bytes.
     pub const LEN: usize = 4;
 
-    /// The tag at the front of the slice, and the bytes behind it.
+    /// Parses the VLAN tag at the start of `slice`, and returns it with the bytes after it.
     #[inline]
     pub fn from_slice(slice: &[u8]) -> Result<(SingleVlanHeader, &[u8]), LenError>
         ensures ok { IfOk result (λ read. IsVlan slice.now (parts_of read.0 read.1.now [])) }
@@ -39,7 +39,7 @@ impl SingleVlanHeader {
         Ok((slice.to_header(), slice.payload_slice()))
     }
 
-    /// The number of bytes of the tag: 4.
+    /// Length of a VLAN tag in bytes: 4.
     #[inline]
     pub fn header_len(&self) -> usize
         ensures { result ≡ 4 }
@@ -47,7 +47,7 @@ impl SingleVlanHeader {
         SingleVlanHeader::LEN
     }
 
-    /// The tag as it stands on the wire.
+    /// Returns the wire bytes of the VLAN tag: tag control information and ether type of the payload.
     #[inline]
     pub fn to_bytes(&self) -> [u8; 4]
         ensures { result ≡ vlan_bytes self.now }
@@ -62,8 +62,8 @@ impl SingleVlanHeader {
         [self.pcp.value() * 32 + drop_eligible + i0, i1, t0, t1]
     }
 
-    /// Appends the tag's bytes. A refusal leaves the buffer as it was, and comes only where the buffer would have to
-    /// grow.
+    /// Appends the wire bytes of the VLAN tag to `buf`. Allocates only if the capacity of `buf` is too small; if the
+    /// allocation fails, `buf` is unchanged.
     pub fn write(&self, buf: &mut Vec<u8>) -> Result<(), AllocError>
         ensures ok { OnOk result (buf.new.items ≡ buf.old.items ++ vlan_bytes self.now) }
         ensures err { OnErr result (buf.new.items ≡ buf.old.items) }

@@ -1,10 +1,10 @@
-//! A VLAN tag and its payload in a slice (IEEE 802.1Q, 9.6).
+//! VLAN tags with their payloads (IEEE 802.1Q, 9.6) whose fields are read from a slice without copying it.
 
 use crate::link_ext::SingleVlanHeader;
 use ep_base::err::{Layer, LenError};
 use ep_base::{AtLeast, EtherPayloadSlice, EtherType, LenSource, VlanId, VlanPcp};
 
-/// A VLAN tag (IEEE 802.1Q, 9.6) and its payload that lie in a slice.
+/// Slice of a VLAN tag (IEEE 802.1Q, 9.6) and its payload.
 #[derive(Clone, Debug, PartialEq, Eq, Drop)]
 pub struct SingleVlanSlice<'a> {
     bytes: AtLeast<'a, 4>,
@@ -19,7 +19,8 @@ impl<'a> SingleVlanSlice<'a> {
     ghost use Rattle.ep_link.specs.VlanSlices.{vlan_slice_bytes, vlan_slice_header};
     ghost use Rattle.ep_link.specs.VlanSlices.{vlan_slice_payload, vlan_slice_parts};
 
-    /// The tag and the payload that the slice is.
+    /// Parses `slice` as a VLAN tag: 4 bytes of tag control information and ether type, and all other bytes as its
+    /// payload.
     pub fn from_slice(slice: &'a [u8]) -> Result<SingleVlanSlice<'a>, LenError>
         ensures ok { IfOk result (λ shown. (left : List ℕ) × (slice.now ≡ vlan_slice_bytes shown ++ left)
             × IsVlan slice.now (vlan_slice_parts shown left)) }
@@ -40,7 +41,7 @@ impl<'a> SingleVlanSlice<'a> {
         })
     }
 
-    /// The tag of four bytes 0, without payload.
+    /// Returns a VLAN tag of four zero bytes with an empty payload.
     pub(crate) fn zeros() -> SingleVlanSlice<'a>
         ensures { vlan_slice_bytes result ≡ 0 ∷ 0 ∷ 0 ∷ 0 ∷ [] }
     {
@@ -49,7 +50,7 @@ impl<'a> SingleVlanSlice<'a> {
         }
     }
 
-    /// All bytes: tag and payload.
+    /// All bytes of the VLAN tag and its payload.
     #[inline]
     pub fn slice(&self) -> &'a [u8]
         ensures { result.now ≡ vlan_slice_bytes self.now }
@@ -57,7 +58,7 @@ impl<'a> SingleVlanSlice<'a> {
         self.bytes.slice
     }
 
-    /// The number of bytes of the tag: 4.
+    /// Length of a VLAN tag in bytes: 4.
     #[inline]
     pub fn header_len(&self) -> usize
         ensures { result ≡ 4 }
@@ -65,7 +66,7 @@ impl<'a> SingleVlanSlice<'a> {
         SingleVlanHeader::LEN
     }
 
-    /// The priority of the frame (PCP), the upper 3 bits of byte 0.
+    /// Priority code point (PCP) of the VLAN tag, the upper 3 bits of byte 0.
     #[inline]
     pub fn pcp(&self) -> VlanPcp
         ensures { result ≡ (vlan_slice_header self.now).pcp }
@@ -73,7 +74,7 @@ impl<'a> SingleVlanSlice<'a> {
         VlanPcp::try_new(self.bytes.slice[0] >> 5).unwrap()
     }
 
-    /// Whether the frame may be dropped first under load (DEI), the fourth highest bit of byte 0.
+    /// Drop eligible indicator (DEI) of the VLAN tag: the frame may be dropped first in congestion (byte 0, bit 0x10).
     #[inline]
     pub fn drop_eligible_indicator(&self) -> bool
         ensures { result ≡ (vlan_slice_header self.now).drop_eligible_indicator }
@@ -81,7 +82,7 @@ impl<'a> SingleVlanSlice<'a> {
         (self.bytes.slice[0] >> 4) & 1 == 1
     }
 
-    /// The VLAN that the frame belongs to (VID), the lower 12 bits of bytes 0 and 1.
+    /// VLAN identifier (VID) of the VLAN tag, the lower 12 bits of bytes 0 and 1.
     #[inline]
     pub fn vlan_identifier(&self) -> VlanId
         ensures { result ≡ (vlan_slice_header self.now).vlan_id }
@@ -90,7 +91,7 @@ impl<'a> SingleVlanSlice<'a> {
         VlanId::try_new(priority_and_id & 0xfff).unwrap()
     }
 
-    /// What follows the tag, bytes 2 and 3.
+    /// Ether type of the payload after the VLAN tag, bytes 2 and 3.
     #[inline]
     pub fn ether_type(&self) -> EtherType
         ensures { result ≡ (vlan_slice_header self.now).ether_type }
@@ -98,7 +99,7 @@ impl<'a> SingleVlanSlice<'a> {
         EtherType(u16::from_be_bytes([self.bytes.slice[2], self.bytes.slice[3]]))
     }
 
-    /// The tag as a value.
+    /// Returns the VLAN tag as an owned value.
     #[inline]
     pub fn to_header(&self) -> SingleVlanHeader
         ensures { result ≡ vlan_slice_header self.now }
@@ -111,7 +112,7 @@ impl<'a> SingleVlanSlice<'a> {
         }
     }
 
-    /// The bytes behind the tag.
+    /// Payload of the VLAN tag: the bytes after it.
     #[inline]
     pub fn payload_slice(&self) -> &'a [u8]
         ensures { result.now ≡ vlan_slice_payload self.now }
@@ -119,7 +120,8 @@ impl<'a> SingleVlanSlice<'a> {
         &self.bytes.slice[SingleVlanHeader::LEN..]
     }
 
-    /// The bytes behind the tag, with their type.
+    /// Payload after the VLAN tag, with its ether type: all bytes to the end of the slice, since the tag has no length
+    /// field. Its length source is `Slice`.
     #[inline]
     pub fn payload(&self) -> EtherPayloadSlice<'a>
         ensures ether_type { result.ether_type ≡ (vlan_slice_header self.now).ether_type }

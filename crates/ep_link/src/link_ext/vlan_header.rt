@@ -1,4 +1,4 @@
-//! One VLAN tag or two (IEEE 802.1Q, 9.6).
+//! One or two VLAN tags (IEEE 802.1Q, 9.6) as owned values.
 
 ghost use Rattle.std.specs.Prelude.{◌≡◌, ◌++◌, ◌+◌, ◌<◌, ◌≤◌, OnOk, OnErr, length, vec_len, vec_capacity};
 ghost use Rattle.ep_link.specs.Vlan.{vlan_tags_bytes};
@@ -7,17 +7,17 @@ use crate::link_ext::{DoubleVlanHeader, SingleVlanHeader};
 use arrayvec::ArrayVec;
 use std::alloc::AllocError;
 
-/// One VLAN tag or two, one behind the other (IEEE 802.1Q, 9.6).
+/// One VLAN tag or two VLAN tags (IEEE 802.1Q, 9.6).
 #[derive(Clone, Debug, PartialEq, Eq, Drop)]
 pub enum VlanHeader {
-    /// One tag.
+    /// Single VLAN tag.
     Single(SingleVlanHeader),
-    /// Two tags.
+    /// Two VLAN tags, the outer and the inner one.
     Double(DoubleVlanHeader),
 }
 
 impl VlanHeader {
-    /// The number of bytes of the tags: 4 for one, 8 for two.
+    /// Length of the VLAN tags in bytes: 4 for one tag, 8 for two.
     #[inline]
     pub fn header_len(&self) -> usize
         ensures { result ≡ length (vlan_tags_bytes self.now) }
@@ -28,7 +28,7 @@ impl VlanHeader {
         }
     }
 
-    /// The tags as they stand on the wire.
+    /// Returns the wire bytes of the VLAN tags: 4 for one tag, 8 for two, the outer one first.
     #[inline]
     pub fn to_bytes(&self) -> ArrayVec<u8, 8>
         ensures { result.items ≡ vlan_tags_bytes self.now }
@@ -41,8 +41,8 @@ impl VlanHeader {
         bytes
     }
 
-    /// Appends the bytes of the tags. A refusal leaves the buffer as it was, and comes only where the buffer would have
-    /// to grow.
+    /// Appends the wire bytes of the VLAN tags (one or two) to `buf`. Allocates only if the capacity of `buf` is too
+    /// small; if the allocation fails, `buf` is unchanged.
     pub fn write(&self, buf: &mut Vec<u8>) -> Result<(), AllocError>
         ensures ok { OnOk result (buf.new.items ≡ buf.old.items ++ vlan_tags_bytes self.now) }
         ensures err { OnErr result (buf.new.items ≡ buf.old.items) }

@@ -1,14 +1,14 @@
-//! One VLAN tag or two in slices (IEEE 802.1Q, 9.6).
+//! One or two VLAN tags with their payloads (IEEE 802.1Q, 9.6) in slices.
 
 use crate::link_ext::{DoubleVlanSlice, SingleVlanSlice, VlanHeader};
 use ep_base::EtherPayloadSlice;
 
-/// One VLAN tag or two (IEEE 802.1Q, 9.6) that lie in slices.
+/// Slices of one VLAN tag or of two VLAN tags (IEEE 802.1Q, 9.6), with their payloads.
 #[derive(Clone, Debug, PartialEq, Eq, Drop)]
 pub enum VlanSlice<'a> {
-    /// One tag.
+    /// Single VLAN tag and its payload.
     SingleVlan(SingleVlanSlice<'a>),
-    /// Two tags.
+    /// Two VLAN tags, the outer and the inner one, with their payloads. A MACsec tag may be between them.
     DoubleVlan(DoubleVlanSlice<'a>),
 }
 
@@ -17,7 +17,7 @@ impl<'a> VlanSlice<'a> {
     ghost use Rattle.ep_base.specs.declared.len_source.LenSource.TheVariants as source;
     ghost use Rattle.ep_link.specs.VlanSlices.{vlan_tags_of, innermost_tag, vlan_slice_header, vlan_slice_payload};
 
-    /// The tags as values.
+    /// Returns the VLAN tags (one or two) as owned values.
     #[inline]
     pub fn to_header(&self) -> VlanHeader
         ensures { result ≡ vlan_tags_of self.now }
@@ -28,7 +28,8 @@ impl<'a> VlanSlice<'a> {
         }
     }
 
-    /// The bytes behind the innermost tag, with their type.
+    /// Payload after the last VLAN tag (the inner one of two), with its ether type: all bytes to the end of that tag's
+    /// slice. Its length source is `Slice`, even if the short length of a MACsec tag limits that slice.
     #[inline]
     pub fn payload(&self) -> EtherPayloadSlice<'a>
         ensures ether_type { result.ether_type ≡ (vlan_slice_header (innermost_tag self.now)).ether_type }

@@ -1,18 +1,19 @@
-//! Why IP headers were not written.
+//! Error of writing an IP header and its extension headers.
 
 use ep_base::err::{ipv4_exts, ipv6_exts};
 use thiserror::Error;
 
-/// Why IP headers were not written.
+/// Reason why an IP header and its extension headers were not written.
 #[derive(Clone, Debug, PartialEq, Eq, Drop, Error)]
 pub enum HeadersWriteError {
-    /// There was no memory for the bytes.
+    /// Out of memory: the buffer that the IP headers are appended to could not grow.
     #[error("out of memory")]
     OutOfMemory,
-    /// The numbers do not lead to the extension header of IPv4.
+    /// The IPv4 headers have an authentication header, but the protocol field of the IPv4 header is not 51, its number.
     #[error(transparent)]
     Ipv4Exts(ipv4_exts::ExtsWalkError),
-    /// The numbers do not lead to each extension header of IPv6.
+    /// The IPv6 headers have an extension header that the chain of next header values does not lead to, or hop-by-hop
+    /// options that are not the first header of the chain.
     #[error(transparent)]
     Ipv6Exts(ipv6_exts::ExtsWalkError),
 }
@@ -22,7 +23,7 @@ impl HeadersWriteError {
     ghost use Rattle.std.specs.Option.{option_copied};
     ghost use Rattle.ep_packet.specs.IpHeaders.{ipv4_walk_error_in, ipv6_walk_error_in};
 
-    /// Whether memory was wanting.
+    /// Returns true if writing the IP headers failed because the buffer could not grow.
     #[inline]
     pub fn is_out_of_memory(&self) -> bool
         ensures { IsTrue result ↔ (self.now ≡ HeadersWriteError.OutOfMemory) }
@@ -30,7 +31,7 @@ impl HeadersWriteError {
         matches!(self, HeadersWriteError::OutOfMemory)
     }
 
-    /// The refusal of the extension header of IPv4, if it is one.
+    /// Returns the reason that concerns the IPv4 authentication header; `None` if the error is another one.
     #[inline]
     pub fn ipv4_exts(&self) -> Option<&ipv4_exts::ExtsWalkError>
         ensures { option_copied result ≡ ipv4_walk_error_in self.now }
@@ -41,7 +42,7 @@ impl HeadersWriteError {
         }
     }
 
-    /// The refusal of the extension headers of IPv6, if it is one.
+    /// Returns the reason that concerns the IPv6 extension headers; `None` if the error is another one.
     #[inline]
     pub fn ipv6_exts(&self) -> Option<&ipv6_exts::ExtsWalkError>
         ensures { option_copied result ≡ ipv6_walk_error_in self.now }

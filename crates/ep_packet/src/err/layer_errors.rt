@@ -1,4 +1,5 @@
-//! The error of a single layer as that of a packet, for `?`. Its offset stays as the layer tells it.
+//! Conversions from the error of a single layer to `SliceError`, for `?`. The offset in a length error is kept: it is
+//! not adjusted by the length of the layers before it.
 
 use crate::err::SliceError;
 use ep_base::err::{LenError, ip, ipv4, ipv6, linux_sll, macsec, tcp};

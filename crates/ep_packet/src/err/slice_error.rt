@@ -1,36 +1,36 @@
-//! Why no packet could be sliced.
+//! Error of slicing a packet, or of decoding its headers.
 
 use ep_base::err::{LenError, ip, ip_auth, ipv4, ipv6, ipv6_exts, linux_sll, macsec, tcp};
 use thiserror::Error;
 
-/// Why no packet could be sliced: the refusal of the first layer that does not stand.
+/// Reason why a packet could not be sliced or decoded: the error of its outermost invalid layer.
 #[derive(Clone, Debug, PartialEq, Eq, Hash, Drop, Error)]
 pub enum SliceError {
-    /// A layer has too few bytes.
+    /// A layer of the packet has too few bytes, or an ICMPv4 timestamp message does not have exactly 20 bytes.
     #[error(transparent)]
     Len(LenError),
-    /// The bytes are no header of a Linux cooked capture.
+    /// The Linux cooked capture header is invalid.
     #[error(transparent)]
     LinuxSll(linux_sll::HeaderError),
-    /// The bytes are no MACsec tag.
+    /// A MACsec tag of the packet is invalid.
     #[error(transparent)]
     Macsec(macsec::HeaderError),
-    /// The bytes are no IP header, of whichever version.
+    /// The IP header is invalid, in a packet without an ether type: its first byte gives the IP version.
     #[error(transparent)]
     Ip(ip::HeaderError),
-    /// The bytes are no IPv4 header.
+    /// The IPv4 header is invalid, in a packet of ether type IPv4.
     #[error(transparent)]
     Ipv4(ipv4::HeaderError),
-    /// The bytes are no IPv6 header.
+    /// The IPv6 header is invalid, in a packet of ether type IPv6.
     #[error(transparent)]
     Ipv6(ipv6::HeaderError),
-    /// The bytes are no extension header of IPv4.
+    /// The authentication header after an IPv4 header is invalid.
     #[error(transparent)]
     Ipv4Exts(ip_auth::HeaderError),
-    /// The bytes are no extension headers of IPv6.
+    /// An extension header after an IPv6 header is invalid.
     #[error(transparent)]
     Ipv6Exts(ipv6_exts::HeaderError),
-    /// The bytes are no TCP header.
+    /// The TCP header is invalid.
     #[error(transparent)]
     Tcp(tcp::HeaderError),
 }

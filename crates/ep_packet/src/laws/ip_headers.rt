@@ -1,4 +1,4 @@
-//! What holds of all headers by value, each law the contract of a function that does nothing.
+//! Laws of owned IP headers: writing, and reading back. Each law is the contract of a function without effect.
 
 ghost use Rattle.std.specs.Prelude.{◌≡◌, ◌++◌, ℕ, List, length};
 ghost use Rattle.ep_base.specs.declared.ip_number.IpNumber.{IpNumber};
@@ -9,10 +9,10 @@ ghost use Rattle.ep_packet.specs.IpHeaders.{ip_headers_parts, payload_of_headers
 
 use crate::ip_headers::IpHeaders;
 
-/// Headers that lead to a number are written, all of them, in the order of linking, and in no other. Where the number
-/// is none of an extension header of their version, and their length field counts the payload, they are read back from
-/// their bytes and the payload behind them, with this payload and nothing left. The checksum of IPv4 is the one with
-/// which they are written.
+/// States that IP headers written before a payload are decoded back with that payload, no trailing bytes, and the
+/// written checksum. Their next header values and length field are set for the payload first, so that they lead through
+/// all extension headers. Each field has to fit its width, and the payload's protocol number must not be that of an
+/// extension header.
 pub fn read_back()
     ensures leads { (headers : IpHeaders) (last : IpNumber) (len : ℕ) → LeadThrough (headers_for headers last len)
         (ip_headers_parts (headers_for headers last len)) last.0 }
@@ -25,7 +25,7 @@ pub fn read_back()
         (payload_of_headers written last payload) }
 {}
 
-/// The number of bytes of the longest headers.
+/// States that `IpHeaders::MAX_LEN` is 9268.
 pub fn constants()
     ensures { IpHeaders.MAX_LEN ≡ 9268 }
 {}

@@ -1,4 +1,5 @@
-//! What holds of packets by value, each law the contract of a function that does nothing.
+//! Laws that compare the two parsers, `SlicedPacket` (slicing) and `PacketHeaders` (decoding into owned headers). Each
+//! law is the contract of a function without effect.
 
 ghost use Rattle.std.specs.Prelude.{◌≡◌, ◌⊎◌, ℕ, List};
 ghost use Rattle.ep_base.specs.Bytes.{AreBytes};
@@ -12,9 +13,9 @@ use crate::entry::Entry;
 use crate::err::SliceError;
 use crate::packet_headers::PacketHeaders;
 
-/// Bytes that are a frame as slices are read, in which no kind of extension header of IPv6 stands twice, are one as
-/// headers are read, of the same link layer, link extensions, net layer and transport header. The payload of the last
-/// layer is the same too, except that the length field of UDP cuts the one in slices alone.
+/// States that bytes that `SlicedPacket` accepts, `PacketHeaders` decodes to equal headers in all layers, unless an
+/// IPv6 extension header of one kind occurs twice. The payload of the last layer is equal too, except that only
+/// `SlicedPacket` limits a UDP payload by the UDP length field.
 pub fn two_parsers()
     ensures { (entry : Entry) (bytes : List ℕ) (layers : Layers) → IsFrame entry bytes layers
         → HasNoSecondKind layers.net → (other : Layers) × IsFrameIn headers entry bytes other × Agree layers other }
@@ -22,9 +23,9 @@ pub fn two_parsers()
     ep_ext::laws::chains::chain_without_second_kind();
 }
 
-/// What is refused as headers are read is refused as slices are read, with the same error. Slices alone refuse by the
-/// length field of UDP, which headers leave to the reader, or where headers stop at a second extension header of a
-/// kind.
+/// States that bytes that `PacketHeaders` rejects, `SlicedPacket` rejects with an equal error. Only `SlicedPacket`
+/// rejects for the UDP length field, which `PacketHeaders` ignores, or from the second IPv6 extension header of one
+/// kind on, before which `PacketHeaders` stops.
 pub fn refuse_alike()
     ensures headers { (entry : Entry) (bytes : List ℕ) (error : SliceError) → RefusesFrameIn headers entry bytes error
         → RefusesFrame entry bytes error }
@@ -36,7 +37,8 @@ pub fn refuse_alike()
     ep_transport::laws::transport_of_headers();
 }
 
-/// The cap that is told is the number of link extensions that a frame takes at most.
+/// States that `PacketHeaders::LINK_EXTS_CAP` is 3, and equals the greatest number of link extensions in the
+/// specification of frames.
 pub fn constants()
     ensures value { PacketHeaders.LINK_EXTS_CAP ≡ 3 }
     ensures cap { PacketHeaders.LINK_EXTS_CAP ≡ most_link_exts }

@@ -1,11 +1,11 @@
-//! The kinds of ICMP messages that are known (RFC 792).
+//! ICMPv4 messages whose type-specific header fields are decoded (RFC 792), by type and code.
 
 ghost use Rattle.std.specs.Prelude.{◌≡◌};
 ghost use Rattle.ep_transport.specs.Icmpv4.{icmpv4_kind_of};
 
 use crate::icmpv4;
 
-/// The kinds of messages that have a variant of their own.
+/// ICMPv4 messages with a known type and code; each has its own variant of `Icmpv4Type`.
 #[derive(Clone, Copy, Debug, PartialEq, Eq)]
 pub(crate) enum Icmpv4Kind {
     EchoReply,
@@ -18,7 +18,8 @@ pub(crate) enum Icmpv4Kind {
     TimestampReply,
 }
 
-/// The kind that a type and a code stand for, where it is a known one.
+/// Returns the known ICMPv4 message with this type and code, or `None` if the type or code is unknown
+/// (`Icmpv4Type::Unknown`).
 #[inline]
 pub(crate) fn kind_of(type_u8: u8, code_u8: u8) -> Option<Icmpv4Kind>
     ensures { result ≡ icmpv4_kind_of type_u8 code_u8 }

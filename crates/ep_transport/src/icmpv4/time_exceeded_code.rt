@@ -1,19 +1,19 @@
-//! The codes of ICMP's type 11 (RFC 792).
+//! Codes of the ICMPv4 message time exceeded, type 11 (RFC 792).
 
 ghost use Rattle.std.specs.Prelude.{◌≡◌};
 ghost use Rattle.ep_transport.specs.Icmpv4.{icmpv4_exceeded_u8, icmpv4_exceeded_of};
 
-/// Which time a packet was under way for too long.
+/// Code of an ICMPv4 time exceeded message (type 11, RFC 792).
 #[derive(Clone, Debug, PartialEq, Eq, Drop)]
 pub enum TimeExceededCode {
-    /// Its time to live ran out: code 0.
+    /// ICMPv4 time exceeded, code 0: the time to live was exceeded in transit.
     TtlExceededInTransit,
-    /// Its fragments did not come in time: code 1.
+    /// ICMPv4 time exceeded, code 1: the time for fragment reassembly was exceeded.
     FragmentReassemblyTimeExceeded,
 }
 
 impl TimeExceededCode {
-    /// The number of the code.
+    /// Code of the ICMPv4 time exceeded message as a number, 0 or 1.
     #[inline]
     pub fn code_u8(&self) -> u8
         ensures { result ≡ icmpv4_exceeded_u8 self.now }
@@ -24,7 +24,8 @@ impl TimeExceededCode {
         }
     }
 
-    /// The code of a number, 0 or 1.
+    /// Converts the code number of an ICMPv4 time exceeded message: 0 is TTL exceeded in transit, any other number is
+    /// fragment reassembly time exceeded.
     #[inline]
     pub(crate) fn of(code_u8: u8) -> TimeExceededCode
         ensures { result ≡ icmpv4_exceeded_of code_u8 }

@@ -1,17 +1,21 @@
-//! What timestamp messages hold (RFC 792).
+//! Contents of ICMPv4 timestamp messages (RFC 792).
 
-/// What a timestamp request or reply holds (RFC 792). Each time is in milliseconds since midnight UTC.
+/// Contents of an ICMPv4 timestamp request or reply (RFC 792), bytes 4 to 19. Each timestamp is in milliseconds since
+/// midnight UTC.
 #[derive(Clone, Debug, PartialEq, Eq, Drop)]
 pub struct TimestampMessage {
-    /// Which messages belong together, bytes 4 and 5.
+    /// Identifier of an ICMPv4 timestamp message, bytes 4 and 5.
     pub id: u16,
-    /// Which of them this is, bytes 6 and 7.
+    /// Sequence number of an ICMPv4 timestamp message, bytes 6 and 7.
     pub seq: u16,
-    /// When the sender sent the request, bytes 8 to 11.
+    /// Originate timestamp of an ICMPv4 timestamp message: time the request was sent, in milliseconds since midnight
+    /// UTC, bytes 8 to 11.
     pub originate_timestamp: u32,
-    /// When the receiver got it, bytes 12 to 15.
+    /// Receive timestamp of an ICMPv4 timestamp message: time the request was received, in milliseconds since midnight
+    /// UTC, bytes 12 to 15.
     pub receive_timestamp: u32,
-    /// When the receiver sent the reply, bytes 16 to 19.
+    /// Transmit timestamp of an ICMPv4 timestamp message: time the reply was sent, in milliseconds since midnight UTC,
+    /// bytes 16 to 19.
     pub transmit_timestamp: u32,
 }
 
@@ -19,7 +23,7 @@ impl TimestampMessage {
     ghost use Rattle.std.specs.Prelude.{◌≡◌};
     ghost use Rattle.ep_transport.specs.Icmpv4.{timestamp_bytes};
 
-    /// The bytes 4 to 19 of the message.
+    /// Returns bytes 4 to 19 of an ICMPv4 timestamp message: identifier, sequence number and the three timestamps.
     #[inline]
     pub fn to_bytes(&self) -> [u8; 16]
         ensures { result ≡ timestamp_bytes self.now }

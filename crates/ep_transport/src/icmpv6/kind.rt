@@ -1,11 +1,11 @@
-//! The kinds of ICMPv6 messages that are known (RFC 4443).
+//! ICMPv6 messages whose type-specific header fields are decoded (RFC 4443), by type and code.
 
 ghost use Rattle.std.specs.Prelude.{◌≡◌};
 ghost use Rattle.ep_transport.specs.Icmpv6.{icmpv6_kind_of};
 
 use crate::icmpv6;
 
-/// The kinds of messages that have a variant of their own.
+/// ICMPv6 messages with a known type and code; each has its own variant of `Icmpv6Type`.
 #[derive(Clone, Copy, Debug, PartialEq, Eq)]
 pub(crate) enum Icmpv6Kind {
     DestinationUnreachable,
@@ -16,7 +16,8 @@ pub(crate) enum Icmpv6Kind {
     EchoReply,
 }
 
-/// The kind that a type and a code stand for, where it is a known one.
+/// Returns the known ICMPv6 message with this type and code, or `None` if the type or code is unknown
+/// (`Icmpv6Type::Unknown`).
 #[inline]
 pub(crate) fn kind_of(type_u8: u8, code_u8: u8) -> Option<Icmpv6Kind>
     ensures { result ≡ icmpv6_kind_of type_u8 code_u8 }

@@ -1,19 +1,19 @@
-//! The codes of ICMPv6's type 3 (RFC 4443, 3.3).
+//! Codes of the ICMPv6 message time exceeded, type 3 (RFC 4443, 3.3).
 
 ghost use Rattle.std.specs.Prelude.{◌≡◌};
 ghost use Rattle.ep_transport.specs.Icmpv6.{icmpv6_exceeded_u8, icmpv6_exceeded_of};
 
-/// Which time a packet was under way for too long.
+/// Code of an ICMPv6 time exceeded message (type 3; RFC 4443, 3.3).
 #[derive(Clone, Debug, PartialEq, Eq, Drop)]
 pub enum TimeExceededCode {
-    /// Its hop limit ran out: code 0.
+    /// ICMPv6 time exceeded, code 0: the hop limit was exceeded in transit.
     HopLimitExceeded,
-    /// Its fragments did not come in time: code 1.
+    /// ICMPv6 time exceeded, code 1: the time for fragment reassembly was exceeded.
     FragmentReassemblyTimeExceeded,
 }
 
 impl TimeExceededCode {
-    /// The number of the code.
+    /// Code of the ICMPv6 time exceeded message as a number, 0 or 1.
     #[inline]
     pub fn code_u8(&self) -> u8
         ensures { result ≡ icmpv6_exceeded_u8 self.now }
@@ -24,7 +24,8 @@ impl TimeExceededCode {
         }
     }
 
-    /// The code of a number, 0 or 1.
+    /// Converts the code number of an ICMPv6 time exceeded message: 0 is hop limit exceeded in transit, any other
+    /// number is fragment reassembly time exceeded.
     #[inline]
     pub(crate) fn of(code_u8: u8) -> TimeExceededCode
         ensures { result ≡ icmpv6_exceeded_of code_u8 }

@@ -1,4 +1,4 @@
-//! What holds of every list of bytes that may be a message of ICMP or ICMPv6.
+//! Theorems (laws) about ICMPv4 and ICMPv6 messages. Each law is the contract of a function that does nothing else.
 
 ghost use Rattle.std.specs.Prelude.{◌≡◌, ◌%◌, ◌++◌, ◌↔◌, ℕ, IsTrue, [], ◌∷◌, List, length};
 ghost use Rattle.ep_base.specs.Bytes.{AreBytes};
@@ -25,19 +25,21 @@ use crate::{
     icmpv4, icmpv6,
 };
 
-/// Bytes are a message of ICMP, of one header and payload, or are refused with one error, and never both.
+/// Law: any bytes either parse as exactly one ICMPv4 message (header and payload), or are rejected with exactly one
+/// error.
 pub fn icmpv4_messages()
     ensures { (bytes : List ℕ) → AreBytes bytes → IsDecided (IsIcmpv4 bytes) (RefusesIcmpv4 bytes) }
 {}
 
-/// Bytes are a message of ICMPv6, of one header and payload, or are refused with one error, and never both.
+/// Law: any bytes either parse as exactly one ICMPv6 message (header and payload), or are rejected with exactly one
+/// error.
 pub fn icmpv6_messages()
     ensures { (bytes : List ℕ) → AreBytes bytes → IsDecided (IsIcmpv6 bytes) (RefusesIcmpv6 bytes) }
 {}
 
-/// A header that is written is read back, unless it is none that is ever read: one whose type and code the table gives
-/// another kind, or with an mtu or a pointer that is not written. A timestamp message is read back where nothing
-/// follows it.
+/// Law: a written ICMPv4 or ICMPv6 header is read back unchanged if its type and code belong to its variant of
+/// `Icmpv4Type` or `Icmpv6Type` (for `Unknown`: to no other variant), and an MTU or pointer that is not written is 0.
+/// An ICMPv4 timestamp message must have no payload. All headers that parsing returns meet these conditions.
 pub fn read_back()
     ensures icmpv4 { (header : Icmpv4Header) (payload : List ℕ) → FitsIcmpv4 header
         → EndsIcmpv4 header.icmp_type payload
@@ -46,8 +48,8 @@ pub fn read_back()
         → IsIcmpv6 (icmpv6_bytes header ++ payload) (parts_of header payload []) }
 {}
 
-/// A message with its checksum filled in sums to 65535, by which a receiver tests it; that of ICMPv6 with whatever
-/// bytes stand in front of it as pseudo header.
+/// Law: an ICMPv4 message with its computed checksum has the one's complement sum 65535, as a receiver verifies. An
+/// ICMPv6 message has it together with any even number of bytes before it, such as the pseudo header.
 pub fn checksums()
     ensures icmpv4 { (header : Icmpv4Header) (payload : List ℕ)
         → ones_sum (icmpv4_bytes (record header { checksum = checksum_of (icmpv4_message header payload) })
@@ -58,7 +60,8 @@ pub fn checksums()
         ++ payload)) ≡ 65535 }
 {}
 
-/// The lengths of headers, and the numbers of the types (RFC 792; RFC 4443, 2.1).
+/// Law: the values of the constants for ICMPv4 and ICMPv6, which are the lengths of headers in bytes and the numbers of
+/// the message types (RFC 792; RFC 4443, 2.1).
 pub fn constants()
     ensures lengths { (Icmpv4Header.MIN_LEN ≡ 8) × (Icmpv4Header.MAX_LEN ≡ 20) × (Icmpv6Header.MIN_LEN ≡ 8)
         × (Icmpv6Header.MAX_LEN ≡ 8) × (IcmpEchoHeader.LEN ≡ 4) }
@@ -70,7 +73,8 @@ pub fn constants()
         × (v6.TYPE_ECHO_REQUEST ≡ 128) × (v6.TYPE_ECHO_REPLY ≡ 129) }
 {}
 
-/// Values and headers are equal where each field is, and slices where they show the same bytes.
+/// Law: ICMPv4 and ICMPv6 headers, types and codes are equal (`==`) if and only if all fields are equal, and slices if
+/// and only if their bytes are equal.
 pub fn comparisons()
     ensures echoes { (a b : IcmpEchoHeader) → IsTrue (⟦<IcmpEchoHeader as PartialEq>⟧.eq a b) ↔ (a ≡ b) }
     ensures timestamps { (a b : TimestampMessage) → IsTrue (⟦<TimestampMessage as PartialEq>⟧.eq a b) ↔ (a ≡ b) }
@@ -88,7 +92,7 @@ pub fn comparisons()
         IsTrue (⟦<Icmpv6Slice<'static> as PartialEq>⟧.eq a b) ↔ (icmpv6_slice_bytes a ≡ icmpv6_slice_bytes b) }
 {}
 
-/// A clone equals its source.
+/// Law: a clone of an ICMPv4 or ICMPv6 header, type, code or slice equals its source.
 pub fn clones()
     ensures echoes { (a b : IcmpEchoHeader) → ⟦<IcmpEchoHeader as Clone>⟧.is_clone a b → b ≡ a }
     ensures timestamps { (a b : TimestampMessage) → ⟦<TimestampMessage as Clone>⟧.is_clone a b → b ≡ a }
@@ -102,7 +106,7 @@ pub fn clones()
     ensures icmpv6_slices { (a b : Icmpv6Slice) → ⟦<Icmpv6Slice<'static> as Clone>⟧.is_clone a b → b ≡ a }
 {}
 
-/// A clone takes no memory, and so is there.
+/// Law: cloning an ICMPv4 or ICMPv6 header, type, code or slice does not allocate, and never fails.
 pub fn clones_succeed()
     ensures echoes { (a : IcmpEchoHeader) → ⟦<IcmpEchoHeader as Clone>⟧.is_infallible a }
     ensures timestamps { (a : TimestampMessage) → ⟦<TimestampMessage as Clone>⟧.is_infallible a }

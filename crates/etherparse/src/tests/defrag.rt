@@ -1,5 +1,5 @@
-//! Payloads put together: rows from outside, and what no clause says: that calls succeed where there is memory, however
-//! much they take, and what they answer where there is none (`rt try --test --fail-alloc N` refuses the N-th request).
+//! Tests of reassembly: external test vectors, and a fact that no contract states: that calls succeed if there is
+//! memory, however much they need. (`memory_tests` tests what calls return if an allocation fails.)
 
 use crate::defrag::*;
 use crate::tests::checks::same;
@@ -16,7 +16,7 @@ mod limits;
 pub(crate) mod names;
 pub(crate) mod pool;
 
-/// So many bytes: those that rise by 1 from the first, modulo 256, or zeros.
+/// A run of bytes in a test payload: `Rising(first, len)` rises by 1 from `first`, modulo 256; `Zeros(len)` are zeros.
 #[derive(Clone, Copy)]
 enum Bytes {
     Rising(u8, usize),
@@ -38,7 +38,7 @@ fn bytes_of(alloc: Global, parts: &[Bytes]) -> Result<Vec<u8>, AllocError> {
     Ok(bytes)
 }
 
-/// An offset in units of 8 bytes, of at most 8191.
+/// Returns a fragment offset in units of 8 bytes. Aborts the test if `units` is above 8191.
 fn offset(rt: &impl Abort, units: u16) -> IpFragOffset {
     IpFragOffset::try_new(units).expect(rt, "above 8191")
 }

@@ -1,5 +1,5 @@
-//! What the public types derive, where no law and no other test names it: a call here is refused where a derive is
-//! missing.
+//! Tests of derived traits of public types that no law and no other test uses: a call here does not compile if a derive
+//! is missing.
 
 use crate::defrag::*;
 use crate::err::ip::HeadersWriteError;

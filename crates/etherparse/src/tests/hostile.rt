@@ -1,4 +1,5 @@
-//! Hostile channels: those whose hash says nothing, and those whose equality says less than their value.
+//! Tests of a reassembly pool with hostile channel types (a channel is a caller's identifier that keeps fragments
+//! apart): with a constant hash, and with an equality that ignores part of the value.
 
 ghost use Rattle.std.specs.Prelude.{◌≡◌, ◌/◌, nat_eq, []};
 ghost use Rattle.std.proofs.Common.{rules, refl};
@@ -8,18 +9,19 @@ ghost use Rattle.std.specs.Ordering.{on};
 use crate::defrag::IpDefragPool;
 use crate::tests::checks::same;
 use crate::tests::defrag::pool::*;
-use crate::tests::sizes::ALIKE;
+use crate::tests::sizes::COLLIDING_STREAMS;
 use crate::{LenSource, SlicedPacket};
 use std::alloc::Global;
 use std::hash::{Hash, Hasher};
 use std::ops::Range;
 use std::process::Abort;
 
-/// A channel whose hash feeds nothing, and whose equality is its value's.
+/// Channel type (a caller's identifier that keeps fragments of different sources apart) whose values all have the same
+/// hash.
 #[derive(Clone, Copy, Debug, PartialEq, Eq)]
-struct Silent(u32);
+struct ConstantHash(u32);
 
-impl Hash for Silent {
+impl Hash for ConstantHash {
     ghost hash_input = { λ channel. [] };
 
     ghost respects_eq = { λ a b same. refl };
@@ -27,7 +29,8 @@ impl Hash for Silent {
     fn hash<H: Hasher>(&self, _state: &mut H) {}
 }
 
-/// A channel whose lowest bit says nothing, and whose hash feeds nothing.
+/// Channel type (a caller's identifier that keeps fragments of different sources apart) whose equality ignores the
+/// lowest bit and whose values all have the same hash.
 #[derive(Clone, Copy, Debug)]
 pub(crate) struct Halved(pub(crate) u8);
 
@@ -53,8 +56,8 @@ impl Hash for Halved {
     fn hash<H: Hasher>(&self, _state: &mut H) {}
 }
 
-/// The frames of two streams that differ in the VLAN alone, each with the payload that answers it on a channel of its
-/// own, or nothing where that is empty.
+/// Frames with fragments of two datagrams whose keys differ only in the VLAN, each with the payload that it completes
+/// in a reassembly pool, or with no bytes if it completes none.
 const FRAMES: [(&[u8], &[u8]); 5] = [
     (VLAN_1_FIRST, b""),
     (VLAN_2_FIRST, b""),
@@ -63,8 +66,9 @@ const FRAMES: [(&[u8], &[u8]); 5] = [
     (VLAN_2_LAST, OTHER),
 ];
 
-/// A frame on a channel is answered so.
-fn hands_out<Channel: Eq + Hash + Drop>(
+/// Passes a frame with a fragment to a reassembly pool on this channel (caller's identifier that keeps fragments
+/// apart). Asserts that it completes `payload`, or nothing if `payload` is empty.
+fn completes_payload<Channel: Eq + Hash + Drop>(
     rt: &impl Abort,
     pool: &mut IpDefragPool<u64, Channel>,
     channel: Channel,
@@ -76,9 +80,10 @@ fn hands_out<Channel: Eq + Hash + Drop>(
     same(rt, &is_wanted, &true);
 }
 
-/// The frames on two channels, which come in this order: a bit of it says which channel is next. Each is answered as if
-/// its channel were alone.
-fn keeps_apart(rt: &impl Abort, alloc: Global, order: u32) {
+/// Passes five fragments on each of two channels (caller's identifiers that keep fragments apart) to one reassembly
+/// pool, and asserts that each channel is answered as if it were alone. Each bit of `order`, from the lowest on, is the
+/// channel of the next fragment.
+fn assert_channels_are_separate(rt: &impl Abort, alloc: Global, order: u32) {
     let mut pool = IpDefragPool::new(alloc);
     let (mut even, mut odd) = (FRAMES.iter(), FRAMES.iter());
     let mut rest = order;
@@ -91,47 +96,51 @@ fn keeps_apart(rt: &impl Abort, alloc: Global, order: u32) {
             odd.next()
         };
         let frame = *next.expect(rt, "five of each");
-        hands_out(rt, &mut pool, Silent(channel), frame);
+        completes_payload(rt, &mut pool, ConstantHash(channel), frame);
     }
 }
 
-/// Every order of the frames of two channels whose names all hash alike.
+/// A reassembly pool keeps the fragments of two channels (caller's identifiers) with equal hashes apart, in every
+/// interleaving of five fragments of one with five of the other; those of each channel arrive in a fixed order.
 #[test]
-fn channels_that_hash_alike(rt: HostRuntime) {
+fn channels_with_colliding_keys(rt: HostRuntime) {
     for order in 0..1024u32 {
         if order.count_ones() == 5 {
-            keeps_apart(&rt, rt.alloc(), order);
+            assert_channels_are_separate(&rt, rt.alloc(), order);
         }
     }
 }
 
-/// Frames that come on two equal channels by turns are of the same streams; on a third one they are not.
+/// Fragments that alternate between two channels (caller's identifiers) that compare equal are reassembled together.
+/// Fragments on two other channels, which are equal to each other but not to the first two, are kept apart from them.
 #[test]
 fn channels_that_are_equal(rt: HostRuntime) {
     let mut pool = IpDefragPool::new(rt.alloc());
     for (place, frame) in FRAMES.iter().enumerate() {
         let channel = u8::from(place % 2 == 1);
-        hands_out(&rt, &mut pool, Halved(channel), *frame);
-        hands_out(&rt, &mut pool, Halved(channel + 2), *frame);
+        completes_payload(&rt, &mut pool, Halved(channel), *frame);
+        completes_payload(&rt, &mut pool, Halved(channel + 2), *frame);
     }
 }
 
-/// A frame on each of these channels is answered so.
-fn hand_out(
+/// Passes a frame with a fragment to a reassembly pool once for each of these channels (caller's identifiers that keep
+/// fragments apart), and asserts the payload that it completes, if any.
+fn process_on_channels(
     rt: &impl Abort,
-    pool: &mut IpDefragPool<u64, Silent>,
+    pool: &mut IpDefragPool<u64, ConstantHash>,
     channels: Range<u32>,
     frame: (&[u8], &[u8]),
 ) {
     for channel in channels {
-        hands_out(rt, pool, Silent(channel), frame);
+        completes_payload(rt, pool, ConstantHash(channel), frame);
     }
 }
 
-/// Streams whose names all hash alike: all begin, and then each is completed.
+/// A reassembly pool holds the fragments of many datagrams whose keys all have the same hash: all datagrams are
+/// started, and then each one is completed.
 #[test]
-fn many_alike_names(rt: HostRuntime) {
+fn many_colliding_keys(rt: HostRuntime) {
     let mut pool = IpDefragPool::new(rt.alloc());
-    hand_out(&rt, &mut pool, 0..ALIKE, (VLAN_1_FIRST, b""));
-    hand_out(&rt, &mut pool, 0..ALIKE, (VLAN_1_LAST, WHOLE));
+    process_on_channels(&rt, &mut pool, 0..COLLIDING_STREAMS, (VLAN_1_FIRST, b""));
+    process_on_channels(&rt, &mut pool, 0..COLLIDING_STREAMS, (VLAN_1_LAST, WHOLE));
 }

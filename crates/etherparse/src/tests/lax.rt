@@ -1,5 +1,6 @@
-//! Packets of which bytes are missing, read laxly: each length field with what it may say, each header cut at each
-//! byte, chains of extension headers, and fragments. The answers are from the pictures of the standards.
+//! Tests of lax parsing of truncated packets: IP, UDP and MACsec length fields with several values, packets truncated
+//! at each byte, chains of extension headers, and fragments. The expected values come from the header diagrams of the
+//! standards.
 
 use crate::err::packet::SliceError;
 use crate::err::{Layer, ipv4, macsec};
@@ -8,19 +9,21 @@ use crate::tests::samples::*;
 use crate::*;
 use std::process::Abort;
 
-/// An Ethernet II frame with the UDP payload 1 to 8: its IPv4 header begins at byte 14, UDP at 34.
+/// An Ethernet II frame with a UDP datagram and the payload bytes 1 to 8. Its IPv4 header starts at byte 14, its UDP
+/// header at byte 34.
 const UDP: [u8; 50] = [
     7, 8, 9, 10, 11, 12, 1, 2, 3, 4, 5, 6, 8, 0, 0x45, 0, 0, 36, 0, 0, 0x40, 0, 20, 17, 0xe3, 0x75,
     192, 168, 1, 1, 192, 168, 1, 2, 0, 21, 4, 0xd2, 0, 16, 0x67, 0x7f, 1, 2, 3, 4, 5, 6, 7, 8,
 ];
 
-/// An IPv6 packet with four bytes of the number 59, which no layer reads.
+/// An IPv6 packet with four bytes of payload and next header 59 (no next header), so that no transport header is
+/// parsed.
 const IPV6_PACKET: [u8; 44] = [
     0x60, 0, 0, 0, 0, 4, 59, 64, 0, 0, 0, 0, 0, 0, 0, 0, 0, 0, 0, 0, 0, 0, 0, 1, 0, 0, 0, 0, 0, 0,
     0, 0, 0, 0, 0, 0, 0, 0, 0, 2, 1, 2, 3, 4,
 ];
 
-/// An unmodified payload of MACsec, of which a VLAN tag has four bytes, and an IPv4 packet of four more.
+/// A MACsec tag (SecTAG) with an unmodified payload: a VLAN tag, and an IPv4 packet with four bytes of payload.
 const MACSEC_PACKET: [u8; 36] = [
     0, 30, 0, 0, 0, 1, 0x81, 0, 0, 7, 8, 0, 0x45, 0, 0, 24, 0, 0, 0, 0, 64, 253, 0, 0, 10, 0, 0, 1,
     10, 0, 0, 2, 1, 2, 3, 4,
@@ -32,7 +35,7 @@ const IPV6: Entry = Entry::EtherType(EtherType::IPV6);
 
 const MACSEC: Entry = Entry::EtherType(EtherType::MACSEC);
 
-/// The packet that the bytes are read as.
+/// Parses the bytes laxly, starting at the header that `entry` names. Aborts the test if that first header is invalid.
 fn read<'a>(rt: &impl Abort, entry: Entry, bytes: &'a [u8]) -> LaxSlicedPacket<'a> {
     let mut packet = LaxSlicedPacket::new();
     packet
@@ -41,14 +44,16 @@ fn read<'a>(rt: &impl Abort, entry: Entry, bytes: &'a [u8]) -> LaxSlicedPacket<'
     packet
 }
 
-/// The payload has so many bytes, some of which are missing or not, and nothing is refused.
+/// Asserts that lax parsing found no error, that the innermost payload has `len` bytes, and whether bytes of it are
+/// missing (`incomplete`).
 fn ends_in(rt: &impl Abort, packet: &LaxSlicedPacket<'_>, len: usize, incomplete: bool) {
     same(rt, &packet.payload().len(), &len);
     same(rt, &packet.is_incomplete(), &incomplete);
     same(rt, &packet.stop_err.is_none(), &true);
 }
 
-/// The IP payload has so many bytes, some of which are missing or not, and this set its end.
+/// Asserts the number of bytes of the IP payload, whether bytes of it are missing (`incomplete`), and the length field
+/// that limits it (`source`).
 fn has_ip(
     rt: &impl Abort,
     packet: &LaxSlicedPacket<'_>,
@@ -62,7 +67,8 @@ fn has_ip(
     same(rt, &payload.len_source, &source);
 }
 
-/// The walk stopped at a layer that begins at `start`, needs `required_len` bytes and has `len`, whose end this set.
+/// Asserts that lax parsing stopped because bytes are missing: `layer` starts at byte `start`, needs `required_len`
+/// bytes and has `len`, limited by `source`.
 fn misses(
     rt: &impl Abort,
     packet: &LaxSlicedPacket<'_>,
@@ -80,16 +86,17 @@ fn misses(
     same(rt, at, &layer);
 }
 
-/// The walk stopped for an error of a layer.
+/// Asserts that lax parsing of a packet stopped at this layer with this error.
 fn stops(rt: &impl Abort, packet: &LaxSlicedPacket<'_>, error: SliceError, layer: Layer) {
     same(rt, &packet.stop_err, &Some((error, layer)));
 }
 
-/// The total length of IPv4, from bytes that are all there.
+/// Lax parsing of an IPv4 packet for several values of its total length field: 0, below 20, and up to and above the
+/// bytes that are present.
 #[test]
 fn total_lengths(rt: HostRuntime) {
     let cut = LenSource::Ipv4HeaderTotalLen;
-    for (says, len, incomplete, source) in [
+    for (is_answer, len, incomplete, source) in [
         (0u16, 16, false, LenSource::Slice),
         (19, 16, false, LenSource::Slice),
         (28, 8, false, cut),
@@ -98,7 +105,7 @@ fn total_lengths(rt: HostRuntime) {
         (65535, 16, true, LenSource::Slice),
     ] {
         let mut frame = UDP;
-        let bytes = says.to_be_bytes();
+        let bytes = is_answer.to_be_bytes();
         frame[16] = bytes[0];
         frame[17] = bytes[1];
         let packet = read(&rt, Entry::Ethernet, &frame);
@@ -107,7 +114,7 @@ fn total_lengths(rt: HostRuntime) {
     }
 }
 
-/// A total length that leaves no byte of the transport header.
+/// Lax parsing of an IPv4 packet whose total length field leaves no bytes for the UDP header.
 #[test]
 fn total_length_of_a_header(rt: HostRuntime) {
     let mut frame = UDP;
@@ -123,10 +130,11 @@ fn total_length_of_a_header(rt: HostRuntime) {
     );
 }
 
-/// The length of UDP, in an IP payload that is complete, and in one that is not.
+/// Lax parsing of a UDP datagram for several values of its length field, in a complete and in an incomplete IPv4
+/// payload.
 #[test]
 fn datagram_lengths(rt: HostRuntime) {
-    for (total_len, says, len, incomplete) in [
+    for (total_len, is_answer, len, incomplete) in [
         (36u8, 0u8, 8, false),
         (36, 7, 8, false),
         (36, 8, 0, false),
@@ -143,16 +151,16 @@ fn datagram_lengths(rt: HostRuntime) {
     ] {
         let mut frame = UDP;
         frame[17] = total_len;
-        frame[39] = says;
+        frame[39] = is_answer;
         ends_in(&rt, &read(&rt, Entry::Ethernet, &frame), len, incomplete);
     }
 }
 
-/// The payload length of IPv6.
+/// Lax parsing of an IPv6 packet whose payload length field is 0, smaller than the payload, correct or too large.
 #[test]
 fn payload_lengths(rt: HostRuntime) {
     let cut = LenSource::Ipv6HeaderPayloadLen;
-    for (says, len, incomplete, source) in [
+    for (is_answer, len, incomplete, source) in [
         (0u16, 4, false, LenSource::Slice),
         (1, 1, false, cut),
         (4, 4, false, cut),
@@ -160,7 +168,7 @@ fn payload_lengths(rt: HostRuntime) {
         (65535, 4, true, LenSource::Slice),
     ] {
         let mut bytes = IPV6_PACKET;
-        let field = says.to_be_bytes();
+        let field = is_answer.to_be_bytes();
         bytes[4] = field[0];
         bytes[5] = field[1];
         let packet = read(&rt, IPV6, &bytes);
@@ -173,7 +181,8 @@ fn payload_lengths(rt: HostRuntime) {
     has_ip(&rt, &packet, 0, false, cut);
 }
 
-/// The short length of MACsec, and the total length of an IPv4 packet in a VLAN tag in it.
+/// Lax parsing of a MACsec tag with a VLAN tag and an IPv4 packet as payload, for several values of the MACsec short
+/// length and of the IPv4 total length.
 #[test]
 fn short_lengths(rt: HostRuntime) {
     let total = LenSource::Ipv4HeaderTotalLen;
@@ -200,7 +209,8 @@ fn short_lengths(rt: HostRuntime) {
     }
 }
 
-/// What lies behind the link extensions.
+/// The payload of a MACsec tag and the VLAN tag in it, as lax parsing limits it by several values of the MACsec short
+/// length.
 #[test]
 fn ether_payloads(rt: HostRuntime) {
     for (short_len, len, incomplete, source) in [
@@ -220,7 +230,8 @@ fn ether_payloads(rt: HostRuntime) {
     }
 }
 
-/// A short length that cuts within the tag inside, or that no tag may have.
+/// Lax parsing stops at a MACsec short length that ends before the VLAN tag in the payload, and at the forbidden short
+/// length 1.
 #[test]
 fn short_lengths_that_stop(rt: HostRuntime) {
     let mut bytes = MACSEC_PACKET;
@@ -240,7 +251,7 @@ fn short_lengths_that_stop(rt: HostRuntime) {
     same(&rt, &packet.payload().len(), &36);
 }
 
-/// A modified payload of MACsec.
+/// Lax parsing of a modified (encrypted) MACsec payload, for several values of the short length.
 #[test]
 fn modified_payloads(rt: HostRuntime) {
     for (short_len, len, incomplete) in [
@@ -256,7 +267,7 @@ fn modified_payloads(rt: HostRuntime) {
     }
 }
 
-/// A datagram that is cut to each length.
+/// Lax parsing of an Ethernet II frame with a UDP datagram, truncated to each length from 0 to 49 of its 50 bytes.
 #[test]
 fn cut_datagrams(rt: HostRuntime) {
     for n in 0..50usize {
@@ -288,7 +299,8 @@ fn cut_datagrams(rt: HostRuntime) {
     }
 }
 
-/// An IPv6 packet with two fragment headers that is cut to each length.
+/// Lax parsing of an IPv6 packet with two fragment headers, truncated to each length from 40 (the IPv6 header alone) to
+/// 63 of its 64 bytes.
 #[test]
 fn cut_chains(rt: HostRuntime) {
     for n in 40..64usize {
@@ -313,7 +325,8 @@ fn cut_chains(rt: HostRuntime) {
     }
 }
 
-/// An authentication header of IPv4 that is cut at each byte, and one whose length is none.
+/// Lax parsing of an IPv4 packet with an authentication header, truncated to each length from 20 (the IPv4 header
+/// alone) to 35 of its 36 bytes.
 #[test]
 fn cut_authentication_headers(rt: HostRuntime) {
     for n in 20..36usize {
@@ -334,7 +347,7 @@ fn cut_authentication_headers(rt: HostRuntime) {
     }
 }
 
-/// Errors in the bytes of a header, where a walk stops for them.
+/// Lax parsing stops at an IPv4 header with IHL 4, and at a TCP and an authentication header without enough bytes.
 #[test]
 fn errors_in_headers(rt: HostRuntime) {
     let mut frame = UDP;
@@ -364,7 +377,8 @@ fn errors_in_headers(rt: HostRuntime) {
     );
 }
 
-/// A first header that is refused.
+/// Lax parsing returns an error if the first header is too short or has an unknown IP version. After a known ether type
+/// it returns a packet that stops at once instead.
 #[test]
 fn refused_first_headers(rt: HostRuntime) {
     same(
@@ -385,7 +399,8 @@ fn refused_first_headers(rt: HostRuntime) {
     misses(&rt, &none, Layer::Ipv4Header, (0, 20, 0), LenSource::Slice);
 }
 
-/// Fragments have no transport layer, and a fourth tag is payload.
+/// Lax parsing of fragments finds no transport layer, and of four VLAN tags it leaves the fourth one as payload. An ARP
+/// packet has no payload.
 #[test]
 fn fragments_and_tags(rt: HostRuntime) {
     let first = read(&rt, Entry::Ip, FIRST_IPV4);

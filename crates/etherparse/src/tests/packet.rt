@@ -1,4 +1,4 @@
-//! Packets that are read, and headers that are written and read back.
+//! Tests of parsing packets, and of headers that are written and read back.
 
 mod frames;
 mod ip_headers;

@@ -1,60 +1,66 @@
-//! Packets and headers of many tests.
+//! Packets and headers that many tests use.
 
 use crate::*;
 use std::process::Abort;
 
-/// The payload of most packets.
+/// Payload of most packets in the tests.
 pub const PAYLOAD: &[u8] = &[1, 2, 3, 4, 5, 6, 7, 8];
 
-/// An Ethernet II frame with the UDP payload 1 to 8 (192.168.1.1, port 21 to 192.168.1.2, port 1234).
+/// An Ethernet II frame with an IPv4 header (192.168.1.1 to 192.168.1.2), a UDP header (port 21 to 1234) and the
+/// payload bytes 1 to 8.
 pub const FRAME: &[u8] =
     b"\x07\x08\x09\x0a\x0b\x0c\x01\x02\x03\x04\x05\x06\x08\x00\x45\x00\x00\x24\x00\x00\x40\x00\x14\x11\xe3\x75\xc0\xa8\x01\x01\xc0\xa8\x01\x02\x00\x15\x04\xd2\x00\x10\x67\x7f\x01\x02\x03\x04\x05\x06\x07\x08";
 
-/// An ARP packet over Ethernet and IPv4.
+/// An ARP request for an IPv4 address over Ethernet, without a link header.
 pub const ARP: &[u8] =
     b"\x00\x01\x08\x00\x06\x04\x00\x01\x01\x02\x03\x04\x05\x06\x07\x06\x08\x09\x0a\x0b\x0c\x0e\x0f\x10\x11\x12\x13\x14";
 
-/// Three VLAN tags behind the type of a first one.
+/// Four VLAN tags with identifiers 1 to 4, without the ether type that announces the first one.
 pub const FOUR_TAGS: &[u8] = b"\x00\x01\x81\x00\x00\x02\x81\x00\x00\x03\x81\x00\x00\x04\x08\x00";
 
-/// A MACsec tag whose short length cuts the payload, and a VLAN tag in it.
+/// A MACsec tag (SecTAG) and its payload, a VLAN tag and two bytes of ether type 0x1234. The last two bytes are after
+/// the end that the short length sets.
 pub const TAG_IN_MACSEC: &[u8] =
     b"\x00\x08\x00\x00\x00\x01\x81\x00\x00\x07\x12\x34\x01\x02\xff\xff";
 
-/// A MACsec tag whose payload is modified, and a byte that its short length cuts off.
+/// A MACsec tag (SecTAG) and a modified (encrypted) payload of three bytes. The last byte is after the end that the
+/// short length sets.
 pub const MODIFIED: &[u8] = b"\x0c\x03\x00\x00\x00\x00\xaa\xbb\xcc\xdd";
 
-/// An IPv4 packet with an authentication header in front of four bytes of the number 59.
+/// An IPv4 packet with an authentication header, then four bytes of payload with IP protocol number 59.
 pub const AUTHENTICATED: &[u8] =
     b"\x45\x00\x00\x24\x00\x00\x00\x00\x40\x33\x00\x00\xc0\xa8\x01\x01\xc0\xa8\x01\x02\x3b\x01\x00\x00\x00\x00\x00\x02\x00\x00\x00\x03\x01\x02\x03\x04";
 
-/// An IPv6 packet whose payload, of the number 59, takes all bytes behind the header.
+/// An IPv6 packet whose payload length field is 0, so that its payload (next header 59) is all bytes after the header.
 pub const OPEN_LENGTH: &[u8] =
     b"\x60\x00\x00\x00\x00\x00\x3b\x40\0\0\0\0\0\0\0\0\0\0\0\0\0\0\0\0\0\0\0\0\0\0\0\0\0\0\0\0\0\0\0\0\x01\x02\x03\x04";
 
-/// An IPv6 packet with two fragment headers, of which the second alone says that it carries a fragment.
+/// An IPv6 packet with two fragment headers. The first one has offset 0 and no more fragments; only the second one
+/// marks a fragment.
 pub const FRAGMENT_TWICE: &[u8] =
     b"\x60\x00\x00\x00\x00\x18\x2c\x40\0\0\0\0\0\0\0\0\0\0\0\0\0\0\0\0\0\0\0\0\0\0\0\0\0\0\0\0\0\0\0\0\x2c\x00\x00\x00\x00\x00\x00\x01\x11\x00\x00\x01\x00\x00\x00\x02\x00\x01\x02\x03\x04\x05\x06\x07";
 
-/// A cooked capture of Netlink, whose protocol is no ether type.
+/// A Linux cooked capture header (SLL) and two bytes of a Netlink message; its protocol field is not an ether type.
 pub const NETLINK: &[u8] =
     b"\x00\x00\x03\x38\x00\x00\x00\x00\x00\x00\x00\x00\x00\x00\x00\x10\x01\x02";
 
-/// The first 16 bytes of the payload 0 to 23, and the last 8, as fragments of IPv4, of a number for experiments.
+/// An IPv4 fragment with the first 16 bytes of the payload 0 to 23, of IP protocol number 253 (for experiments);
+/// `LAST_IPV4` has the last 8 bytes.
 pub const FIRST_IPV4: &[u8] =
     b"\x45\x00\x00\x24\x00\x07\x20\x00\x40\xfd\xd6\x82\xc0\xa8\x01\x01\xc0\xa8\x01\x02\x00\x01\x02\x03\x04\x05\x06\x07\x08\x09\x0a\x0b\x0c\x0d\x0e\x0f";
 
 pub const LAST_IPV4: &[u8] =
     b"\x45\x00\x00\x1c\x00\x07\x00\x02\x40\xfd\xf6\x88\xc0\xa8\x01\x01\xc0\xa8\x01\x02\x10\x11\x12\x13\x14\x15\x16\x17";
 
-/// Both halves of the payload 0 to 15, as fragments of IPv6, of UDP.
+/// An IPv6 fragment with the first 8 bytes of the payload 0 to 15, whose next header is UDP; `LAST_IPV6` has the last 8
+/// bytes.
 pub const FIRST_IPV6: &[u8] =
     b"\x60\x00\x00\x00\x00\x10\x2c\x40\0\0\0\0\0\0\0\0\0\0\0\0\0\0\0\0\0\0\0\0\0\0\0\0\0\0\0\0\0\0\0\0\x11\x00\x00\x01\x00\x00\x00\x07\x00\x01\x02\x03\x04\x05\x06\x07";
 
 pub const LAST_IPV6: &[u8] =
     b"\x60\x00\x00\x00\x00\x10\x2c\x40\0\0\0\0\0\0\0\0\0\0\0\0\0\0\0\0\0\0\0\0\0\0\0\0\0\0\0\0\0\0\0\0\x11\x00\x00\x08\x00\x00\x00\x07\x08\x09\x0a\x0b\x0c\x0d\x0e\x0f";
 
-/// The value of the ARP packet.
+/// Returns an ARP request for an IPv4 address over Ethernet as an owned packet, equal to the bytes `ARP`.
 pub fn arp_request(rt: &impl Abort) -> ArpPacket {
     let packet = ArpPacket::new(
         ArpHardwareId::ETHERNET,
@@ -68,7 +74,7 @@ pub fn arp_request(rt: &impl Abort) -> ArpPacket {
     packet.expect(rt, "the lengths fit")
 }
 
-/// The headers of a fragment of IPv4, whose offset is in units of 8 bytes.
+/// Returns the header of an IPv4 fragment with identification 7. The offset is in units of 8 bytes.
 pub fn ipv4_fragment(rt: &impl Abort, offset: u16, more_fragments: bool) -> IpHeaders {
     let header = Ipv4Header {
         identification: 7,
@@ -83,7 +89,8 @@ pub fn ipv4_fragment(rt: &impl Abort, offset: u16, more_fragments: bool) -> IpHe
     IpHeaders::Ipv4(header, Ipv4Extensions::default())
 }
 
-/// The same of IPv6, from and to the unspecified address.
+/// Returns an IPv6 header and a fragment header with identification 7, from and to the unspecified address. The offset
+/// is in units of 8 bytes.
 pub fn ipv6_fragment(rt: &impl Abort, offset: u16, more_fragments: bool) -> IpHeaders {
     let header = Ipv6Header {
         hop_limit: 64,

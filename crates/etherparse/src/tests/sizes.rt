@@ -1,7 +1,7 @@
-//! How many cases the tests of many cases have. `long_tests.sh` runs them with more.
+//! Numbers of streams (fragments of one IP datagram) in the long tests. `long_tests.sh` runs them with more.
 
-/// Streams that are active at once.
+/// Number of IP datagrams that a test reassembles at the same time.
 pub const STREAMS: u64 = 10_000;
 
-/// Streams whose names all hash alike.
-pub const ALIKE: u32 = 300;
+/// Number of IP datagrams that a test reassembles at the same time, with keys that all have the same hash.
+pub const COLLIDING_STREAMS: u32 = 300;

@@ -1,4 +1,5 @@
-//! What the tests of the Rust crate show of calls whose contracts are read alone: its cases, with values of our own.
+//! Cases of the tests of the Rust crate etherparse for calls that are otherwise covered by contracts only, with our own
+//! values.
 
 use crate::defrag::*;
 use crate::err::ip::HeadersWriteError;
@@ -12,7 +13,8 @@ use std::alloc::Global;
 use std::hash::{DefaultHasher, Hash, Hasher};
 use std::process::Abort;
 
-/// Both ranges as one, or not, whichever of them is asked.
+/// Asserts that two byte ranges (start, end) of a reassembly buffer merge into `merged`, or don't merge if it is
+/// `None`, in either order.
 fn merges(rt: &impl Abort, a: (u16, u16), b: (u16, u16), merged: Option<(u16, u16)>) {
     let range = |(start, end): (u16, u16)| IpFragRange { start, end };
     let (a, b, merged) = (range(a), range(b), merged.map(range));
@@ -37,7 +39,7 @@ fn merged_reversed_ranges(rt: HostRuntime) {
     merges(&rt, (5, 2), (5, 2), None);
 }
 
-/// An offset in units of 8 bytes.
+/// Returns a fragment offset in units of 8 bytes. Aborts the test if `units` is above 8191.
 fn offset(rt: &impl Abort, units: u16) -> IpFragOffset {
     IpFragOffset::try_new(units).expect(rt, "above 8191")
 }
@@ -77,7 +79,7 @@ fn texts_of_ends_and_memory(rt: HostRuntime) {
     shows(&rt, alloc, &error, text);
 }
 
-/// A fragment that more follow is refused, whatever its length below 8, and leaves the buffer empty.
+/// A reassembly buffer rejects fragments of 1 to 7 bytes that are not the last one, and stays empty.
 #[test]
 fn unaligned_by_each_length(rt: HostRuntime) {
     let alloc = rt.alloc();
@@ -100,7 +102,8 @@ const EXTS_4: ipv4_exts::ExtsWalkError = ipv4_exts::ExtsWalkError::ExtNotReferen
 
 const EXTS_6: ipv6_exts::ExtsWalkError = ipv6_exts::ExtsWalkError::HopByHopNotAtStart;
 
-/// The errors that the accessors show: want of memory, the refusal of IPv4, and that of IPv6.
+/// Asserts what three accessors of an error of writing IP headers return. `shown` has for each of them whether it
+/// reports this error: out of memory, IPv4 extension headers, IPv6 extension headers.
 fn shows_headers_error(rt: &impl Abort, error: &HeadersWriteError, shown: [bool; 3]) {
     let [of_memory, of_ipv4, of_ipv6] = shown;
     same(rt, &error.is_out_of_memory(), &of_memory);
@@ -118,15 +121,15 @@ fn accessors_of_headers_errors(rt: HostRuntime) {
     shows_headers_error(&rt, &ipv6, [false, false, true]);
 }
 
-/// A length that does not fit.
+/// Error of a payload of 65,536 bytes, which does not fit the IPv6 payload length field.
 const TOO_LONG: ValueTooBigError<usize> = ValueTooBigError {
     actual: 65536,
     max_allowed: 65535,
     value_type: ValueType::Ipv6PayloadLength,
 };
 
-/// The errors that the accessors show: want of memory, a length, the refusal of IPv4, that of IPv6, and ICMPv6 behind
-/// IPv4.
+/// Asserts what five accessors of a builder error return. `shown` has for each of them whether it reports this error:
+/// out of memory, payload length, IPv4 extension headers, IPv6 extension headers, ICMPv6 in IPv4.
 fn shows_build_error(rt: &impl Abort, error: &BuildWriteError, shown: [bool; 5]) {
     let [of_memory, of_length, of_ipv4, of_ipv6, of_icmp] = shown;
     same(rt, &error.is_out_of_memory(), &of_memory);
@@ -151,24 +154,25 @@ fn accessors_of_build_errors(rt: HostRuntime) {
     shows_build_error(&rt, &BuildWriteError::ArpHeaderNotMatch, [no; 5]);
 }
 
-/// The payload of the parts below.
+/// Payload that tests split into three fragments.
 const LETTERS: &[u8] = b"abcdefghijklmnopqrstuvwxyz";
 
-/// Parts of 8, 16 and 2 bytes of a stream, in turn.
+/// Asserts that a reassembly pool completes a payload from three fragments of 8, 16 and 2 bytes, in this order, with
+/// this length source.
 fn completes(rt: &impl Abort, alloc: Global, stream: Stream, len_source: LenSource) {
     let mut pool = IpDefragPool::new(alloc);
     let first = answer_to(rt, alloc, &mut pool, stream, (0, 1), &LETTERS[..8]);
     let second = answer_to(rt, alloc, &mut pool, stream, (1, 1), &LETTERS[8..24]);
     same(rt, &(first, second), &(Ok(None), Ok(None)));
     let last = answer_to(rt, alloc, &mut pool, stream, (3, 0), &LETTERS[24..]);
-    let handed_out = last.expect(rt, "refused").expect(rt, "not whole");
-    same(rt, &handed_out.payload.as_slice(), &LETTERS);
-    let named = (handed_out.ip_number, handed_out.len_source);
+    let completed_payload = last.expect(rt, "refused").expect(rt, "not whole");
+    same(rt, &completed_payload.payload.as_slice(), &LETTERS);
+    let named = (completed_payload.ip_number, completed_payload.len_source);
     same(rt, &named, &(IpNumber::UDP, len_source));
 }
 
 #[test]
-fn streams_behind_tags(rt: HostRuntime) {
+fn streams_after_tags(rt: HostRuntime) {
     let (alloc, ipv4) = (rt.alloc(), LenSource::Ipv4HeaderTotalLen);
     completes(&rt, alloc, (4, b"", 1, 17), ipv4);
     completes(&rt, alloc, (4, TAG, 1, 17), ipv4);
@@ -179,7 +183,8 @@ fn streams_behind_tags(rt: HostRuntime) {
     completes(&rt, alloc, (6, TAGS, 1, 17), ipv6);
 }
 
-/// A refused first fragment begins no stream: the final one behind it is the first that is kept.
+/// Asserts that a reassembly pool stores nothing of a rejected first fragment (7 bytes): a valid final fragment after
+/// it completes nothing.
 fn refuses_first(rt: &impl Abort, alloc: Global, stream: Stream) {
     let mut pool = IpDefragPool::new(alloc);
     let refused = answer_to(rt, alloc, &mut pool, stream, (0, 1), b"abcdefg");
@@ -204,7 +209,8 @@ fn packet_without_layers(rt: HostRuntime) {
     same(&rt, &answer, &Ok(None));
 }
 
-/// Both halves of a payload behind authentication headers, which each fragment has.
+/// An IPv4 fragment with an authentication header and the first 8 bytes of a payload of 16 bytes; `AUTHENTICATED_LAST`
+/// has the last 8.
 const AUTHENTICATED_FIRST: &[u8] =
     b"\x45\x00\x00\x28\x00\x07\x20\x00\x40\x33\x00\x00\xc0\xa8\x01\x01\xc0\xa8\x01\x02\
       \x11\x01\x00\x00\x00\x00\x00\x02\x00\x00\x00\x03abcdefgh";
@@ -213,7 +219,8 @@ const AUTHENTICATED_LAST: &[u8] =
     b"\x45\x00\x00\x28\x00\x07\x00\x01\x40\x33\x00\x00\xc0\xa8\x01\x01\xc0\xa8\x01\x02\
       \x11\x01\x00\x00\x00\x00\x00\x02\x00\x00\x00\x03ijklmnop";
 
-/// A later fragment without one.
+/// An IPv4 fragment at offset 8 whose protocol is 51 (authentication header), but which has only 8 bytes of payload and
+/// no such header.
 const NOT_AUTHENTICATED: &[u8] =
     b"\x45\x00\x00\x1c\x00\x08\x00\x01\x40\x33\x00\x00\xc0\xa8\x01\x01\xc0\xa8\x01\x02ijklmnop";
 
@@ -228,13 +235,18 @@ fn authenticated_fragments(rt: HostRuntime) {
     );
     let last = SlicedPacket::from_ip(AUTHENTICATED_LAST).expect(&rt, "refused");
     let answer = pool.process_sliced_packet(&last, 1, 0);
-    same(&rt, &handed_out(&answer), &b"abcdefghijklmnop".as_slice());
+    same(
+        &rt,
+        &completed_payload(&answer),
+        &b"abcdefghijklmnop".as_slice(),
+    );
     let refused = SlicedPacket::from_ip(NOT_AUTHENTICATED).err();
     let text = "IpAuthHeader: 12 bytes needed, 8 there (limit Ipv4HeaderTotalLen, offset 20)";
     shows(&rt, rt.alloc(), &refused.expect(&rt, "accepted"), text);
 }
 
-/// Whether headers are IP, IPv4, IPv6 and ARP, and have headers of IPv4, of IPv6 and of ARP.
+/// Returns what seven accessors report of owned network headers: whether they are IP, IPv4, IPv6 and ARP, and whether
+/// an IPv4, IPv6 and ARP header can be borrowed.
 fn kinds_of_headers(net: &NetHeaders) -> [bool; 7] {
     let headers = (net.ipv4_ref().is_some(), net.ipv6_ref().is_some());
     [
@@ -248,7 +260,8 @@ fn kinds_of_headers(net: &NetHeaders) -> [bool; 7] {
     ]
 }
 
-/// The kinds of an IPv4 packet, of an IPv6 packet and of an ARP packet.
+/// Expected results of seven accessors (`is_ip`, `is_ipv4`, `is_ipv6`, `is_arp`, `ipv4_ref`, `ipv6_ref` and `arp_ref`)
+/// for an IPv4, an IPv6 and an ARP packet.
 const KINDS: [[bool; 7]; 3] = [
     [true, true, false, false, true, false, false],
     [true, false, true, false, false, true, false],
@@ -265,7 +278,8 @@ fn kinds_of_net_headers(rt: HostRuntime) {
     same(&rt, &kinds_of_headers(&arp), &KINDS[2]);
 }
 
-/// The same of slices.
+/// Returns what seven accessors report of a network slice: whether it is IP, IPv4, IPv6 and ARP, and whether an IPv4,
+/// IPv6 and ARP slice can be borrowed.
 fn kinds_of_slices(net: &NetSlice<'_>) -> [bool; 7] {
     let slices = (net.ipv4_ref().is_some(), net.ipv6_ref().is_some());
     [
@@ -279,7 +293,7 @@ fn kinds_of_slices(net: &NetSlice<'_>) -> [bool; 7] {
     ]
 }
 
-/// The payload 1 to 4 of the number 59, whose end this sets.
+/// Returns the IP payload with bytes 1, 2, 3, 4 and IP protocol number 59, limited by `len_source`.
 fn four_bytes(len_source: LenSource) -> IpPayloadSlice<'static> {
     IpPayloadSlice {
         ip_number: IpNumber(59),
@@ -310,7 +324,7 @@ fn kinds_of_an_arp_slice(rt: HostRuntime) {
     same(&rt, &net.ip_payload_ref(), &None);
 }
 
-/// A segment in which no two fields are alike, with four bytes of options and two of payload.
+/// A TCP segment whose fields all have different values, with four bytes of options and two of payload.
 const SEGMENT: &[u8] =
     b"\x01\x02\x03\x04\x05\x06\x07\x08\x09\x0a\x0b\x0c\x60\x00\x0d\x0e\x0f\x10\x11\x12\
     \x01\x03\x03\x07\xaa\xbb";
@@ -342,7 +356,7 @@ fn parts_of_a_segment(rt: HostRuntime) {
     same(&rt, &segment.payload(), &&SEGMENT[24..]);
 }
 
-/// A segment with these bytes of data offset and flags has these flags, from the lowest bit on.
+/// Asserts the nine flags of a TCP header, from FIN (lowest bit) to NS; `upper` and `lower` are its bytes 12 and 13.
 fn has_flags(rt: &impl Abort, upper: u8, lower: u8, flags: [bool; 9]) {
     let mut bytes = [0; 20];
     bytes[12] = upper;
@@ -362,7 +376,7 @@ fn has_flags(rt: &impl Abort, upper: u8, lower: u8, flags: [bool; 9]) {
     same(rt, &shown, &flags);
 }
 
-/// Each flag alone.
+/// Each of the nine TCP flags is reported if it is the only one set.
 #[test]
 fn flags_of_a_segment(rt: HostRuntime) {
     let (yes, no) = (true, false);
@@ -383,7 +397,7 @@ fn hash_of<T: Hash>(value: &T) -> u64 {
     hasher.finish()
 }
 
-/// Equal values, however they were made, have equal hashes.
+/// Equal fragment ranges, offsets, ether types and errors have equal hashes, however they were created.
 #[test]
 fn hashes_of_equal_values(rt: HostRuntime) {
     let range = |end| IpFragRange { start: 0, end };
@@ -405,7 +419,7 @@ fn hashes_of_equal_values(rt: HostRuntime) {
     );
 }
 
-/// Buffers that hold the same are equal, whatever room they have, and have equal hashes.
+/// Reassembly buffers with equal content are equal and have equal hashes, whatever their capacity.
 #[test]
 fn hashes_of_buffers(rt: HostRuntime) {
     let alloc = rt.alloc();
@@ -418,7 +432,7 @@ fn hashes_of_buffers(rt: HostRuntime) {
     same(&rt, &hash_of(&buffer), &hash_of(&other));
 }
 
-/// An Ethernet II header and an ARP packet.
+/// The builder reports 42 bytes as the size of a frame of an Ethernet II header and an ARP packet.
 #[test]
 fn size_of_an_arp_frame(rt: HostRuntime) {
     let ethernet = PacketBuilder::ethernet2([1, 2, 3, 4, 5, 6], [7, 8, 9, 10, 11, 12]);

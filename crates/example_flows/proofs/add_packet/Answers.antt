@@ -8,7 +8,7 @@ use Rattle.example_flows.proofs.CountingLemmas.{seen_before, counted, lacked}
 use Rattle.example_flows.proofs.add_packet.Goals as goal
 use Rattle.example_flows.proofs.add_packet.Goals.{in-Some-Ipv4, in-Some-Ipv6}
 
--- the segment of a slice, between these addresses
+-- the segment of a TCP slice with these addresses
 abbrev segment : TcpSlice → Addresses → Segment
 segment slice addresses =
     record { addresses = addresses; tcp = tcp_slice_header slice; len = length (tcp_slice_payload slice) }

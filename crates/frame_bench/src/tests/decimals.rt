@@ -1,10 +1,10 @@
-//! Numbers as decimal digits, to the greatest.
+//! Test that numbers are written in decimal digits, from 0 to the greatest of 64 bits.
 
 use line_io::decimals::push;
 use std::alloc::Global;
 use std::process::Abort;
 
-/// A number is written by these digits.
+/// Asserts that a number is written as the given decimal digits.
 fn writes(rt: &impl Abort, alloc: Global, number: u64, digits: &[u8]) {
     let mut output = Vec::new(alloc);
     assert!(rt; push(&mut output, number).is_ok());

@@ -1,5 +1,5 @@
-//! Readers and writers that fail, end or take nothing behind every number of bytes, and some that move random numbers
-//! of bytes.
+//! Tests with readers and writers that fail, end or accept nothing after each number of bytes, and with readers and
+//! writers that move random numbers of bytes for each call.
 
 use super::rows;
 use super::streams::{Turn, WHOLE, ending_of};
@@ -8,33 +8,34 @@ use std::alloc::Global;
 use std::io::ErrorKind;
 use std::process::Abort;
 
-/// How long each of the five lines is.
+/// Length of each of the five `frag` lines of the test input, in bytes, line feed included.
 const LINE_LEN: usize = 106;
 
-/// The five lines, one by one.
+/// Behaviour of a reader that returns one line of the test input for each call, 106 bytes.
 const LINES: &[Turn] = &[Turn::Moves(LINE_LEN)];
 
-/// How long the answers to the first of the five lines are.
+/// Total length in bytes of the answers to the first 0, 1, 2, 3, 4 and 5 lines of the test input.
 const ANSWERS_LEN: [usize; 6] = [0, 5, 10, 54, 59, 103];
 
-/// Five lines, of two streams.
+/// Returns the test input: five `frag` lines with fragments of two datagrams.
 fn five_lines() -> &'static [u8] {
     let (input, _answers) = rows::STREAMS_BY_VLAN;
     input.as_bytes()
 }
 
-/// Their answers, as many bytes.
+/// Returns the first `len` bytes of the expected answers to the five lines of the test input.
 fn answers(len: usize) -> &'static [u8] {
     let (_input, answers) = rows::STREAMS_BY_VLAN;
     answers.as_bytes().get(..len).unwrap_or(b"")
 }
 
-/// The answers to the lines that end within so many bytes of the five.
+/// Returns the expected answers to those lines of the test input that are complete within its first `len` bytes.
 fn answered(len: usize) -> &'static [u8] {
     answers(ANSWERS_LEN.get(len / LINE_LEN).copied().unwrap_or(0))
 }
 
-/// A run over the five lines ends so, and what it writes begins with this, or is this where it failed.
+/// Runs the engine on the five lines of the test input and asserts its result. Asserts that the output begins with
+/// `wanted`, and is exactly `wanted` if the run fails.
 fn assert_ending(
     rt: &impl Abort,
     alloc: Global,
@@ -48,7 +49,8 @@ fn assert_ending(
     assert!(rt; error.is_none() || written.len() == wanted.len());
 }
 
-/// Turns that move so many bytes at once, then make one other turn, and then would go on.
+/// Returns the behaviour of a reader or writer for its first calls: one call moves `len` bytes, the next call does as
+/// `then` states, and a further call would move all bytes.
 fn turns_behind(rt: &impl Abort, alloc: Global, len: usize, then: Turn) -> Vec<Turn> {
     let mut turns = Vec::with_capacity(alloc, 3).expect(rt, "refused");
     if len > 0 {
@@ -59,16 +61,17 @@ fn turns_behind(rt: &impl Abort, alloc: Global, len: usize, then: Turn) -> Vec<T
     turns
 }
 
-/// A reader that does so behind so many bytes.
+/// Asserts the result of a run whose reader returns `len` bytes and then does as `then` states (fails, or returns
+/// nothing).
 fn assert_reader(rt: &impl Abort, alloc: Global, len: usize, then: Turn, error: Option<RunError>) {
     let reading = turns_behind(rt, alloc, len, then);
     assert_ending(rt, alloc, (&reading, WHOLE), error, answered(len));
 }
 
-/// Whether or not trying again would help, a reader that fails has failed. One that gives nothing once has ended there,
-/// whatever it would give then.
+/// Tests that a read error ends the run, even if another try would succeed, after each number of input bytes. Tests
+/// that a reader which once returns no bytes has ended, even if it would return some later.
 #[test]
-fn readers_fail_or_end_behind_each_byte(rt: HostRuntime) {
+fn readers_fail_or_end_after_each_byte(rt: HostRuntime) {
     let again = Turn::Fails(ErrorKind::Interrupted);
     let other = Turn::Fails(ErrorKind::Other);
     for len in 0..=2 * LINE_LEN {
@@ -80,7 +83,8 @@ fn readers_fail_or_end_behind_each_byte(rt: HostRuntime) {
     }
 }
 
-/// Turns that move so many bytes one by one, then make one other turn, and then would go on.
+/// Returns the behaviour of a reader or writer for its calls: `len` calls move one byte each, the next call does as
+/// `then` states, and a further call would move all bytes.
 fn single_turns_behind(rt: &impl Abort, alloc: Global, len: usize, then: Turn) -> Vec<Turn> {
     let mut turns = Vec::new(alloc);
     for _ in 0..len {
@@ -91,13 +95,15 @@ fn single_turns_behind(rt: &impl Abort, alloc: Global, len: usize, then: Turn) -
     turns
 }
 
-/// A writer of these turns fails behind so many bytes, where the lines are read so.
+/// Asserts that a run with this behaviour of reader and writer ends with a write error, after `len` bytes of the
+/// answers.
 fn assert_writer(rt: &impl Abort, alloc: Global, len: usize, reading: &[Turn], writing: &[Turn]) {
     let error = Some(RunError::Write);
     assert_ending(rt, alloc, (reading, writing), error, answers(len));
 }
 
-/// A writer that fails behind so many bytes, which it takes at once or one by one.
+/// Asserts that a run ends with a write error if its writer fails, as `then` states, after `len` bytes, which it
+/// accepts by one call or by one call for each byte.
 fn assert_failing_writer(rt: &impl Abort, alloc: Global, len: usize, then: Turn) {
     let at_once = turns_behind(rt, alloc, len, then);
     assert_writer(rt, alloc, len, WHOLE, &at_once);
@@ -105,9 +111,10 @@ fn assert_failing_writer(rt: &impl Abort, alloc: Global, len: usize, then: Turn)
     assert_writer(rt, alloc, len, LINES, &one_by_one);
 }
 
-/// Where all is read and answered at once, and where each line is.
+/// Tests that a write error ends the run after each number of output bytes, both if the input is read by one call and
+/// if it is read line by line.
 #[test]
-fn writers_fail_behind_each_byte(rt: HostRuntime) {
+fn writers_fail_after_each_byte(rt: HostRuntime) {
     for len in 0..103 {
         assert_failing_writer(&rt, rt.alloc(), len, Turn::Fails(ErrorKind::Interrupted));
         assert_failing_writer(&rt, rt.alloc(), len, Turn::Fails(ErrorKind::Other));
@@ -115,14 +122,14 @@ fn writers_fail_behind_each_byte(rt: HostRuntime) {
     }
 }
 
-/// Random numbers of bytes.
+/// A generator of pseudo-random numbers from 1 to 64, for the numbers of bytes that a reader or writer moves.
 #[derive(Drop)]
 struct Numbers {
     state: u64,
 }
 
 impl Numbers {
-    /// A number of bytes from 1 to 64.
+    /// Returns the next pseudo-random number of bytes, from 1 to 64.
     fn next(&mut self) -> usize {
         self.state = self
             .state
@@ -131,7 +138,7 @@ impl Numbers {
         1 + (self.state >> 58) as usize
     }
 
-    /// So many turns that move random numbers of bytes, of which the last one comes again and again.
+    /// Returns the behaviour of a reader or writer for `count` calls: each call moves a pseudo-random number of bytes.
     fn turns(&mut self, rt: &impl Abort, alloc: Global, count: usize) -> Vec<Turn> {
         let mut turns = Vec::new(alloc);
         for _ in 0..count {
@@ -141,7 +148,7 @@ impl Numbers {
     }
 }
 
-/// A reader and a writer that move random numbers of bytes change nothing.
+/// Tests that the answers don't depend on the number of bytes that each call of the reader and the writer moves.
 #[test]
 fn random_pieces(rt: HostRuntime) {
     let mut numbers = Numbers { state: 1 };

@@ -1,13 +1,13 @@
-//! Runs of which one request for memory is refused: `memory_tests/refuse.py` refuses each in turn, and each of the
-//! program on its file `stdin` too.
+//! Test runs in which one allocation fails. The script `memory_tests/refuse.py` makes each allocation fail, one after
+//! the other, in these tests and in the program when it reads its file `stdin`.
 
 use super::rows;
 use super::streams::{Turn, WHOLE, ending_of};
 use std::alloc::Global;
 use std::process::Abort;
 
-/// A run over these lines, and where that was refused, a second one. A refused run says whether its memory was refused
-/// or its writer's, and what it wrote begins the answers.
+/// Runs the engine on request lines, and asserts the answers. If an allocation fails, it prints which error the run
+/// reported, asserts that the output is a start of the answers, and asserts that a second run succeeds.
 fn answers(
     rt: &(impl Abort + Print),
     alloc: Global,
@@ -26,7 +26,7 @@ fn answers(
     assert_eq!(rt; written.as_slice(), wanted.as_bytes());
 }
 
-/// Frames one by one.
+/// Behaviour of a reader that returns one `slice` line for each call, 111 bytes.
 const FRAMES: &[Turn] = &[Turn::Moves(111)];
 
 const ONE: (&str, &str) = (
@@ -50,13 +50,15 @@ const FOUR: (&str, &str) = (
     ok eth - ipv4 udp 0102030405060708\n",
 );
 
-/// What answers one line has room for the next: the further requests are the writer's.
+/// Tests four equal `slice` lines. The engine's buffers are large enough after the first answer, so all later
+/// allocations are made by the writer's vector.
 #[test]
 fn four_frames(rt: HostRuntime) {
     answers(&rt, rt.alloc(), FRAMES, FOUR);
 }
 
-/// The lines with limits, one by one.
+/// Behaviour of a reader that returns one line of the test input with `limit` lines for each call: the lengths of its
+/// lines in bytes.
 const LIMITS: &[Turn] = &[
     Turn::Moves(12),
     Turn::Moves(9),
@@ -68,7 +70,8 @@ const LIMITS: &[Turn] = &[
     Turn::Moves(69),
 ];
 
-/// Each line that gives a limit is answered, or the run ends there; and the new pool asks anew for what it holds.
+/// Tests that a `limit` line is answered or ends the run if an allocation fails. The new reassembly pool allocates anew
+/// for its contents.
 #[test]
 fn limit_lines(rt: HostRuntime) {
     answers(&rt, rt.alloc(), LIMITS, rows::LIMITS);

@@ -1,14 +1,15 @@
-//! Lines to the pool, and their answers.
+//! Request lines that concern the reassembly pool, and the expected answers.
 
 use crate::engine::run;
 use line_io::Watched;
 use std::alloc::Global;
 use std::process::Abort;
 
-/// A text and its answers.
+/// Request lines as one text, and the expected answer lines.
 pub(super) type Row = (&'static str, &'static str);
 
-/// Two streams by their VLAN identifiers, each of which is complete in turn, and one that begins anew.
+/// Five `frag` lines of two streams (datagrams in fragments) that differ only in their VLAN identifiers, 1 and 2. Each
+/// stream is completed, and between them a fragment of VLAN 1 begins a new stream.
 pub(super) const STREAMS_BY_VLAN: Row = (
     "frag eth 1 0 0708090a0b0c0102030405068100000108004500001c000120001411037dc0a80101c0a801020001020304050607\n\
     frag eth 2 0 0708090a0b0c0102030405068100000208004500001c000120001411037dc0a80101c0a801021011121314151617\n\
@@ -22,7 +23,8 @@ pub(super) const STREAMS_BY_VLAN: Row = (
     payload 17 101112131415161718191a1b1c1d1e1f\n",
 );
 
-/// A limit refuses what ends behind it, the payload that ends there comes out, and a new limit gives streams up.
+/// `limit` and `frag` lines: a limit of 16 rejects a fragment that ends above 16 bytes and accepts a payload of 16
+/// bytes, and a new limit drops all incomplete datagrams.
 pub(super) const LIMITS: Row = (
     "limit 65536\n\
     limit 16\n\
@@ -42,7 +44,7 @@ pub(super) const LIMITS: Row = (
     none\n",
 );
 
-/// Runs over memory, and compares what is written.
+/// Runs the engine on request lines in memory, and asserts that the output is the expected answers.
 fn answers(rt: &impl Abort, alloc: Global, (input, wanted): Row) {
     let mut output = Vec::new(alloc);
     let mut reader = Watched::new(input.as_bytes(), u64::MAX);

@@ -1,4 +1,4 @@
-//! Readers and writers that move little or fail.
+//! Tests with readers and writers that move a set number of bytes for each call, or fail.
 
 ghost use Rattle.std.specs.Prelude.{◌≤◌, IfOk};
 
@@ -11,16 +11,16 @@ use std::io;
 use std::io::{ErrorKind, Read, Write};
 use std::process::Abort;
 
-/// What a call of a reader or a writer does.
+/// Effect of one call of a test reader or test writer: it moves some bytes, or fails.
 #[derive(Clone, Copy)]
 pub(super) enum Turn {
-    /// It moves so many bytes, or as many as there are and have room.
+    /// The call moves this number of bytes, or fewer if fewer are left to be read or given to be written.
     Moves(usize),
-    /// It fails.
+    /// The call fails with an I/O error of this kind.
     Fails(ErrorKind),
 }
 
-/// The turns of a reader or a writer, of which the last one comes again and again.
+/// Effects of the calls of a test reader or test writer, in order. All calls after the last entry repeat it.
 #[derive(Drop)]
 struct Turns<'a> {
     turns: &'a [Turn],
@@ -28,7 +28,8 @@ struct Turns<'a> {
 }
 
 impl Turns<'_> {
-    /// How many bytes the next call moves, of so many.
+    /// Returns the number of bytes that the next call of a test reader or writer moves, at most `len`, or its I/O
+    /// error.
     fn next(&mut self, len: usize) -> io::Result<usize>
         ensures { IfOk result (λ count. count ≤ len) }
     {
@@ -43,7 +44,7 @@ impl Turns<'_> {
     }
 }
 
-/// A reader that goes by turns.
+/// A test reader of bytes in memory, whose calls move a set number of bytes each, or fail.
 #[derive(Drop)]
 struct Source<'a> {
     rest: &'a [u8],
@@ -60,7 +61,7 @@ impl Read for Source<'_> {
     }
 }
 
-/// A writer that goes by turns.
+/// A test writer into a vector, whose calls accept a set number of bytes each, or fail.
 #[derive(Drop)]
 struct Target<'a> {
     bytes: Vec<u8>,
@@ -79,10 +80,11 @@ impl Write for Target<'_> {
     }
 }
 
-/// How a run ends: with which error, how often the reader and the writer were called, and what is written.
+/// Outcome of an engine run: its error, if any, the number of calls of its reader and of its writer, and its output.
 type Ending = (Option<RunError>, (usize, usize), Vec<u8>);
 
-/// Runs between a reader and a writer by their turns.
+/// Runs the engine between a test reader and a test writer, whose calls do as the two lists state, and returns the
+/// outcome.
 pub(super) fn ending_of(
     alloc: Global,
     (reading, writing): (&[Turn], &[Turn]),
@@ -109,7 +111,8 @@ pub(super) fn ending_of(
     (error, calls, target.bytes)
 }
 
-/// A reader and a writer by their turns, why their run ends, how often each is called, and how much is written.
+/// A test case: what the calls of the reader and the writer do, and the expected error, numbers of calls (reader,
+/// writer) and length of the output in bytes.
 #[derive(Drop)]
 struct Streams {
     reading: &'static [Turn],
@@ -119,7 +122,8 @@ struct Streams {
     written: usize,
 }
 
-/// Runs between the two, and compares the result, the calls and what is written.
+/// Runs the engine on `input` with the reader and the writer of a test case, and asserts its error, the numbers of
+/// calls and the output.
 fn assert_streams(rt: &impl Abort, alloc: Global, streams: &Streams, input: &[u8], wanted: &[u8]) {
     let (error, calls, written) = ending_of(alloc, (streams.reading, streams.writing), input);
     assert!(rt; error == streams.error);
@@ -127,19 +131,22 @@ fn assert_streams(rt: &impl Abort, alloc: Global, streams: &Streams, input: &[u8
     assert_eq!(rt; Some(written.as_slice()), wanted.get(..streams.written));
 }
 
-/// Each call moves all that is there.
+/// Behaviour of a reader or writer that moves all bytes by one call.
 pub(super) const WHOLE: &[Turn] = &[Turn::Moves(usize::MAX)];
 
-/// Each call moves one byte.
+/// Behaviour of a reader or writer that moves one byte for each call.
 const SINGLE: &[Turn] = &[Turn::Moves(1)];
 
-/// Three lines, the last without its line feed.
+/// Test input of three lines: not a request, a `slice` request without bytes, and again not a request, without its line
+/// feed.
 const LINES: &[u8] = b"a\nslice eth -\nb";
 
-/// Their answers.
+/// Expected answers to the test input of three lines: `err line`, the error that 14 bytes of an Ethernet II header are
+/// missing, and `err line`.
 const ANSWERS: &[u8] = b"err line\nerr len 14 0 Slice Ethernet2Header 0\nerr line\n";
 
-/// Readers and writers of these lines and answers.
+/// Test cases on the test input of three lines: readers and writers that move everything or single bytes, fail, or move
+/// nothing once.
 const STREAMS: [Streams; 13] = [
     Streams {
         reading: WHOLE,
@@ -162,7 +169,7 @@ const STREAMS: [Streams; 13] = [
         calls: (16, 3),
         written: 55,
     },
-    // A reader that fails for good, once at its first call, and once in its midst.
+    // A reader that fails: at each call, only at its first call, and once in the middle.
     Streams {
         reading: &[Turn::Fails(ErrorKind::Other)],
         writing: WHOLE,
@@ -188,7 +195,7 @@ const STREAMS: [Streams; 13] = [
         calls: (2, 1),
         written: 46,
     },
-    // A reader that gives nothing once, at its first call and before the end of a line.
+    // A reader that returns no bytes once: at its first call, and before the end of a line.
     Streams {
         reading: &[Turn::Moves(0), Turn::Moves(usize::MAX)],
         writing: WHOLE,
@@ -203,7 +210,7 @@ const STREAMS: [Streams; 13] = [
         calls: (2, 2),
         written: 46,
     },
-    // A writer that fails for good, once at its first call, in its midst, and at the last line.
+    // A writer that fails: at each call, only at its first call, once in the middle, and once at the last line.
     Streams {
         reading: WHOLE,
         writing: &[Turn::Fails(ErrorKind::Other)],
@@ -240,7 +247,7 @@ const STREAMS: [Streams; 13] = [
         calls: (2, 2),
         written: 46,
     },
-    // A writer that takes nothing once.
+    // A writer that accepts nothing once.
     Streams {
         reading: WHOLE,
         writing: &[Turn::Moves(45), Turn::Moves(0), Turn::Moves(usize::MAX)],
@@ -257,7 +264,8 @@ fn moves_little_or_fails(rt: HostRuntime) {
     }
 }
 
-/// Runs with a reader and a writer that move a byte a call.
+/// Runs the engine on request lines with a reader and a writer that move one byte for each call, and asserts the
+/// answers and the numbers of calls.
 fn assert_single(rt: &impl Abort, alloc: Global, (input, wanted): rows::Row) {
     let streams = Streams {
         reading: SINGLE,

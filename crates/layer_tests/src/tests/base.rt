@@ -1,4 +1,5 @@
-//! What no contract of `ep_base` says: rows from outside, texts, and the number of a sum.
+//! Tests of `ep_base` (numbers, errors, checksums) for everything that its contracts don't cover: examples from
+//! standards, error texts, and the internal state of a checksum.
 
 mod sums;
 mod texts;
@@ -8,11 +9,11 @@ use ep_base::checksum::Sum16BitWords;
 
 #[test]
 fn checksums(rt: HostRuntime) {
-    // an IPv4 header with its checksum field 0, and filled in
+    // an IPv4 header with checksum field 0, and with its checksum
     let empty = b"\x45\x00\x00\x24\x00\x00\x40\x00\x14\x11\x00\x00\xc0\xa8\x01\x01\xc0\xa8\x01\x02";
     let filled =
         b"\x45\x00\x00\x24\x00\x00\x40\x00\x14\x11\xe3\x75\xc0\xa8\x01\x01\xc0\xa8\x01\x02";
-    // the example of RFC 1071, 3
+    // example of RFC 1071, section 3
     let example = b"\x00\x01\xf2\x03\xf4\xf5\xf6\xf7";
     let odd = b"\x01\x02\x03\x04\x05\x06\x07\x08\x09";
     for (bytes, checksum, with_no_zero) in [
@@ -32,8 +33,9 @@ fn checksums(rt: HostRuntime) {
     }
 }
 
-/// A UDP datagram over IPv4 whose sum has the complement 0.
-fn by_pieces() -> Sum16BitWords {
+/// Returns the checksum state of a UDP datagram and its IPv4 pseudo-header, added by several calls. The resulting
+/// checksum is 0, which UDP writes as 0xffff.
+fn by_parts() -> Sum16BitWords {
     Sum16BitWords::new()
         .add_4bytes([192, 168, 1, 1])
         .add_4bytes([192, 168, 1, 2])
@@ -52,8 +54,8 @@ fn at_once() -> Sum16BitWords {
 }
 
 #[test]
-fn checksum_by_pieces(rt: HostRuntime) {
-    let sum = by_pieces();
+fn checksum_by_parts(rt: HostRuntime) {
+    let sum = by_parts();
     same(
         &rt,
         &(sum.ones_complement(), sum.ones_complement_with_no_zero()),

@@ -1,5 +1,6 @@
-//! What each public type derives. A derive that nothing calls could be dropped unnoticed. A tuple derives what all of
-//! its parts do.
+//! Tests that the public types of the header crates (except `ip::LaxHeaderSliceError`) have their derived traits: a
+//! derive that nothing uses could be removed unnoticed. The types are listed in tuples, which have a trait if all of
+//! their elements have it.
 
 use std::error::Error;
 use std::fmt::Debug;

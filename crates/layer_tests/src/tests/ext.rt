@@ -1,4 +1,5 @@
-//! What no contract of `ep_ext` says: rows from outside, texts, and that calls succeed.
+//! Tests of `ep_ext` (IP extension headers) for everything that its contracts don't cover: examples from standards,
+//! error texts, and calls that have to succeed.
 
 mod chain;
 mod fragment_header;

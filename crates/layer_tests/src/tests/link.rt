@@ -1,4 +1,5 @@
-//! What no contract of `ep_link` says: rows from outside, texts, and that calls succeed.
+//! Tests of `ep_link` (link headers, VLAN tags, MACsec and ARP) for everything that its contracts don't cover: examples
+//! from standards, error texts, and calls that have to succeed.
 
 mod arp;
 mod frames;

@@ -1,4 +1,5 @@
-//! What no contract of `ep_transport` says: rows from outside, texts, and that calls succeed.
+//! Tests of `ep_transport` (UDP, TCP and ICMP) for everything that its contracts don't cover: examples from standards,
+//! error texts, and calls that have to succeed.
 
 mod icmp;
 mod icmp_types;

@@ -14,9 +14,9 @@ returns c =
     let name = c.as_bytes.ensures.value ∙ c.name.ensures in
     let needed = codes ": " ++ decimal error.required_len in
     let there = codes " bytes needed, " ++ decimal error.len in
-    on_ok_weaker c.push_behind-2.result
+    on_ok_weaker c.push_with_text-2.result
     (λ last.
-    three_parts start c.extend_from_slice.new.self.items c.push_behind.new.output.items
-    c.push_behind-2.new.output.items c.as_bytes.result.now needed there c.in_ok-extend_from_slice.ensures.items
-    c.in_ok-push_behind.ensures.text last
-    ∙ (λ i. start ++ (name i ++ needed ++ there))) c.push_behind-2.ensures.text
+    three_parts start c.extend_from_slice.new.self.items c.push_with_text.new.output.items
+    c.push_with_text-2.new.output.items c.as_bytes.result.now needed there c.in_ok-extend_from_slice.ensures.items
+    c.in_ok-push_with_text.ensures.text last
+    ∙ (λ i. start ++ (name i ++ needed ++ there))) c.push_with_text-2.ensures.text

@@ -3,7 +3,7 @@ use Rattle.ep_ext.specs.Ipv6ExtensionSlices.{ipv6_slice_parts, parts_left}
 use Rattle.detail_texts.specs.PacketChecksums.{has_routing}
 use Rattle.detail_texts.proofs.packet_checksums.has_routing.Given as goal
 
--- a routing header is among those that are left where it is among all
+-- The remaining extension headers include a routing header if and only if all of them do.
 abbrev pub invariant-loop-extension : goal.invariant-loop-extension
 invariant-loop-extension l =
     (has_routing (parts_left l.extension-iterator) ≡ has_routing (ipv6_slice_parts l.fn.extensions))

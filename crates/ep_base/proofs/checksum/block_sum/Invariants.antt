@@ -2,7 +2,7 @@ use Rattle.std.proofs.Common.{◌≡◌, ℕ, ◌+◌, ◌*◌, ◌%◌, ◌≤�
 use Rattle.ep_base.specs.Checksum.{residue, word_sum}
 use Rattle.ep_base.proofs.checksum.block_sum.Given as goal
 
--- there is a sum of the bytes at even places
+-- The loop maintains the sum of the bytes at even positions, besides the variables `both` and `odd`.
 abbrev pub invariant-loop-piece : goal.invariant-loop-piece
 invariant-loop-piece l = (even : ℕ) × record {
   even_fits : 8 * even + 71777214294589695 * length l.rest ≤ 71777214294589695 * 2048;

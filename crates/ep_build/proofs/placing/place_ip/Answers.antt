@@ -2,7 +2,7 @@ use Rattle.std.proofs.Common.{◌++◌, length, ap, arith}
 use Rattle.std.proofs.lemmas.List.{length-append}
 use Rattle.ep_base.proofs.TableLemmas.{first_row-as_none}
 use Rattle.ep_packet.specs.IpHeaders.{ip_headers_parts, payload_len_rows, written_headers}
-use Rattle.ep_build.specs.BuiltFrames.{built_frame, held_ip, link_before, link_part_bytes}
+use Rattle.ep_build.specs.BuiltFrames.{built_frame, held_ip, link_with_type, link_part_bytes}
 use Rattle.ep_build.specs.declared.err.build_write_error.BuildWriteError.TheVariants as error
 use Rattle.ep_build.proofs.PlacingLemmas.{fills, packet_at}
 use Rattle.ep_build.proofs.SizeLemmas.{headers_len, link_len}
@@ -15,7 +15,7 @@ returns-clause-filled g c =
     let linked = g.Headers.IsIpHeaders.headers c.link.new.self in
     let payload = c.args.payload.now in
     let held = held_ip c.args.link.now headers c.args.last in
-    let front = link_part_bytes (link_before c.args.link.now c.in-Ok.ether_type) in
+    let front = link_part_bytes (link_with_type c.args.link.now c.in-Ok.ether_type) in
     let written = written_headers linked (ip_headers_parts linked) in
     let whole = is_ip_frame c.args.link.now headers linked c.args.last c.in-Ok.ether_type payload c.in-Ok.ensures.1
     c.in-Ok.ensures.2 in

@@ -5,7 +5,7 @@ use Rattle.ep_base.specs.Bytes.{AreBytes}
 use Rattle.ep_base.proofs.BytesLemmas.{AreBytes-front}
 use Rattle.ep_packet.specs.IpHeaders.{ip_headers_parts, written_headers}
 use Rattle.ep_transport.specs.TransportHeaders.{transport_bytes}
-use Rattle.ep_build.specs.BuiltFrames.{built_frame, held_transport, link_before, link_part_bytes}
+use Rattle.ep_build.specs.BuiltFrames.{built_frame, held_transport, link_with_type, link_part_bytes}
 use Rattle.ep_build.proofs.PlacingLemmas.{at_front, both_at, fills, packet_at, same_len}
 use Rattle.ep_build.proofs.SizeLemmas.{headers_len, link_len}
 use Rattle.ep_build.proofs.WritingLemmas.{prepared_back, prepared_frame, prepared_len, transport_len}
@@ -21,7 +21,7 @@ put-requires g c =
     let made = c.in-Ok.ensures in
     let linked = g.Headers.IsIpHeaders.headers c.prepared.new.headers in
     let filled = c.prepared.new.transport in
-    let front = link_part_bytes (link_before c.args.link.now c.in-Ok.prepared.0) in
+    let front = link_part_bytes (link_with_type c.args.link.now c.in-Ok.prepared.0) in
     let written = written_headers linked (ip_headers_parts linked) in
     let first = c.place_headers-behind_ip.ensures.bytes in
     let second = c.place_header-behind.ensures in
@@ -46,7 +46,7 @@ returns-clause-filled g c =
     let filled = c.prepared.new.transport in
     let payload = c.args.payload.now in
     let held = held_transport c.args.link.now (g.Headers.IsIpHeaders.headers c.args.headers.now) c.args.transport.now in
-    let front = link_part_bytes (link_before c.args.link.now c.in-Ok.prepared.0) in
+    let front = link_part_bytes (link_with_type c.args.link.now c.in-Ok.prepared.0) in
     let written = written_headers linked (ip_headers_parts linked) in
     fills held payload _ _ _ _ made.buildable (prepared_len _ _ _ _ _ _ _ _ made)
     (packet_at front written (transport_bytes filled ++ payload) (built_frame held payload) _ _ _ _ _
@@ -61,7 +61,7 @@ returns-clause-read_back g c =
     let filled = c.prepared.new.transport in
     let payload = c.args.payload.now in
     let held = held_transport c.args.link.now (g.Headers.IsIpHeaders.headers c.args.headers.now) c.args.transport.now in
-    let front = link_part_bytes (link_before c.args.link.now c.in-Ok.prepared.0) in
+    let front = link_part_bytes (link_with_type c.args.link.now c.in-Ok.prepared.0) in
     let written = written_headers linked (ip_headers_parts linked) in
     let frame = built_frame held payload in
     let there = packet_at front written (transport_bytes filled ++ payload) frame _ _ _ _ _

@@ -1,12 +1,12 @@
 use Rattle.std.proofs.Common.{◌++◌, List, ℕ, length, ap, ◌∙◌, arith}
 use Rattle.std.proofs.lemmas.List.{append_assoc, length-append}
 use Rattle.ep_packet.specs.IpHeaders.{ip_headers_parts, written_headers}
-use Rattle.ep_build.specs.BuiltFrames.{link_before, link_part_bytes}
+use Rattle.ep_build.specs.BuiltFrames.{link_with_type, link_part_bytes}
 use Rattle.ep_build.proofs.SizeLemmas.{headers_len, link_len}
 use Rattle.ep_build.proofs.writing.append_headers.Goals as goal
 
-pub write_before-requires : goal.write_before-requires
-write_before-requires g c =
+pub append_with_type-requires : goal.append_with_type-requires
+append_with_type-requires g c =
     omega (arith, c.requires.room, link_len c.args.link.now c.args.ether_type c.link_fits.ensures)
 
 pub append-requires-clause-room : goal.append-requires-clause-room
@@ -14,23 +14,23 @@ append-requires-clause-room g c = omega (
   arith,
   c.requires.room,
   link_len c.args.link.now c.args.ether_type c.link_fits.ensures,
-  ap length c.write_before.ensures.items,
-  length-append c.args.buf.now.items (link_part_bytes (link_before c.args.link.now c.args.ether_type)),
-  c.write_before.ensures.capacity,
+  ap length c.append_with_type.ensures.items,
+  length-append c.args.buf.now.items (link_part_bytes (link_with_type c.args.link.now c.args.ether_type)),
+  c.append_with_type.ensures.capacity,
 )
 
 pub returns-clause-items : goal.returns-clause-items
 returns-clause-items g c =
     let headers = g.Headers.IsIpHeaders.headers c.args.headers.now in
-    let front = link_part_bytes (link_before c.args.link.now c.args.ether_type) in
+    let front = link_part_bytes (link_with_type c.args.link.now c.args.ether_type) in
     let written = written_headers headers (ip_headers_parts headers) in
-    c.append.ensures.items ∙ ap (λ (b : List ℕ). b ++ written) c.write_before.ensures.items
+    c.append.ensures.items ∙ ap (λ (b : List ℕ). b ++ written) c.append_with_type.ensures.items
     ∙ append_assoc c.args.buf.now.items front written
 
 pub returns-clause-len : goal.returns-clause-len
 returns-clause-len g c =
     let headers = g.Headers.IsIpHeaders.headers c.args.headers.now in
-    let front = link_part_bytes (link_before c.args.link.now c.args.ether_type) in
+    let front = link_part_bytes (link_with_type c.args.link.now c.args.ether_type) in
     let written = written_headers headers (ip_headers_parts headers) in
     omega (
       arith,

@@ -4,7 +4,7 @@ use Rattle.std.proofs.lemmas.List.{append-nil, append_assoc, length-append}
 use Rattle.ep_base.specs.EtherTypes.{arp_type}
 use Rattle.ep_link.specs.Arp.{arp_bytes}
 use Rattle.ep_link.specs.ArpSlices.{arp_of}
-use Rattle.ep_build.specs.BuiltFrames.{as_ether_type, link_before, link_part_bytes}
+use Rattle.ep_build.specs.BuiltFrames.{as_ether_type, link_with_type, link_part_bytes}
 use Rattle.ep_build.proofs.ReadBackLemmas.{arp_read_back}
 use Rattle.ep_build.proofs.SizeLemmas.{link_len}
 use Rattle.ep_build.proofs.WritingLemmas.{on_err, on_ok, succeeds}
@@ -18,8 +18,8 @@ returns-then-is_err-clause-full c = omega (
   c.packet_len.ensures.value,
 )
 
-pub write_before-requires : goal.write_before-requires
-write_before-requires c = record {
+pub append_with_type-requires : goal.append_with_type-requires
+append_with_type-requires c = record {
   room = omega (
     arith,
     on_ok c.reserve.result _ c.if-is_err.ensures.negation c.reserve.ensures.ok,
@@ -35,19 +35,19 @@ unwrap-requires c = succeeds c.write.result _ _ c.write.ensures.full (omega (
   c.header_len.ensures.value,
   c.packet_len.ensures.bytes,
   link_len c.args.link.now (as_ether_type arp_type) c.link_fits.ensures,
-  c.write_before.ensures.capacity,
-  ap length c.write_before.ensures.items,
-  length-append c.reserve.new.self.items (link_part_bytes (link_before c.args.link.now (as_ether_type arp_type))),
+  c.append_with_type.ensures.capacity,
+  ap length c.append_with_type.ensures.items,
+  length-append c.reserve.new.self.items (link_part_bytes (link_with_type c.args.link.now (as_ether_type arp_type))),
 ))
 
 pub returns-clause-ok : goal.returns-clause-ok
 returns-clause-ok c =
     let old = c.args.buf.now.items in
-    let front = link_part_bytes (link_before c.args.link.now (as_ether_type arp_type)) in
+    let front = link_part_bytes (link_with_type c.args.link.now (as_ether_type arp_type)) in
     let packet = arp_bytes (arp_of c.args.packet.now) in
     on_ok c.write.result _ (ap is_ok c.unwrap.ensures) c.write.ensures.ok
     ∙ ap (λ (l : List ℕ). l ++ packet)
-    (c.write_before.ensures.items ∙ ap (λ (l : List ℕ). l ++ front) c.reserve.ensures.items)
+    (c.append_with_type.ensures.items ∙ ap (λ (l : List ℕ). l ++ front) c.reserve.ensures.items)
     ∙ append_assoc old front packet
     ∙ ap (λ (l : List ℕ). old ++ (front ++ l)) (sym (append-nil packet))
 

@@ -7,7 +7,7 @@ use Rattle.ep_packet.specs.IpHeaders.{LeadThrough, ip_headers_parts, written_hea
 use Rattle.ep_packet.specs.declared.ip_headers.IpHeaders.{IpHeaders}
 use Rattle.ep_packet.proofs.IpHeadersLemmas.{leads}
 use Rattle.ep_transport.specs.TransportHeaders.{transport_bytes}
-use Rattle.ep_build.specs.BuiltFrames.{link_before, link_part_bytes, transport_number}
+use Rattle.ep_build.specs.BuiltFrames.{link_with_type, link_part_bytes, transport_number}
 use Rattle.ep_build.proofs.WritingLemmas.{appended, are_bytes, chosen, joined, on_err, on_ok, prepared_back}
 use Rattle.ep_build.proofs.WritingLemmas.{prepared_frame, succeeds, transport_len}
 use Rattle.ep_build.proofs.writing.write_transport.Goals as goal
@@ -65,7 +65,7 @@ pub returns-clause-ok : goal.returns-clause-ok
 returns-clause-ok g c =
     let made = c.in_ok-ether_type.ensures in
     let linked = g.Headers.IsIpHeaders.headers c.prepared.new.headers in
-    let front = link_part_bytes (link_before c.args.link.now c.in_ok-ether_type.ether_type) in
+    let front = link_part_bytes (link_with_type c.args.link.now c.in_ok-ether_type.ether_type) in
     let whole = joined c.reserve.new.self.items front (written_headers linked (ip_headers_parts linked))
     (transport_bytes c.prepared.new.transport) c.args.payload.now _ _ c.extend_from_slice.new.self.items
     c.append_headers.ensures.items (on_ok c.write.result _ (ap is_ok c.unwrap.ensures) c.write.ensures.ok)
@@ -75,7 +75,7 @@ returns-clause-ok g c =
 pub returns-clause-read_back : goal.returns-clause-read_back
 returns-clause-read_back g c =
     let linked = g.Headers.IsIpHeaders.headers c.prepared.new.headers in
-    let front = link_part_bytes (link_before c.args.link.now c.in_ok-ether_type.ether_type) in
+    let front = link_part_bytes (link_with_type c.args.link.now c.in_ok-ether_type.ether_type) in
     let whole = joined c.reserve.new.self.items front (written_headers linked (ip_headers_parts linked))
     (transport_bytes c.prepared.new.transport) c.args.payload.now _ _ c.extend_from_slice.new.self.items
     c.append_headers.ensures.items (on_ok c.write.result _ (ap is_ok c.unwrap.ensures) c.write.ensures.ok)

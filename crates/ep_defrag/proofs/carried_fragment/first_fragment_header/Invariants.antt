@@ -3,7 +3,7 @@ use Rattle.ep_ext.specs.Ipv6ExtensionSlices.{ipv6_slice_parts, parts_left}
 use Rattle.ep_packet.specs.FrameFragments.{first_fragment}
 use Rattle.ep_defrag.proofs.carried_fragment.first_fragment_header.Given as goal
 
--- No header that is passed is a fragment header.
+-- No header passed so far is a fragment header.
 abbrev pub invariant-loop-extension : goal.invariant-loop-extension
 invariant-loop-extension l =
     (first_fragment (parts_left l.extension-iterator) ≡ first_fragment (ipv6_slice_parts l.fn.extensions))

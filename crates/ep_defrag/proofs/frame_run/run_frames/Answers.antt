@@ -13,7 +13,7 @@ loop-call-preserved g c =
     let read = c.answer_frame.ensures.read in
     answered_more c.loop-call.invariant c.in-Some.call c.next.new.self.rest.items c.in-Some.ensures.steps.0
     {read = read.0} {new = c.answer_frame.new.pool} read.1 (record {
-      says = step.answer read.0 read.1.is;
+      stated = step.answer read.0 read.1.is;
       holds = step.holds read.0 read.1.is;
       limit = step.limit;
       no_memory = step.no_memory;
@@ -26,7 +26,7 @@ unwrap-requires g c = c.push.ensures.succeeds (omega (
       c.in-Some.ensures.steps.0,
 ))
 
--- the calls before the one at which it stops are those that were made
+-- The calls before the one at which it stops are those that were made.
 pub returns-in_default-answer_frame-clause-read : goal.returns-in_default-answer_frame-clause-read
 returns-in_default-answer_frame-clause-read g c =
     let known = c.loop-call.invariant in

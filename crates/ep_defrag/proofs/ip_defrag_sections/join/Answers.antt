@@ -1,6 +1,6 @@
 use Rattle.std.proofs.Common.{◌≡◌, ◌<◌, ◌+◌, set, refl, rules, arith}
 use Rattle.std.specs.List.{remove_range}
-use Rattle.ep_defrag.specs.Ranges.{hull, AreApart}
+use Rattle.ep_defrag.specs.Ranges.{hull, AreSeparate}
 use Rattle.std.proofs.lemmas.Bool.Decides.{nat_tests}
 use Rattle.ep_defrag.proofs.JoiningLemmas.{insert_joins, insert_apart, union_joins, union_apart}
 use Rattle.ep_defrag.proofs.ip_defrag_sections.join.Goals as goal
@@ -35,7 +35,7 @@ returns-clause-apart c =
     let some : from < to = grind (arith, nat_tests) in
     let union = hull (hull range c.index-first.result.now) c.index-last.result.now in
     let left = remove_range (set sections from union) (from + 1) to in
-    let apart : AreApart left =
+    let apart : AreSeparate left =
     union_apart range c.requires.ordered sections c.requires.apart from to c.requires.near left some
     c.index-first.result.now c.index-last.result.now (search rules) (search rules) refl in
     search (rules, apart)

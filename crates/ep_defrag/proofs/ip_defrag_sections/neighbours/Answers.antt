@@ -22,8 +22,8 @@ returns-then-last-range-2-clause-near c =
     near_in_last c.args.range c.requires.ordered c.args.sections.now c.requires.apart _ c.if-count-eq0.false
     c.if-last-range.false c.if-last-range-2.true
 
-pub place_behind-to-requires-clause-earlier : goal.place_behind-to-requires-clause-earlier
-place_behind-to-requires-clause-earlier c k d low high =
+pub find_end_of_neighbours-to-requires-clause-earlier : goal.find_end_of_neighbours-to-requires-clause-earlier
+find_end_of_neighbours-to-requires-clause-earlier c k d low high =
     ltb-true _ _
     ((IsPartitionPoint-from_clause (λ (section : IpFragRange). nat_lt section.end c.args.range.start)
     c.args.sections.now c.partition_point-from.result c.partition_point-from.ensures.partitioned
@@ -31,8 +31,8 @@ place_behind-to-requires-clause-earlier c k d low high =
     (ends_rise c.args.sections.now c.requires.apart))
     (λ a r f called. search rules)).0 k d low high)
 
-pub place_behind-to-requires-clause-rest : goal.place_behind-to-requires-clause-rest
-place_behind-to-requires-clause-rest c k d low high =
+pub find_end_of_neighbours-to-requires-clause-rest : goal.find_end_of_neighbours-to-requires-clause-rest
+find_end_of_neighbours-to-requires-clause-rest c k d low high =
     ltb-false _ _
     ((IsPartitionPoint-from_clause (λ (section : IpFragRange). nat_lt section.end c.args.range.start)
     c.args.sections.now c.partition_point-from.result c.partition_point-from.ensures.partitioned
@@ -43,4 +43,4 @@ place_behind-to-requires-clause-rest c k d low high =
 pub returns-clause-merging : goal.returns-clause-merging
 returns-clause-merging c merging =
     some_between c.args.range c.requires.ordered c.args.sections.now c.requires.apart c.partition_point-from.result
-    c.place_behind-to.result c.place_behind-to.ensures.near merging
+    c.find_end_of_neighbours-to.result c.find_end_of_neighbours-to.ensures.near merging

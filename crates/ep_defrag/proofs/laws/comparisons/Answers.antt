@@ -13,7 +13,7 @@ use Rattle.ep_defrag.specs.declared.ip_defrag_error.IpDefragError.TheVariants.{A
 use Rattle.ep_defrag.specs.declared.ip_frag_range.IpFragRange.{IpFragRange}
 use Rattle.ep_defrag.proofs.laws.comparisons.Goals as goal
 
--- both numbers of a range are compared
+-- Ranges are compared by both numbers.
 same_ranges : (a b : IpFragRange) → Decides (eqb a.start b.start && eqb a.end b.end) (a ≡ b)
 same_ranges a b = (
   λ equal.
@@ -46,7 +46,7 @@ returns-clause-equal_buffers c a b =
           (end.1 (sym same.end)))),
     )
 
--- nothing follows the last numbers
+-- No number is compared after the last ones.
 then_equal : (order : Ordering) → order ≡ ordering_then order Equal
 then_equal Less = refl
 then_equal Equal = refl

@@ -16,7 +16,7 @@ loop-call-preserved g c =
     let step = c.in-Ok-answer_next.ensures in
     answered_more c.loop-call.invariant c.in-Some.call c.next.new.self.rest.items c.in-Some.ensures.steps.0
     {read = calls_pool (plain_call c.in-Some.call)} {new = c.answer_next.new.pool} refl (record {
-      says = λ table held. ap (λ said. pool_answers said) (step.answer table held);
+      stated = λ table held. ap (λ said. pool_answers said) (step.answer table held);
       holds = step.holds;
       limit = step.limit;
       no_memory = step.no_memory;

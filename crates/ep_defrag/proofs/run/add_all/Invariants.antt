@@ -3,7 +3,7 @@ use Rattle.ep_defrag.specs.Buffers.{HoldsFragments, ip_number_of}
 use Rattle.ep_defrag.specs.Runs.{accepted_after, answers_after}
 use Rattle.ep_defrag.proofs.run.add_all.Given as goal
 
--- the fragments so far are held and answered, and there is room for the answers to the others
+-- The fragments so far are held and answered, and there is capacity for the answers to the others.
 abbrev pub invariant-loop-at : goal.invariant-loop-at
 invariant-loop-at l = record {
   held : HoldsFragments l.buffer (accepted_after [] (take l.at l.fragments));

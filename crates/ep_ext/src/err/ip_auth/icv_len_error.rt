@@ -1,14 +1,15 @@
-//! Lengths that no integrity check value has (RFC 4302, 2.6).
+//! Error for an invalid length of the integrity check value in an IP authentication header (RFC 4302, 2.6).
 
 use thiserror::Error;
 
-/// The number of bytes is no length of an integrity check value (RFC 4302, 2.6).
+/// Invalid length, in bytes, of the integrity check value for an IP authentication header (RFC 4302, 2.6).
 #[derive(Clone, Debug, PartialEq, Eq, Hash, Drop, Error)]
 pub enum IcvLenError {
-    /// The number is above 1016, and the length field can't count so many words.
+    /// Length, in bytes, of an integrity check value above 1016: the most that the length field of an IP authentication
+    /// header can express.
     #[error("TooBig {0}")]
     TooBig(usize),
-    /// The number is no multiple of 4.
+    /// Length, in bytes, of an integrity check value that is not a multiple of 4.
     #[error("Unaligned {0}")]
     Unaligned(usize),
 }

@@ -1,17 +1,22 @@
-//! Lengths that no payload of an extension header has (RFC 8200, 4).
+//! Error for an invalid payload length of an IPv6 Hop-by-Hop Options, Destination Options or Routing header (RFC 8200,
+//! 4).
 
 use thiserror::Error;
 
-/// The number of bytes is no length of an extension header's payload (RFC 8200, 4.3).
+/// Invalid length, in bytes, of the payload for an IPv6 Hop-by-Hop Options, Destination Options or Routing header (RFC
+/// 8200, 4.3, 4.6 and 4.4). The payload is all bytes of the header after its first 2 (next header and length field).
 #[derive(Clone, Debug, PartialEq, Eq, Hash, Drop, Error)]
 pub enum ExtPayloadLenError {
-    /// The number is below 6.
+    /// Payload length, in bytes, below 6: the payload of the shortest IPv6 options or routing header, which has 8
+    /// bytes.
     #[error("TooSmall {0}")]
     TooSmall(usize),
-    /// The number is above 2046, and the length field can't count so many units.
+    /// Payload length, in bytes, above 2046: the most that the length field of an IPv6 options or routing header can
+    /// express.
     #[error("TooBig {0}")]
     TooBig(usize),
-    /// The payload and the two bytes before it are no multiple of 8 bytes.
+    /// Payload length, in bytes, for which the length of the IPv6 options or routing header (2 bytes more) is not a
+    /// multiple of 8.
     #[error("Unaligned {0}")]
     Unaligned(usize),
 }

@@ -1,5 +1,5 @@
 use Rattle.ep_lax.proofs.LaxStopEntryLemmas.{first_is_strict, frame_tells, stops_are_strict}
-use Rattle.ep_lax.proofs.LaxToldLemmas.{first_not_long}
+use Rattle.ep_lax.proofs.LaxErrorLayerLemmas.{first_not_long}
 use Rattle.ep_lax.proofs.laws.stops.Goals as goal
 
 pub returns : goal.returns

@@ -3,7 +3,7 @@ use Rattle.ep_lax.specs.LaxViews.{lax_extension_of}
 use Rattle.ep_packet.specs.Offsets.{tags_len}
 use Rattle.ep_lax.proofs.lax_sliced_packet_payload.tags_len.Given as goal
 
--- the tags that are passed and those to come have as many bytes as all
+-- The tags already iterated and the remaining ones have the length of all tags.
 abbrev pub invariant-loop-extension : goal.invariant-loop-extension
 invariant-loop-extension l =
     (l.len + tags_len (map lax_extension_of (drop l.extension-index l.extensions))

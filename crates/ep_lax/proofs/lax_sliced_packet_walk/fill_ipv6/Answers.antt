@@ -5,13 +5,13 @@ use Rattle.ep_lax.proofs.LaxNetLemmas.{ipv6_stop_within}
 use Rattle.ep_lax.proofs.lax_sliced_packet_walk.fill_ipv6.Goals as goal
 
 pub fill_ipv6_packet-requires-clause-stop : goal.fill_ipv6_packet-requires-clause-stop
-fill_ipv6_packet-requires-clause-stop c = λ told same.
+fill_ipv6_packet-requires-clause-stop c = λ error_with_layer same.
     let read = c.in-Ok.read in
     let ok = c.in-Ok.ensures.ok in
     omega (
       arith,
-      ipv6_stop_within c.args.inside.incomplete c.args.inside.slice.now (lax_ipv6_of read.0 ok.0 ok.1) ok.3 told.0
-          (told_stop ok.1 told (sym ok.4 ∙ same)),
+      ipv6_stop_within c.args.inside.incomplete c.args.inside.slice.now (lax_ipv6_of read.0 ok.0 ok.1) ok.3 error_with_layer.0
+          (told_stop ok.1 error_with_layer (sym ok.4 ∙ same)),
       c.requires,
     )
 

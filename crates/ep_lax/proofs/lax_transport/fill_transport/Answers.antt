@@ -4,8 +4,8 @@ use Rattle.ep_base.specs.declared.err.len_error.LenError.{LenError}
 use Rattle.ep_transport.proofs.TransportPlaceLemmas.{at_start, transport_start}
 use Rattle.ep_lax.proofs.lax_transport.fill_transport.Goals as goal
 
-pub behind_header-requires : goal.behind_header-requires
-behind_header-requires c =
+pub after_header-requires : goal.after_header-requires
+after_header-requires c =
     let error = c.in-Err-Len in
     let payload = c.args.payload.now in
     omega (

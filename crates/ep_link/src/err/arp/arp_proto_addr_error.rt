@@ -1,14 +1,15 @@
-//! What is wrong with the protocol addresses of an ARP packet (RFC 826).
+//! Errors of the protocol addresses when creating an ARP packet (RFC 826).
 
 use thiserror::Error;
 
-/// What is wrong with the protocol addresses of an ARP packet (RFC 826).
+/// Error of the protocol addresses when creating an ARP packet (RFC 826).
 #[derive(Clone, Debug, PartialEq, Eq, Hash, Drop, Error)]
 pub enum ArpProtoAddrError {
-    /// The sender's and the target's address have these two lengths, which differ.
+    /// The sender and target protocol addresses have different lengths. The numbers are the lengths in bytes of the
+    /// sender's and the target's address.
     #[error("LenNonMatching {0} {1}")]
     LenNonMatching(usize, usize),
-    /// The addresses have this length, which is above 255.
+    /// Both protocol addresses are longer than 255 bytes. The number is their length in bytes.
     #[error("LenTooBig {0}")]
     LenTooBig(usize),
 }

@@ -6,7 +6,7 @@ use Rattle.ep_packet.proofs.ip_headers_read.read_ip.Goals as goal
 
 pub returns-then-slice-eq0-clause-err : goal.returns-then-slice-eq0-clause-err
 returns-then-slice-eq0-clause-err c =
-    empty_refused c.args.slice.now _ (omega arith) c.no_version.ensures
+    empty_refused c.args.slice.now _ (omega arith) c.empty_slice_error.ensures
 
 pub returns-clause-err : goal.returns-clause-err
 returns-clause-err c =

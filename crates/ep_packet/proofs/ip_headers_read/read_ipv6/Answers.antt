@@ -13,8 +13,8 @@ use Rattle.ep_packet.proofs.IpHeadersLemmas.{ipv6_by_value}
 use Rattle.ep_packet.proofs.NetFillLemmas.{plain_ipv6}
 use Rattle.ep_packet.proofs.ip_headers_read.read_ipv6.Goals as goal
 
-pub behind_header-requires : goal.behind_header-requires
-behind_header-requires c =
+pub after_header-requires : goal.after_header-requires
+after_header-requires c =
     let error = c.in-Err-Len.error in
     let cut = c.in-Ok.cut in
     let within = exts_within headers cut.0.next_header.0 cut.1.now c.in-Err-Len.field-0 error c.in-Err-Len.field-0-is

@@ -3,7 +3,7 @@ use Rattle.ep_ext.specs.Ipv6ExtensionSlices.{bytes_left, ipv6_slice_bytes, ipv6_
 use Rattle.ep_packet.specs.Offsets.{parts_len}
 use Rattle.ep_packet.proofs.net_slice.extensions_len.Given as goal
 
--- the headers that are passed and those to come have as many bytes as all
+-- The lengths of the extension headers visited and of those to come add up to the length of all.
 abbrev pub invariant-loop-extension : goal.invariant-loop-extension
 invariant-loop-extension l =
     (l.len + parts_len (parts_left l.extension-iterator) ≡ parts_len (ipv6_slice_parts l.fn.extensions))

@@ -3,7 +3,7 @@ use Rattle.ep_link.specs.LinkExtensions.{link_extension_of}
 use Rattle.ep_packet.specs.Offsets.{tags_len}
 use Rattle.ep_packet.proofs.sliced_packet_payload.tags_len.Given as goal
 
--- the tags that are passed and those to come have as many bytes as all
+-- The lengths of the tags visited and of those to come add up to the length of all.
 abbrev pub invariant-loop-extension : goal.invariant-loop-extension
 invariant-loop-extension l =
     (l.len + tags_len (map link_extension_of (drop l.extension-index l.extensions))

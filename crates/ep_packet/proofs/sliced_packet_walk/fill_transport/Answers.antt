@@ -14,16 +14,16 @@ use Rattle.ep_transport.specs.TransportParts.{TransportLayer, transport_layer_of
 use Rattle.ep_packet.specs.declared.net_slice.NetSlice.{NetSlice}
 use Rattle.ep_packet.specs.declared.net_slice.NetSlice.TheVariants as slice
 use Rattle.ep_packet.specs.Layers.{net_layer_of, net_payload}
-use Rattle.ep_packet.specs.Frame.{IsTransportBehind, IsTransportIn}
-use Rattle.ep_packet.specs.FrameRefusals.{RefusesTransportBehind, RefusesTransportIn, net_header_len}
+use Rattle.ep_packet.specs.Frame.{IsTransportAfterNet, IsTransportIn}
+use Rattle.ep_packet.specs.FrameRefusals.{RefusesTransportAfterNet, RefusesTransportIn, net_payload_offset}
 use Rattle.ep_packet.specs.ShownBytes.{ShowsTransport, net_slice_bytes, net_slice_payload}
 use Rattle.ep_packet.specs.Walk.{HasHeaders}
 use Rattle.ep_packet.proofs.NetWalkLemmas.{headers_len, ipv4_payload_refused}
 use Rattle.ep_packet.proofs.sliced_packet_walk.fill_transport.Goals as goal
 
--- headers of this many bytes are those of a packet, and end within it
+-- The headers of a packet have this length, and end within it.
 record HeadersEnd (offset : ℕ) (net : NetSlice) (len : ℕ) : Type 0 where
-  same : len ≡ net_header_len (net_layer_of net)
+  same : len ≡ net_payload_offset (net_layer_of net)
   within : offset + len < 2 ^ 64
 
 ipv4_end : (offset header_len extensions_len : ℕ) (net : NetSlice) (packet : Ipv4Slice) (header extensions : List ℕ)
@@ -38,7 +38,7 @@ ipv4_end offset header_len extensions_len net packet header extensions is place 
     let there : offset + length (ipv4_slice_bytes packet) < 2 ^ 64 =
     subst (λ (n : NetSlice). offset + length (net_slice_bytes n) < 2 ^ 64) is place in
     let len = headers_len (ipv4_slice_bytes packet) header (ipv4_slice_content packet) extensions
-    (ipv4_slice_payload packet).bytes (net_header_len (net_layer_of (slice.Ipv4 packet))) front behind here in
+    (ipv4_slice_payload packet).bytes (net_payload_offset (net_layer_of (slice.Ipv4 packet))) front behind here in
     record {
       same = omega (arith, len, header_is, extensions_are);
       within = omega (arith, len, header_is, extensions_are, here, there);
@@ -53,24 +53,24 @@ ipv6_end offset net packet extensions shown is place has behind same =
     let there : offset + length (ipv6_slice_bytes packet) < 2 ^ 64 =
     subst (λ (n : NetSlice). offset + length (net_slice_bytes n) < 2 ^ 64) is place in
     let len = headers_len (ipv6_slice_bytes packet) (ipv6_header_slice_bytes packet.header) (ipv6_slice_content packet)
-    extensions (ipv6_slice_payload packet).bytes (net_header_len (net_layer_of (slice.Ipv6 packet))) refl behind here in
+    extensions (ipv6_slice_payload packet).bytes (net_payload_offset (net_layer_of (slice.Ipv6 packet))) refl behind here in
     record {
       same = omega (arith, len, packet.header.bytes.whole, ap length same);
       within = omega (arith, len, packet.header.bytes.whole, ap length same, here, there);
     }
 
--- the payload of a packet, as its net layer has it
+-- The payload of a packet is the payload of its network layer.
 payload_in : (net packet : NetSlice) (payload known : IpPayload) → net ≡ packet → payload ≡ known
     → Some known ≡ net_payload (net_layer_of packet) → Some payload ≡ net_payload (net_layer_of net)
 payload_in net packet payload known is same there =
     ap Some same ∙ there ∙ sym (ap (λ (n : NetSlice). net_payload (net_layer_of n)) is)
 
--- what lies in the payload lies behind the net layer
+-- The transport layer of the payload is the transport layer of the network layer.
 lies_behind : (net : NetSlice) (payload : IpPayload) (transport : Option TransportLayer)
     → Some payload ≡ net_payload (net_layer_of net) → IsTransportIn slices payload transport
-    → IsTransportBehind slices (net_payload (net_layer_of net)) transport
+    → IsTransportAfterNet slices (net_payload (net_layer_of net)) transport
 lies_behind net payload transport same inside =
-    subst (λ (p : Option IpPayload). IsTransportBehind slices p transport) same inside
+    subst (λ (p : Option IpPayload). IsTransportAfterNet slices p transport) same inside
 
 pub overflow_add-headers_len : goal.overflow_add-headers_len
 overflow_add-headers_len c =
@@ -172,13 +172,13 @@ returns-in-Ipv6-clause-err c =
     let ends = ipv6_end c.args.offset c.args.net.now c.in-Ipv6.packet (extensions_bytes c.extensions-in-Ipv6.result)
     c.slice.result.now c.in-Ipv6.is c.requires.place c.requires.headers c.extensions-in-Ipv6.ensures.bytes
     c.slice.ensures in
-    let behind = ends.same ∙ sym (ap (λ (n : NetSlice). net_header_len (net_layer_of n)) c.in-Ipv6.is) in
+    let behind = ends.same ∙ sym (ap (λ (n : NetSlice). net_payload_offset (net_layer_of n)) c.in-Ipv6.is) in
     IfErr-weaker c.fill_transport_in-in-Ipv6.result _ _
     (λ error refused. subst (λ (p : Option IpPayload).
-    RefusesTransportBehind slices (c.args.offset + net_header_len (net_layer_of net)) p error)
+    RefusesTransportAfterNet slices (c.args.offset + net_payload_offset (net_layer_of net)) p error)
     same (subst (λ (n : ℕ). RefusesTransportIn slices (c.args.offset + n) payload error) behind refused))
     c.fill_transport_in-in-Ipv6.ensures.err
 
 pub returns-in-Arp-clause-ok : goal.returns-in-Arp-clause-ok
 returns-in-Arp-clause-ok c =
-    subst (λ (n : NetSlice). IsTransportBehind slices (net_payload (net_layer_of n)) None) (sym c.in-Arp.is) refl
+    subst (λ (n : NetSlice). IsTransportAfterNet slices (net_payload (net_layer_of n)) None) (sym c.in-Arp.is) refl

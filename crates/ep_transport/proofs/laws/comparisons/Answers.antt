@@ -23,7 +23,7 @@ returns-clause-udp c a b =
     (two_same (Decides-eqb a.destination_port b.destination_port)
     (two_same (Decides-eqb a.length b.length) (Decides-eqb a.checksum b.checksum))))
 
--- options are compared by the array that they fill, and by their number of bytes
+-- Options are compared by their stored array and length.
 pub returns-clause-options : goal.returns-clause-options
 returns-clause-options c a b = stored_same 40 (λ n. n) a b (λ same. same)
 

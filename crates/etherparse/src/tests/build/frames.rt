@@ -1,8 +1,9 @@
-//! Frames from outside, built one after the other into one vector.
+//! Builder tests with external test vectors. Most tests append their frames to one vector and compare it once.
 
 use super::*;
 
-/// Ethernet II headers before IPv4 and before IPv6, alone, with one tag and with two.
+/// Ethernet II header before an IPv4 packet, without a VLAN tag. `TAG` and `TAGS` have one and two tags; names that end
+/// in `_6` are for IPv6.
 const ETHERNET: &[u8] = b"\x07\x08\x09\x0a\x0b\x0c\x01\x02\x03\x04\x05\x06\x08\x00";
 
 const ETHERNET_6: &[u8] = b"\x07\x08\x09\x0a\x0b\x0c\x01\x02\x03\x04\x05\x06\x86\xdd";
@@ -17,12 +18,13 @@ const TAGS: &[u8] = b"\x07\x08\x09\x0a\x0b\x0c\x01\x02\x03\x04\x05\x06\
 const TAGS_6: &[u8] = b"\x07\x08\x09\x0a\x0b\x0c\x01\x02\x03\x04\x05\x06\
       \x88\xa8\x01\x23\x81\x00\x02\x34\x86\xdd";
 
-/// The headers of a cooked capture before IPv4 and before IPv6.
+/// Linux cooked capture header (SLL) before an IPv4 packet, with packet type 3 (to another host); `SLL_6` is for IPv6.
 const SLL: &[u8] = b"\x00\x03\x00\x01\x00\x06\x01\x02\x03\x04\x05\x06\x00\x00\x08\x00";
 
 const SLL_6: &[u8] = b"\x00\x03\x00\x01\x00\x06\x01\x02\x03\x04\x05\x06\x00\x00\x86\xdd";
 
-/// A datagram behind its header of IPv4, and one behind its header of IPv6.
+/// IPv4 header before the UDP datagram `UDP`, from 192.168.1.1 to 192.168.1.2; `IP_6` and `UDP_6` are their IPv6
+/// counterparts.
 const IP: &[u8] =
     b"\x45\x00\x00\x24\x00\x00\x40\x00\x14\x11\xe3\x75\xc0\xa8\x01\x01\xc0\xa8\x01\x02";
 
@@ -34,7 +36,8 @@ const IP_6: &[u8] = b"\x60\x00\x00\x00\x00\x10\x11\x2f\
 
 const UDP_6: &[u8] = b"\x00\x15\x04\xd2\x00\x10\x29\x0c\x01\x02\x03\x04\x05\x06\x07\x08";
 
-/// A message of ICMP behind its header of IPv4, twice, and the header of IPv6 before one.
+/// IPv4 header before an ICMPv4 message (`ICMP_REQUEST` or `ICMP_REPLY`); `ICMP_IP_6` is the IPv6 header before ICMPv6
+/// messages.
 const ICMP_IP: &[u8] =
     b"\x45\x00\x00\x24\x00\x00\x40\x00\x14\x01\xe3\x85\xc0\xa8\x01\x01\xc0\xa8\x01\x02";
 
@@ -48,7 +51,8 @@ const ICMP_IP_6: &[u8] = b"\x60\x00\x00\x00\x00\x10\x3a\x2f\
 
 const ICMPV6_REQUEST: &[u8] = b"\x80\x00\xad\xd6\x00\x01\x00\x02\x01\x02\x03\x04\x05\x06\x07\x08";
 
-/// Headers before ARP.
+/// Ethernet II header before an ARP packet. `TAGS_ARP` also has two VLAN tags, and `SLL_ARP` is a Linux cooked capture
+/// header.
 const ETHERNET_ARP: &[u8] = b"\x07\x08\x09\x0a\x0b\x0c\x01\x02\x03\x04\x05\x06\x08\x06";
 
 const TAGS_ARP: &[u8] = b"\x07\x08\x09\x0a\x0b\x0c\x01\x02\x03\x04\x05\x06\
@@ -56,8 +60,8 @@ const TAGS_ARP: &[u8] = b"\x07\x08\x09\x0a\x0b\x0c\x01\x02\x03\x04\x05\x06\
 
 const SLL_ARP: &[u8] = b"\x00\x03\x00\x01\x00\x06\x01\x02\x03\x04\x05\x06\x00\x00\x08\x06";
 
-/// Segments of TCP behind their headers: a plain one, and one with every flag, the numbers that two of them bring, and
-/// an option; a plain one over IPv6, and one with raw options, of which one is padding.
+/// IPv4 header before the TCP segment `TCP`, which has no options. The segment `FLAGS` has every flag, the
+/// acknowledgment number, the urgent pointer and an option; `OPTIONS`, over IPv6, has raw options that end in padding.
 const TCP_IP: &[u8] =
     b"\x45\x00\x00\x30\x00\x00\x40\x00\x14\x06\xe3\x74\xc0\xa8\x01\x01\xc0\xa8\x01\x02";
 
@@ -88,12 +92,14 @@ const OPTIONS: &[u8] =
     b"\x00\x01\x00\x02\x00\x00\x00\x03\x00\x00\x00\x00\x60\x00\x00\x04\xcb\xf2\x00\x00\
       \x01\x01\x01\x00\x01\x02\x03\x04\x05\x06\x07\x08";
 
-/// Further messages of ICMPv6.
+/// ICMPv6 echo reply (type 129) with identifier 123, sequence number 456 and the payload bytes 1 to 8; `ICMPV6_RAW` is
+/// a message of type 200.
 const ICMPV6_REPLY: &[u8] = b"\x81\x00\xaa\x96\x00\x7b\x01\xc8\x01\x02\x03\x04\x05\x06\x07\x08";
 
 const ICMPV6_RAW: &[u8] = b"\xc8\x00\x61\xd3\x01\x02\x03\x04\x01\x02\x03\x04\x05\x06\x07\x08";
 
-/// Hop by hop options and an authentication header from and to the unspecified address, and a datagram behind them.
+/// IPv6 header from and to the unspecified address, then hop-by-hop options and an authentication header;
+/// `EXTENSIONS_UDP` is the UDP datagram after them.
 const EXTENSIONS_IP_6: &[u8] = b"\x60\x00\x00\x00\x00\x24\x00\x00\
       \x00\x00\x00\x00\x00\x00\x00\x00\x00\x00\x00\x00\x00\x00\x00\x00\
       \x00\x00\x00\x00\x00\x00\x00\x00\x00\x00\x00\x00\x00\x00\x00\x00\
@@ -101,7 +107,7 @@ const EXTENSIONS_IP_6: &[u8] = b"\x60\x00\x00\x00\x00\x24\x00\x00\
 
 const EXTENSIONS_UDP: &[u8] = b"\x00\x15\x04\xd2\x00\x10\xea\xd3\x01\x02\x03\x04\x05\x06\x07\x08";
 
-/// The headers of IPv6 of most frames.
+/// Returns an IPv6 header (hop limit 47) without extension headers, to be passed to the packet builder.
 fn ipv6_headers() -> IpHeaders {
     let header = Ipv6Header {
         hop_limit: 47,
@@ -112,7 +118,7 @@ fn ipv6_headers() -> IpHeaders {
     IpHeaders::Ipv6(header, Ipv6Extensions::default())
 }
 
-/// An identifier of a tag, of at most 4095.
+/// Returns a VLAN identifier. Aborts the test if `id` is above 4095.
 fn vlan_id(rt: &impl Abort, id: u16) -> VlanId {
     VlanId::try_new(id).expect(rt, "above 4095")
 }
@@ -129,8 +135,8 @@ fn cooked() -> PacketBuilderStep<LinuxSllHeader> {
     PacketBuilder::linux_sll(LinuxSllPacketType::OTHERHOST, 6, [1, 2, 3, 4, 5, 6, 0, 0])
 }
 
-/// A tag with another type, which is not written.
-fn given_tag(rt: &impl Abort, id: u16) -> SingleVlanHeader {
+/// Returns a VLAN tag with ether type 0, which the builder replaces by the type of the next header.
+fn tag_header(rt: &impl Abort, id: u16) -> SingleVlanHeader {
     SingleVlanHeader {
         pcp: VlanPcp::ZERO,
         drop_eligible_indicator: false,
@@ -139,14 +145,15 @@ fn given_tag(rt: &impl Abort, id: u16) -> SingleVlanHeader {
     }
 }
 
-/// The two tags of most frames.
-fn given_tags(rt: &impl Abort) -> VlanHeader {
-    let outer = given_tag(rt, 0x123);
-    let inner = given_tag(rt, 0x234);
+/// Returns two VLAN tags, the outer one with identifier 0x123 and the inner one with 0x234.
+fn tag_headers(rt: &impl Abort) -> VlanHeader {
+    let outer = tag_header(rt, 0x123);
+    let inner = tag_header(rt, 0x234);
     VlanHeader::Double(DoubleVlanHeader { outer, inner })
 }
 
-/// A segment of TCP with every flag set, behind IPv4.
+/// Builds an IPv4 header and a TCP header with every flag set, acknowledgment number 5, urgent pointer 6 and a window
+/// scale option.
 fn with_flags(rt: &impl Abort) -> PacketBuilderStep<TcpHeader> {
     let step = ipv4().tcp_header(TcpHeader::new(1, 2, 3, 4));
     let step = step.ns().fin().syn().rst().psh();
@@ -155,7 +162,7 @@ fn with_flags(rt: &impl Abort) -> PacketBuilderStep<TcpHeader> {
     step.options(&options).expect(rt, "of 3 bytes")
 }
 
-/// Headers of IPv6 with options and an authentication header.
+/// Returns an IPv6 header with hop-by-hop options and an authentication header.
 fn with_extensions(rt: &impl Abort) -> IpHeaders {
     let options = Ipv6RawExtHeader::new_raw(IpNumber(255), &[1, 4, 0, 0, 0, 0]);
     let auth = IpAuthHeader::new(IpNumber(255), 2, 3, &[]);
@@ -167,20 +174,20 @@ fn with_extensions(rt: &impl Abort) -> IpHeaders {
     IpHeaders::Ipv6(Ipv6Header::default(), extensions)
 }
 
-/// Frames were built one after the other, as these parts.
+/// Asserts that the bytes of all built frames are the concatenation of the expected parts.
 fn are_built(rt: &impl Abort, alloc: Global, frames: &Vec<u8>, parts: &[&[u8]]) {
     let parts = parts.concat(alloc).expect(rt, "no memory");
     same(rt, frames, &parts);
 }
 
-/// A datagram of the payload over IPv4 is appended.
+/// Appends a frame to `frames`: the headers begun in `ip`, a UDP header (port 21 to 1234) and the payload bytes 1 to 8.
 fn push_udp(rt: &impl Abort, frames: &mut Vec<u8>, ip: PacketBuilderStep<IpHeaders>) {
     let written = ip.udp(21, 1234).write(frames, PAYLOAD);
     same(rt, &written, &Ok(()));
 }
 
 #[test]
-fn behind_ethernet(rt: HostRuntime) {
+fn after_ethernet(rt: HostRuntime) {
     let mut frames = Vec::new(rt.alloc());
     push_udp(&rt, &mut frames, ethernet_ipv4());
     push_udp(&rt, &mut frames, ethernet().ipv6(SOURCE, DESTINATION, 47));
@@ -204,7 +211,7 @@ fn behind_ethernet(rt: HostRuntime) {
 }
 
 #[test]
-fn behind_a_cooked_header(rt: HostRuntime) {
+fn after_a_cooked_header(rt: HostRuntime) {
     let mut frames = Vec::new(rt.alloc());
     push_udp(&rt, &mut frames, cooked().ipv4(SOURCE_4, DESTINATION_4, 20));
     push_udp(&rt, &mut frames, cooked().ipv6(SOURCE, DESTINATION, 47));
@@ -218,7 +225,7 @@ fn behind_a_cooked_header(rt: HostRuntime) {
 }
 
 #[test]
-fn behind_one_tag(rt: HostRuntime) {
+fn after_one_tag(rt: HostRuntime) {
     let mut frames = Vec::new(rt.alloc());
     push_udp(
         &rt,
@@ -226,14 +233,14 @@ fn behind_one_tag(rt: HostRuntime) {
         one_tag(&rt).ipv4(SOURCE_4, DESTINATION_4, 20),
     );
     push_udp(&rt, &mut frames, one_tag(&rt).ipv6(SOURCE, DESTINATION, 47));
-    let tag = VlanHeader::Single(given_tag(&rt, 0x123));
+    let tag = VlanHeader::Single(tag_header(&rt, 0x123));
     push_udp(&rt, &mut frames, ethernet().vlan(tag).ip(ipv6_headers()));
     let parts = [TAG, IP, UDP, TAG_6, IP_6, UDP_6, TAG_6, IP_6, UDP_6];
     are_built(&rt, rt.alloc(), &frames, &parts);
 }
 
 #[test]
-fn behind_two_tags(rt: HostRuntime) {
+fn after_two_tags(rt: HostRuntime) {
     let mut frames = Vec::new(rt.alloc());
     push_udp(
         &rt,
@@ -243,7 +250,7 @@ fn behind_two_tags(rt: HostRuntime) {
     push_udp(
         &rt,
         &mut frames,
-        ethernet().vlan(given_tags(&rt)).ip(ipv6_headers()),
+        ethernet().vlan(tag_headers(&rt)).ip(ipv6_headers()),
     );
     let written = two_tags(&rt).arp(arp_request(&rt)).write(&mut frames);
     same(&rt, &written, &Ok(()));
@@ -251,7 +258,8 @@ fn behind_two_tags(rt: HostRuntime) {
     are_built(&rt, rt.alloc(), &frames, &parts);
 }
 
-/// Datagrams without a link header. The sum of the first is such that the checksum 0 is written as its complement.
+/// UDP datagrams without a link header, over IPv4, IPv6 and IPv6 with extension headers. The checksum of the first one
+/// is computed as 0 and written as 0xffff.
 #[test]
 fn udp(rt: HostRuntime) {
     let mut frames = Vec::new(rt.alloc());
@@ -272,7 +280,7 @@ fn udp(rt: HostRuntime) {
     are_built(&rt, rt.alloc(), &frames, &parts);
 }
 
-/// A segment of the payload is appended.
+/// Appends a packet to `frames`: the headers begun in `tcp`, which end in a TCP header, and the payload bytes 1 to 8.
 fn push_tcp(rt: &impl Abort, frames: &mut Vec<u8>, tcp: PacketBuilderStep<TcpHeader>) {
     let written = tcp.write(frames, PAYLOAD);
     same(rt, &written, &Ok(()));
@@ -299,7 +307,8 @@ fn tcp(rt: HostRuntime) {
     are_built(&rt, rt.alloc(), &frames, &parts);
 }
 
-/// A message of ICMP with the payload is appended.
+/// Appends a packet to `frames`: the headers begun in `icmp`, which end in an ICMPv4 header, and the payload bytes 1 to
+/// 8.
 fn push_icmpv4(rt: &impl Abort, frames: &mut Vec<u8>, icmp: PacketBuilderStep<Icmpv4Header>) {
     let written = icmp.write(frames, PAYLOAD);
     same(rt, &written, &Ok(()));
@@ -326,7 +335,8 @@ fn icmpv4(rt: HostRuntime) {
     are_built(&rt, rt.alloc(), &frames, &parts);
 }
 
-/// The same of ICMPv6.
+/// Appends a packet to `frames`: the headers begun in `icmp`, which end in an ICMPv6 header, and the payload bytes 1 to
+/// 8.
 fn push_icmpv6(rt: &impl Abort, frames: &mut Vec<u8>, icmp: PacketBuilderStep<Icmpv6Header>) {
     let written = icmp.write(frames, PAYLOAD);
     same(rt, &written, &Ok(()));
@@ -353,7 +363,8 @@ fn icmpv6(rt: HostRuntime) {
     are_built(&rt, rt.alloc(), &frames, &parts);
 }
 
-/// A fragment, which the IP step writes, is these bytes, of which so many are headers.
+/// Asserts that the builder writes `fragment`: the IP headers, `header_len` bytes long, and then the rest of `fragment`
+/// as payload with IP protocol `number`.
 fn is_fragment(
     rt: &impl Abort,
     alloc: Global,
@@ -383,7 +394,7 @@ fn fragments_of_ipv6(rt: HostRuntime) {
     is_fragment(&rt, rt.alloc(), last, IpNumber::UDP, LAST_IPV6, 48);
 }
 
-/// The checksums of the segments, computed anew, are those that they hold.
+/// The checksums computed for a TCP segment over IPv4 and one over IPv6 are equal to the checksums in their headers.
 #[test]
 fn tcp_checksums(rt: HostRuntime) {
     let tcp = TcpSlice::from_slice(TCP).expect(&rt, "refused");

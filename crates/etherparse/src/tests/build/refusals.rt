@@ -1,9 +1,10 @@
-//! Frames that are not built, and the texts of the errors.
+//! Tests of frames that the builder rejects, and of the texts of its errors.
 
 use super::*;
 use crate::err::{ValueTooBigError, ValueType, ipv4_exts, ipv6_exts};
 
-/// A frame was refused with this error, and the buffer holds what it held.
+/// Asserts that the builder rejected a frame with `error`, and that `buf` still has only the bytes from before the
+/// call.
 fn is_refused(
     rt: &impl Abort,
     answer: &Result<(), BuildWriteError>,
@@ -14,7 +15,7 @@ fn is_refused(
     same(rt, &buf, &BEGUN.as_slice());
 }
 
-/// What a buffer holds.
+/// Bytes that are in the output buffer before the builder is called with values that it rejects.
 const BEGUN: [u8; 5] = *b"begun";
 
 fn begun(rt: &impl Abort, alloc: Global) -> Vec<u8> {

@@ -1,16 +1,16 @@
-//! Frames of the greatest size, written into an empty vector without room, and behind 100,000 bytes that fill theirs.
-//! (Each header below stands in `layer_tests` the same way, and the longest headers in `memory_tests`.)
+//! Builder tests that write the largest frames into an empty vector without capacity, and into a full vector of 100,000
+//! bytes. (`layer_tests` tests each header this way, and `memory_tests` the longest headers.)
 
 use super::*;
 
-/// A vector without room, whose bytes are these many.
+/// Returns a vector of `len` bytes of value 7, without spare capacity.
 fn full(rt: &impl Abort, alloc: Global, len: usize) -> Vec<u8> {
     let buf = vec![in alloc; 7; len].expect(rt, "no memory");
     same(rt, &buf.capacity(), &len);
     buf
 }
 
-/// The last header of a frame.
+/// Last header of a frame that a test builds, before the payload.
 #[derive(Clone, Copy)]
 enum Last {
     Ipv4,
@@ -21,7 +21,7 @@ enum Last {
     Icmpv6,
 }
 
-/// IPv4 behind two tags.
+/// Starts a frame with an Ethernet II header, two VLAN tags and an IPv4 header.
 fn tagged_ipv4() -> PacketBuilderStep<IpHeaders> {
     let ethernet = PacketBuilder::ethernet2([1; 6], [2; 6]);
     ethernet
@@ -29,7 +29,7 @@ fn tagged_ipv4() -> PacketBuilderStep<IpHeaders> {
         .ipv4([1; 4], [2; 4], 1)
 }
 
-/// IPv6 behind two tags.
+/// Starts a frame with an Ethernet II header, two VLAN tags and an IPv6 header.
 fn tagged_ipv6() -> PacketBuilderStep<IpHeaders> {
     let ethernet = PacketBuilder::ethernet2([1; 6], [2; 6]);
     ethernet
@@ -37,7 +37,8 @@ fn tagged_ipv6() -> PacketBuilderStep<IpHeaders> {
         .ipv6([1; 16], [2; 16], 1)
 }
 
-/// Appends a frame.
+/// Appends a frame to `buf`: Ethernet II, two VLAN tags, IPv4 or IPv6 as `last` needs it, the header `last` and the
+/// payload.
 fn append(last: Last, payload: &[u8], buf: &mut Vec<u8>) -> Result<(), BuildWriteError> {
     let number = IpNumber(253);
     match last {
@@ -50,7 +51,8 @@ fn append(last: Last, payload: &[u8], buf: &mut Vec<u8>) -> Result<(), BuildWrit
     }
 }
 
-/// A frame with a payload of so many zeros is written as so many bytes.
+/// Asserts that a frame whose last header is `last`, with `payload_len` zeros as payload, is written as `len` bytes,
+/// into an empty vector and after 100,000 bytes.
 fn builds(rt: &impl Abort, alloc: Global, last: Last, payload_len: usize, len: usize) {
     let payload = vec![in alloc; 0; payload_len].expect(rt, "no memory");
     let mut buf = Vec::new(alloc);
@@ -61,7 +63,7 @@ fn builds(rt: &impl Abort, alloc: Global, last: Last, payload_len: usize, len: u
     same(rt, &buf.len().saturating_sub(100_000), &len);
 }
 
-/// What IPv4 holds behind an Ethernet II header and two tags.
+/// The longest IPv4 packets (65,535 bytes) are built after an Ethernet II header and two VLAN tags.
 #[test]
 fn longest_frames_of_ipv4(rt: HostRuntime) {
     builds(&rt, rt.alloc(), Last::Ipv4, 65515, 22 + 65535);
@@ -69,7 +71,7 @@ fn longest_frames_of_ipv4(rt: HostRuntime) {
     builds(&rt, rt.alloc(), Last::Tcp, 65495, 22 + 65535);
 }
 
-/// What IPv6 holds there.
+/// IPv6 packets with the longest payload (65,535 bytes) are built after an Ethernet II header and two VLAN tags.
 #[test]
 fn longest_frames_of_ipv6(rt: HostRuntime) {
     builds(&rt, rt.alloc(), Last::Ipv6, 65535, 65597);

@@ -1,10 +1,10 @@
-//! One payload put together: rows from outside, and the longest payload in many fragments.
+//! Tests of the reassembly of one payload: external test vectors, and the longest payload in many fragments.
 
 use super::Bytes::{Rising, Zeros};
 use super::*;
 
-/// A fragment at an offset in units of 8 bytes, whether more follow, its bytes, and whether the buffer is complete
-/// after it.
+/// A fragment that a test adds to a reassembly buffer: its offset in units of 8 bytes, whether more fragments follow,
+/// its bytes, and whether the buffer is complete after it.
 pub(super) type Step = (u16, bool, Bytes, bool);
 
 pub(super) type Answers = Vec<Result<(), IpDefragError>>;
@@ -13,7 +13,8 @@ fn new_buffer(alloc: Global) -> IpDefragBuf {
     IpDefragBuf::new(IpNumber::UDP, Vec::new(alloc), Vec::new(alloc))
 }
 
-/// A buffer to which fragments were added, one by one and in one call, and the answers.
+/// Adds fragments to one reassembly buffer by `add`, and to another one by `add_all`. Asserts that both are equal, and
+/// returns the buffer and the answer to each fragment.
 pub(super) fn adds(rt: &impl Abort, alloc: Global, steps: &[Step]) -> (IpDefragBuf, Answers) {
     let mut payloads = Vec::new(alloc);
     for (_, _, bytes, _) in steps {
@@ -44,7 +45,8 @@ pub(super) fn section(start: u16, end: u16) -> IpFragRange {
     IpFragRange { start, end }
 }
 
-/// What a buffer shows, its sections in order.
+/// Asserts the content of a reassembly buffer: its bytes, the ranges received so far in order, and the end of the
+/// payload, if known.
 pub(super) fn shows_parts(
     rt: &impl Abort,
     alloc: Global,
@@ -59,7 +61,8 @@ pub(super) fn shows_parts(
     same(rt, &buffer.sections().as_slice(), &sections);
 }
 
-/// Fragments that are all accepted.
+/// Asserts that a reassembly buffer accepts all these fragments, and then has the bytes `shown`, the received ranges
+/// `sections` and the payload end `end`.
 fn accepts(
     rt: &impl Abort,
     alloc: Global,
@@ -176,7 +179,7 @@ fn other_bytes_in_an_overlap(rt: HostRuntime) {
 }
 
 #[test]
-fn unaligned_and_behind_the_end(rt: HostRuntime) {
+fn unaligned_and_after_the_end(rt: HostRuntime) {
     let steps = [
         (0, true, Rising(0, 16), false),
         (2, true, Rising(16, 7), false),
@@ -217,7 +220,7 @@ fn above_the_limit(rt: HostRuntime) {
     shows_parts(&rt, rt.alloc(), buffer, &shown, &sections, Some(65535));
 }
 
-/// A buffer that uses another's memory shows none of its bytes.
+/// A reassembly buffer that reuses the memory of another one has none of its bytes.
 #[test]
 fn used_again(rt: HostRuntime) {
     let mut used = new_buffer(rt.alloc());
@@ -231,7 +234,8 @@ fn used_again(rt: HostRuntime) {
     shows_parts(&rt, rt.alloc(), buffer, &shown, &sections, None);
 }
 
-/// The fragments of every other part of a payload, of 64 bytes each.
+/// Splits a payload into fragments of 64 bytes (the last one may be shorter), and returns the even ones (`parity` 0) or
+/// the odd ones (`parity` 1).
 fn every_other<'a>(
     rt: &impl Abort,
     alloc: Global,
@@ -253,8 +257,8 @@ fn every_other<'a>(
     fragments
 }
 
-/// The longest payload in many fragments, every other one first, so that there are many sections. A clone in between
-/// is equal.
+/// Reassembles the longest payload (65,535 bytes) from 1,024 fragments, the odd ones first, so that the buffer has many
+/// separate ranges. Its clones, before and after the even ones are added, are equal to it.
 #[test]
 fn many_fragments(rt: HostRuntime) {
     let alloc = rt.alloc();

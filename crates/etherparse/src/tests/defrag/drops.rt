@@ -1,4 +1,5 @@
-//! A stream among drops of what is older: the law of it, cited as a caller cites it, and such calls.
+//! A datagram that is reassembled while older ones are dropped from the pool: the law (theorem), cited as a user cites
+//! it, and a run of such calls.
 
 ghost use Rattle.std.specs.Prelude.{◌≡◌, ◌≤◌, ℕ, nat_le, List, [], length, map};
 ghost use Rattle.std.specs.List.{All};
@@ -6,14 +7,15 @@ ghost use Rattle.etherparse.specs.Types.IpFragId.{IpFragId};
 ghost use Rattle.etherparse.specs.Calls.{Call, drops_streams, answers_to};
 ghost use Rattle.etherparse.specs.BuiltCuts.{BuiltCut, IsBuiltCut, cut_call, cut_fragment, frames_to, answers_to_frames, cut_answers, whole_of};
 
-use super::names::handed_out;
+use super::names::completed_payload;
 use super::pool::WHOLE;
 use super::*;
 use crate::laws;
 
-/// Frames that are built of cuts of a payload and come at 3 or later put it together, whatever drops of what is older
-/// than 3 and whatever calls of other streams stand between them.
-fn drops_of_what_is_older()
+/// States that a reassembly pool completes a payload of at most `limit` bytes from frames with its fragments, all with
+/// timestamp 3 or later. Calls with fragments of other datagrams may come between them, and calls that drop all
+/// datagrams older than 3.
+fn drops_of_older_streams()
     ensures { (limit : ℕ) (name : IpFragId ℕ) (payload : List ℕ) (cuts : List (BuiltCut ℕ ℕ))
         (calls : List (Call ℕ ℕ ℕ)) → length payload ≤ limit → All (IsBuiltCut payload) cuts →
         All (λ cut. 3 ≤ cut.timestamp) cuts →
@@ -23,13 +25,14 @@ fn drops_of_what_is_older()
         (answers_to limit ⟦<u8 as PartialEq>⟧.eq nat_le calls)
         ≡ cut_answers (whole_of name payload) [] (map cut_fragment cuts) }
 {
-    laws::defrag::built_cuts_come_out::<u64, u8, u64>();
+    laws::defrag::built_cuts_are_reassembled::<u64, u8, u64>();
 }
 
-/// Both halves of a payload, at 3 and at 5, with a drop of what is older than 3 between them.
+/// A payload is reassembled from two IPv6 fragments at times 3 and 5, although all incomplete datagrams older than 3
+/// are dropped from the pool between them.
 #[test]
 fn drop_between_halves(rt: HostRuntime) {
-    drops_of_what_is_older();
+    drops_of_older_streams();
     let mut pool = IpDefragPool::new(rt.alloc());
     let first = SlicedPacket::from_ip(FIRST_IPV6).expect(&rt, "refused");
     same(
@@ -40,5 +43,5 @@ fn drop_between_halves(rt: HostRuntime) {
     pool.retain(|timestamp: &u64| *timestamp >= 3);
     let last = SlicedPacket::from_ip(LAST_IPV6).expect(&rt, "refused");
     let answer = pool.process_sliced_packet(&last, 5, 0);
-    same(&rt, &handed_out(&answer), &WHOLE);
+    same(&rt, &completed_payload(&answer), &WHOLE);
 }

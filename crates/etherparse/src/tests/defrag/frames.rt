@@ -1,4 +1,5 @@
-//! Frames of bytes through a pool: rows from outside, and five cuts of one payload in every order.
+//! Tests of a reassembly pool that gets frames as bytes: external test vectors, and five fragments of one payload in
+//! every order.
 
 ghost use Rattle.std.specs.Prelude.{◌≡◌, ◌<◌, ℕ, nat_le, List, map, take, slice_get, Some, IfOk, IfErr};
 ghost use Rattle.std.specs.List.{All, HoldsAt};
@@ -13,10 +14,11 @@ use super::*;
 use crate::err::ip;
 use crate::err::packet::SliceError;
 
-/// No IP packet: its version is 5.
+/// A byte that is rejected as an IP packet, because its version is 5.
 const REFUSED: &[u8] = b"\x50";
 
-/// A run whose drops take the streams older than a limit. It meets the premise on drops.
+/// Runs calls of a reassembly pool through `run_frames`; a call that drops incomplete datagrams removes those with a
+/// timestamp below its limit.
 fn run_with_limits(
     alloc: Global,
     calls: Vec<FrameCall<u64, u8, u64>>,
@@ -46,7 +48,8 @@ fn run_with_limits(
     )
 }
 
-/// What a frame is answered.
+/// Expected answer of a reassembly pool to a call: a parse error, no payload yet, a complete payload, incomplete
+/// datagrams dropped, or a buffer given back.
 #[derive(Clone, Copy)]
 enum Wanted {
     Refusal,
@@ -56,7 +59,8 @@ enum Wanted {
     Returned,
 }
 
-/// The wanted answer, where the payload is that of a number for experiments.
+/// Converts an expected answer of a reassembly pool to the value that `run_frames` returns; a payload has IP protocol
+/// number 253 (for experiments).
 fn answer_of(
     rt: &impl Abort,
     alloc: Global,
@@ -81,7 +85,7 @@ fn answer_of(
     FrameAnswer::Pool(answer)
 }
 
-/// A frame at a time.
+/// Returns a call that passes a frame with its timestamp to a reassembly pool.
 fn frame<'a>(entry: Entry, bytes: &'a [u8], timestamp: u64) -> FrameCall<'a, u64, u8, u64> {
     FrameCall::Frame {
         entry,
@@ -91,7 +95,8 @@ fn frame<'a>(entry: Entry, bytes: &'a [u8], timestamp: u64) -> FrameCall<'a, u64
     }
 }
 
-/// Calls with frames of one stream, of cuts of this payload, and with refused frames, are answered as is wanted.
+/// Runs calls of a reassembly pool and asserts the answer to each; an answer that is a payload has these bytes and this
+/// length source.
 fn answers(
     rt: &impl Abort,
     alloc: Global,
@@ -107,14 +112,15 @@ fn answers(
     }
 }
 
-/// The payload of the fragments of IPv4.
+/// Length source and bytes of the payload that is reassembled from the two IPv4 fragments `FIRST_IPV4` and `LAST_IPV4`.
 const WHOLE: (LenSource, &[u8]) = (
     LenSource::Ipv4HeaderTotalLen,
     b"\x00\x01\x02\x03\x04\x05\x06\x07\x08\x09\x0a\x0b\x0c\x0d\x0e\x0f\x10\x11\x12\x13\x14\x15\x16\x17",
 );
 
-/// Both fragments behind these link headers, with frames before and between them that are refused.
-fn reads_behind(rt: &impl Abort, alloc: Global, entry: Entry, link: &[u8]) {
+/// Asserts that two IPv4 fragments, each after the link header `link`, are parsed and reassembled, with invalid frames
+/// before and between them.
+fn reads_after_link_header(rt: &impl Abort, alloc: Global, entry: Entry, link: &[u8]) {
     let first = [link, FIRST_IPV4].concat(alloc).expect(rt, "no memory");
     let last = [link, LAST_IPV4].concat(alloc).expect(rt, "no memory");
     let calls = [
@@ -136,15 +142,15 @@ fn reads_behind(rt: &impl Abort, alloc: Global, entry: Entry, link: &[u8]) {
 #[test]
 fn entries(rt: HostRuntime) {
     let ethernet = b"\x07\x08\x09\x0a\x0b\x0c\x01\x02\x03\x04\x05\x06\x08\x00";
-    reads_behind(&rt, rt.alloc(), Entry::Ethernet, ethernet);
+    reads_after_link_header(&rt, rt.alloc(), Entry::Ethernet, ethernet);
     let cooked = b"\x00\x00\x00\x01\x00\x06\x01\x02\x03\x04\x05\x06\x00\x00\x08\x00";
-    reads_behind(&rt, rt.alloc(), Entry::LinuxSll, cooked);
+    reads_after_link_header(&rt, rt.alloc(), Entry::LinuxSll, cooked);
     let ipv4 = Entry::EtherType(EtherType::IPV4);
-    reads_behind(&rt, rt.alloc(), ipv4, b"");
-    reads_behind(&rt, rt.alloc(), Entry::Ip, b"");
+    reads_after_link_header(&rt, rt.alloc(), ipv4, b"");
+    reads_after_link_header(&rt, rt.alloc(), Entry::Ip, b"");
 }
 
-/// A buffer that is given back.
+/// Returns a call that gives an empty buffer back to the reassembly pool.
 fn empty_buffer<'a>(alloc: Global) -> FrameCall<'a, u64, u8, u64> {
     FrameCall::Return(IpDefragPayloadVec {
         ip_number: IpNumber::UDP,
@@ -153,7 +159,8 @@ fn empty_buffer<'a>(alloc: Global) -> FrameCall<'a, u64, u8, u64> {
     })
 }
 
-/// A drop, what is kept by it, and a buffer that is given back, which changes nothing.
+/// A drop removes the incomplete datagrams that are older than its limit from a reassembly pool, and keeps all others.
+/// Buffers that are given back to the pool change no answer.
 #[test]
 fn drops_and_buffers(rt: HostRuntime) {
     let alloc = rt.alloc();
@@ -187,7 +194,7 @@ fn drops_and_buffers(rt: HostRuntime) {
     answers(&rt, alloc, calls, &wanted, WHOLE);
 }
 
-/// The frame of a cut, of a number for experiments.
+/// Builds an IP fragment with these headers and the payload bytes `part`, of IP protocol number 253 (for experiments).
 fn built(rt: &impl Abort, alloc: Global, headers: IpHeaders, part: &[u8]) -> Vec<u8> {
     let mut frame = Vec::new(alloc);
     let written = PacketBuilder::ip(headers).write(&mut frame, IpNumber(253), part);
@@ -195,7 +202,8 @@ fn built(rt: &impl Abort, alloc: Global, headers: IpHeaders, part: &[u8]) -> Vec
     frame
 }
 
-/// One of the 120 orders of five: each place is exchanged with one up to it.
+/// Returns permutation `number` (0 to 119) of the indices 0 to 4, in which each position was swapped with itself or an
+/// earlier one.
 fn order(number: usize) -> [usize; 5] {
     let mut order = [0, 1, 2, 3, 4];
     let mut rest = number;
@@ -206,8 +214,8 @@ fn order(number: usize) -> [usize; 5] {
     order
 }
 
-/// Five cuts in an order, of which the last completes the payload, with a refused frame behind each of the others and,
-/// where `repeats`, with all that came so far once more.
+/// Appends the five fragments of a payload in permutation `number`, each with the expected answer of the pool. After
+/// each of the first four an invalid frame is appended; with `repeats`, all fragments so far are repeated before it.
 fn push_order<'a>(
     rt: &impl Abort,
     frames: &mut Vec<(&'a [u8], Wanted)>,
@@ -234,7 +242,8 @@ fn push_order<'a>(
     }
 }
 
-/// In every order, one after the other in one run, the payload comes with the last new cut.
+/// Asserts that a payload is reassembled from its five fragments in all 120 orders, with and without repeated
+/// fragments, by one reassembly pool.
 fn in_every_order(rt: &impl Abort, alloc: Global, cuts: &[Vec<u8>], payload: (LenSource, &[u8])) {
     let mut frames = Vec::new(alloc);
     for number in 0..120 {
@@ -252,10 +261,10 @@ fn in_every_order(rt: &impl Abort, alloc: Global, cuts: &[Vec<u8>], payload: (Le
     answers(rt, alloc, calls, &wanted, payload);
 }
 
-/// Where each of five cuts starts and ends, in units of 8 bytes.
+/// Start and end of each of five fragments of a payload of 4,000 bytes, in units of 8 bytes.
 const CUTS: [(u16, u16); 5] = [(0, 1), (1, 128), (128, 256), (256, 499), (499, 500)];
 
-/// The bytes of a cut.
+/// Returns the bytes of a payload from `start` to `end`, both in units of 8 bytes.
 fn part(payload: &[u8], start: u16, end: u16) -> &[u8] {
     let bytes = usize::from(start) * 8..usize::from(end) * 8;
     payload.get(bytes).unwrap_or(b"")

@@ -1,11 +1,12 @@
-//! Final fragments that end below what came: rows from outside.
+//! Tests of final fragments that end before bytes that were already received: external test vectors.
 
 use super::Bytes::{Rising, Zeros};
 use super::buffers::{Step, adds, section, shows_parts};
 use super::*;
 
-/// Fragments, of which the one of this number is refused because it ends there and what came before it reaches further.
-/// The last one completes the payload, of the bytes that rise from 0.
+/// Adds fragments to a reassembly buffer and asserts that only fragment number `refused` is rejected: it is a final
+/// fragment that ends at byte `end`, but earlier fragments reach to byte `reach`. Asserts that the others complete a
+/// payload of `len` bytes.
 fn refuses_end(
     rt: &impl Abort,
     alloc: Global,
@@ -30,7 +31,7 @@ fn refuses_end(
 }
 
 #[test]
-fn within_what_came(rt: HostRuntime) {
+fn end_within_received_bytes(rt: HostRuntime) {
     let steps = [
         (0, true, Rising(0, 64), false),
         (4, false, Rising(32, 16), false),
@@ -39,7 +40,7 @@ fn within_what_came(rt: HostRuntime) {
     refuses_end(&rt, rt.alloc(), &steps, (1, 64, 48), 64);
 }
 
-/// The refused fragment leaves no end and no bytes behind.
+/// A rejected final fragment stores neither its end nor its bytes in the reassembly buffer.
 #[test]
 fn without_an_end_afterwards(rt: HostRuntime) {
     let steps = [
@@ -52,7 +53,7 @@ fn without_an_end_afterwards(rt: HostRuntime) {
 }
 
 #[test]
-fn before_what_came(rt: HostRuntime) {
+fn end_before_received_bytes(rt: HostRuntime) {
     let steps = [
         (8, true, Rising(64, 64), false),
         (0, false, Rising(0, 32), false),

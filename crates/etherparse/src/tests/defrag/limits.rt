@@ -1,13 +1,15 @@
-//! A pool with a limit of bytes for each stream. More rows stand in `frame_bench/cases`.
+//! Test of a reassembly pool that limits the bytes of each stream (fragments of one datagram). `frame_bench/cases` has
+//! more cases.
 
 use super::*;
 
-/// The first 16 bytes of a payload, 8 bytes of it behind them, and its last 8 bytes, which end it at 16.
+/// An IPv4 fragment with the first 16 bytes of a payload and more to follow. `AFTER_LIMIT` has the 8 bytes after them;
+/// `LAST` conflicts with it, as a final fragment with bytes 8 to 15 that ends the payload at byte 16.
 const FIRST: &[u8] =
     b"\x45\x00\x00\x24\x00\x07\x20\x00\x40\xfd\xd6\x82\xc0\xa8\x01\x01\xc0\xa8\x01\x02\
       \x00\x01\x02\x03\x04\x05\x06\x07\x08\x09\x0a\x0b\x0c\x0d\x0e\x0f";
 
-const BEHIND: &[u8] =
+const AFTER_LIMIT: &[u8] =
     b"\x45\x00\x00\x1c\x00\x07\x00\x02\x40\xfd\xf6\x88\xc0\xa8\x01\x01\xc0\xa8\x01\x02\
       \x10\x11\x12\x13\x14\x15\x16\x17";
 
@@ -15,29 +17,30 @@ const LAST: &[u8] =
     b"\x45\x00\x00\x1c\x00\x07\x00\x01\x40\xfd\x00\x00\xc0\xa8\x01\x01\xc0\xa8\x01\x02\
       \x08\x09\x0a\x0b\x0c\x0d\x0e\x0f";
 
-/// The payload of 16 bytes.
+/// Payload of 16 bytes that is reassembled from two IPv4 fragments.
 const WHOLE: &[u8] = b"\x00\x01\x02\x03\x04\x05\x06\x07\x08\x09\x0a\x0b\x0c\x0d\x0e\x0f";
 
-/// What an answer to a frame is.
+/// Expected answer of a reassembly pool to a fragment: no payload yet, the complete payload, or an error because the
+/// fragment (offset in units of 8 bytes, length) ends after the limit.
 #[derive(Clone, Copy)]
-enum Said {
+enum ExpectedAnswer {
     Nothing,
     Whole,
     TooBig(u16, usize, u16),
 }
 
-/// Whether an answer is this.
-fn says(
+/// Returns whether the answer of a reassembly pool to a fragment is the expected one, `said`.
+fn is_answer(
     rt: &impl Abort,
     answer: &Result<Option<IpDefragPayloadVec>, IpDefragError>,
-    said: Said,
+    said: ExpectedAnswer,
 ) -> bool {
     match (answer, said) {
-        (Ok(None), Said::Nothing) => true,
-        (Ok(Some(payload)), Said::Whole) => {
+        (Ok(None), ExpectedAnswer::Nothing) => true,
+        (Ok(Some(payload)), ExpectedAnswer::Whole) => {
             payload.ip_number == IpNumber(253) && payload.payload.as_slice() == WHOLE
         }
-        (Err(error), Said::TooBig(units, payload_len, max)) => {
+        (Err(error), ExpectedAnswer::TooBig(units, payload_len, max)) => {
             *error
                 == IpDefragError::SegmentTooBig {
                     offset: offset(rt, units),
@@ -49,12 +52,12 @@ fn says(
     }
 }
 
-/// In a list of calls, whose pool has the limit, the payload that ends at it comes out, and a fragment behind it is
-/// refused.
+/// In a pool that limits each payload to 16 bytes, a payload of 16 bytes is reassembled, and a fragment that starts at
+/// byte 16 is rejected.
 #[test]
 fn as_a_run(rt: HostRuntime) {
     let mut calls = Vec::new(rt.alloc());
-    for packet in [FIRST, BEHIND, LAST] {
+    for packet in [FIRST, AFTER_LIMIT, LAST] {
         let call = PoolCall::Frame {
             packet: SlicedPacket::from_ip(packet).expect(&rt, "refused"),
             timestamp: 1u64,
@@ -67,16 +70,24 @@ fn as_a_run(rt: HostRuntime) {
         &rt,
         "no memory",
     );
-    let wanted = [Said::Nothing, Said::TooBig(2, 8, 16), Said::Whole];
+    let wanted = [
+        ExpectedAnswer::Nothing,
+        ExpectedAnswer::TooBig(2, 8, 16),
+        ExpectedAnswer::Whole,
+    ];
     same(&rt, &answered.len(), &wanted.len());
     for (answer, said) in answered.iter().zip(wanted) {
         let is_wanted = match answer {
-            PoolAnswer::Frame(answer) => says(&rt, answer, said),
+            PoolAnswer::Frame(answer) => is_answer(&rt, answer, said),
             PoolAnswer::Dropped | PoolAnswer::Returned => false,
         };
         same(&rt, &is_wanted, &true);
     }
-    let behind = SlicedPacket::from_ip(BEHIND).expect(&rt, "refused");
+    let behind = SlicedPacket::from_ip(AFTER_LIMIT).expect(&rt, "refused");
     let answer = pool.process_sliced_packet(&behind, 2, 0);
-    same(&rt, &says(&rt, &answer, Said::TooBig(2, 8, 16)), &true);
+    same(
+        &rt,
+        &is_answer(&rt, &answer, ExpectedAnswer::TooBig(2, 8, 16)),
+        &true,
+    );
 }

@@ -1,18 +1,19 @@
-//! Streams whose names differ in one part alone.
+//! Tests of streams (fragments of one datagram) whose keys (`IpFragId`) differ in a single part.
 
 use super::pool::Answer;
 use super::*;
 
-/// A stream: the version of its packets, the bytes of its VLAN tags, the last byte of its source address, and the
-/// number of its payload.
+/// The fragments of one datagram in a test: IP version, bytes of the VLAN tags, last byte of the source address, and IP
+/// protocol number of the payload.
 pub(crate) type Stream = (u8, &'static [u8], u8, u8);
 
-/// One tag, and two.
+/// A VLAN tag with identifier 12, its ether type 0x8100 first; `TAGS` are two such tags, with identifiers 12 and 13.
 pub(crate) const TAG: &[u8] = b"\x81\x00\x00\x0c";
 
 pub(crate) const TAGS: &[u8] = b"\x81\x00\x00\x0c\x81\x00\x00\x0d";
 
-/// The type and the header of an IPv4 packet with so many bytes of a fragment, at an offset in units of 8 bytes.
+/// Returns the ether type and the header of an IPv4 fragment with `len` bytes of payload of IP protocol `number`. Its
+/// offset is in units of 8 bytes; `more_fragments` is 1 or 0.
 fn ipv4(source: u8, number: u8, (units, more_fragments): (u8, u8), len: u8) -> [u8; 22] {
     let flags = more_fragments.wrapping_mul(0x20);
     let total_len = len.wrapping_add(20);
@@ -22,7 +23,8 @@ fn ipv4(source: u8, number: u8, (units, more_fragments): (u8, u8), len: u8) -> [
     ]
 }
 
-/// The same for IPv6, with a routing header behind the fragment header.
+/// Returns ether type, IPv6 header, fragment header and routing header of a fragment with `len` bytes of payload of IP
+/// protocol `number`. Its offset is in units of 8 bytes; `more_fragments` is 1 or 0.
 fn ipv6(source: u8, number: u8, (units, more_fragments): (u8, u8), len: u8) -> [u8; 58] {
     let offset = units.wrapping_mul(8) | more_fragments;
     let payload_len = len.wrapping_add(16);
@@ -92,8 +94,8 @@ fn push(rt: &impl Abort, frame: &mut Vec<u8>, bytes: &[u8]) {
     frame.extend_from_slice(bytes).expect(rt, "no memory");
 }
 
-/// What a pool answers to a fragment of a stream, of at most 100 bytes: its offset in units of 8 bytes, 1 where more
-/// follow, and its bytes.
+/// Passes a fragment of at most 100 payload bytes to a reassembly pool and returns its answer. `part` is the offset in
+/// units of 8 bytes, and 1 if more fragments follow, else 0.
 pub(crate) fn answer_to(
     rt: &impl Abort,
     alloc: Global,
@@ -120,8 +122,9 @@ pub(crate) fn answer_to(
     pool.process_sliced_packet(&packet, 1, 0)
 }
 
-/// The bytes that are handed out, if any.
-pub(crate) fn handed_out(answer: &Answer) -> &[u8] {
+/// Returns the reassembled bytes in an answer of a reassembly pool. An answer without a payload gives no bytes, and an
+/// error gives the text `refused`.
+pub(crate) fn completed_payload(answer: &Answer) -> &[u8] {
     match answer {
         Ok(Some(payload)) => payload.payload.as_slice(),
         Ok(None) => b"",
@@ -129,36 +132,44 @@ pub(crate) fn handed_out(answer: &Answer) -> &[u8] {
     }
 }
 
-/// Two streams, of which the halves come by turns, are each answered their own payload.
-fn are_kept_apart(rt: &impl Abort, alloc: Global, a: Stream, b: Stream) {
+/// Asserts that two payloads, whose fragments reach one reassembly pool alternately, are not mixed up.
+fn assert_streams_are_separate(rt: &impl Abort, alloc: Global, a: Stream, b: Stream) {
     let mut pool = IpDefragPool::new(alloc);
     let first = answer_to(rt, alloc, &mut pool, a, (0, 1), b"abcdefgh");
     let second = answer_to(rt, alloc, &mut pool, b, (0, 1), b"ABCDEFGH");
     same(rt, &(first, second), &(Ok(None), Ok(None)));
     let answer = answer_to(rt, alloc, &mut pool, a, (1, 0), b"ijklmnop");
-    same(rt, &handed_out(&answer), &b"abcdefghijklmnop".as_slice());
+    same(
+        rt,
+        &completed_payload(&answer),
+        &b"abcdefghijklmnop".as_slice(),
+    );
     let answer = answer_to(rt, alloc, &mut pool, b, (1, 0), b"IJKLMNOP");
-    same(rt, &handed_out(&answer), &b"ABCDEFGHIJKLMNOP".as_slice());
+    same(
+        rt,
+        &completed_payload(&answer),
+        &b"ABCDEFGHIJKLMNOP".as_slice(),
+    );
 }
 
 #[test]
-fn told_apart_by_the_ip_header(rt: HostRuntime) {
+fn streams_differing_in_ip_header(rt: HostRuntime) {
     let (stream, alloc) = ((4, b"".as_slice(), 1, 17), rt.alloc());
-    // the source address, the number of the payload, and the version
-    are_kept_apart(&rt, alloc, stream, (4, b"", 3, 17));
-    are_kept_apart(&rt, alloc, stream, (4, b"", 1, 253));
-    are_kept_apart(&rt, alloc, stream, (6, b"", 1, 17));
+    // differing in source address, IP protocol number of the payload, and IP version
+    assert_streams_are_separate(&rt, alloc, stream, (4, b"", 3, 17));
+    assert_streams_are_separate(&rt, alloc, stream, (4, b"", 1, 253));
+    assert_streams_are_separate(&rt, alloc, stream, (6, b"", 1, 17));
 }
 
 #[test]
-fn told_apart_by_vlan_tags(rt: HostRuntime) {
+fn streams_differing_in_vlan_tags(rt: HostRuntime) {
     let alloc = rt.alloc();
     let one_two = b"\x81\x00\x00\x01\x81\x00\x00\x02";
     let two_one = b"\x81\x00\x00\x02\x81\x00\x00\x01";
-    are_kept_apart(&rt, alloc, (4, one_two, 1, 17), (4, two_one, 1, 17));
-    are_kept_apart(&rt, alloc, (6, one_two, 1, 17), (6, two_one, 1, 17));
+    assert_streams_are_separate(&rt, alloc, (4, one_two, 1, 17), (4, two_one, 1, 17));
+    assert_streams_are_separate(&rt, alloc, (6, one_two, 1, 17), (6, two_one, 1, 17));
     let with_three = b"\x81\x00\x00\x01\x81\x00\x00\x02\x81\x00\x00\x03";
     let with_four = b"\x81\x00\x00\x01\x81\x00\x00\x02\x81\x00\x00\x04";
-    are_kept_apart(&rt, alloc, (4, with_three, 1, 17), (4, with_four, 1, 17));
-    are_kept_apart(&rt, alloc, (4, one_two, 1, 17), (4, with_three, 1, 17));
+    assert_streams_are_separate(&rt, alloc, (4, with_three, 1, 17), (4, with_four, 1, 17));
+    assert_streams_are_separate(&rt, alloc, (4, one_two, 1, 17), (4, with_three, 1, 17));
 }

@@ -1,4 +1,5 @@
-//! Streams in a pool: rows from outside, and many streams with ample memory.
+//! Tests of many streams (each the fragments of one datagram) in a reassembly pool: external test vectors, and many
+//! streams with ample memory.
 
 ghost use Rattle.std.specs.Prelude.{◌≡◌, ◌<◌, ℕ, nat_le, List, map, take, slice_get, Some, IfOk, IfErr};
 ghost use Rattle.std.specs.List.{All, HoldsAt};
@@ -14,7 +15,8 @@ use crate::tests::sizes::STREAMS;
 use std::cell::Cell;
 use std::ops::Range;
 
-/// The first 8 bytes of a payload of 16, and the last ones, with VLAN identifier 1, and the same with 2.
+/// Ethernet II frame with VLAN identifier 1 and an IPv4 fragment: the first 8 bytes of the payload 0 to 15.
+/// `VLAN_1_LAST` has the last 8; the frames with VLAN identifier 2 have the payload 16 to 31.
 pub(crate) const VLAN_1_FIRST: &[u8] =
     b"\x07\x08\x09\x0a\x0b\x0c\x01\x02\x03\x04\x05\x06\x81\x00\x00\x01\x08\x00\
       \x45\x00\x00\x1c\x00\x01\x20\x00\x14\x11\x03\x7d\xc0\xa8\x01\x01\xc0\xa8\x01\x02\
@@ -35,20 +37,23 @@ pub(crate) const VLAN_2_LAST: &[u8] =
       \x45\x00\x00\x1c\x00\x01\x00\x01\x14\x11\x23\x7c\xc0\xa8\x01\x01\xc0\xa8\x01\x02\
       \x18\x19\x1a\x1b\x1c\x1d\x1e\x1f";
 
-/// 7 bytes where more fragments follow.
+/// Ethernet II frame with VLAN identifier 1 and an IPv4 fragment of 7 bytes with more fragments to follow, which is an
+/// error.
 const VLAN_1_UNALIGNED: &[u8] =
     b"\x07\x08\x09\x0a\x0b\x0c\x01\x02\x03\x04\x05\x06\x81\x00\x00\x01\x08\x00\
       \x45\x00\x00\x1b\x00\x01\x20\x01\x14\x11\x03\x7d\xc0\xa8\x01\x01\xc0\xa8\x01\x02\
       \x08\x09\x0a\x0b\x0c\x0d\x0e";
 
-/// The payload that these are halves of, and those with VLAN identifier 2.
+/// Payload of 16 bytes, 0 to 15, that is reassembled from the fragments with VLAN identifier 1; `OTHER` is that of VLAN
+/// identifier 2.
 pub(crate) const WHOLE: &[u8] = b"\x00\x01\x02\x03\x04\x05\x06\x07\x08\x09\x0a\x0b\x0c\x0d\x0e\x0f";
 
 pub(crate) const OTHER: &[u8] = b"\x10\x11\x12\x13\x14\x15\x16\x17\x18\x19\x1a\x1b\x1c\x1d\x1e\x1f";
 
 pub(crate) type Answer = Result<Option<IpDefragPayloadVec>, IpDefragError>;
 
-/// Whether an answer is the payload that is these bytes, or nothing where they are none.
+/// Returns whether the answer of a reassembly pool is a UDP payload of these bytes with this length source, or no
+/// payload if `bytes` is empty.
 pub(crate) fn is_payload(answer: &Answer, len_source: LenSource, bytes: &[u8]) -> bool {
     match answer {
         Ok(Some(payload)) => {
@@ -61,8 +66,9 @@ pub(crate) fn is_payload(answer: &Answer, len_source: LenSource, bytes: &[u8]) -
     }
 }
 
-/// A frame of IPv4 is answered by this payload, or by nothing where it is empty. The buffer goes back.
-fn hands_out(
+/// Passes an Ethernet II frame with an IPv4 fragment to a reassembly pool. Asserts that it completes `payload`, or
+/// nothing if `payload` is empty, and returns the buffer to the pool.
+fn completes_payload(
     rt: &impl Abort,
     pool: &mut IpDefragPool<u64, u8>,
     frame: &[u8],
@@ -78,18 +84,20 @@ fn hands_out(
     }
 }
 
-/// Two streams that differ in the VLAN alone, and one that begins again.
+/// Fragments whose keys differ only in the VLAN identifier are reassembled separately. After the payload of VLAN 1 is
+/// complete, a repeated fragment starts a new one.
 #[test]
 fn streams_by_vlan(rt: HostRuntime) {
     let mut pool = IpDefragPool::new(rt.alloc());
-    hands_out(&rt, &mut pool, VLAN_1_FIRST, 1, b"");
-    hands_out(&rt, &mut pool, VLAN_2_FIRST, 1, b"");
-    hands_out(&rt, &mut pool, VLAN_1_LAST, 1, WHOLE);
-    hands_out(&rt, &mut pool, VLAN_1_LAST, 1, b"");
-    hands_out(&rt, &mut pool, VLAN_2_LAST, 1, OTHER);
+    completes_payload(&rt, &mut pool, VLAN_1_FIRST, 1, b"");
+    completes_payload(&rt, &mut pool, VLAN_2_FIRST, 1, b"");
+    completes_payload(&rt, &mut pool, VLAN_1_LAST, 1, WHOLE);
+    completes_payload(&rt, &mut pool, VLAN_1_LAST, 1, b"");
+    completes_payload(&rt, &mut pool, VLAN_2_LAST, 1, OTHER);
 }
 
-/// A drop of the streams older than a limit asks for so many.
+/// Drops the incomplete datagrams with a timestamp below `limit` from a reassembly pool, and asserts that the
+/// timestamps of `streams` datagrams are tested for that.
 fn drops(rt: &impl Abort, pool: &mut IpDefragPool<u64, u8>, limit: u64, streams: u32) {
     let asked = Cell::new(0u32);
     pool.retain(|timestamp| {
@@ -99,11 +107,12 @@ fn drops(rt: &impl Abort, pool: &mut IpDefragPool<u64, u8>, limit: u64, streams:
     same(rt, &asked.get(), &streams);
 }
 
-/// A refused fragment leaves the timestamp, so that the drop takes the stream. Each stream is asked for once.
+/// A fragment that the reassembly pool rejects does not update the timestamp of its datagram, so that a drop of all
+/// datagrams older than 3 removes it. The drop tests the timestamp once.
 #[test]
 fn refused_keeps_time(rt: HostRuntime) {
     let mut pool = IpDefragPool::new(rt.alloc());
-    hands_out(&rt, &mut pool, VLAN_1_FIRST, 1, b"");
+    completes_payload(&rt, &mut pool, VLAN_1_FIRST, 1, b"");
     let unaligned = SlicedPacket::from_ethernet(VLAN_1_UNALIGNED).expect(&rt, "refused");
     let refusal = IpDefragError::UnalignedFragmentPayloadLen {
         offset: offset(&rt, 1),
@@ -115,20 +124,20 @@ fn refused_keeps_time(rt: HostRuntime) {
         &Err(refusal),
     );
     drops(&rt, &mut pool, 3, 1);
-    hands_out(&rt, &mut pool, VLAN_1_LAST, 6, b"");
+    completes_payload(&rt, &mut pool, VLAN_1_LAST, 6, b"");
 }
 
-/// More VLAN tags than are read.
-const FOUR_TAGS_BEHIND_ETHERNET: &[u8] = b"\x07\x08\x09\x0a\x0b\x0c\x01\x02\x03\x04\x05\x06\
+/// An Ethernet II header and four VLAN tags; at most three tags are parsed.
+const FOUR_TAGS_AFTER_ETHERNET: &[u8] = b"\x07\x08\x09\x0a\x0b\x0c\x01\x02\x03\x04\x05\x06\
       \x81\x00\x00\x01\x81\x00\x00\x02\x81\x00\x00\x03\x81\x00\x00\x04\x08\x00";
 
-/// Packets without a fragment begin no stream: a whole packet, one behind too many tags, and one whose first fragment
-/// header says that it is none.
+/// A reassembly pool stores nothing for packets that are not fragments: an unfragmented packet, one with too many VLAN
+/// tags, and an IPv6 packet whose first fragment header has offset 0 and no more fragments.
 #[test]
 fn skipped(rt: HostRuntime) {
     let mut pool = IpDefragPool::new(rt.alloc());
-    hands_out(&rt, &mut pool, FRAME, 1, b"");
-    hands_out(&rt, &mut pool, FOUR_TAGS_BEHIND_ETHERNET, 1, b"");
+    completes_payload(&rt, &mut pool, FRAME, 1, b"");
+    completes_payload(&rt, &mut pool, FOUR_TAGS_AFTER_ETHERNET, 1, b"");
     let twice = SlicedPacket::from_ip(FRAGMENT_TWICE).expect(&rt, "refused");
     same(
         &rt,
@@ -138,14 +147,15 @@ fn skipped(rt: HostRuntime) {
     drops(&rt, &mut pool, 0, 0);
 }
 
-/// Half of a payload, without the Ethernet II header and the VLAN tag.
+/// Parses the IPv4 packet in an Ethernet II frame with one VLAN tag; it starts at byte 18.
 fn half(rt: &impl Abort, frame: &'static [u8]) -> SlicedPacket<'static> {
     let packet = frame.get(18..).expect(rt, "a tag");
     SlicedPacket::from_ip(packet).expect(rt, "refused")
 }
 
-/// A half of each of these streams at its time is answered by this payload.
-fn hand_out(
+/// Passes a fragment to a reassembly pool once for each of these channels (caller's identifiers that keep fragments
+/// apart). Asserts that each answer is `payload`, or no payload if it is empty.
+fn process_on_channels(
     rt: &impl Abort,
     pool: &mut IpDefragPool<u64, u64>,
     packet: &SlicedPacket<'_>,
@@ -159,23 +169,25 @@ fn hand_out(
     }
 }
 
-/// Streams at once, of which a drop takes the oldest 100. Each is asked for once. Then each of the others is completed.
+/// Passes the first fragments of many datagrams to one reassembly pool, drops the oldest 100 datagrams, and completes
+/// the others. The drop tests the timestamp of each datagram once.
 #[test]
 fn many_streams(rt: HostRuntime) {
     let (first, last) = (half(&rt, VLAN_1_FIRST), half(&rt, VLAN_1_LAST));
     let mut pool = IpDefragPool::new(rt.alloc());
-    hand_out(&rt, &mut pool, &first, 0..STREAMS, b"");
+    process_on_channels(&rt, &mut pool, &first, 0..STREAMS, b"");
     let asked = Cell::new(0u64);
     pool.retain(|timestamp| {
         asked.set(asked.get().wrapping_add(1));
         *timestamp >= 100
     });
     same(&rt, &asked.get(), &STREAMS);
-    hand_out(&rt, &mut pool, &last, 100..STREAMS, WHOLE);
-    hand_out(&rt, &mut pool, &last, 0..100, b"");
+    process_on_channels(&rt, &mut pool, &last, 100..STREAMS, WHOLE);
+    process_on_channels(&rt, &mut pool, &last, 0..100, b"");
 }
 
-/// A run whose drops take the streams older than a limit. It meets the premise on drops.
+/// Runs calls of a reassembly pool through `run_calls`; a call that drops incomplete datagrams removes those with a
+/// timestamp below its limit.
 pub(super) fn run_with_limits(
     alloc: Global,
     calls: Vec<PoolCall<u64, Halved, u64>>,
@@ -202,7 +214,7 @@ pub(super) fn run_with_limits(
     )
 }
 
-/// 1,000 calls: 100 streams begin, then each is completed, and so on.
+/// 1,000 calls of a reassembly pool: the first fragments of 100 payloads, then their last fragments, five times.
 #[test]
 fn many_calls(rt: HostRuntime) {
     let mut calls = Vec::new(rt.alloc());
@@ -219,19 +231,21 @@ fn many_calls(rt: HostRuntime) {
     same(&rt, &answers.len(), &1_000);
     for (number, answer) in answers.iter().enumerate() {
         let payload = if number / 100 % 2 == 0 { b"" } else { WHOLE };
-        same(&rt, &is_handed_out(answer, payload), &true);
+        same(&rt, &is_pool_payload(answer, payload), &true);
     }
 }
 
-/// Whether an answer to a frame of IPv4 is this payload, or nothing where it is empty.
-fn is_handed_out(answer: &PoolAnswer, payload: &[u8]) -> bool {
+/// Returns whether the answer of a reassembly pool to an IPv4 frame is this payload, or no payload if `payload` is
+/// empty.
+fn is_pool_payload(answer: &PoolAnswer, payload: &[u8]) -> bool {
     match answer {
         PoolAnswer::Frame(answer) => is_payload(answer, LenSource::Ipv4HeaderTotalLen, payload),
         PoolAnswer::Dropped | PoolAnswer::Returned => false,
     }
 }
 
-/// The name of a stream.
+/// Returns the key under which a reassembly pool stores the fragments of a UDP datagram from 192.168.1.1 to
+/// 192.168.1.2.
 fn name() -> IpFragId<u8> {
     IpFragId {
         vlan_ids: ArrayVec::new(),
@@ -245,13 +259,14 @@ fn name() -> IpFragId<u8> {
     }
 }
 
-/// A fragment of the stream of this name is answered by a payload, or by nothing where it is empty.
+/// Passes a fragment of one UDP datagram to a reassembly pool. Asserts that it completes the payload `completed_payload`, or
+/// nothing if `completed_payload` is empty.
 fn completes(
     rt: &impl Abort,
     pool: &mut IpDefragPool<u64, u8>,
     (units, more_fragments): (u16, bool),
     payload: &[u8],
-    handed_out: &[u8],
+    completed_payload: &[u8],
 ) {
     let fragment = Fragment {
         offset: offset(rt, units),
@@ -259,11 +274,12 @@ fn completes(
         payload,
     };
     let answer = pool.process_fragment(name(), &fragment, 1);
-    let is_wanted = is_payload(&answer, LenSource::Ipv4HeaderTotalLen, handed_out);
+    let is_wanted = is_payload(&answer, LenSource::Ipv4HeaderTotalLen, completed_payload);
     same(rt, &is_wanted, &true);
 }
 
-/// Fragments by the name of their stream, without a packet. One that is a whole payload is handed out at once.
+/// A reassembly pool accepts fragments with the key of their datagram, without a parsed packet. A fragment that is a
+/// complete payload is returned at once.
 #[test]
 fn named_fragments(rt: HostRuntime) {
     let mut pool = IpDefragPool::new(rt.alloc());

@@ -1,4 +1,5 @@
-//! Whole packets: what both parsers find in them, and why they are refused.
+//! Tests of whole packets: the layers that both parsers (slices and owned headers) find, and the errors of rejected
+//! packets.
 
 use crate::err::packet::SliceError;
 use crate::err::{Layer, LenError, ip, ip_auth, ipv6, ipv6_exts};
@@ -7,34 +8,36 @@ use crate::tests::samples::*;
 use crate::*;
 use std::process::Abort;
 
-/// A MACsec tag, and three VLAN tags behind it.
+/// A MACsec tag (SecTAG) and three VLAN tags after it, without the ether type that announces the MACsec tag.
 const TAGS_IN_MACSEC: &[u8] =
     b"\x00\x00\x00\x00\x00\x00\x81\x00\x00\x01\x81\x00\x00\x02\x81\x00\x00\x03\x08\x00";
 
-/// A MACsec tag whose short length cuts the payload, of an unknown type.
+/// A MACsec tag (SecTAG) with a payload of the unknown ether type 0x1234. The last two bytes are after the end that the
+/// short length sets.
 const SHORT_MACSEC: &[u8] = b"\x00\x05\x00\x00\x00\x01\x12\x34\x01\x02\x03\xff\xff";
 
-/// A VLAN tag and an IPv4 packet with UDP.
+/// A VLAN tag with identifier 1, and an IPv4 packet with an empty UDP datagram.
 const TAGGED: &[u8] =
     b"\x00\x01\x08\x00\x45\0\0\x1c\0\0\x40\0\x40\x11\0\0\x0a\0\0\x01\x0a\0\0\x02\0\x15\x04\xd2\0\x08\0\0";
 
-/// An IPv4 packet with a TCP segment, and two bytes of padding behind it.
+/// An IPv4 packet with a TCP segment with two bytes of payload, and two bytes of padding after the packet.
 const SEGMENT: &[u8] =
     b"\x45\x00\x00\x2a\x00\x00\x40\x00\x14\x06\x00\x00\xc0\xa8\x01\x01\xc0\xa8\x01\x02\x00\x15\x00\x0c\x00\x00\x30\x39\x00\x00\x00\x00\x50\x02\x0f\xa0\x00\x00\x00\x00\x01\x02\x00\x00";
 
-/// An IPv4 packet with an echo request.
+/// An IPv4 packet with an ICMPv4 echo request.
 const ECHO_IPV4: &[u8] =
     b"\x45\x00\x00\x1e\x00\x00\x40\x00\x14\x01\x00\x00\xc0\xa8\x01\x01\xc0\xa8\x01\x02\x08\x00\x00\x00\x00\x01\x00\x02\xaa\xbb";
 
-/// An IPv6 packet with an echo request.
+/// An IPv6 packet with an ICMPv6 echo request.
 const ECHO_IPV6: &[u8] =
     b"\x60\x00\x00\x00\x00\x0a\x3a\x40\0\0\0\0\0\0\0\0\0\0\0\0\0\0\0\0\0\0\0\0\0\0\0\0\0\0\0\0\0\0\0\0\x80\x00\x00\x00\x00\x01\x00\x02\xaa\xbb";
 
-/// An IPv6 packet with an extension header of each kind, and a datagram behind them.
+/// An IPv6 packet with an extension header of each kind (hop-by-hop and destination options, routing, fragment,
+/// authentication) and a UDP datagram after them.
 const EVERY_KIND: &[u8] =
     b"\x60\x00\x00\x00\x00\x3e\x00\x40\0\0\0\0\0\0\0\0\0\0\0\0\0\0\0\0\0\0\0\0\0\0\0\0\0\0\0\0\0\0\0\0\x3c\0\0\0\0\0\0\0\x2b\0\0\0\0\0\0\0\x2c\0\0\0\0\0\0\0\x33\0\0\0\0\0\0\x01\x3c\x01\0\0\0\0\0\x02\0\0\0\x03\x11\0\0\0\0\0\0\0\x00\x15\x04\xd2\x00\x0a\x00\x00\x01\x02";
 
-/// The header of a Linux cooked capture over Ethernet, and an IPv4 packet with an authentication header.
+/// A Linux cooked capture header (SLL) of an Ethernet device, and an IPv4 packet with an authentication header.
 const COOKED: &[u8] =
     b"\x00\x00\x00\x01\x00\x06\x01\x02\x03\x04\x05\x06\x00\x00\x08\x00\x45\x00\x00\x24\x00\x00\x00\x00\x40\x33\x00\x00\xc0\xa8\x01\x01\xc0\xa8\x01\x02\x3b\x01\x00\x00\x00\x00\x00\x02\x00\x00\x00\x03\x01\x02\x03\x04";
 
@@ -46,18 +49,19 @@ const IPV4: Entry = Entry::EtherType(EtherType::IPV4);
 
 const IPV6: Entry = Entry::EtherType(EtherType::IPV6);
 
-/// Slices that hold another packet with every layer.
+/// Returns a `SlicedPacket` that already has a VLAN tag, an IPv4 and a UDP layer, to be filled with another packet.
 fn used_slices(rt: &impl Abort) -> SlicedPacket<'static> {
     SlicedPacket::from_entry(TAG, TAGGED).expect(rt, "refused")
 }
 
-/// Headers that hold another packet with every layer.
+/// Returns `PacketHeaders` that already have a VLAN, an IPv4 and a UDP header, to be filled with another packet.
 fn used_headers(rt: &impl Abort) -> PacketHeaders<'static> {
     PacketHeaders::from_ether_type(EtherType::VLAN_TAGGED_FRAME, TAGGED).expect(rt, "refused")
 }
 
-/// Values that are used again are filled with a packet that has so many link extensions, so many VLAN tags among them
-/// and so many bytes of net headers, and with its payload.
+/// Asserts what both parsers (slices and owned headers) find in a packet: the numbers of link extensions and of VLAN
+/// tags, the length of the network headers (0: none), and the payload. Both fill values that already held another
+/// packet.
 fn reads(
     rt: &impl Abort,
     entry: Entry,
@@ -86,7 +90,8 @@ fn reads(
     same(rt, &headers.payload, &payload);
 }
 
-/// The same, where the payload has an ether type, which slices show too.
+/// Asserts that both parsers (slices and owned headers) end in a payload with an ether type, and find these numbers of
+/// link extensions, VLAN tags and network header bytes.
 fn reads_type(
     rt: &impl Abort,
     entry: Entry,
@@ -100,7 +105,8 @@ fn reads_type(
     reads(rt, entry, bytes, counts, PayloadSlice::Ether(payload));
 }
 
-/// The same, where the payload is 1 to 4 of the number 59, which slices show too.
+/// Asserts that both parsers (slices and owned headers) read an IP packet with the payload bytes 1, 2, 3, 4 and IP
+/// protocol number 59, after `net_len` bytes of IP headers.
 fn reads_ip(
     rt: &impl Abort,
     entry: Entry,
@@ -119,7 +125,7 @@ fn reads_ip(
     reads(rt, entry, bytes, (0, 0, net_len), PayloadSlice::Ip(payload));
 }
 
-/// A payload of an ether type.
+/// Returns a payload of these bytes with this ether type, limited by `len_source`.
 fn of_type(
     ether_type: u16,
     len_source: LenSource,
@@ -214,7 +220,7 @@ fn payloads_of_tcp_and_icmp(rt: HostRuntime) {
     );
 }
 
-/// Headers that begin with an IP header have no link header.
+/// `PacketHeaders::from_ip_slice` parses from the IP header on, and finds no link header.
 #[test]
 fn from_ip_slice(rt: HostRuntime) {
     let headers = PacketHeaders::from_ip_slice(EVERY_KIND).expect(&rt, "refused");
@@ -222,7 +228,7 @@ fn from_ip_slice(rt: HostRuntime) {
     same(&rt, &headers.payload, &PayloadSlice::Udp(b"\x01\x02"));
 }
 
-/// Both parsers refuse the bytes with this error.
+/// Asserts that both parsers (slices and owned headers) reject the bytes with this error.
 fn refuses(rt: &impl Abort, entry: Entry, bytes: &'static [u8], error: SliceError) {
     let refused = Err(error);
     let mut sliced = SlicedPacket::new();
@@ -247,7 +253,8 @@ fn too_short(
     })
 }
 
-/// The length of a MACsec tag that cuts a VLAN tag is not what the refusal names.
+/// If the short length of a MACsec tag ends within a VLAN tag in its payload, the error names `Slice` as the length
+/// source.
 #[test]
 fn short_tag_in_macsec(rt: HostRuntime) {
     let tag = too_short(4, 3, LenSource::Slice, Layer::VlanHeader, 8);
@@ -272,21 +279,21 @@ fn refused_versions(rt: HostRuntime) {
 
 #[test]
 fn refused_extension_headers(rt: HostRuntime) {
-    // hop by hop options behind hop by hop options
+    // hop-by-hop options after hop-by-hop options
     refuses(
         &rt,
         Entry::Ip,
         b"\x60\x00\x00\x00\x00\x10\x00\x40\0\0\0\0\0\0\0\0\0\0\0\0\0\0\0\0\0\0\0\0\0\0\0\0\0\0\0\0\0\0\0\0\0\0\0\0\0\0\0\0\x11\0\0\0\0\0\0\0",
         SliceError::Ipv6Exts(ipv6_exts::HeaderError::HopByHopNotAtStart),
     );
-    // and behind destination options
+    // hop-by-hop options after destination options
     refuses(
         &rt,
         IPV6,
         b"\x60\0\0\0\0\0\x3c\x40\0\0\0\0\0\0\0\0\0\0\0\0\0\0\0\0\0\0\0\0\0\0\0\0\0\0\0\0\0\0\0\0\0\0\0\0\0\0\0\0\0\0\0\0\0\0\0\0",
         SliceError::Ipv6Exts(ipv6_exts::HeaderError::HopByHopNotAtStart),
     );
-    // authentication headers without a length
+    // authentication headers with payload length 0
     let zero = ipv6_exts::HeaderError::IpAuth(ip_auth::HeaderError::ZeroPayloadLen);
     refuses(
         &rt,

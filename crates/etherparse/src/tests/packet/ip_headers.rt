@@ -1,4 +1,4 @@
-//! Headers of the net layer by value: what is read, linked, measured and written.
+//! Tests of owned headers of the network layer: parsing, linking by next header numbers, lengths and writing.
 
 use crate::err::net::NetSetNextHeaderError;
 use crate::err::{Layer, LenError, ValueTooBigError, ValueType, ip};
@@ -8,15 +8,16 @@ use crate::*;
 use std::alloc::Global;
 use std::process::Abort;
 
-/// An IPv4 header from 192.168.1.1 to 192.168.1.2, an authentication header, and the payload 1 to 8 of UDP.
+/// An IPv4 header from 192.168.1.1 to 192.168.1.2, an authentication header, and the bytes 1 to 8 with next header UDP.
 const AUTHENTICATED_UDP: &[u8] =
     b"\x45\x00\x00\x28\x00\x00\x40\x00\x14\x33\xe3\x4f\xc0\xa8\x01\x01\xc0\xa8\x01\x02\x11\x01\x00\x00\x00\x00\x00\x02\x00\x00\x00\x03\x01\x02\x03\x04\x05\x06\x07\x08";
 
-/// An IPv6 header, hop by hop options, a fragment header of a first fragment, and the payload 1 to 8 of UDP.
+/// An IPv6 header, hop-by-hop options, a fragment header (offset 0, more fragments), and the bytes 1 to 8 with next
+/// header UDP.
 const FRAGMENTED_UDP: &[u8] =
     b"\x60\x00\x00\x00\x00\x18\x00\x40\0\0\0\0\0\0\0\0\0\0\0\0\0\0\0\0\0\0\0\0\0\0\0\0\0\0\0\0\0\0\0\0\x2c\x00\x01\x04\x00\x00\x00\x00\x11\x00\x00\x01\x00\x00\x00\x07\x01\x02\x03\x04\x05\x06\x07\x08";
 
-/// The headers of the first packet, with no number set.
+/// Returns an IPv4 header with an authentication header, whose protocol and next header fields are not set yet.
 fn ipv4_headers() -> IpHeaders {
     let header = Ipv4Header {
         time_to_live: 20,
@@ -28,12 +29,12 @@ fn ipv4_headers() -> IpHeaders {
     IpHeaders::Ipv4(header, Ipv4Extensions { auth })
 }
 
-/// Hop by hop options with no number set.
+/// Returns IPv6 hop-by-hop options whose next header field is not set yet.
 fn hop_by_hop() -> Option<Ipv6RawExtHeader> {
     Ipv6RawExtHeader::new_raw(IpNumber(255), &[1, 4, 0, 0, 0, 0]).ok()
 }
 
-/// The headers of the second packet, with no number set.
+/// Returns an IPv6 header with hop-by-hop options and a fragment header, whose next header fields are not set yet.
 fn ipv6_headers() -> IpHeaders {
     let header = Ipv6Header {
         hop_limit: 64,
@@ -69,7 +70,7 @@ fn refused(rt: HostRuntime) {
     same(&rt, &IpHeaders::from_slice(b"\x50").err(), &Some(refusal));
 }
 
-/// The headers hold one of each kind.
+/// Owned IPv6 headers have at most one fragment header: a second one is left in the payload.
 #[test]
 fn second_of_a_kind(rt: HostRuntime) {
     let (headers, payload) = IpHeaders::from_slice(FRAGMENT_TWICE).expect(&rt, "refused");
@@ -91,7 +92,8 @@ fn second_of_a_kind(rt: HostRuntime) {
     same(&rt, &payload, &behind);
 }
 
-/// Headers whose numbers and lengths are set are these bytes, with the payload 1 to 8 of UDP behind them.
+/// Asserts that IP headers, with the payload length set to 8, are written as `expected` without its last 8 bytes, the
+/// payload 1 to 8.
 fn writes(rt: &impl Abort, alloc: Global, mut headers: IpHeaders, expected: &[u8]) {
     same(rt, &headers.set_payload_len(8), &Ok(()));
     same(rt, &headers.next_header(), &Ok(IpNumber::UDP));
@@ -102,7 +104,8 @@ fn writes(rt: &impl Abort, alloc: Global, mut headers: IpHeaders, expected: &[u8
     same(rt, &bytes.as_slice(), &expected);
 }
 
-/// These bytes, with the payload 1 to 8 of UDP behind headers, are read, and written again.
+/// Asserts that the IP headers in `expected`, before the payload bytes 1 to 8 with next header UDP, are parsed, and
+/// written as the bytes they were parsed from.
 fn reads_back(rt: &impl Abort, alloc: Global, expected: &[u8]) {
     let (read, number, payload) = IpHeaders::read_from_slice(expected).expect(rt, "refused");
     same(rt, &(number, payload), &(IpNumber::UDP, PAYLOAD));
@@ -138,7 +141,8 @@ fn ipv6(rt: HostRuntime) {
     reads_back(&rt, rt.alloc(), FRAGMENTED_UDP);
 }
 
-/// A length is refused: the length of what it counts, and the limit for it.
+/// Asserts that IP headers reject a payload of `len` bytes with an error of length `actual` and maximum `max_allowed`.
+/// Both count the extension headers; if that sum would be above `usize::MAX`, neither does.
 fn too_long(
     rt: &impl Abort,
     mut headers: IpHeaders,
@@ -163,7 +167,7 @@ fn lengths_of_ipv4(rt: HostRuntime) {
     too_long(&rt, ipv4_headers(), most, (most, 65503), length);
 }
 
-/// IPv6 with hop by hop options.
+/// Returns an IPv6 header with hop-by-hop options.
 fn with_options() -> IpHeaders {
     let extensions = Ipv6Extensions {
         hop_by_hop_options: hop_by_hop(),

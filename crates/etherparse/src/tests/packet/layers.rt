@@ -1,4 +1,4 @@
-//! The layers of packets, seen through the calls that answer single ones.
+//! Tests of the layers of packets, through the accessors of single layers.
 
 use crate::err::packet::SliceError;
 use crate::err::{Layer, LenError};
@@ -7,7 +7,8 @@ use crate::tests::samples::*;
 use crate::*;
 use std::process::Abort;
 
-/// A Linux cooked capture of the frame's packet, from an Ethernet device.
+/// A Linux cooked capture header (SLL) of an Ethernet device, and the IPv4 packet of `FRAME` with the UDP payload 1 to
+/// 8.
 const COOKED: &[u8] =
     b"\x00\x03\x00\x01\x00\x06\x01\x02\x03\x04\x05\x06\x00\x00\x08\x00\x45\x00\x00\x24\x00\x00\x40\x00\x14\x11\xe3\x75\xc0\xa8\x01\x01\xc0\xa8\x01\x02\x00\x15\x04\xd2\x00\x10\x67\x7f\x01\x02\x03\x04\x05\x06\x07\x08";
 
@@ -25,7 +26,8 @@ fn ip_payload_of_a_frame(rt: HostRuntime) {
     same(&rt, &(net.header_len(), packet.payload_offset()), &(20, 42));
 }
 
-/// The destination port of a datagram in an IPv4 packet. What a layer is refused for is the error of a packet.
+/// Returns the UDP destination port of an IPv4 packet. Its `?` converts the error of a single layer to that of a
+/// packet.
 fn port_in(packet: &[u8]) -> Result<u16, SliceError> {
     let packet = Ipv4Slice::from_slice(packet)?;
     let datagram = UdpSlice::from_slice(packet.payload().payload)?;
@@ -45,7 +47,7 @@ fn errors_of_layers(rt: HostRuntime) {
     same(&rt, &port_in(&FRAME[14..33]), &Err(SliceError::Len(error)));
 }
 
-/// A tag whose identifier is this number, which is at most 4095.
+/// Returns a VLAN tag with this identifier and ether type. Aborts the test if `id` is above 4095.
 fn tag(rt: &impl Abort, id: u16, ether_type: EtherType) -> SingleVlanHeader {
     SingleVlanHeader {
         pcp: VlanPcp::ZERO,
@@ -55,14 +57,14 @@ fn tag(rt: &impl Abort, id: u16, ether_type: EtherType) -> SingleVlanHeader {
     }
 }
 
-/// The outer two of four tags.
+/// Returns the first two of the four VLAN tags of a test packet: identifiers 1 and 2, both before a further tag.
 fn outer_tags(rt: &impl Abort) -> Option<VlanHeader> {
     let outer = tag(rt, 1, EtherType::VLAN_TAGGED_FRAME);
     let inner = tag(rt, 2, EtherType::VLAN_TAGGED_FRAME);
     Some(VlanHeader::Double(DoubleVlanHeader { outer, inner }))
 }
 
-/// The identifiers 1, 2 and 3.
+/// Asserts that the VLAN identifiers of a packet are 1, 2 and 3.
 fn are_first_three(rt: &impl Abort, ids: &ArrayVec<VlanId, 3>) {
     same(rt, &ids.len(), &3);
     for (before, id) in ids.iter().enumerate() {
@@ -109,12 +111,12 @@ fn cooked_captures(rt: HostRuntime) {
     same(&rt, &packet.ether_payload(), &Some(payload));
 }
 
-/// The same type under its older name.
+/// Returns a `NetSlice` under its older name `InternetSlice`: both name one type.
 fn older_slice_name(net: NetSlice<'_>) -> InternetSlice<'_> {
     net
 }
 
-/// The same type under its older name.
+/// Returns `NetHeaders` under their older name `IpHeader`: both name one type.
 fn older_header_name(net: NetHeaders) -> IpHeader {
     net
 }

@@ -1,4 +1,4 @@
-//! The texts of the errors of packets.
+//! Tests of the texts that errors of packets are printed as.
 
 use crate::err::ip::HeadersWriteError;
 use crate::err::net::NetSetNextHeaderError;
@@ -44,7 +44,7 @@ fn errors_of_versions(rt: HostRuntime) {
 }
 
 #[test]
-fn errors_behind_ip(rt: HostRuntime) {
+fn errors_after_ip(rt: HostRuntime) {
     let alloc = rt.alloc();
     let zero = ip_auth::HeaderError::ZeroPayloadLen;
     shows(&rt, alloc, &SliceError::Ipv4Exts(zero), "ZeroPayloadLen");

@@ -8,7 +8,7 @@ use Rattle.etherparse_c.specs.Building.{IsBuildAnswer, IsBuildAnswerBy, IsBuilt,
 use Rattle.etherparse_c.specs.declared.route.Route.{Route}
 use Rattle.etherparse_c.proofs.building.build.Goals as goal
 
--- the answer for the headers of a route
+-- A frame that is built from the headers of a route is the answer for that route.
 answered : (route : Route) (behind : TransportHeader) (link : LinkPart) (headers : IpHeaders) (payload old new : List ℕ)
     (written status : ℕ) → route_link route ≡ link → route_headers route ≡ Some headers
     → IsBuilt (held_transport link headers behind) payload old new written status
@@ -23,9 +23,9 @@ returns-then-route-eq0 g c =
     let step = c.ipv4-step.result in
     let links : route_link route ≡ ip_link step = search rules in
     let leads : route_headers route ≡ Some (ip_step_headers step) = search rules in
-    answered route (g.Behind.IsBehind.header c.args.behind) (ip_link step) (ip_step_headers step) c.args.payload.now
-    c.args.buffer.now c.write_behind.new.buffer c.write_behind.new.written c.write_behind.result links leads
-    c.write_behind.ensures
+    answered route (g.Behind.TransportPart.header c.args.behind) (ip_link step) (ip_step_headers step) c.args.payload.now
+    c.args.buffer.now c.write_transport.new.buffer c.write_transport.new.written c.write_transport.result links leads
+    c.write_transport.ensures
 
 pub returns-then-route-eq4 : goal.returns-then-route-eq4
 returns-then-route-eq4 g c =
@@ -33,6 +33,6 @@ returns-then-route-eq4 g c =
     let step = c.ipv4-step-then-route-eq4.result in
     let links : route_link route ≡ ip_link step = search rules in
     let leads : route_headers route ≡ Some (ip_step_headers step) = search rules in
-    answered route (g.Behind.IsBehind.header c.args.behind) (ip_link step) (ip_step_headers step) c.args.payload.now
-    c.args.buffer.now c.write_behind-then-route-eq4.new.buffer c.write_behind-then-route-eq4.new.written
-    c.write_behind-then-route-eq4.result links leads c.write_behind-then-route-eq4.ensures
+    answered route (g.Behind.TransportPart.header c.args.behind) (ip_link step) (ip_step_headers step) c.args.payload.now
+    c.args.buffer.now c.write_transport-then-route-eq4.new.buffer c.write_transport-then-route-eq4.new.written
+    c.write_transport-then-route-eq4.result links leads c.write_transport-then-route-eq4.ensures

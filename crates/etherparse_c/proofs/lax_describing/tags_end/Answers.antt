@@ -8,6 +8,6 @@ use Rattle.etherparse_c.proofs.lax_describing.tags_end.Goals as goal
 
 pub returns : goal.returns
 returns c =
-    c.end_behind.ensures
+    c.lax_exts_len_source.ensures
     ∙ ap (λ (e : List LaxLinkExtSlice). tags_end source.Slice (map lax_extension_of e)) c.as_slice.ensures.value
     ∙ ap (tags_end source.Slice) (sym (extensions_shown false c.args.packet.now.link_exts.items))

@@ -13,7 +13,7 @@ describe_lax-requires c =
 pub returns-in-Ok : goal.returns-in-Ok
 returns-in-Ok c =
     let read = lax_layers_of c.slice_into.new.self in
-    let told = c.describe_lax.new.told in
-    read_laxly (entry_of c.args.entry c.args.ether_type) c.in-Some.entry c.args.bytes.now read told
+    let described = c.describe_lax.new.described in
+    read_laxly (entry_of c.args.entry c.args.ether_type) c.in-Some.entry c.args.bytes.now read described
     (sym c.entry_of.ensures ∙ c.in-Some.is)
-    (c.lax_places.ensures.places c.in-Some.entry c.args.bytes.now read told c.in-Ok.ensures.ok c.describe_lax.ensures)
+    (c.lax_places.ensures.places c.in-Some.entry c.args.bytes.now read described c.in-Ok.ensures.ok c.describe_lax.ensures)

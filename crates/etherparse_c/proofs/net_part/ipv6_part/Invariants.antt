@@ -3,7 +3,7 @@ use Rattle.etherparse.specs.Ipv6ExtensionSlices.{ipv6_slice_parts, parts_left}
 use Rattle.etherparse.specs.FrameFragments.{first_fragment}
 use Rattle.etherparse_c.proofs.net_part.ipv6_part.Given as goal
 
--- no header that is passed is a fragment header
+-- Loop invariant: no extension header so far is a fragment header.
 abbrev pub invariant-loop-extension : goal.invariant-loop-extension
 invariant-loop-extension l =
     (first_fragment (parts_left l.extension-iterator) ≡ first_fragment (ipv6_slice_parts l.fn.extensions))

@@ -14,5 +14,5 @@ returns c =
       transport = does.0;
       holds = plain_part (net_kind c.args.ether_type) c.args.slice.now has.layer (plain_payload ip) does.0 has.is
           has.shown.payload does.1;
-      told = plain_is_told c.args.offset has.layer does.0 ip c.args.told.now c.describe_ip.new.told has.shown does.2;
+      described = plain_is_told c.args.offset has.layer does.0 ip c.args.described.now c.describe_ip.new.described has.shown does.2;
     }

@@ -22,11 +22,11 @@ returns c =
     let transport = does.transport in
     let header = ethernet2_slice_header frame in
     let payload = ethernet2_slice_payload frame in
-    let old = record c.args.told.now {
+    let old = record c.args.described.now {
       link = part 1 0 14;
       link_exts = c.place_vlans.new.slots;
       link_ext_count = c.place_vlans.new.count;
-      refusal = c.no_refusal-told.result;
+      refusal = c.no_refusal-described.result;
     } in
     let held = found.1.holds (begins_none behind.ether_type behind.slice.now net transport does.holds) (Some net) transport
     does.holds in
@@ -37,6 +37,6 @@ returns c =
     c.payload_slice.ensures held) in (
       plain_layers (Some (ethernet2 header payload)) tags net transport,
       plain_frame bytes ok.0 frame tags net transport ok.2 inside,
-      plain_described (Some (ethernet2 header payload)) tags net transport behind.offset old c.describe_net.new.told
-          found.1.uncut found.1.place refl found.2 found.3 c.no_refusal-told.ensures does.told,
+      plain_described (Some (ethernet2 header payload)) tags net transport behind.offset old c.describe_net.new.described
+          found.1.uncut found.1.place refl found.2 found.3 c.no_refusal-described.ensures does.described,
     )

@@ -16,5 +16,5 @@ returns c =
       net = layer;
       transport = does.0;
       holds = net_part (Some only_ipv4) c.args.slice.now layer does.0 (ipv4_slice_packet c.in-Ok.packet ok.0, ok.2, refl) does.1;
-      told = does.2;
+      described = does.2;
     }

@@ -1,6 +1,6 @@
 use Rattle.std.proofs.Common.{◌≡◌, [], Option, Some, None, ap, option_copied, refl, subst, sym, ◌∙◌}
 use Rattle.std.specs.Option.{option_map}
-use Rattle.etherparse.specs.Frame.{IsTransportBehind}
+use Rattle.etherparse.specs.Frame.{IsTransportAfterNet}
 use Rattle.etherparse.specs.IpPayload.{IpPayload, ip_payload_of}
 use Rattle.etherparse.specs.Layers.{net_layer_of, net_payload}
 use Rattle.etherparse.specs.Readings.{slices}
@@ -17,10 +17,10 @@ returns-in-Some c =
     sym c.ip_payload_ref.ensures ∙ ap (λ o. option_map ip_payload_of (option_copied o)) c.in-Some.is in
     let does = c.describe_transport.ensures done in (
       does.0,
-      subst (λ (p : Option IpPayload). IsTransportBehind slices p does.0) (sym same) does.1,
+      subst (λ (p : Option IpPayload). IsTransportAfterNet slices p does.0) (sym same) does.1,
       net_is_told c.args.offset layer does.0 payload.source payload.bytes c.net_layer_part-header.result
-          c.ip_layer_part-told.result c.args.told.now c.describe_transport.new.told (has_payload layer payload same)
-          c.net_layer_part-header.ensures.part c.ip_layer_part-told.ensures does.2,
+          c.ip_layer_part-described.result c.args.described.now c.describe_transport.new.described (has_payload layer payload same)
+          c.net_layer_part-header.ensures.part c.ip_layer_part-described.ensures does.2,
     )
 
 pub returns-in-None : goal.returns-in-None
@@ -30,8 +30,8 @@ returns-in-None c =
     let none : net_payload layer ≡ None =
     sym c.ip_payload_ref.ensures ∙ ap (λ o. option_map ip_payload_of (option_copied o)) c.in-None.is in (
       None,
-      subst (λ (p : Option IpPayload). IsTransportBehind slices p None) (sym none) refl,
+      subst (λ (p : Option IpPayload). IsTransportAfterNet slices p None) (sym none) refl,
       net_is_told c.args.offset layer None source.ArpAddrLengths [] c.net_layer_part-header.result
-          c.ip_layer_part-told.result c.args.told.now c.tell_transport.new.told (has_none layer none)
-          c.net_layer_part-header.ensures.part c.ip_layer_part-told.ensures c.tell_transport.ensures,
+          c.ip_layer_part-described.result c.args.described.now c.describe_transport_layer.new.described (has_none layer none)
+          c.net_layer_part-header.ensures.part c.ip_layer_part-described.ensures c.describe_transport_layer.ensures,
     )

@@ -13,7 +13,7 @@ describe-requires c =
 pub returns-in-Ok : goal.returns-in-Ok
 returns-in-Ok c =
     let layers = layers_of c.slice_into.new.self in
-    let told = c.describe.new.told in
-    sliced (entry_of c.args.entry c.args.ether_type) c.in-Some.entry c.args.bytes.now layers told
+    let described = c.describe.new.described in
+    sliced (entry_of c.args.entry c.args.ether_type) c.in-Some.entry c.args.bytes.now layers described
     (sym c.entry_of.ensures ∙ c.in-Some.is)
-    (c.frame_places.ensures.places c.in-Some.entry c.args.bytes.now layers told c.in-Ok.ensures.ok c.describe.ensures)
+    (c.frame_places.ensures.places c.in-Some.entry c.args.bytes.now layers described c.in-Ok.ensures.ok c.describe.ensures)

@@ -4,13 +4,13 @@ use Rattle.std.proofs.KnownBytes.{Appends-nil, Consumes-nil}
 use Rattle.std.proofs.lemmas.List.Elements.{All-nil}
 use Rattle.std.specs.Io.KnownBytes.{Appends}
 use Rattle.line_io.specs.Lines.{line_feed}
-use Rattle.line_io.specs.WatchedWords.{AppendsFront, has_failed, inner_of}
+use Rattle.line_io.specs.WatchedWords.{AppendsPrefix, has_failed, inner_of}
 use Rattle.line_io.proofs.ResultLemmas.{at_exit}
 use Rattle.frame_bench.proofs.StreamLemmas.{AdvancesTo-none, Moves-advanced, Moves-begun}
 use Rattle.frame_bench.proofs.StreamLemmas.{Moves-ended, Moves-ended_front, Moves-part}
 use Rattle.frame_bench.proofs.engine.run.Goals as goal
 
--- a test that does not hold
+-- A test that does not hold is false.
 false_from : (b : Bool) → (b ≡ true → ⊥) → b ≡ false
 false_from true refuted = absurd (refuted refl)
 false_from false refuted = refl
@@ -76,12 +76,12 @@ pub returns-clause-ok : goal.returns-clause-ok
 returns-clause-ok g c =
     let remaining = g.R.Read.remaining in
     let contents = g.W.Write.contents in
-    let holds = contents (inner_of c.pieces.writer) in
-    let then_holds = contents (inner_of c.write_all.new.self) in
+    let contents_second = contents (inner_of c.pieces.writer) in
+    let contents_third = contents (inner_of c.write_all.new.self) in
     let last = c.as_slice.result.now in
-    let all = λ (more : Appends holds then_holds last).
+    let all = λ (more : Appends contents_second contents_third last).
     Moves-ended c.pieces.session.line.items last c.pieces.session.pool (remaining (inner_of c.args.reader.now))
-    (remaining (inner_of c.pieces.reader)) (contents (inner_of c.args.writer.now)) holds then_holds
+    (remaining (inner_of c.pieces.reader)) (contents (inner_of c.args.writer.now)) contents_second contents_third
     c.pieces.invariant.0 (rw c.as_slice.ensures.value c.in_ok-finish.ensures) more in
     on_ok_weaker c.write_all.result all c.write_all.ensures.all
 
@@ -89,11 +89,11 @@ pub returns-clause-err : goal.returns-clause-err
 returns-clause-err g c =
     let remaining = g.R.Read.remaining in
     let contents = g.W.Write.contents in
-    let holds = contents (inner_of c.pieces.writer) in
-    let then_holds = contents (inner_of c.write_all.new.self) in
+    let contents_second = contents (inner_of c.pieces.writer) in
+    let contents_third = contents (inner_of c.write_all.new.self) in
     let last = c.as_slice.result.now in
-    let front = λ (more : AppendsFront holds then_holds last).
+    let front = λ (more : AppendsPrefix contents_second contents_third last).
     Moves-ended_front c.pieces.session.line.items last c.pieces.session.pool (remaining (inner_of c.args.reader.now))
-    (remaining (inner_of c.pieces.reader)) (contents (inner_of c.args.writer.now)) holds then_holds
+    (remaining (inner_of c.pieces.reader)) (contents (inner_of c.args.writer.now)) contents_second contents_third
     c.pieces.invariant.0 (rw c.as_slice.ensures.value c.in_ok-finish.ensures) more in
     on_err_weaker c.write_all.result front c.write_all.ensures.front

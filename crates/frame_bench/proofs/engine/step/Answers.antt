@@ -1,7 +1,7 @@
 use Rattle.std.proofs.Common.{subst, take, ℕ, List}
 use Rattle.std.proofs.lemmas.Result.{on_err_weaker, on_ok_weaker}
 use Rattle.std.specs.Io.KnownBytes.{Appends}
-use Rattle.line_io.specs.WatchedWords.{AppendsFront, inner_of}
+use Rattle.line_io.specs.WatchedWords.{AppendsPrefix, inner_of}
 use Rattle.line_io.proofs.ResultLemmas.{at_exit}
 use Rattle.frame_bench.specs.LineCalls.{HoldsLines}
 use Rattle.frame_bench.proofs.StreamLemmas.{Moves-front, Moves-kept, Moves-read}
@@ -9,47 +9,47 @@ use Rattle.frame_bench.proofs.engine.step.Goals as goal
 
 pub returns-in_err-count-clause-err : goal.returns-in_err-count-clause-err
 returns-in_err-count-clause-err g c =
-    let held = g.W.Write.contents (inner_of c.args.writer.now) in
-    let had = g.R.Read.remaining (inner_of c.args.reader.now) in
-    let has = g.R.Read.remaining (inner_of c.read.new.self) in
+    let contents_first = g.W.Write.contents (inner_of c.args.writer.now) in
+    let remaining_first = g.R.Read.remaining (inner_of c.args.reader.now) in
+    let remaining_second = g.R.Read.remaining (inner_of c.read.new.self) in
     at_exit c.from_residual.result
     (λ (before : List (List ℕ)) (lines : HoldsLines before c.args.session.now.pool).
-    Moves-kept c.answers.ensures before c.args.session.now.line.items had has held c.in_err-count.ensures.bytes)
+    Moves-kept c.answers.ensures before c.args.session.now.line.items remaining_first remaining_second contents_first c.in_err-count.ensures.bytes)
 
 pub returns-in_err-take-clause-err : goal.returns-in_err-take-clause-err
 returns-in_err-take-clause-err g c =
-    let held = g.W.Write.contents (inner_of c.args.writer.now) in
-    let had = g.R.Read.remaining (inner_of c.args.reader.now) in
-    let has = g.R.Read.remaining (inner_of c.read.new.self) in
+    let contents_first = g.W.Write.contents (inner_of c.args.writer.now) in
+    let remaining_first = g.R.Read.remaining (inner_of c.args.reader.now) in
+    let remaining_second = g.R.Read.remaining (inner_of c.read.new.self) in
     let piece = take c.in_ok-count.count c.read.new.piece in
     at_exit c.from_residual-in_err-take.result
     (λ (before : List (List ℕ)) (lines : HoldsLines before c.args.session.now.pool).
-    Moves-read c.answers.ensures before c.args.session.now.line.items piece had has held c.in_ok-count.ensures.bytes.0)
+    Moves-read c.answers.ensures before c.args.session.now.line.items piece remaining_first remaining_second contents_first c.in_ok-count.ensures.bytes.0)
 
 pub returns-clause-err : goal.returns-clause-err
 returns-clause-err g c =
-    let held = g.W.Write.contents (inner_of c.args.writer.now) in
-    let holds = g.W.Write.contents (inner_of c.write_all.new.self) in
-    let had = g.R.Read.remaining (inner_of c.args.reader.now) in
-    let has = g.R.Read.remaining (inner_of c.read.new.self) in
+    let contents_first = g.W.Write.contents (inner_of c.args.writer.now) in
+    let contents_second = g.W.Write.contents (inner_of c.write_all.new.self) in
+    let remaining_first = g.R.Read.remaining (inner_of c.args.reader.now) in
+    let remaining_second = g.R.Read.remaining (inner_of c.read.new.self) in
     let piece = take c.in_ok-count.count c.read.new.piece in
-    let front = λ (f : AppendsFront held holds c.as_slice.result.now) (before : List (List ℕ))
+    let front = λ (f : AppendsPrefix contents_first contents_second c.as_slice.result.now) (before : List (List ℕ))
     (lines : HoldsLines before c.args.session.now.pool).
     Moves-front c.answers.ensures before c.args.session.now.line.items piece c.take.new.self.output.items
-    c.take.new.self.line.items had has held holds c.in_ok-count.ensures.bytes.0 (c.in_ok-take.ensures before lines).0
-    (subst (AppendsFront held holds) c.as_slice.ensures.value f) in
+    c.take.new.self.line.items remaining_first remaining_second contents_first contents_second c.in_ok-count.ensures.bytes.0 (c.in_ok-take.ensures before lines).0
+    (subst (AppendsPrefix contents_first contents_second) c.as_slice.ensures.value f) in
     on_err_weaker c.write_all.result front c.write_all.ensures.front
 
 pub returns-clause-ok : goal.returns-clause-ok
 returns-clause-ok g c =
-    let held = g.W.Write.contents (inner_of c.args.writer.now) in
-    let holds = g.W.Write.contents (inner_of c.write_all.new.self) in
+    let contents_first = g.W.Write.contents (inner_of c.args.writer.now) in
+    let contents_second = g.W.Write.contents (inner_of c.write_all.new.self) in
     let piece = take c.in_ok-count.count c.read.new.piece in
     on_ok_weaker c.write_all.result
     (λ more before lines. (
       piece,
       c.take.new.self.output.items,
       c.in_ok-count.ensures.bytes.0,
-      subst (Appends held holds) c.as_slice.ensures.value more,
+      subst (Appends contents_first contents_second) c.as_slice.ensures.value more,
       c.in_ok-take.ensures before lines,
     )) c.write_all.ensures.all

@@ -1,9 +1,9 @@
 use Rattle.std.proofs.Common.{◌∙◌}
-use Rattle.frame_bench.specs.LineCalls.{table_behind}
+use Rattle.frame_bench.specs.LineCalls.{table_after_lines}
 use Rattle.frame_bench.proofs.pool_replies.give_back.Goals as goal
 
 pub returns-in-Ok-Some : goal.returns-in-Ok-Some
 returns-in-Ok-Some c = λ history held. record {
   limit = c.return_buf.ensures.limit ∙ held.limit;
-  table = c.return_buf.ensures.holds (table_behind history) held.table;
+  table = c.return_buf.ensures.holds (table_after_lines history) held.table;
 }

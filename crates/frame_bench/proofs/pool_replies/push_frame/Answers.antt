@@ -3,7 +3,7 @@ use Rattle.etherparse.specs.Calls.{Answer}
 use Rattle.etherparse.specs.Pools.{fragment_in}
 use Rattle.etherparse.specs.Layers.{layers_of}
 use Rattle.etherparse.proofs.PoolLemmas.{frame_answered, holds_frame}
-use Rattle.frame_bench.specs.LineCalls.{frame_call, table_behind, with_call}
+use Rattle.frame_bench.specs.LineCalls.{frame_call, table_after_lines, with_call}
 use Rattle.frame_bench.specs.PoolReplies.{pool_answer_text}
 use Rattle.frame_bench.proofs.pool_replies.push_frame.Goals as goal
 
@@ -13,7 +13,7 @@ returns-clause-reply c = λ history held.
     ∙ ap (λ (answer : Answer). c.args.output.now.items ++ pool_answer_text answer)
     (frame_answered c.args.pool.now c.process_sliced_packet-answer.new.self (fragment_in c.args.packet.now)
     c.args.timestamp c.args.channel c.process_sliced_packet-answer.result c.process_sliced_packet-answer.ensures
-    c.in_ok-push_pool_answer.ensures.memory history.limit (table_behind history) held.limit held.table)
+    c.in_ok-push_pool_answer.ensures.memory history.limit (table_after_lines history) held.limit held.table)
 
 pub returns-clause-holds : goal.returns-clause-holds
 returns-clause-holds c = λ history held.

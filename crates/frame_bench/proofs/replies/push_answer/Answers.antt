@@ -9,7 +9,7 @@ use Rattle.frame_bench.specs.declared.requests.Request.{Request}
 use Rattle.frame_bench.proofs.PoolLemmas.{HoldsLines-push, at_ok}
 use Rattle.frame_bench.proofs.replies.push_answer.Goals as goal
 
--- the reply to what a line asks is the answer to the line
+-- The reply to a line's request is the answer to the line.
 reply_answers : (line : List ℕ) (request : Request) (bytes old new : List ℕ) (pool : IpDefragPool ℕ ℕ)
     → Asks line request bytes
     → ((history : PoolHistory) → HoldsHistory history pool → (reply : List ℕ) × IsReply history request bytes reply
@@ -20,7 +20,7 @@ reply_answers line request bytes old new pool asks replied before (history, are,
     let reply = replied history held in
     (reply.0, inl (request, bytes, asks, (history, are, reply.1)), reply.2)
 
--- what is made of the pool by what a line asks is what the line makes of it
+-- The pool after a line's request is in the state after the line.
 reply_holds : (line : List ℕ) (request : Request) (bytes : List ℕ) (pool next : IpDefragPool ℕ ℕ)
     → Asks line request bytes
     → ((history : PoolHistory) → HoldsHistory history pool → (after : PoolHistory)
@@ -30,7 +30,7 @@ reply_holds line request bytes pool next asks made before (history, are, held) =
     let more = made history held in
     HoldsLines-push before line history more.0 next are (inl (request, bytes, asks, more.1)) more.2
 
--- a line that asks nothing makes nothing of it
+-- A line that is not a request does not change the pool.
 nothing_holds : (line : List ℕ) (pool : IpDefragPool ℕ ℕ)
     → ((request : Request) (bytes : List ℕ) → Asks line request bytes → ⊥)
     → (before : List (List ℕ)) → HoldsLines before pool → HoldsLines (before ++ line ∷ []) pool

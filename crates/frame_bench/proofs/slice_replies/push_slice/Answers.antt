@@ -6,7 +6,7 @@ use Rattle.etherparse.specs.Types.Entry.{Entry}
 use Rattle.frame_bench.specs.SliceReplies.{IsSliceReply, layers_text}
 use Rattle.frame_bench.proofs.slice_replies.push_slice.Goals as goal
 
--- a frame's reply is the text of its layers
+-- The reply about a frame is the text of its layers.
 layers_reply : (entry : Entry) (bytes old new : List ℕ) (layers : Layers)
     → IsFrame entry bytes layers → new ≡ old ++ layers_text layers
     → (reply : List ℕ) × IsSliceReply entry bytes reply × (new ≡ old ++ reply)

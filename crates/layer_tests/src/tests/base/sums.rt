@@ -1,5 +1,5 @@
-//! The number that a sum keeps, which its `Debug` shows and no clause says: that of adding words of 64 bits one by one,
-//! as `add_slice` did before it had a faster way.
+//! Tests of the 64-bit number in a checksum state, which `Debug` prints and no contract covers. It is compared with a
+//! plain sum of 64-bit words, as the unoptimized `add_slice` computed it.
 
 ghost use Rattle.std.specs.Prelude.{◌≤◌, length};
 
@@ -8,13 +8,13 @@ use ep_base::checksum::Sum16BitWords;
 use std::alloc::Global;
 use std::process::Abort;
 
-/// Two sums in one's complement of 64 bits, added.
+/// Adds two 64-bit numbers in one's complement: a carry is added to the result.
 fn add_word(sum: u64, word: u64) -> u64 {
     let (sum, carry) = sum.overflowing_add(word);
     sum + carry as u64
 }
 
-/// At most 8 bytes, filled up by zero bytes.
+/// Returns the given bytes, at most 8, as an array filled up with zero bytes.
 fn filled_up(bytes: &[u8]) -> [u8; 8]
     requires { length bytes.now ≤ 8 }
 {
@@ -23,7 +23,8 @@ fn filled_up(bytes: &[u8]) -> [u8; 8]
     filled
 }
 
-/// A sum with the bytes of a slice.
+/// Adds the bytes of a slice to a one's complement sum, one 64-bit big-endian word after the other. The library's
+/// result is compared with it.
 fn add_slice(sum: u64, slice: &[u8]) -> u64 {
     let mut sum = sum;
     let mut rest = slice;
@@ -70,7 +71,8 @@ fn are_added(rt: &impl Abort, alloc: Global, bytes: &[u8], length: usize) {
     }
 }
 
-/// Bytes of some random bits and of some that are 1.
+/// Returns 66,000 pseudo-random bytes: the bits of the mask `random` vary, the bits of the mask `set` are always 1, and
+/// all other bits are 0.
 fn made(random: u8, set: u8) -> [u8; 66_000] {
     let mut bytes = [0; 66_000];
     let mut state: u64 = 1;
@@ -83,7 +85,8 @@ fn made(random: u8, set: u8) -> [u8; 66_000] {
     bytes
 }
 
-/// Lengths around those from which, and up to which, words are added otherwise.
+/// Asserts that `Sum16BitWords::add_slice` sums pseudo-random bytes of each length below 300, and of lengths around the
+/// limits at which it sums in another way, as a plain loop does.
 fn all_lengths_are_added(rt: &impl Abort, alloc: Global, random: u8, set: u8) {
     let bytes = made(random, set);
     for length in 0..300 {

@@ -1,4 +1,4 @@
-//! The text of each error.
+//! Tests of the text that `Display` prints for each error of `ep_base` except `ip::LaxHeaderSliceError`.
 
 use crate::tests::checks::shows;
 use ep_base::err::{

@@ -1,4 +1,5 @@
-//! Numbers, payloads, sums and errors of `ep_base`.
+//! Tests that the public types of `ep_base` (numbers, payloads, checksums, and errors except `ip::LaxHeaderSliceError`)
+//! have their derived traits.
 
 use super::*;
 use ep_base::checksum::Sum16BitWords;

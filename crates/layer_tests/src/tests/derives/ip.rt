@@ -1,4 +1,4 @@
-//! Types of `ep_ext` and `ep_ip`.
+//! Tests that the public types of `ep_ext` and `ep_ip` (IP headers and extension headers) have their derived traits.
 
 use super::*;
 use ep_ext::err::ip_auth::IcvLenError;

@@ -1,4 +1,4 @@
-//! Types of `ep_link`.
+//! Tests that the public types of `ep_link` (link headers, VLAN tags, MACsec and ARP) have their derived traits.
 
 use super::*;
 use ep_link::err::arp::{ArpHwAddrError, ArpNewError, ArpProtoAddrError};

@@ -1,4 +1,4 @@
-//! Types of `ep_transport`.
+//! Tests that the public types of `ep_transport` (UDP, TCP and ICMP) have their derived traits.
 
 use super::*;
 use ep_transport::{

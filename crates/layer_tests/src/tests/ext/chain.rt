@@ -1,4 +1,4 @@
-//! Chains of extension headers (RFC 8200, 4; RFC 4302): rows from outside, and that calls succeed.
+//! Tests of chains of IP extension headers (RFC 8200, 4; RFC 4302): examples, and calls that have to succeed.
 
 use crate::tests::checks::{full, is_written, same};
 use ep_base::err::ipv4_exts;
@@ -12,16 +12,18 @@ use ep_ext::{
 use std::alloc::Global;
 use std::process::Abort;
 
-/// The smallest headers of the numbers 0, 60, 43, 60, 44 and 51, of which the fragment's fragments, before UDP. Then 2
-/// bytes.
+/// IPv6 extension headers of the least length, then 2 more bytes: hop-by-hop (0), destination options (60), routing
+/// (43), destination options (60), fragment (44, with the M flag) and authentication (51), before UDP.
 const EVERY_KIND: &[u8] =
     b"\x3c\x00\x01\x04\x00\x00\x00\x00\x2b\x00\x01\x04\x00\x00\x00\x01\x3c\x00\x00\x00\x00\x00\x00\x02\x2c\x00\x01\x04\x00\x00\x00\x03\x33\x00\x00\x01\x00\x00\x00\x07\x11\x01\x00\x00\x00\x00\x00\x05\x00\x00\x00\x06\xfe\xff";
 
-/// The same headers, linked in the order of RFC 8200, 4.1, before TCP.
+/// IPv6 extension headers of the least length, in the order of RFC 8200, 4.1, before TCP: hop-by-hop options,
+/// destination options, routing, fragment, authentication and final destination options.
 const LINKED: &[u8] =
     b"\x3c\x00\x01\x04\x00\x00\x00\x00\x2b\x00\x01\x04\x00\x00\x00\x01\x2c\x00\x00\x00\x00\x00\x00\x02\x33\x00\x00\x01\x00\x00\x00\x07\x3c\x01\x00\x00\x00\x00\x00\x05\x00\x00\x00\x06\x06\x00\x01\x04\x00\x00\x00\x03";
 
-/// Two headers of one kind before UDP, and a byte.
+/// Two IPv6 destination options headers in a row before UDP, and one more byte. The three constants below it have two
+/// routing, two fragment and two authentication headers.
 const OPTIONS: &[u8] = b"\x3c\x00\x01\x04\x00\x00\x00\x00\x11\x00\x01\x04\x00\x00\x00\x00\xab";
 
 const ROUTING: &[u8] = b"\x2b\x00\x00\x00\x00\x00\x00\x00\x11\x00\x00\x00\x00\x00\x00\x00\xab";
@@ -31,15 +33,16 @@ const FRAGMENT: &[u8] = b"\x2c\x00\x00\x00\x00\x00\x00\x00\x11\x00\x00\x08\x00\x
 const AUTHENTICATIONS: &[u8] =
     b"\x33\x01\x00\x00\x00\x00\x00\x05\x00\x00\x00\x06\x11\x02\x00\x00\x00\x00\x00\x07\x00\x00\x00\x08\x01\x02\x03\x04\xab";
 
-/// A routing header and two headers of destination options before UDP, and a byte.
+/// An IPv6 routing header and two destination options headers before UDP, and one more byte.
 const FINAL_OPTIONS: &[u8] =
     b"\x3c\x00\x00\x00\x00\x00\x00\x00\x3c\x00\x01\x04\x00\x00\x00\x00\x11\x00\x01\x04\x00\x00\x00\x00\xab";
 
-/// Destination options, and then the same.
+/// An IPv6 destination options header, a routing header and two more destination options headers before UDP, and one
+/// more byte.
 const BOTH_OPTIONS: &[u8] =
     b"\x2b\x00\x01\x04\x00\x00\x00\x00\x3c\x00\x00\x00\x00\x00\x00\x00\x3c\x00\x01\x04\x00\x00\x00\x00\x11\x00\x01\x04\x00\x00\x00\x00\xab";
 
-/// The kind of a header, by its number.
+/// Returns the IP protocol number of an IPv6 extension header, which the header before it has as its next header.
 fn number_of(header: &Ipv6ExtensionSlice) -> u8 {
     match header {
         Ipv6ExtensionSlice::HopByHop(_) => 0,
@@ -50,8 +53,9 @@ fn number_of(header: &Ipv6ExtensionSlice) -> u8 {
     }
 }
 
-/// As slices, the bytes from this number on hold headers of these kinds, whose payload is fragmented or not, and then
-/// come this number and this many bytes.
+/// Parses IPv6 extension headers as slices, starting with the IP protocol number `number`. Asserts the protocol number
+/// of each header (`kinds`), whether the payload is fragmented, the next header after the chain, and the number of
+/// bytes left.
 fn reads_slices(
     rt: &impl Abort,
     alloc: Global,
@@ -76,8 +80,8 @@ fn reads_slices(
     same(rt, &shown.as_slice(), &kinds);
 }
 
-/// As headers, the bytes from this number on hold this many bytes of headers, whose payload is fragmented or not, and
-/// then comes this number.
+/// Parses IPv6 extension headers as owned headers, starting with the IP protocol number `number`. Asserts their length
+/// in bytes, whether the payload is fragmented, and the next header after the chain.
 fn reads_headers(
     rt: &impl Abort,
     (number, bytes): (u8, &[u8]),
@@ -124,7 +128,9 @@ fn slices(rt: HostRuntime) {
     }
 }
 
-/// Headers hold one of a kind: the second one is left, as what follows.
+/// Tests that owned IPv6 extension headers have space for one header of each type, and for second destination options
+/// after a routing header. Parsing ends before any further header of a type, and its protocol number is the next header
+/// after the chain.
 #[test]
 fn headers(rt: HostRuntime) {
     for (number, bytes, header_len, fragments, last) in [
@@ -141,7 +147,8 @@ fn headers(rt: HostRuntime) {
     }
 }
 
-/// Both readings refuse the bytes from this number on so.
+/// Asserts that both parsers (slices and owned headers) reject IPv6 extension headers that start with the IP protocol
+/// number `number`, with the given error.
 fn refuses(rt: &impl Abort, number: u8, bytes: &[u8], expected: HeaderSliceError) {
     let expected = Some(expected);
     same(
@@ -156,16 +163,20 @@ fn refuses(rt: &impl Abort, number: u8, bytes: &[u8], expected: HeaderSliceError
     );
 }
 
-/// An authentication header of length 0.
+/// An authentication header of 12 bytes whose payload length field is 0, which is invalid.
 const NO_AUTHENTICATION: &[u8] = b"\x11\x00\x00\x00\x00\x00\x00\x05\x00\x00\x00\x06";
 
 #[test]
-fn what_is_no_chain(rt: HostRuntime) {
-    const HOP_BEHIND_OPTIONS: &[u8] =
+fn invalid_chains(rt: HostRuntime) {
+    const HOP_BY_HOP_AFTER_OPTIONS: &[u8] =
         b"\x00\x00\x01\x04\x00\x00\x00\x00\x11\x00\x01\x04\x00\x00\x00\x00";
     for (number, bytes, expected) in [
-        (60, HOP_BEHIND_OPTIONS, HeaderError::HopByHopNotAtStart),
-        (0, HOP_BEHIND_OPTIONS, HeaderError::HopByHopNotAtStart),
+        (
+            60,
+            HOP_BY_HOP_AFTER_OPTIONS,
+            HeaderError::HopByHopNotAtStart,
+        ),
+        (0, HOP_BY_HOP_AFTER_OPTIONS, HeaderError::HopByHopNotAtStart),
         (
             51,
             NO_AUTHENTICATION,
@@ -192,7 +203,8 @@ fn what_is_no_chain_of_ipv4(rt: HostRuntime) {
     );
 }
 
-/// The headers of `EVERY_KIND`.
+/// Returns owned IPv6 extension headers of the least length, one of each type (destination options twice), as the
+/// constant `EVERY_KIND` has them.
 fn every_kind(rt: &impl Abort) -> Ipv6Extensions {
     let (read, _, _) = Ipv6Extensions::from_slice(
         IpNumber::IPV6_HEADER_HOP_BY_HOP,
@@ -230,7 +242,7 @@ fn writes_no_headers(rt: HostRuntime) {
     is_written(&rt, written, &buf, b"");
 }
 
-/// A header of the greatest length before this number.
+/// Returns a generic IPv6 extension header of the maximum length, 2048 bytes, with the given next header.
 fn greatest(rt: &impl Abort, next_header: u8) -> Ipv6RawExtHeader {
     Ipv6RawExtHeader::new_raw(IpNumber(next_header), &[0xab; 2046]).expect(rt, "refused")
 }
@@ -248,7 +260,7 @@ fn fragment(rt: &impl Abort, next_header: u8) -> Ipv6FragmentHeader {
     }
 }
 
-/// The greatest headers of every kind, before TCP.
+/// Returns all IPv6 extension headers, each of the maximum length, linked in order before TCP: 9228 bytes.
 fn greatest_chain(rt: &impl Abort) -> Ipv6Extensions {
     Ipv6Extensions {
         hop_by_hop_options: Some(greatest(rt, 60)),
@@ -262,7 +274,7 @@ fn greatest_chain(rt: &impl Abort) -> Ipv6Extensions {
     }
 }
 
-/// Their bytes.
+/// Returns the 9228 bytes of a chain of all IPv6 extension headers, each of the maximum length, before TCP.
 fn greatest_bytes(rt: &impl Abort, alloc: Global) -> Vec<u8> {
     let mut bytes = Vec::new(alloc);
     for next_header in [60, 43, 44] {
@@ -302,13 +314,13 @@ fn reads_greatest_headers(rt: HostRuntime) {
     same(&rt, &read, &greatest_chain(&rt));
 }
 
-/// An extension header with options, before this number.
+/// Returns an IPv6 extension header of 8 bytes that contains one padding option (PadN), with the given next header.
 fn options(rt: &impl Abort, next_header: u8) -> Ipv6RawExtHeader {
     Ipv6RawExtHeader::new_raw(IpNumber(next_header), &[1, 4, 0, 0, 0, 0]).expect(rt, "refused")
 }
 
-/// Headers of every kind, of which the hop by hop options lead to the first number, and the destination options, the
-/// routing header, the fragment header, the authentication header and the final destination options to the others.
+/// Returns all IPv6 extension headers with the given next headers, in the order hop-by-hop options, destination
+/// options, routing, fragment, authentication and final destination options.
 fn chain(rt: &impl Abort, numbers: [u8; 6]) -> Ipv6Extensions {
     Ipv6Extensions {
         hop_by_hop_options: Some(options(rt, numbers[0])),
@@ -322,7 +334,8 @@ fn chain(rt: &impl Abort, numbers: [u8; 6]) -> Ipv6Extensions {
     }
 }
 
-/// From this number on the headers do not lead to one another: their end is not found, and they are not written.
+/// Asserts that IPv6 extension headers whose next headers don't link all of them are rejected with the given error.
+/// Both `next_header`, which returns the next header after the chain, and `write` have to return it.
 fn refuses_links(
     rt: &impl Abort,
     alloc: Global,
@@ -337,7 +350,8 @@ fn refuses_links(
     same(rt, &refused, &Some(HeaderWriteError::Content(error)));
 }
 
-/// The error for a header that none leads to.
+/// Returns the error for an IPv6 extension header of the given IP protocol number that no other header has as its next
+/// header.
 fn unreferenced(number: u8) -> ExtsWalkError {
     ExtsWalkError::ExtNotReferenced {
         missing_ext: IpNumber(number),
@@ -365,7 +379,7 @@ fn headers_that_are_not_referenced(rt: HostRuntime) {
 }
 
 #[test]
-fn final_options_only_behind_routing(rt: HostRuntime) {
+fn final_options_only_after_routing(rt: HostRuntime) {
     let extensions = Ipv6Extensions {
         routing: Some(Ipv6RoutingExtensions {
             routing: options(&rt, 17),
@@ -378,10 +392,10 @@ fn final_options_only_behind_routing(rt: HostRuntime) {
     }
 }
 
-/// An authentication header that leads to another one, and 2 bytes.
+/// The start of an IP payload with two authentication headers in a row: the first one, and 2 bytes of the second.
 const AUTHENTICATED: &[u8] = b"\x33\x01\x00\x00\x00\x00\x00\x05\x00\x00\x00\x06\x11\x01";
 
-/// An authentication header before UDP.
+/// Returns IPv4 extensions with an authentication header of 12 bytes before UDP.
 fn authentication(rt: &impl Abort) -> Ipv4Extensions {
     Ipv4Extensions {
         auth: Some(IpAuthHeader::new(IpNumber::UDP, 5, 6, &[]).expect(rt, "refused")),

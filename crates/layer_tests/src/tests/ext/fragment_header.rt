@@ -1,4 +1,4 @@
-//! The fragment header of IPv6 (RFC 8200).
+//! Tests of the IPv6 fragment header (RFC 8200, 4.5).
 
 use crate::tests::checks::{full, is_written, same};
 use ep_ext::{
@@ -6,7 +6,8 @@ use ep_ext::{
 };
 use std::process::Abort;
 
-/// A header before UDP at byte 1448 of the whole payload, with more fragments behind it, and 2 bytes behind it.
+/// An IPv6 fragment header before UDP, with the M flag (more fragments) and the fragment offset of byte 1448, and then
+/// 2 more bytes.
 const FRAGMENT: &[u8] = b"\x11\x00\x05\xa9\xf8\x8e\xb4\x66\xfe\xff";
 
 fn header(rt: &impl Abort) -> Ipv6FragmentHeader {
@@ -39,8 +40,8 @@ fn writes(rt: HostRuntime) {
     is_written(&rt, written, &buf, &FRAGMENT[..8]);
 }
 
-/// What the bytes are read as, by the header and by the slice: the offset, whether more follow, whether the payload is
-/// fragmented, and what is written.
+/// Parses an IPv6 fragment header of 8 bytes. Asserts its fields (offset in units of 8 bytes, M flag, and whether the
+/// payload is fragmented), and the bytes that are written again, in which reserved bits are 0.
 fn reads(rt: &impl Abort, bytes: [u8; 8], fields: (u16, bool, bool), written: [u8; 8]) {
     let slice = Ipv6FragmentHeaderSlice::from_slice(&bytes).expect(rt, "refused");
     let header = slice.to_header();
@@ -72,7 +73,7 @@ fn offset_reserved_bits_and_flag(rt: HostRuntime) {
     }
 }
 
-/// The refusal of seven bytes.
+/// Returns the error for an IPv6 fragment header of 7 bytes instead of 8.
 fn too_short() -> LenError {
     LenError::at_start(8, 7, LenSource::Slice, Layer::Ipv6FragHeader)
 }

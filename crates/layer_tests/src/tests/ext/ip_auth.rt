@@ -1,4 +1,4 @@
-//! The authentication header of IP (RFC 4302).
+//! Tests of the IP authentication header (RFC 4302).
 
 use crate::tests::checks::{full, is_written, same, shows};
 use ep_ext::err::ip_auth::{HeaderError, HeaderSliceError, IcvLenError};
@@ -6,7 +6,7 @@ use ep_ext::{IpAuthHeader, IpAuthHeaderSlice, IpNumber, Layer, LenError, LenSour
 use std::alloc::Global;
 use std::process::Abort;
 
-/// A header before ICMP with an integrity check value of 12 bytes, and 2 bytes behind it.
+/// An IP authentication header before ICMP, with an integrity check value of 12 bytes, and then 2 more bytes.
 const AUTHENTICATED: &[u8] =
     b"\x01\x04\x00\x00\x00\x00\x01\x00\x00\x00\x00\x02\x17\xa9\x4c\x2f\x83\x51\x60\xee\xd1\x3a\x04\x9b\xfe\xff";
 
@@ -14,7 +14,8 @@ fn header(rt: &impl Abort) -> IpAuthHeader {
     IpAuthHeader::new(IpNumber::ICMP, 256, 2, &AUTHENTICATED[12..24]).expect(rt, "refused")
 }
 
-/// The refusal of so few bytes.
+/// Returns the error for an IP authentication header with too few bytes: `required_len` are required, and `len` are
+/// present.
 fn too_short(required_len: usize, len: usize) -> HeaderSliceError {
     HeaderSliceError::Len(LenError {
         required_len,
@@ -59,7 +60,8 @@ fn reserved_bytes_are_in_no_field(rt: HostRuntime) {
     is_written(&rt, written, &buf, bytes);
 }
 
-/// The bytes are a header of this length, or are refused so, by the header and by the slice.
+/// Parses an IP authentication header with both parsers (slice and owned header), and asserts that both return a header
+/// of the given length in bytes, or both the given error.
 fn reads(rt: &impl Abort, bytes: &[u8], shown: &Result<usize, HeaderSliceError>) {
     let slice = IpAuthHeaderSlice::from_slice(bytes).map(|slice| slice.header_len());
     same(rt, &slice, shown);
@@ -109,7 +111,8 @@ fn lengths_of_check_values(rt: HostRuntime) {
     }
 }
 
-/// A header with a check value of so many bytes is written with this length.
+/// Asserts that an IP authentication header with an integrity check value of `len` bytes is written with the payload
+/// length field `field`.
 fn writes_len(rt: &impl Abort, alloc: Global, len: usize, field: u8) {
     const ICV: &[u8] = &[0xab; 1016];
     let icv = ICV.get(..len).expect(rt, "too long");

@@ -1,4 +1,5 @@
-//! Extension headers of IPv6 whose payload is left as bytes (RFC 8200).
+//! Tests of generic IPv6 extension headers, whose payload is not interpreted: hop-by-hop options, destination options
+//! and routing (RFC 8200).
 
 use crate::tests::checks::{full, is_written, same, shows};
 use ep_ext::err::ipv6_exts::ExtPayloadLenError;
@@ -6,7 +7,7 @@ use ep_ext::{IpNumber, Ipv6RawExtHeader, Ipv6RawExtHeaderSlice, Layer, LenError,
 use std::alloc::Global;
 use std::process::Abort;
 
-/// Hop by hop options before TCP, of 16 bytes: a router alert and padding. Then 2 bytes.
+/// An IPv6 hop-by-hop options header of 16 bytes before TCP, with a router alert and padding, and then 2 more bytes.
 const OPTIONS: &[u8] = b"\x06\x01\x05\x02\x00\x00\x01\x0a\x00\x00\x00\x00\x00\x00\x00\x00\xfe\xff";
 
 fn header(rt: &impl Abort) -> Ipv6RawExtHeader {
@@ -33,7 +34,8 @@ fn writes(rt: HostRuntime) {
     is_written(&rt, written, &buf, &OPTIONS[..16]);
 }
 
-/// The bytes are a header of this length, or are refused for so few bytes, by the header and by the slice.
+/// Parses a generic IPv6 extension header with both parsers (slice and owned header). Asserts that both return a header
+/// of `header_len` bytes, or, if `required_len` is given, the error that this number of bytes is required.
 fn reads(rt: &impl Abort, bytes: &[u8], header_len: usize, required_len: Option<usize>) {
     let shown = match required_len {
         None => Ok(header_len),
@@ -62,7 +64,8 @@ fn length_counts_units_of_8_bytes(rt: HostRuntime) {
     }
 }
 
-/// A payload of so many bytes is refused by this error, of this text.
+/// Asserts that a generic IPv6 extension header with a payload of `len` bytes can't be created: the call returns the
+/// given error, which is printed as the given text.
 fn refuses_len(rt: &impl Abort, alloc: Global, len: usize, error: ExtPayloadLenError, text: &str) {
     const ZEROS: &[u8] = &[0; 2054];
     shows(rt, alloc, &error, text);
@@ -124,7 +127,8 @@ fn lengths_of_payloads(rt: HostRuntime) {
     );
 }
 
-/// A header with a payload of so many bytes is written with this length.
+/// Asserts that a generic IPv6 extension header with a payload of `len` bytes is written with the length field `field`
+/// (in units of 8 bytes, without the first 8).
 fn writes_len(rt: &impl Abort, alloc: Global, len: usize, field: u8) {
     const PAYLOAD: &[u8] = &[0xab; 2046];
     let payload = PAYLOAD.get(..len).expect(rt, "too long");

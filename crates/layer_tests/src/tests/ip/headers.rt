@@ -1,4 +1,4 @@
-//! Headers: rows from outside, texts, and that calls succeed.
+//! Tests of IPv4 and IPv6 headers: examples, error texts, and calls that have to succeed.
 
 use crate::tests::checks::{full, is_written, refuses, same};
 use ep_ip::{
@@ -8,20 +8,21 @@ use ep_ip::{
 use std::alloc::Global;
 use std::process::Abort;
 
-/// A header without options, for 16 bytes of UDP.
+/// An IPv4 header of 20 bytes without options, for 16 bytes of UDP from 192.168.1.1 to 192.168.1.2.
 const PLAIN: &[u8] =
     b"\x45\x00\x00\x24\x00\x00\x40\x00\x14\x11\xe3\x75\xc0\xa8\x01\x01\xc0\xa8\x01\x02";
 
-/// A header with 40 bytes of options, router alert (RFC 2113) and a record of the route (RFC 791, 3.1).
+/// An IPv4 header of 60 bytes, with 40 bytes of options: router alert (RFC 2113) and record route (RFC 791, 3.1).
 const LONGEST: &[u8] =
     b"\x4f\xb9\xff\xff\x12\x34\x3f\xff\x40\x33\x5d\xa3\x01\x02\x03\x04\x05\x06\x07\x08\x94\x04\x00\x00\x07\x23\x04\x01\x02\x03\x04\x05\x06\x07\x08\x09\x0a\x0b\x0c\x0d\x0e\x0f\x10\x11\x12\x13\x14\x15\x16\x17\x18\x19\x1a\x1b\x1c\x1d\x1e\x1f\x20\x00";
 
-/// A packet with the reserved flag, the greatest fragment offset, the option router alert (RFC 2113), 4 bytes of
-/// payload, and 2 bytes behind it.
+/// An IPv4 packet with the reserved flag, the more-fragments flag, the maximum fragment offset, the router alert option
+/// (RFC 2113), 4 bytes of payload, and 2 trailing bytes.
 const FRAGMENT: &[u8] =
     b"\x46\xb9\x00\x1c\x12\x34\xbf\xff\x40\x33\xab\xcd\x01\x02\x03\x04\x05\x06\x07\x08\x94\x04\x00\x00\x0a\x0b\x0c\x0d\x00\x00";
 
-/// The header is read, and written with its checksum and not with the one that is held.
+/// Parses an IPv4 header, clears its checksum field, and asserts that it is written as the bytes it was parsed from:
+/// the checksum is computed anew.
 fn writes(rt: &impl Abort, alloc: Global, bytes: &[u8]) {
     let (mut header, _) = Ipv4Header::from_slice(bytes).expect(rt, "refused");
     header.header_checksum = 0;
@@ -60,7 +61,7 @@ fn reads_each_field(rt: HostRuntime) {
     same(&rt, &shown.to_header(), &fragment(&rt));
 }
 
-/// An IPv6 header: traffic class 0xb9, flow label 0x12345, 24 bytes behind it, a fragment header (44), hop limit 64.
+/// An IPv6 header: traffic class 0xb9, flow label 0x12345, payload length 24, next header 44 (fragment), hop limit 64.
 const IPV6: &[u8] =
     b"\x6b\x91\x23\x45\x00\x18\x2c\x40\x20\x01\x0d\xb8\x00\x00\x00\x00\x00\x00\x00\x00\x00\x00\x00\x01\xfe\x80\x00\x00\x00\x00\x00\x00\x02\x03\x04\x05\x06\x07\x08\x09";
 

@@ -1,4 +1,4 @@
-//! IP packets with their extension headers in slices: rows from outside.
+//! Tests of IPv4 and IPv6 packets as slices, with their extension headers and error texts.
 
 use crate::tests::checks::{refuses, same};
 use ep_ip::{
@@ -7,15 +7,16 @@ use ep_ip::{
 use std::alloc::Global;
 use std::process::Abort;
 
-/// An IPv6 packet of payload length 0, no next header (59), and 4 bytes (RFC 8200, 4.7).
+/// An IPv6 packet with payload length 0, no next header (59), and 4 bytes (RFC 8200, 4.7).
 const OPEN_LENGTH: &[u8] =
     b"\x60\x00\x00\x00\x00\x00\x3b\x40\x00\x00\x00\x00\x00\x00\x00\x00\x00\x00\x00\x00\x00\x00\x00\x00\x00\x00\x00\x00\x00\x00\x00\x00\x00\x00\x00\x00\x00\x00\x00\x00\x01\x02\x03\x04";
 
-/// An IPv6 packet of two fragment headers (RFC 8200, 4.5), of which the second says that more follow, and 8 bytes.
+/// An IPv6 packet with two fragment headers (RFC 8200, 4.5), the second one with the M flag, and 8 bytes.
 const FRAGMENTED: &[u8] =
     b"\x60\x00\x00\x00\x00\x18\x2c\x40\x00\x00\x00\x00\x00\x00\x00\x00\x00\x00\x00\x00\x00\x00\x00\x00\x00\x00\x00\x00\x00\x00\x00\x00\x00\x00\x00\x00\x00\x00\x00\x00\x2c\x00\x00\x00\x00\x00\x00\x01\x11\x00\x00\x01\x00\x00\x00\x02\x00\x01\x02\x03\x04\x05\x06\x07";
 
-/// The entries refuse the bytes with these texts: the open one, and those of version 4 and of version 6.
+/// Asserts the texts of the errors that the slices `IpSlice` (either version), `Ipv4Slice` and `Ipv6Slice` return for
+/// bytes that are no IP packet.
 fn refuses_all(rt: &impl Abort, alloc: Global, bytes: &[u8], open: &str, ipv4: &str, ipv6: &str) {
     refuses(rt, alloc, IpSlice::from_slice(bytes).err(), open);
     refuses(rt, alloc, Ipv4Slice::from_slice(bytes).err(), ipv4);
@@ -32,7 +33,7 @@ fn refuses_ipv6(rt: &impl Abort, alloc: Global, bytes: &[u8], text: &str) {
     refuses(rt, alloc, Ipv6Slice::from_slice(bytes).err(), text);
 }
 
-/// Bytes of neither version, and what each entry says of them.
+/// Tests that bytes which are neither IPv4 nor IPv6 are rejected: no bytes, and version 5.
 #[test]
 fn refusals_of_neither_version(rt: HostRuntime) {
     refuses_all(
@@ -61,7 +62,7 @@ fn refusals_of_neither_version(rt: HostRuntime) {
     );
 }
 
-/// Headers of version 4, and what the open entry and that of the version say of them.
+/// Tests that IPv4 headers which are truncated or have an IHL below 5 are rejected.
 #[test]
 fn ipv4_header_refusals(rt: HostRuntime) {
     refuses_ipv4(
@@ -94,7 +95,8 @@ fn ipv4_header_refusals(rt: HostRuntime) {
     );
 }
 
-/// Packets of version 4, whose total length or extension header does not fit.
+/// Tests that IPv4 packets with an invalid total length, or with an invalid or truncated authentication header, are
+/// rejected.
 #[test]
 fn ipv4_packet_refusals(rt: HostRuntime) {
     refuses_ipv4(
@@ -134,7 +136,7 @@ fn ipv4_packet_refusals(rt: HostRuntime) {
     );
 }
 
-/// Packets of version 6 that are too short, and what the open entry and that of the version say of them.
+/// Tests that truncated IPv6 packets are rejected: fewer than 40 bytes, or fewer than the payload length requires.
 #[test]
 fn ipv6_packet_refusals(rt: HostRuntime) {
     refuses_ipv6(
@@ -163,7 +165,7 @@ fn ipv6_packet_refusals(rt: HostRuntime) {
     );
 }
 
-/// Packets of version 6 whose extension headers are refused.
+/// Tests that IPv6 packets with truncated or invalid extension headers are rejected.
 #[test]
 fn ipv6_extension_refusals(rt: HostRuntime) {
     refuses_ipv6(
@@ -204,7 +206,8 @@ fn ipv6_extension_refusals(rt: HostRuntime) {
     );
 }
 
-/// The packet has a header of 20 bytes and the payload 10, 11, and is read alike by both entries.
+/// Parses an IPv4 packet and asserts that it has a header of 20 bytes, the payload bytes 10 and 11 with this protocol
+/// number, and an authentication header if `authenticated` is true. `IpSlice` and `Ipv4Slice` have to agree.
 fn reads_ipv4(
     rt: &impl Abort,
     bytes: &[u8],
@@ -232,8 +235,8 @@ fn reads_ipv4(
     );
 }
 
-/// Packets of version 4, with the number of their payload, whether it is a fragment, and whether there is an
-/// authentication header.
+/// Tests IPv4 packets with the expected protocol number of their payload, whether the payload is a fragment, and
+/// whether there is an authentication header.
 #[test]
 fn ipv4_packets(rt: HostRuntime) {
     for (bytes, number, fragmented, authenticated) in [
@@ -260,7 +263,8 @@ fn ipv4_packets(rt: HostRuntime) {
     }
 }
 
-/// The packet has so many bytes of extension headers and this payload, and is read alike by both entries.
+/// Parses an IPv6 packet and asserts its payload and the length of its extension headers in bytes. `IpSlice` and
+/// `Ipv6Slice` have to agree.
 fn reads_ipv6(rt: &impl Abort, bytes: &[u8], expected: IpPayloadSlice, extensions_len: usize) {
     let packet = Ipv6Slice::from_slice(bytes).expect(rt, "refused");
     same(rt, &packet.extensions().slice().len(), &extensions_len);
@@ -272,8 +276,8 @@ fn reads_ipv6(rt: &impl Abort, bytes: &[u8], expected: IpPayloadSlice, extension
     );
 }
 
-/// Packets of version 6, with the number of their payload, whether it is a fragment, what set its end, its bytes, and
-/// the number of bytes of the extension headers.
+/// Tests IPv6 packets with the expected payload and length of the extension headers. For a payload, the protocol
+/// number, whether it is a fragment, the source of its length, and its bytes are compared.
 #[test]
 fn ipv6_packets(rt: HostRuntime) {
     for (bytes, number, fragmented, source, payload, extensions_len) in [
@@ -336,7 +340,8 @@ fn ipv6_packets(rt: HostRuntime) {
     }
 }
 
-/// Where a packet has no extension headers, their slices begin with the number of its header all the same.
+/// Tests that the empty extension headers of an IPv6 packet without them keep the next header of the IPv6 header, and
+/// are equal only to empty ones with this number.
 #[test]
 fn no_extension_headers_begin_with_next_header(rt: HostRuntime) {
     let packet = Ipv6Slice::from_slice(OPEN_LENGTH).expect(&rt, "refused");

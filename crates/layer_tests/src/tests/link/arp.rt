@@ -1,4 +1,4 @@
-//! ARP (RFC 826).
+//! Tests of ARP packets (RFC 826).
 
 use crate::tests::checks::{full, is_written, same, shows};
 use ep_link::err::arp::{ArpHwAddrError, ArpNewError, ArpProtoAddrError};
@@ -8,11 +8,11 @@ use ep_link::{
 use std::alloc::Global;
 use std::process::Abort;
 
-/// A request over Ethernet for an IPv4 address, and 2 bytes behind it.
+/// An ARP request over Ethernet for an IPv4 address (28 bytes), and 2 trailing bytes.
 const REQUEST: &[u8] = b"\x00\x01\x08\x00\x06\x04\x00\x01\x01\x02\x03\x04\x05\x06\x07\
     \x06\x08\x09\x0a\x0b\x0c\x0e\x0f\x10\x11\x12\x13\x14\xfe\xff";
 
-/// The packet of the request.
+/// Returns an ARP request over Ethernet for an IPv4 address, with the fields of the constant `REQUEST`.
 fn request(rt: &impl Abort) -> ArpPacket {
     ArpPacket::new(
         ArpHardwareId::ETHERNET,
@@ -49,7 +49,8 @@ fn writes_a_request(rt: HostRuntime) {
     is_written(&rt, written, &buf, &REQUEST[..28]);
 }
 
-/// A packet of four addresses of this length, of the bytes 1, 2, 3 and 4.
+/// Returns an ARP packet with four addresses of `len` bytes each: bytes 1 (sender hardware), 2 (sender protocol), 3
+/// (target hardware) and 4 (target protocol).
 fn packet(rt: &impl Abort, len: u8) -> ArpPacket {
     let len = len as usize;
     ArpPacket::new(
@@ -64,7 +65,7 @@ fn packet(rt: &impl Abort, len: u8) -> ArpPacket {
     .expect(rt, "refused")
 }
 
-/// A packet of four addresses of this length is written.
+/// Asserts that an ARP packet with four addresses of `len` bytes each is written as the expected bytes.
 fn writes_len(rt: &impl Abort, alloc: Global, len: u8) {
     let front = [3, 4, 0xab, 0xcd, len, len, 0x12, 0x34];
     let mut bytes = Vec::from_array(alloc, front).expect(rt, "no memory");
@@ -100,7 +101,8 @@ fn refuses_missing_bytes(rt: HostRuntime) {
     }
 }
 
-/// The refusal of addresses of these lengths, at most 257.
+/// Creates an ARP packet whose addresses have invalid lengths, at most 257 bytes each, and returns the error. The
+/// lengths are given in the order sender hardware, target hardware, sender protocol and target protocol.
 fn refusal(rt: &impl Abort, lens: [usize; 4]) -> ArpNewError {
     const ZEROS: &[u8] = &[0; 257];
     let [sender_hw, target_hw, sender_protocol, target_protocol] = lens;

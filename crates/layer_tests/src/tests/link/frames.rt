@@ -1,4 +1,4 @@
-//! Ethernet II and Linux cooked captures.
+//! Tests of Ethernet II frames and of packets of Linux cooked captures (SLL).
 
 use crate::tests::checks::same;
 use ep_link::err::linux_sll::{HeaderError, HeaderSliceError};
@@ -8,24 +8,27 @@ use ep_link::{
 };
 use std::process::Abort;
 
-/// Ethernet II: two addresses, the type of IPv6, and 2 bytes of payload. No byte stands twice.
+/// An Ethernet II frame: destination and source address, the ether type of IPv6, and 2 bytes of payload, all bytes
+/// distinct.
 pub(super) const ETHERNET: &[u8] =
     b"\x01\x02\x03\x04\x05\x06\x07\x08\x09\x0a\x0b\x0c\x86\xdd\xfe\xff";
 
-/// To another host, from an address of 6 bytes, and IPv4: the header alone.
+/// A header of a Linux cooked capture (SLL) without payload: sent to another host, a sender address of 6 bytes,
+/// Ethernet and IPv4.
 pub(super) const IPV4: &[u8] = b"\x00\x03\x00\x01\x00\x06\x01\x02\x03\x04\x05\x06\x00\x00\x08\x00";
 
-/// Netlink, with 2 bytes of payload.
+/// A Linux cooked capture (SLL) packet of netlink (hardware type 824), with 2 bytes of payload.
 pub(super) const NETLINK: &[u8] =
     b"\x00\x00\x03\x38\x00\x00\x00\x00\x00\x00\x00\x00\x00\x00\x00\x10\x01\x02";
 
-/// A header of packet type 8 and hardware 264.
+/// A header of a Linux cooked capture (SLL) with two unsupported fields: packet type 8 and hardware type 264.
 const UNKNOWN_TYPE: &[u8] = b"\x00\x08\x01\x08\x00\x06\x01\x02\x03\x04\x05\x06\x00\x00\x08\x00";
 
-/// A header of hardware 264.
+/// A header of a Linux cooked capture (SLL) with the unsupported hardware type 264.
 const UNKNOWN_HARDWARE: &[u8] = b"\x00\x03\x01\x08\x00\x06\x01\x02\x03\x04\x05\x06\x00\x00\x08\x00";
 
-/// The header in front of `ETHERNET`.
+/// Returns an Ethernet II header with the fields of the constant `ETHERNET`: its two addresses and the ether type of
+/// IPv6.
 pub(super) fn ethernet_header() -> Ethernet2Header {
     Ethernet2Header {
         source: [7, 8, 9, 10, 11, 12],
@@ -34,7 +37,8 @@ pub(super) fn ethernet_header() -> Ethernet2Header {
     }
 }
 
-/// The header in `IPV4`.
+/// Returns a Linux cooked capture header with the fields of the constant `IPV4`: sent to another host, over Ethernet,
+/// with IPv4.
 pub(super) fn ipv4_header() -> LinuxSllHeader {
     LinuxSllHeader {
         packet_type: LinuxSllPacketType::OTHERHOST,
@@ -45,7 +49,8 @@ pub(super) fn ipv4_header() -> LinuxSllHeader {
     }
 }
 
-/// The header in front of `NETLINK`.
+/// Returns a Linux cooked capture header with the fields of the constant `NETLINK`: hardware type 824 and netlink
+/// protocol 16.
 pub(super) fn netlink_header() -> LinuxSllHeader {
     LinuxSllHeader {
         packet_type: LinuxSllPacketType::HOST,
@@ -63,7 +68,8 @@ fn reads_ethernet(rt: HostRuntime) {
     same(&rt, &frame.payload_slice(), &b"\xfe\xff".as_slice());
 }
 
-/// The bytes are read as this header and the payload behind it, by the header and by the slice.
+/// Parses a Linux cooked capture packet with both parsers (slice and owned header), and asserts that both return the
+/// given header and payload.
 fn reads(rt: &impl Abort, bytes: &[u8], header: LinuxSllHeader, payload: &[u8]) {
     let packet = LinuxSllSlice::from_slice(bytes).expect(rt, "refused");
     same(rt, &packet.to_header(), &header);
@@ -81,7 +87,8 @@ fn reads_cooked_packets(rt: HostRuntime) {
     reads(&rt, NETLINK, netlink_header(), b"\x01\x02");
 }
 
-/// The protocol of a cooked packet of this hardware and number.
+/// Returns the protocol type that is read from a Linux cooked capture header with this hardware type and protocol
+/// number. The hardware type decides the meaning of the number.
 fn protocol_of(rt: &impl Abort, hardware: u16, number: u16) -> LinuxSllProtocolType {
     let [h0, h1] = u16::to_be_bytes(hardware);
     let [n0, n1] = u16::to_be_bytes(number);

@@ -1,4 +1,4 @@
-//! Tags between the link header and the net layer.
+//! Tests of link extensions: VLAN and MACsec tags between the link header and the network layer.
 
 use crate::tests::checks::{full, is_written, same};
 use ep_link::err::macsec::{HeaderError, HeaderSliceError};
@@ -6,18 +6,19 @@ use ep_link::{EtherType, Layer, LenError, LenSource, LinkExtSlice};
 use std::alloc::Global;
 use std::process::Abort;
 
-/// A VLAN tag, and 2 bytes of IPv4.
+/// A VLAN tag with priority 5, identifier 0x123 and the ether type of IPv4, and the first 2 bytes of the IPv4 packet.
 const VLAN: &[u8] = b"\xa1\x23\x08\x00\x45\x00";
 
-/// A MACsec tag with secure channel identifier, of an unmodified payload of 3 bytes, whose short length leaves the
-/// last 2 bytes.
+/// A MACsec tag with a secure channel identifier and an unmodified payload of 3 bytes. Its short length field excludes
+/// the last 2 bytes of the constant.
 const UNMODIFIED: &[u8] =
     b"\x20\x05\x00\x00\x00\x01\x01\x02\x03\x04\x05\x06\x07\x08\x81\x00\x00\x01\x81\xaa\xbb";
 
-/// A MACsec tag of a modified payload of 2 bytes.
+/// A MACsec tag with a modified (encrypted) payload of 2 bytes.
 const MODIFIED: &[u8] = b"\x0c\x02\x00\x00\x00\x01\xaa\xbb";
 
-/// Behind this type the bytes are a tag of so many bytes, the type that it gives, and this payload.
+/// Parses the VLAN or MACsec tag after the given ether type. Asserts the bytes that its header is written as, the ether
+/// type after it (`None` if encrypted), and its payload.
 fn reads(
     rt: &impl Abort,
     alloc: Global,

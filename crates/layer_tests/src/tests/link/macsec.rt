@@ -1,4 +1,4 @@
-//! MACsec tags and packets from outside.
+//! Tests of MACsec tags and packets, with examples from the standard (IEEE 802.1AE).
 
 use crate::tests::checks::{full, is_written, same};
 use ep_link::err::macsec::{HeaderError, HeaderSliceError};
@@ -9,21 +9,22 @@ use ep_link::{
 use std::alloc::Global;
 use std::process::Abort;
 
-/// The integrity protected frame of the standard's examples (IEEE 802.1AE, annex C) from its tag on, and the first 2
-/// bytes of its check value.
+/// The integrity-protected frame of the examples in IEEE 802.1AE, annex C, from its MACsec tag on, and the first 2
+/// bytes of its integrity check value.
 const PROTECTED: &[u8] =
     b"\x22\x2a\xb2\xc2\x84\x65\x12\x15\x35\x24\xc0\x89\x5e\x81\x08\x00\x0f\x10\x11\
     \x12\x13\x14\x15\x16\x17\x18\x19\x1a\x1b\x1c\x1d\x1e\x1f\x20\x21\x22\x23\x24\x25\
     \x26\x27\x28\x29\x2a\x2b\x2c\x2d\x2e\x2f\x30\x31\x32\x33\x34\x00\x01\xf0\x94";
 
-/// The tag of the encrypted frame of the same examples.
+/// The MACsec tag, without a secure channel identifier, of an encrypted frame of the examples in IEEE 802.1AE, annex C.
 const ENCRYPTED: &[u8] = b"\x4c\x2a\x76\xd4\x57\xed";
 
 fn too_short(required_len: usize, len: usize, layer: Layer) -> HeaderSliceError {
     HeaderSliceError::Len(LenError::at_start(required_len, len, LenSource::Slice, layer))
 }
 
-/// The tag of the protected frame.
+/// Returns the MACsec tag of the constant `PROTECTED`: unmodified payload of IPv4, association number 2, short length
+/// 42, and a secure channel identifier.
 fn header(rt: &impl Abort) -> MacsecHeader {
     MacsecHeader {
         ptype: MacsecPType::Unmodified(EtherType::IPV4),
@@ -52,7 +53,7 @@ fn reads_a_header_and_the_rest(rt: HostRuntime) {
     same(&rt, &rest, &&PROTECTED[16..]);
 }
 
-/// The tag is read as a header, and written again.
+/// Parses a MACsec tag into an owned header, and asserts that it is written as the bytes it was parsed from.
 fn writes(rt: &impl Abort, alloc: Global, tag: &[u8]) {
     let Ok((header, rest)) = MacsecHeader::from_slice(tag) else {
         panic!(rt; "refused");
@@ -75,7 +76,7 @@ fn writes_what_was_read(rt: HostRuntime) {
     }
 }
 
-/// The packet has this payload, and the header of its bytes.
+/// Parses a MACsec packet and asserts its payload, and that its header is equal to the header that is parsed alone.
 fn holds(rt: &impl Abort, bytes: &[u8], payload: &MacsecPayloadSlice<'_>) {
     let packet = MacsecSlice::from_slice(bytes).expect(rt, "refused");
     same(rt, &packet.payload, payload);
@@ -84,7 +85,7 @@ fn holds(rt: &impl Abort, bytes: &[u8], payload: &MacsecPayloadSlice<'_>) {
 }
 
 #[test]
-fn short_length_cuts(rt: HostRuntime) {
+fn short_length_limits_payload(rt: HostRuntime) {
     let rows: [(&[u8], MacsecPayloadSlice<'_>); 4] = [
         (
             b"\x0c\x03\x00\x00\x00\x00\xaa\xbb\xcc\xdd",

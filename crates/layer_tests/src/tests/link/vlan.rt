@@ -1,4 +1,4 @@
-//! VLAN tags.
+//! Tests of single and double VLAN tags.
 
 use crate::tests::checks::same;
 use ep_link::{
@@ -7,7 +7,7 @@ use ep_link::{
 };
 use std::process::Abort;
 
-/// Two tags, the first with the drop eligible flag, and 2 bytes of IPv4.
+/// Two VLAN tags, the first with the drop eligible indicator, and the first 2 bytes of an IPv4 packet.
 pub(super) const TAGGED: &[u8] = b"\x30\x01\x81\x00\xa1\x23\x08\x00\x45\x00";
 
 fn outer_tag(rt: &impl Abort) -> SingleVlanHeader {

@@ -1,4 +1,4 @@
-//! Headers of links and VLAN tags, written behind bytes that fill their vector.
+//! Tests that link headers and VLAN tags are written correctly to a vector without spare capacity.
 
 use super::frames::*;
 use super::vlan::*;

@@ -1,4 +1,4 @@
-//! ICMP and ICMPv6.
+//! Tests of ICMPv4 and ICMPv6 headers, their lengths and checksums.
 
 use crate::tests::checks::{full, is_written, same};
 use ep_transport::icmpv4::TimestampMessage;
@@ -8,11 +8,12 @@ use ep_transport::{
 };
 use std::process::Abort;
 
-/// A timestamp request with the checksum that its bytes have.
+/// An ICMPv4 timestamp request (type 13), 20 bytes, with a valid checksum.
 const TIMESTAMP: &[u8] =
     b"\x0d\x00\xce\xd2\x00\x01\x00\x02\x01\x02\x03\x04\x05\x06\x07\x08\x09\x0a\x0b\x0c";
 
-/// The reply with the same times: one more in the type, and so one less in the upper byte of the checksum.
+/// An ICMPv4 timestamp reply (type 14), 20 bytes, with the times of the request `TIMESTAMP`. Its type is greater by
+/// one, so the upper byte of its checksum is smaller by one.
 const REPLY: &[u8] =
     b"\x0e\x00\xcd\xd2\x00\x01\x00\x02\x01\x02\x03\x04\x05\x06\x07\x08\x09\x0a\x0b\x0c";
 
@@ -41,7 +42,8 @@ fn reads_a_timestamp(rt: HostRuntime) {
     same(&rt, &message.payload().len(), &0);
 }
 
-/// The length of the header that so many bytes of this type are read as.
+/// Returns the length of the ICMPv4 header that is parsed from `len` bytes, all zero but for the ICMP type, or the
+/// error.
 fn header_len(type_u8: u8, len: usize) -> Result<usize, LenError> {
     let mut bytes = [0; 24];
     bytes[0] = type_u8;
@@ -103,12 +105,13 @@ fn checksum_of_icmpv4(rt: HostRuntime) {
     let mut header = Icmpv4Header::new(Icmpv4Type::EchoRequest(echo()));
     header.update_checksum(b"\x01\x02\x03\x04\x05\x06\x07\x08");
     same(&rt, &header.checksum, &0xe5a8);
-    // the checksum that is held is not summed
+    // the old value of the checksum field is not summed
     header.update_checksum(b"\x01\x02\x03\x04\x05\x06\x07\x08");
     same(&rt, &header.checksum, &0xe5a8);
 }
 
-/// An echo request of ICMPv6 from the bytes 1 to 16 to the bytes 21 to 36, with this payload and its checksum.
+/// Returns an ICMPv6 echo request with its checksum for the given payload, from the address of the bytes 1 to 16 to the
+/// address of the bytes 21 to 36.
 fn summed(rt: &impl Abort, payload: &[u8]) -> Icmpv6Header {
     let source = [1, 2, 3, 4, 5, 6, 7, 8, 9, 10, 11, 12, 13, 14, 15, 16];
     let destination = [

@@ -1,4 +1,4 @@
-//! Types of ICMP and ICMPv6.
+//! Tests that the types and codes of ICMPv4 and ICMPv6 messages are parsed and written.
 
 use crate::tests::checks::same;
 use ep_transport::{
@@ -10,7 +10,7 @@ fn echo() -> IcmpEchoHeader {
     IcmpEchoHeader { id: 123, seq: 456 }
 }
 
-/// The 8 bytes are read as this value, whose header is written as `written`.
+/// Parses an ICMPv4 message of 8 bytes, and asserts its type and the bytes that its header is written as.
 fn reads_v4(rt: &impl Abort, bytes: [u8; 8], icmp_type: Icmpv4Type, written: [u8; 8]) {
     let message = Icmpv4Slice::from_slice(&bytes).expect(rt, "refused");
     same(rt, &message.icmp_type(), &icmp_type);
@@ -42,7 +42,7 @@ fn echoes(rt: HostRuntime) {
 #[test]
 fn unreachable_v4(rt: HostRuntime) {
     for code in 0..16 {
-        // the next hop's greatest unit is read behind code 4 alone
+        // the next-hop MTU is read with code 4 only
         let [m0, m1] = if code == 4 { [5, 6] } else { [0, 0] };
         let next_hop_mtu = u16::from_be_bytes([m0, m1]);
         let unreachable = Icmpv4Type::DestinationUnreachable { code, next_hop_mtu };

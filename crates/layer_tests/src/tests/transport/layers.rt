@@ -1,4 +1,4 @@
-//! The family of transport layers.
+//! Tests of the types for any transport layer: `TransportHeader` and `TransportSlice` (UDP, TCP, ICMPv4 or ICMPv6).
 
 use crate::tests::checks::{full, is_written, same, shows};
 use ep_ip::{Ipv4Header, Ipv6Header};
@@ -12,8 +12,8 @@ use std::process::Abort;
 
 const PAYLOAD: &[u8] = b"\x01\x02\x03\x04\x05\x06\x07\x08";
 
-/// A datagram from port 21 to port 1234, a segment, an echo request of ICMP and one of ICMPv6, each with the payload 1
-/// to 8.
+/// A UDP datagram from port 21 to port 1234 with the payload bytes 1 to 8. The three constants below it are a TCP
+/// segment and echo requests of ICMPv4 and ICMPv6 with the same payload.
 const DATAGRAM: &[u8] = b"\x00\x15\x04\xd2\x00\x10\x67\x7f\x01\x02\x03\x04\x05\x06\x07\x08";
 
 const SEGMENT: &[u8] =
@@ -46,7 +46,7 @@ fn icmpv6() -> TransportHeader {
     TransportHeader::Icmpv6(Icmpv6Header::new(Icmpv6Type::EchoRequest(echo)))
 }
 
-/// The checksum that a header holds.
+/// Returns the checksum field of a transport header (UDP, TCP, ICMPv4 or ICMPv6).
 fn checksum_of(header: TransportHeader) -> u16 {
     match header {
         TransportHeader::Udp(header) => header.checksum,
@@ -56,7 +56,7 @@ fn checksum_of(header: TransportHeader) -> u16 {
     }
 }
 
-/// An IPv4 header from 192.168.1.1 to 192.168.1.2.
+/// Returns an IPv4 header from 192.168.1.1 to 192.168.1.2, whose addresses the checksums include.
 fn ipv4() -> Ipv4Header {
     Ipv4Header {
         source: [192, 168, 1, 1],
@@ -65,7 +65,8 @@ fn ipv4() -> Ipv4Header {
     }
 }
 
-/// An IPv6 header from the bytes 1 to 16 to the bytes 21 to 36.
+/// Returns an IPv6 header from the address of the bytes 1 to 16 to the address of the bytes 21 to 36, which the
+/// checksums include.
 fn ipv6() -> Ipv6Header {
     Ipv6Header {
         source: [1, 2, 3, 4, 5, 6, 7, 8, 9, 10, 11, 12, 13, 14, 15, 16],
@@ -76,7 +77,8 @@ fn ipv6() -> Ipv6Header {
     }
 }
 
-/// The bytes are read, behind this number, as a layer with the payload 1 to 8, by the slice and by the header.
+/// Parses a transport layer by its IP protocol number, with both parsers (slice and owned header). Asserts that both
+/// return the payload bytes 1 to 8, and that the header is written as `header_bytes`.
 fn reads(rt: &impl Abort, alloc: Global, number: u8, bytes: &[u8], header_bytes: &[u8]) {
     let shown = TransportSlice::from_ip_number(IpNumber(number), false, bytes);
     let layer = shown.expect(rt, "refused").expect(rt, "no layer");
@@ -115,7 +117,8 @@ fn no_layer(rt: HostRuntime) {
     }
 }
 
-/// A layer that the slice refuses, and the header refuses or reads, as this says.
+/// Asserts that `TransportSlice` rejects the bytes after this IP protocol number with the given error.
+/// `TransportHeader` has to accept them if `header_reads` is true, and to return the same error otherwise.
 fn refuses(rt: &impl Abort, number: u8, bytes: &[u8], error: LenError, header_reads: bool) {
     let error = Some(tcp::HeaderSliceError::Len(error));
     let shown = TransportSlice::from_ip_number(IpNumber(number), false, bytes);
@@ -140,7 +143,7 @@ fn refusals(rt: HostRuntime) {
         false,
     );
     refuses(&rt, 58, &DATAGRAM[..7], short(8, 7, Layer::Icmpv6), false);
-    // as a header UDP is not cut by its length
+    // `TransportHeader` does not limit the payload by the UDP length field
     let long = b"\x00\x15\x04\xd2\x00\x11\x67\x7f\x01\x02\x03\x04\x05\x06\x07\x08";
     refuses(&rt, 17, long, short(17, 16, Layer::UdpPayload), true);
 }
@@ -181,7 +184,8 @@ fn lent_icmp(rt: HostRuntime) {
     );
 }
 
-/// Behind an IPv4 header the header gets this checksum.
+/// Asserts the checksum that is computed for a transport header after an IPv4 header from 192.168.1.1 to 192.168.1.2,
+/// with the payload bytes 1 to 8.
 fn sums_ipv4(rt: &impl Abort, mut header: TransportHeader, checksum: u16) {
     same(rt, &header.update_checksum_ipv4(&ipv4(), PAYLOAD), &Ok(()));
     same(rt, &checksum_of(header), &checksum);
@@ -223,7 +227,7 @@ fn too_long_to_sum(rt: HostRuntime) {
 }
 
 #[test]
-fn icmpv6_behind_ipv4(rt: HostRuntime) {
+fn icmpv6_over_ipv4(rt: HostRuntime) {
     let error = TransportChecksumError::Icmpv6InIpv4;
     let text =
         "Error: ICMPv6 can not be combined with an IPv4 headers (checksum can not be calculated).";

@@ -1,4 +1,4 @@
-//! TCP.
+//! Tests of TCP headers and segments, and of their checksums.
 
 use crate::tests::checks::{full, is_written, same};
 use ep_ip::{Ipv4Header, Ipv6Header};
@@ -8,12 +8,13 @@ use ep_transport::{
 };
 use std::process::Abort;
 
-/// A segment with all flags, four bytes of no operation, timestamps and the end of the options, and the payload 1 to 9.
+/// A TCP segment with all flags set and the payload bytes 1 to 9. Its options are four no-operations, timestamps and
+/// the end of options.
 const SEGMENT: &[u8] =
     b"\x00\x45\x00\x2a\x24\x90\x04\x48\x00\x00\x00\x00\x91\xff\x36\x53\x00\x00\xe2\x6e\x01\x01\x01\x01\x08\x0a\x04\x16\x10\x08\x84\x16\x17\x08\x00\x00\x01\x02\x03\x04\x05\x06\x07\x08\x09";
 
-/// A header without options: ports 21 and 12, sequence number 12345, window 4000, with its checksum for the payload 1
-/// to 8 from 192.168.1.1 to 192.168.1.2.
+/// A TCP header without options: ports 21 and 12, sequence number 12345, window 4000. Its checksum is for the payload
+/// bytes 1 to 8, sent from 192.168.1.1 to 192.168.1.2.
 const PLAIN: &[u8] =
     b"\x00\x15\x00\x0c\x00\x00\x30\x39\x00\x00\x00\x00\x50\x00\x0f\xa0\xdc\x7a\x00\x00";
 
@@ -24,7 +25,7 @@ fn plain_header() -> TcpHeader {
     }
 }
 
-/// The header of `SEGMENT`.
+/// Returns the TCP header of the constant `SEGMENT`, with all flags set, 16 bytes of options and checksum 0.
 fn segment_header(rt: &impl Abort) -> TcpHeader {
     let mut header = TcpHeader {
         source_port: 69,
@@ -80,7 +81,7 @@ fn writes(rt: HostRuntime) {
     is_written(&rt, written, &buf, &SEGMENT[..36]);
 }
 
-/// A header with 40 bytes of options.
+/// Returns the longest TCP header, 60 bytes, with 40 bytes of options.
 fn greatest_header(rt: &impl Abort) -> TcpHeader {
     let mut header = plain_header();
     header.set_options_raw(&[1; 40]).expect(rt, "refused");
@@ -101,7 +102,8 @@ fn writes_the_greatest(rt: HostRuntime) {
     is_written(&rt, written, &buf, &bytes);
 }
 
-/// The length of the header that so many bytes with this byte of the data offset are read as.
+/// Returns the length of the TCP header that is parsed from `len` bytes, all zero but for the data offset (byte 12,
+/// which is `byte`), or the error.
 fn header_len(byte: u8, len: usize) -> Result<usize, HeaderSliceError> {
     let mut bytes = [0; 28];
     bytes[12] = byte;
@@ -128,7 +130,8 @@ fn refusals(rt: HostRuntime) {
     }
 }
 
-/// The segment has this checksum between these addresses, by its slice and by its header.
+/// Asserts the checksum of a TCP segment between two IPv4 addresses, computed both by its slice and by its owned
+/// header.
 fn sums_ipv4(rt: &impl Abort, bytes: &[u8], source: [u8; 4], destination: [u8; 4], checksum: u16) {
     let segment = TcpSlice::from_slice(bytes).expect(rt, "refused");
     same(
@@ -151,7 +154,7 @@ fn sums_ipv4(rt: &impl Abort, bytes: &[u8], source: [u8; 4], destination: [u8; 4
 
 #[test]
 fn checksums_over_ipv4(rt: HostRuntime) {
-    // a checksum that is 0 stays 0
+    // a checksum of 0 stays 0, unlike in UDP
     let zero =
         b"\x00\x00\x00\x00\x00\x00\x9f\xc9\x00\x00\x00\x00\x50\x00\x00\x00\x00\x00\x00\x00\x01\x02\x03\x04\x05\x06\x07\x08";
     sums_ipv4(&rt, zero, [0; 4], [0; 4], 0);
@@ -193,7 +196,8 @@ fn checksums_over_ipv6(rt: HostRuntime) {
     same(&rt, &sum, &Ok(0x786e));
 }
 
-/// The refusal of so many bytes behind an IPv4 header.
+/// Returns the error of a TCP checksum over IPv4 that is computed for too many bytes: `actual`, above the maximum
+/// `max_allowed`.
 fn too_long(actual: usize, max_allowed: usize) -> ValueTooBigError<usize> {
     ValueTooBigError {
         actual,

@@ -1,4 +1,4 @@
-//! Options of TCP.
+//! Tests of TCP options, which are parsed and written as elements or as raw bytes.
 
 use crate::tests::checks::{same, shows};
 use ep_transport::{
@@ -49,7 +49,8 @@ fn elements_are_read(rt: HostRuntime) {
     same(&rt, &options.next(), &None);
 }
 
-/// Options whose first element is refused by this error, and then nothing is left.
+/// Parses TCP options and asserts that the first option is rejected with the given error, after which the iterator has
+/// ended and no bytes are left.
 fn refuses_first(rt: &impl Abort, bytes: &[u8], error: TcpOptionReadError) {
     let mut options = TcpOptionsIterator::from_slice(bytes);
     same(rt, &options.next(), &Some(Err(error)));
@@ -112,7 +113,7 @@ fn elements_are_refused(rt: HostRuntime) {
 }
 
 #[test]
-fn nothing_is_read_behind_a_refusal(rt: HostRuntime) {
+fn nothing_is_read_after_an_error(rt: HostRuntime) {
     let mut options = TcpOptionsIterator::from_slice(b"\x01\xfe\x01");
     same(&rt, &options.next(), &Some(Ok(TcpOptionElement::Noop)));
     let unknown = TcpOptionReadError::UnknownId(254);
@@ -135,7 +136,7 @@ fn elements_are_written(rt: HostRuntime) {
     same(&rt, &header.options.as_slice(), &bytes.as_slice());
 }
 
-/// Selective acknowledgements with a gap between the blocks behind the first.
+/// Returns a TCP SACK option whose optional blocks have a gap: the second block is missing, the third is present.
 fn gap() -> TcpOptionElement {
     TcpOptionElement::SelectiveAcknowledgement((1, 2), [None, Some((3, 4)), None])
 }
@@ -154,7 +155,7 @@ fn gaps_are_closed(rt: HostRuntime) {
     same(&rt, &options.next(), &None);
 }
 
-/// Selective acknowledgements of 34 bytes.
+/// Returns a TCP SACK option of the maximum length: 34 bytes, with four blocks.
 fn full() -> TcpOptionElement {
     TcpOptionElement::SelectiveAcknowledgement((1, 2), [Some((3, 4)), Some((5, 6)), Some((7, 8))])
 }

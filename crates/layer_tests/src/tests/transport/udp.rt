@@ -1,12 +1,13 @@
-//! UDP.
+//! Tests of UDP headers and datagrams, and of their checksums.
 
 use crate::tests::checks::{full, is_written, same};
 use ep_transport::{Layer, LenError, LenSource, UdpHeader, UdpSlice, ValueTooBigError, ValueType};
 
-/// A datagram from port 21 to port 1234 with the payload 1 to 8.
+/// A UDP datagram from port 21 to port 1234 with the payload bytes 1 to 8, and the checksum for 192.168.1.1 to
+/// 192.168.1.2.
 const DATAGRAM: &[u8] = b"\x00\x15\x04\xd2\x00\x10\x67\x7f\x01\x02\x03\x04\x05\x06\x07\x08";
 
-/// Its header.
+/// Returns the UDP header of the constant `DATAGRAM`: ports 21 and 1234, length 16.
 fn header() -> UdpHeader {
     UdpHeader {
         source_port: 21,
@@ -32,7 +33,8 @@ fn writes(rt: HostRuntime) {
     is_written(&rt, written, &buf, &DATAGRAM[..8]);
 }
 
-/// The length that a datagram of this length field shows of so many bytes.
+/// Returns the length in bytes of the UDP datagram that is parsed from `len` bytes with the length field `length`, or
+/// the error.
 fn shown_len(length: u16, len: usize) -> Result<usize, LenError> {
     let [l0, l1] = u16::to_be_bytes(length);
     let bytes = [
@@ -68,7 +70,7 @@ fn lengths(rt: HostRuntime) {
 
 #[test]
 fn checksums(rt: HostRuntime) {
-    // the checksum of the second one is 0, which is written as 65535
+    // the second checksum is computed as 0, and written as 65535
     for (length, payload, checksum) in [
         (16, &DATAGRAM[8..], 0x677f),
         (10, b"\x77\x9f".as_slice(), 0xffff),

@@ -5,9 +5,9 @@ use Rattle.line_io.proofs.decimals.push_any.Goals as goal
 
 pub returns-clause-text : goal.returns-clause-text
 returns-clause-text c =
-    let digits = c.put_digits-start.new.digits in
-    let start = c.put_digits-start.result in
+    let digits = c.write_digits-start.new.digits in
+    let start = c.write_digits-start.result in
     OnOk-appended c.extend_from_slice.result c.args.output.now.items c.extend_from_slice.new.self.items
     (take (20 - start) (drop start digits)) _ c.extend_from_slice.ensures.items
-    (digits-whole c.args.number start digits (omega (arith, c.put_digits-start.array_long))
-    c.put_digits-start.ensures.text)
+    (digits-whole c.args.number start digits (omega (arith, c.write_digits-start.array_long))
+    c.write_digits-start.ensures.text)

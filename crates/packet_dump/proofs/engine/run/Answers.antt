@@ -2,7 +2,7 @@ use Rattle.std.proofs.Common.{◌≡◌, true, rules, subst, sym, take, arith, �
 use Rattle.std.proofs.lemmas.Grind.{common_steps}
 use Rattle.std.specs.Io.KnownBytes.{Appends}
 use Rattle.line_io.specs.Transfers.{Moves}
-use Rattle.line_io.specs.WatchedWords.{AppendsFront, has_ended, inner_of}
+use Rattle.line_io.specs.WatchedWords.{AppendsPrefix, has_ended, inner_of}
 use Rattle.line_io.proofs.ResultLemmas.{at_exit}
 use Rattle.packet_dump.specs.Saves.{BeginsSaved, IsCopy, asks}
 use Rattle.packet_dump.specs.Sessions.{ends_run, gathered}
@@ -46,7 +46,7 @@ returns-in_err-write_all-clause-err g c =
     (gathered c.pieces.saving c.pieces.summary) (gathered c.drain.new.saving c.drain.new.summary) (remaining (inner_of c.args.reader.now))
     (remaining (inner_of c.pieces.reader)) (contents (inner_of c.args.writer.now)) holds then_holds
     c.pieces.invariant.0 c.in_ok-standing.ensures.drains
-    (subst (AppendsFront holds then_holds) c.as_slice.ensures.value c.in_err-write_all.ensures.front))
+    (subst (AppendsPrefix holds then_holds) c.as_slice.ensures.value c.in_err-write_all.ensures.front))
 
 pub returns-in_err-write_all-clause-begun : goal.returns-in_err-write_all-clause-begun
 returns-in_err-write_all-clause-begun g c =

@@ -1,4 +1,4 @@
--- The place of the word that is none.
+-- Position of the filter primitive that cannot be parsed.
 use Rattle.std.proofs.Common.{[], ◌∷◌}
 use Rattle.line_io.proofs.ResultLemmas.{at_exit}
 use Rattle.packet_dump.proofs.FilterLemmas.{no_words}

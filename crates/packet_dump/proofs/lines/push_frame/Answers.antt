@@ -57,7 +57,7 @@ returns-clause-line c =
       told.4 ∙ ap (λ (t : List ℕ). t ++ told.0) pushed.2 ∙ append_assoc c.args.output.now.items line told.0,
     )) c.give_where.ensures
 
--- what a frame holds was counted
+-- The content of a frame was counted.
 counts : (strict : Bool) (opening : Opening) (bytes : List ℕ) (layers : Layers) (read : LaxLayers) (shown : PlainShown)
     (old new : PlainSummary) → IsFrame opening.entry bytes layers → FrameRead opening.entry bytes layers read
     → new ≡ counted (is_cooked opening) shown (content_with opening read) old

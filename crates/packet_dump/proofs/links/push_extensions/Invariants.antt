@@ -3,7 +3,7 @@ use Rattle.etherparse.specs.LaxViews.{lax_extension_of}
 use Rattle.packet_dump.specs.Links.{extensions_text}
 use Rattle.packet_dump.proofs.links.push_extensions.Given as goal
 
--- what is appended and what is still to be appended are what is to be appended from here on
+-- The text so far, with that of the remaining extensions, is the complete text.
 abbrev pub invariant-loop-extension : goal.invariant-loop-extension
 invariant-loop-extension l =
     l.output.items ++ extensions_text (map lax_extension_of (drop l.extension-index l.extensions))

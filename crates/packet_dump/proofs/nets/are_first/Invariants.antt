@@ -3,7 +3,7 @@ use Rattle.etherparse.specs.Ipv6ExtensionSlices.{ipv6_slice_parts, parts_left}
 use Rattle.packet_dump.specs.Nets.{are_first}
 use Rattle.packet_dump.proofs.nets.are_first.Given as goal
 
--- those that were looked at are first ones
+-- No extension header so far has a fragment offset other than 0.
 abbrev pub invariant-loop-extension : goal.invariant-loop-extension
 invariant-loop-extension l =
     (are_first (parts_left l.extension-iterator) ≡ are_first (ipv6_slice_parts l.fn.extensions))

@@ -11,8 +11,8 @@ returns c =
     let start = c.args.output.now.items in
     on_ok_weaker c.push_more.result
     (λ last.
-    three_parts start c.push_behind.new.output.items c.push_behind-2.new.output.items c.push_more.new.output.items
+    three_parts start c.push_with_text.new.output.items c.push_with_text-2.new.output.items c.push_more.new.output.items
     (codes " fragment id " ++ decimal c.from.result) (codes " offset " ++ decimal (8 * c.from-2.result))
-    (more_text c.args.more) c.in_ok-push_behind.ensures.text c.in_ok-push_behind-2.ensures.text last
+    (more_text c.args.more) c.in_ok-push_with_text.ensures.text c.in_ok-push_with_text-2.ensures.text last
     ∙ (λ i. start ++ ((codes " fragment id " ++ decimal (c.from.ensures i))
     ++ (codes " offset " ++ decimal (8 * c.from-2.ensures i)) ++ more_text c.args.more))) c.push_more.ensures

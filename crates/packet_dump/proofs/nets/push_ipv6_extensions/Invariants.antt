@@ -3,7 +3,7 @@ use Rattle.etherparse.specs.Ipv6ExtensionSlices.{ipv6_slice_parts, parts_left}
 use Rattle.packet_dump.specs.Nets.{parts_text}
 use Rattle.packet_dump.proofs.nets.push_ipv6_extensions.Given as goal
 
--- what is appended and what is still to be appended are what is to be appended from here on
+-- The text so far, with that of the remaining extension headers, is the complete text.
 abbrev pub invariant-loop-extension : goal.invariant-loop-extension
 invariant-loop-extension l =
     (l.output.items ++ parts_text (parts_left l.extension-iterator)

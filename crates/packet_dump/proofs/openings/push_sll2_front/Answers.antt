@@ -15,9 +15,9 @@ returns c =
     let address = slice_range bytes 12 20 in
     on_ok_weaker c.push_sender.result
     (λ last.
-    three_parts start c.push_behind.new.output.items c.push_way.new.output.items c.push_sender.new.output.items
+    three_parts start c.push_with_text.new.output.items c.push_way.new.output.items c.push_sender.new.output.items
     (codes " sll2 interface " ++ decimal c.sll2_interface.result) (way_text (slice_index bytes 10))
-    (sender_text (take c.min-len.result address)) c.in_ok-push_behind.ensures.text c.in_ok-push_way.ensures last
+    (sender_text (take c.min-len.result address)) c.in_ok-push_with_text.ensures.text c.in_ok-push_way.ensures last
     ∙ (λ i. start ++ ((codes " sll2 interface " ++ decimal (c.sll2_interface.ensures i))
     ++ way_text (slice_index bytes 10) ++ sender_text (take (c.min-len.ensures i) address)))
     ∙ (λ i. start ++ ((codes " sll2 interface " ++ decimal (sll2_interface bytes))

@@ -1,4 +1,4 @@
--- The first `=` parts the word.
+-- The first `=` separates the option from its value.
 use Rattle.std.proofs.Common.{◌<◌, ap, sym, ◌∙◌, arith}
 use Rattle.std.proofs.lemmas.Str.Pattern.{split_parts}
 use Rattle.packet_dump.specs.OptionSteps.{joined_from, joined_in, option_with}

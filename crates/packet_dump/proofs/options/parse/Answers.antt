@@ -1,4 +1,4 @@
--- What all words come to is the answer.
+-- The result is the answer of the parser to all arguments.
 use Rattle.std.proofs.Common.{◌≡◌, Err, Ok, sym, ◌∙◌}
 use Rattle.packet_dump.specs.Options.{answer_of, asked_of, fault_of, texts}
 use Rattle.packet_dump.specs.OptionSteps.{first_state, reading_state}

@@ -1,4 +1,4 @@
--- The words from the next one on come to what all come to.
+-- The remaining arguments have the answer of all arguments.
 use Rattle.std.proofs.Common.{◌≡◌, drop}
 use Rattle.packet_dump.specs.Options.{texts}
 use Rattle.packet_dump.specs.OptionSteps.{first_state, reading_state}

@@ -1,4 +1,4 @@
--- The item that the value says.
+-- The item of each value.
 use Rattle.std.proofs.Common.{rules}
 use Rattle.packet_dump.specs.Options.{count, filter, limit, only, streams, time, timeout, write}
 use Rattle.packet_dump.specs.OptionSteps.{input_in}

@@ -3,7 +3,7 @@ use Rattle.std.specs.String.{string_bytes}
 use Rattle.packet_dump.specs.SummaryTexts.{links_text}
 use Rattle.packet_dump.proofs.summary.push_links.Given as goal
 
--- what is appended and what is still to be appended are what is to be appended from here on
+-- The text so far, with that of the remaining link types, is the complete text.
 abbrev pub invariant-loop-link_type : goal.invariant-loop-link_type
 invariant-loop-link_type l =
     string_bytes l.text ++ links_text (drop l.link_type-index l.unread)

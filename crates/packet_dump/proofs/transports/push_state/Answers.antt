@@ -15,9 +15,9 @@ returns c =
     let number = c.from.ensures ∙ c.long_at.ensures in
     on_ok_weaker c.push_acknowledgment.result
     (λ last.
-    four_parts start c.extend_from_slice.new.self.items c.push_flags.new.output.items c.push_behind.new.output.items
+    four_parts start c.extend_from_slice.new.self.items c.push_flags.new.output.items c.push_with_text.new.output.items
     c.push_acknowledgment.new.output.items (codes " [") (flags_text header) (codes "] seq " ++ decimal c.from.result)
     (acknowledgment_text header) c.in_ok-extend_from_slice.ensures.items c.in_ok-push_flags.ensures
-    c.in_ok-push_behind.ensures.text last
+    c.in_ok-push_with_text.ensures.text last
     ∙ (λ i. start ++ (codes " [" ++ flags_text header ++ (codes "] seq " ++ decimal (number i))
     ++ acknowledgment_text header))) c.push_acknowledgment.ensures

@@ -2,7 +2,7 @@ use Rattle.std.proofs.Common.{ℕ, List, map, length, ◌++◌}
 use Rattle.slice_bench.specs.Files.{HoldsFrames}
 use Rattle.slice_bench.proofs.files.frames_of.Given as goal
 
--- the frames so far, and then those that the rest holds, are those of all bytes, and no others are
+-- The frames so far with those in the rest are the frames of all bytes, and there is no other way to split the bytes.
 abbrev pub invariant-frames : goal.invariant-frames
 invariant-frames l = record {
   ok : (more : List (List ℕ)) → HoldsFrames l.rest more

@@ -1,6 +1,6 @@
 use Rattle.std.proofs.Common.{◌≡◌, ◌+◌, ◌≤◌, Some, sym, ap, subst, ◌∙◌}
 use Rattle.ep_base.specs.Tables.{first_row}
-use Rattle.ep_packet.specs.IpHeaders.{ip_extensions_len, linked_headers, most_behind_header, payload_len_rows}
+use Rattle.ep_packet.specs.IpHeaders.{ip_extensions_len, linked_headers, most_after_header, payload_len_rows}
 use Rattle.ep_packet.specs.IpHeaders.{with_payload_len}
 use Rattle.ep_packet.specs.declared.ip_headers.IpHeaders.{IpHeaders}
 use Rattle.ep_build.proofs.WritingLemmas.{counted, rows_linked}
@@ -11,7 +11,7 @@ returns-in-Ok c =
     let old = c.args.self.now in
     let last = c.args.last in
     let linked = c.set_next_headers-ether_type.ensures.linked in
-    let there = subst (λ (h : IpHeaders). (c.args.len + ip_extensions_len h ≤ most_behind_header h)
+    let there = subst (λ (h : IpHeaders). (c.args.len + ip_extensions_len h ≤ most_after_header h)
     × (c.set_payload_len.new.self ≡ with_payload_len h c.args.len)) linked c.in-Ok.ensures in (
       sym (ap first_row (rows_linked old last c.args.len)) ∙ counted (linked_headers old last) c.args.len there.0,
       there.1,

@@ -7,6 +7,6 @@ use Rattle.ep_build.proofs.packet_builder.PacketBuilderStep.write_to_slice.Goals
 pub returns-clause-read_back : goal.returns-clause-read_back
 returns-clause-read_back g c =
     let step = c.args.self in
-    subst (λ t. OnOk c.place_behind.result
+    subst (λ t. OnOk c.place_transport_step.result
     (IsReadBack step.before.0 (part_headers step.before.1) t c.args.payload.now))
-    c.into_transport-transport.ensures c.place_behind.ensures.read_back
+    c.into_transport-transport.ensures c.place_transport_step.ensures.read_back

@@ -5,14 +5,14 @@ use Rattle.ep_defrag.proofs.ip_defrag_buf.IpDefragBuf.accept.Goals as goal
 pub returns-then-not-more_fragments-clause-data : goal.returns-then-not-more_fragments-clause-data
 returns-then-not-more_fragments-clause-data c =
     let range = c.args.range in
-    c.put.ensures.items
+    c.write_fragment.ensures.items
     ∙ ap (λ bytes. overwritten (extended bytes range.end) range.start c.args.payload.now)
     c.in_ok-reserve_to.ensures.items
 
 pub returns-else-not-more_fragments-clause-data : goal.returns-else-not-more_fragments-clause-data
 returns-else-not-more_fragments-clause-data c =
     let range = c.args.range in
-    c.put.ensures.items
+    c.write_fragment.ensures.items
     ∙ ap (λ bytes. overwritten (extended bytes range.end) range.start c.args.payload.now)
     c.in_ok-reserve_to.ensures.items
 

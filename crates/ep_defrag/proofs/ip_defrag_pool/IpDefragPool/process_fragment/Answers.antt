@@ -6,8 +6,8 @@ use Rattle.ep_defrag.proofs.EntryLemmas.{absent_stream, changed_again, rewritten
 use Rattle.ep_defrag.proofs.TakingLemmas.{goes_on_refused, goes_on_more, goes_on_whole}
 use Rattle.ep_defrag.proofs.ip_defrag_pool.IpDefragPool.process_fragment.Goals as goal
 
-pub begin-requires : goal.begin-requires
-begin-requires g c =
+pub begin_stream-requires : goal.begin_stream-requires
+begin_stream-requires g c =
     rw c.get_mut.follows.holds-at-none
     (absent_stream g.CustomChannelId.PartialEq.eq g.met.CustomChannelId.Eq.laws _ (λ i a b. c.names.ensures a b i)
     c.self.inside.limit c.self.inside.streams.entries c.args.id (sym c.in_default.ensures.value))
@@ -46,7 +46,7 @@ returns g c =
     rw (← c.self.view_is) (goes_on_whole g.CustomChannelId.PartialEq.eq g.met.CustomChannelId.Eq.laws _ _ c.args.id _
     c.args.timestamp (stream_at (of.key, c.in-Some.stream.now)) (stream_at (of.key, next)) of.named refl
     (changed_again g.CustomChannelId.PartialEq.eq g.met.CustomChannelId.Eq.laws _ _ _ c.args.id _ _ of.now
-    c.hand_out.ensures.ends)
+    c.complete_stream.ensures.ends)
     c.in-Ok.ensures.takes
-    (subst (IsWhole c.add.new.buffer) c.if-not-is_whole.false c.in-Ok.ensures.whole) c.hand_out.result
-    (c.hand_out.ensures.payload ∙ ap (option_map (payload_in c.args.id)) of.now.here))
+    (subst (IsWhole c.add.new.buffer) c.if-not-is_whole.false c.in-Ok.ensures.whole) c.complete_stream.result
+    (c.complete_stream.ensures.payload ∙ ap (option_map (payload_in c.args.id)) of.now.here))

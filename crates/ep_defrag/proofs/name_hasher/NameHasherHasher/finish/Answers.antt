@@ -3,4 +3,4 @@ use Rattle.ep_defrag.proofs.name_hasher.NameHasherHasher.finish.Goals as goal
 
 pub returns : goal.returns
 unfolding stepped finished
-returns c = rw (c.finish.ensures, c.empty.ensures)
+returns c = rw (c.finish.ensures, c.flush.ensures)

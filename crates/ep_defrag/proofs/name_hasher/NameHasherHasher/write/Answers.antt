@@ -15,7 +15,7 @@ unfolding step_of with_bytes
 returns-then-bytes-eq1 c =
     let self = c.args.self.now in
     rw (eq-eqb (length c.args.bytes.now) 1 c.if-bytes-eq1.true)
-    (c.wait.ensures ∙ ap (λ (byte : ℕ). stepped self (wait_step self.waiting self.count 1 byte)) c.from.ensures)
+    (c.append_bytes.ensures ∙ ap (λ (byte : ℕ). stepped self (wait_step self.waiting self.count 1 byte)) c.from.ensures)
 
 pub returns-then-bytes-eq2 : goal.returns-then-bytes-eq2
 unfolding step_of with_bytes
@@ -25,7 +25,7 @@ returns-then-bytes-eq2 c =
       ne_eqb (length c.args.bytes.now) 1 c.if-bytes-eq1.false,
       eq-eqb (length c.args.bytes.now) 2 c.if-bytes-eq2.true,
     )
-    (c.wait-then-bytes-eq2.ensures ∙ ap
+    (c.append_bytes-then-bytes-eq2.ensures ∙ ap
     (λ (number : ℕ). stepped self (wait_step self.waiting self.count 2 (bit_or (2 ^ 40) number)))
     (c.from-number.ensures ∙ c.from_le_bytes.ensures))
 
@@ -38,7 +38,7 @@ returns-then-bytes-eq8 c =
       ne_eqb (length c.args.bytes.now) 2 c.if-bytes-eq2.false,
       eq-eqb (length c.args.bytes.now) 8 c.if-bytes-eq8.true,
     )
-    (c.take_number.ensures ∙ ap (λ (number : ℕ). stepped self (number_step self.waiting number))
+    (c.write_number.ensures ∙ ap (λ (number : ℕ). stepped self (number_step self.waiting number))
     c.from_le_bytes-then-bytes-eq8.ensures)
 
 pub returns : goal.returns
@@ -49,7 +49,7 @@ returns c =
       ne_eqb (length c.args.bytes.now) 2 c.if-bytes-eq2.false,
       ne_eqb (length c.args.bytes.now) 8 c.if-bytes-eq8.false,
       c.write.ensures,
-      c.empty.ensures,
+      c.flush.ensures,
     )
     (ap state_alone
     (sym

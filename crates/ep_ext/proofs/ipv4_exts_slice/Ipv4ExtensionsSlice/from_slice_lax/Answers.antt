@@ -3,7 +3,7 @@ use Rattle.std.specs.Option.{option_map}
 use Rattle.ep_base.specs.Bytes.{AreBytes}
 use Rattle.ep_base.specs.Readings.{slices}
 use Rattle.ep_ext.specs.ExtensionParts.{auth_refusal, authentication}
-use Rattle.ep_ext.specs.FrontChains.{IsFrontChain}
+use Rattle.ep_ext.specs.FrontChains.{IsLaxChain}
 use Rattle.ep_ext.specs.IpAuthSlices.{ip_auth_slice_bytes, ip_auth_slice_header}
 use Rattle.ep_base.proofs.BytesLemmas.{front_within, rest_of}
 use Rattle.ep_ext.specs.Chains.{ipv4, ExtensionChain, chain_of}
@@ -68,7 +68,7 @@ returns-in-Ok c =
     λ i. shown (next i).0 (rest i) in
     record {
       bytes = ok.1 ∙ (λ i. front ++ sym rest i);
-      chain = subst (λ (x : ExtensionChain). IsFrontChain ipv4 c.args.number.0 bytes x None) (sym same_chain) here;
+      chain = subst (λ (x : ExtensionChain). IsLaxChain ipv4 c.args.number.0 bytes x None) (sym same_chain) here;
       only = λ chain stop is.
           let same = one_front_chain ipv4 c.args.number.0 bytes fits _ chain None
           (option_map auth_refusal stop) here is in

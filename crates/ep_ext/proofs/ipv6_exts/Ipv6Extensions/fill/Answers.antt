@@ -25,8 +25,8 @@ returns-then-has-clause-ok c =
     c.loop-offset.self c.loop-offset.invariant
     (sym c.is_extension.ensures ∙ c.loop-offset-test.true) start (sym c.has.ensures ∙ c.if-has.true)
 
-pub further-requires : goal.further-requires
-further-requires c =
+pub with_offset-requires : goal.with_offset-requires
+with_offset-requires c =
     let start = part_at_start c.loop-offset.next.0 c.loop-offset.rest.now c.in-Err.error c.in-Err.ensures.err in
     omega (arith, start)
 
@@ -50,9 +50,9 @@ returns-in-Err-clause-err c =
       | else-eq-via-else-eq w ↦ absurd (eqb-false _ _ (sym c.eq.ensures ∙ w.if-eq.false) zero_is)
     ] in
     headers_refused c.args.number.0 c.args.slice.now c.loop-offset.next.0 c.loop-offset.rest.now c.loop-offset.self
-    c.in-Err.error c.further.result c.loop-offset.invariant
+    c.in-Err.error c.with_offset.result c.loop-offset.invariant
     (sym c.is_extension.ensures ∙ c.loop-offset-test.true) start (sym c.has.ensures
-    ∙ c.if-has.false) c.in-Err.ensures.err c.further.ensures
+    ∙ c.if-has.false) c.in-Err.ensures.err c.with_offset.ensures
 
 pub returns-clause-ok : goal.returns-clause-ok
 returns-clause-ok c =

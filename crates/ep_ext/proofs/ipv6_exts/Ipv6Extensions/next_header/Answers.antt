@@ -24,9 +24,9 @@ returns-in-None-clause-ok c =
     let e = c.args.self.now in
     let inv = c.loop-header.invariant in
     let none : None ≡ header_at e c.loop-header.marks c.loop-header.number.0 = sym (ap
-    (option_map header_ref_part) c.in_default.is) ∙ c.find.ensures in
+    (option_map header_ref_part) c.in_default.is) ∙ c.find_unvisited.ensures in
     let left = left_is e inv.by.taken (extensions_of inv.parts) c.loop-header.marks inv.by.is_marked
-    ∙ sym c.missing.ensures ∙ ap (option_map number_of) c.in-None.is in
+    ∙ sym c.first_unvisited.ensures ∙ ap (option_map number_of) c.in-None.is in
     (inv.parts, (walk_end e c.args.first.0 inv.parts c.loop-header.number.0 c.loop-header.marks inv.by none, left))
 
 pub returns-in-None-clause-only : goal.returns-in-None-clause-only
@@ -34,40 +34,40 @@ returns-in-None-clause-only c =
     let e = c.args.self.now in
     let inv = c.loop-header.invariant in
     let none : None ≡ header_at e c.loop-header.marks c.loop-header.number.0 = sym (ap
-    (option_map header_ref_part) c.in_default.is) ∙ c.find.ensures in
+    (option_map header_ref_part) c.in_default.is) ∙ c.find_unvisited.ensures in
     let left = left_is e inv.by.taken (extensions_of inv.parts) c.loop-header.marks inv.by.is_marked
-    ∙ sym c.missing.ensures ∙ ap (option_map number_of) c.in-None.is in
+    ∙ sym c.first_unvisited.ensures ∙ ap (option_map number_of) c.in-None.is in
     λ parts last walks. one_walk_end e c.args.first.0 inv.parts parts c.loop-header.number.0 last
     (walk_end e c.args.first.0 inv.parts c.loop-header.number.0 c.loop-header.marks inv.by none, left) walks
 
-pub returns-in-Some-missing-clause-err : goal.returns-in-Some-missing-clause-err
-returns-in-Some-missing-clause-err c =
+pub returns-in-Some-first_unvisited-clause-err : goal.returns-in-Some-first_unvisited-clause-err
+returns-in-Some-first_unvisited-clause-err c =
     let e = c.args.self.now in
     let inv = c.loop-header.invariant in
     let none : None ≡ header_at e c.loop-header.marks c.loop-header.number.0 = sym (ap
-    (option_map header_ref_part) c.in_default.is) ∙ c.find.ensures in
+    (option_map header_ref_part) c.in_default.is) ∙ c.find_unvisited.ensures in
     let left = left_is e inv.by.taken (extensions_of inv.parts) c.loop-header.marks inv.by.is_marked
-    ∙ sym c.missing.ensures ∙ ap (option_map number_of) c.in-Some-missing.is in (
+    ∙ sym c.first_unvisited.ensures ∙ ap (option_map number_of) c.in-Some-first_unvisited.is in (
       inv.parts,
       c.loop-header.number.0,
-      c.in-Some-missing.missing_ext.0,
+      c.in-Some-first_unvisited.missing_ext.0,
       walk_end e c.args.first.0 inv.parts c.loop-header.number.0 c.loop-header.marks inv.by none,
       left,
       c.walk_error.ensures,
     )
 
-pub returns-in-Some-missing-clause-only : goal.returns-in-Some-missing-clause-only
-returns-in-Some-missing-clause-only c =
+pub returns-in-Some-first_unvisited-clause-only : goal.returns-in-Some-first_unvisited-clause-only
+returns-in-Some-first_unvisited-clause-only c =
     let e = c.args.self.now in
     let inv = c.loop-header.invariant in
     let none : None ≡ header_at e c.loop-header.marks c.loop-header.number.0 = sym (ap
-    (option_map header_ref_part) c.in_default.is) ∙ c.find.ensures in
+    (option_map header_ref_part) c.in_default.is) ∙ c.find_unvisited.ensures in
     let left = left_is e inv.by.taken (extensions_of inv.parts) c.loop-header.marks inv.by.is_marked
-    ∙ sym c.missing.ensures ∙ ap (option_map number_of) c.in-Some-missing.is in
+    ∙ sym c.first_unvisited.ensures ∙ ap (option_map number_of) c.in-Some-first_unvisited.is in
     let refused : RefusesWalk e c.args.first.0 c.walk_error.result = (
       inv.parts,
       c.loop-header.number.0,
-      c.in-Some-missing.missing_ext.0,
+      c.in-Some-first_unvisited.missing_ext.0,
       walk_end e c.args.first.0 inv.parts c.loop-header.number.0 c.loop-header.marks inv.by none,
       left,
       c.walk_error.ensures,

@@ -26,7 +26,7 @@ returns-clause-ok c =
     let rest : take (length bytes - n) (drop n bytes) ≡ ok.0 =
     rest_of bytes (extension_slice_bytes part) ok.0 n ok.1 (ap length c.slice.ensures) in (
       extension_slice_part part,
-      c.put.ensures,
+      c.store.ensures,
       c.next_header.ensures,
       subst (IsExtensionPart c.args.number.0 bytes (extension_slice_part part)) (sym rest) ok.2,
     )

@@ -57,7 +57,7 @@ returns-then-is_err-clause-walk c =
       (λ same. absurd (cc)),
     )
 
--- where there was no room, there is none for the headers of the walk
+-- If an allocation failed, the headers of the walk exceed the capacity.
 pub returns-then-is_err-clause-full : goal.returns-then-is_err-clause-full
 returns-then-is_err-clause-full c =
     let walks = c.in_default.ensures.ok in
@@ -73,7 +73,7 @@ returns-then-is_err-clause-full c =
       ),
     )
 
--- the room of all headers is enough for each
+-- The capacity reserved for all headers suffices for each.
 pub unwrap-requires : goal.unwrap-requires
 unwrap-requires c =
     let e = c.args.self.now in
@@ -133,7 +133,7 @@ returns-clause-ok c =
     let inv = c.loop-header.invariant in
     let walks = c.in_default.ensures.ok in
     let none : None ≡ header_at e c.loop-header.marks c.loop-header.number.0 = sym (ap
-    (option_map header_ref_part) c.in_default-find.is) ∙ c.find.ensures in
+    (option_map header_ref_part) c.in_default-find_unvisited.is) ∙ c.find_unvisited.ensures in
     let walk = walk_end e first inv.parts c.loop-header.number.0 c.loop-header.marks inv.by none in
     let same = one_walk e [] first walks.0 inv.parts c.in_default.field-0.0 c.loop-header.number.0 walks.1.0 walk in (
       inv.parts,

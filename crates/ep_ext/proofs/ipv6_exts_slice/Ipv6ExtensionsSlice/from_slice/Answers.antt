@@ -36,8 +36,8 @@ returns-then-offset-gt0-clause-only c =
     (eqb-true _ _ (sym c.eq.ensures ∙ c.if-eq.true)) c.if-offset-gt0.true in
     λ chain is. refused_no_chain header_laws ipv6 slices c.args.number.0 bytes fits _ refused chain is
 
-pub further-requires : goal.further-requires
-further-requires c =
+pub with_offset-requires : goal.with_offset-requires
+with_offset-requires c =
     let start = part_at_start c.loop-offset.next.0 c.loop-offset.rest.now c.in-Err.error c.in-Err.ensures.err in
     omega (arith, start)
 
@@ -50,9 +50,9 @@ returns-in-Err-clause-err c =
       | else-eq-via-then-eq+else-offset-gt0 w ↦ omega arith
       | else-eq-via-else-eq w ↦ absurd (eqb-false _ _ (sym c.eq.ensures ∙ w.if-eq.false) zero_is)
     ] in
-    slice_refused c.args.number.0 bytes number rest c.loop-offset.fragmented c.in-Err.error c.further.result
+    slice_refused c.args.number.0 bytes number rest c.loop-offset.fragmented c.in-Err.error c.with_offset.result
     c.loop-offset.invariant
-    (sym c.is_extension.ensures ∙ c.loop-offset-test.true) start c.in-Err.ensures.err c.further.ensures
+    (sym c.is_extension.ensures ∙ c.loop-offset-test.true) start c.in-Err.ensures.err c.with_offset.ensures
 
 pub returns-in-Err-clause-only : goal.returns-in-Err-clause-only
 returns-in-Err-clause-only c =
@@ -65,8 +65,8 @@ returns-in-Err-clause-only c =
       | else-eq-via-else-eq w ↦ absurd (eqb-false _ _ (sym c.eq.ensures ∙ w.if-eq.false) zero_is)
     ] in
     let refused = slice_refused c.args.number.0 bytes number rest c.loop-offset.fragmented c.in-Err.error
-    c.further.result c.loop-offset.invariant
-    (sym c.is_extension.ensures ∙ c.loop-offset-test.true) start c.in-Err.ensures.err c.further.ensures in
+    c.with_offset.result c.loop-offset.invariant
+    (sym c.is_extension.ensures ∙ c.loop-offset-test.true) start c.in-Err.ensures.err c.with_offset.ensures in
     λ chain is. refused_no_chain header_laws ipv6 slices c.args.number.0 bytes fits _ refused chain is
 
 pub loop-offset-preserved : goal.loop-offset-preserved

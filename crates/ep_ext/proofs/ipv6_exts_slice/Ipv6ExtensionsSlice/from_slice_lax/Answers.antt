@@ -15,8 +15,8 @@ use Rattle.ep_ext.proofs.ipv6_exts_slice.Ipv6ExtensionsSlice.from_slice_lax.Goal
 pub loop-offset-init : goal.loop-offset-init
 loop-offset-init c = front_nothing c.args.number.0 c.args.slice.now
 
-pub before-ahead-requires : goal.before-ahead-requires
-before-ahead-requires c =
+pub headers_before-ahead-requires : goal.headers_before-ahead-requires
+headers_before-ahead-requires c =
     let here = c.loop-offset in
     record {
       fragments = front_fragments c.args.number.0 c.args.slice.now here.next.0 here.rest.now here.fragmented
@@ -34,19 +34,19 @@ returns-then-offset-gt0 c =
     let front = front_misplaced first bytes here.next.0 here.rest.now here.fragmented here.invariant
     (eqb-true _ _ (sym c.eq.ensures ∙ c.if-eq.true)) c.if-offset-gt0.true in
     let is = front_answered first bytes here.next.0 here.rest.now here.fragmented (Some misplaced) fits front
-    (ipv6_slice_bytes c.before-ahead.result) c.before-ahead.ensures.bytes (ipv6_slice_number c.before-ahead.result)
-    c.before-ahead.ensures.number in
+    (ipv6_slice_bytes c.headers_before-ahead.result) c.headers_before-ahead.ensures.bytes (ipv6_slice_number c.headers_before-ahead.result)
+    c.headers_before-ahead.ensures.number in
     record {
       bytes = is.0;
       chain = (Some misplaced, is.1, refl);
       only = λ chain stop other.
           let same = is.2 chain stop other in
           (same.0, ap (option_map chain_stop) same.1);
-      number = c.before-ahead.ensures.number;
+      number = c.headers_before-ahead.ensures.number;
     }
 
-pub before-front-requires : goal.before-front-requires
-before-front-requires c =
+pub headers_before-front-requires : goal.headers_before-front-requires
+headers_before-front-requires c =
     let here = c.loop-offset in
     record {
       fragments = front_fragments c.args.number.0 c.args.slice.now here.next.0 here.rest.now here.fragmented
@@ -54,8 +54,8 @@ before-front-requires c =
       within = front_within c.args.number.0 c.args.slice.now here.next.0 here.rest.now here.fragmented here.invariant;
     }
 
-pub further-requires : goal.further-requires
-further-requires c =
+pub with_offset-requires : goal.with_offset-requires
+with_offset-requires c =
     let start = part_at_start c.loop-offset.next.0 c.loop-offset.rest.now c.in-Err.error c.in-Err.ensures.err in
     omega (arith, start)
 
@@ -71,19 +71,19 @@ returns-in-Err c =
       | else-eq-via-then-eq+else-offset-gt0 w ↦ omega arith
       | else-eq-via-else-eq w ↦ absurd (eqb-false _ _ (sym c.eq.ensures ∙ w.if-eq.false) zero_is)
     ] in
-    let front = front_refused first bytes number rest here.fragmented c.in-Err.error c.further.result here.invariant
-    (sym c.is_extension.ensures ∙ c.loop-offset-test.true) start c.in-Err.ensures.err c.further.ensures in
-    let is = front_answered first bytes number rest here.fragmented (Some c.further.result) fits front
-    (ipv6_slice_bytes c.before-front.result) c.before-front.ensures.bytes (ipv6_slice_number c.before-front.result)
-    c.before-front.ensures.number in
-    let told = ap Some c.stop.ensures in
+    let front = front_refused first bytes number rest here.fragmented c.in-Err.error c.with_offset.result here.invariant
+    (sym c.is_extension.ensures ∙ c.loop-offset-test.true) start c.in-Err.ensures.err c.with_offset.ensures in
+    let is = front_answered first bytes number rest here.fragmented (Some c.with_offset.result) fits front
+    (ipv6_slice_bytes c.headers_before-front.result) c.headers_before-front.ensures.bytes (ipv6_slice_number c.headers_before-front.result)
+    c.headers_before-front.ensures.number in
+    let told = ap Some c.error_with_layer.ensures in
     record {
       bytes = is.0;
-      chain = (Some c.further.result, is.1, told);
+      chain = (Some c.with_offset.result, is.1, told);
       only = λ chain stop other.
           let same = is.2 chain stop other in
           (same.0, told ∙ ap (option_map chain_stop) same.1);
-      number = c.before-front.ensures.number;
+      number = c.headers_before-front.ensures.number;
     }
 
 pub loop-offset-preserved : goal.loop-offset-preserved
@@ -104,8 +104,8 @@ loop-offset-preserved c =
     (sym c.is_extension.ensures ∙ c.loop-offset-test.true) start ok.2 c.next_header-next.ensures after
     (ap (λ (b : Bool). c.loop-offset.fragmented || b) c.is_fragmenting_payload-fragmented.ensures)
 
-pub before-all-requires : goal.before-all-requires
-before-all-requires c =
+pub headers_before-all-requires : goal.headers_before-all-requires
+headers_before-all-requires c =
     let here = c.loop-offset in
     record {
       fragments = front_fragments c.args.number.0 c.args.slice.now here.next.0 here.rest.now here.fragmented
@@ -122,13 +122,13 @@ returns c =
     let front = front_ends first bytes here.next.0 here.rest.now here.fragmented here.invariant
     (sym c.is_extension.ensures ∙ c.loop-offset-test.false) in
     let is = front_answered first bytes here.next.0 here.rest.now here.fragmented None fits front
-    (ipv6_slice_bytes c.before-all.result) c.before-all.ensures.bytes (ipv6_slice_number c.before-all.result)
-    c.before-all.ensures.number in
+    (ipv6_slice_bytes c.headers_before-all.result) c.headers_before-all.ensures.bytes (ipv6_slice_number c.headers_before-all.result)
+    c.headers_before-all.ensures.number in
     record {
       bytes = is.0;
       chain = (None, is.1, refl);
       only = λ chain stop other.
           let same = is.2 chain stop other in
           (same.0, ap (option_map chain_stop) same.1);
-      number = c.before-all.ensures.number;
+      number = c.headers_before-all.ensures.number;
     }

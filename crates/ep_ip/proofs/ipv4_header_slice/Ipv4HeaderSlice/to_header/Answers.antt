@@ -15,5 +15,5 @@ returns c = λ i. record {
   header_checksum = c.header_checksum.ensures i;
   source = c.source.ensures i;
   destination = c.destination.ensures i;
-  options = (c.copy_of.ensures ∙ c.options.ensures) i;
+  options = (c.from_valid_slice.ensures ∙ c.options.ensures) i;
 }

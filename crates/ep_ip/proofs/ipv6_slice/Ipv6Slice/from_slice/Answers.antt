@@ -11,8 +11,8 @@ use Rattle.ep_ip.proofs.ExtensionLawLemmas.{exts_within}
 use Rattle.ep_ip.proofs.PacketLemmas.{ipv6_refused, ipv6_shown}
 use Rattle.ep_ip.proofs.ipv6_slice.Ipv6Slice.from_slice.Goals as goal
 
-pub behind_header-requires : goal.behind_header-requires
-behind_header-requires c =
+pub after_header-requires : goal.after_header-requires
+after_header-requires c =
     let ok = c.in_ok-header.ensures.ok in
     let error = c.in-Err-Len.error in
     let e = ipv6_header_slice_bytes c.in_ok-header.header in

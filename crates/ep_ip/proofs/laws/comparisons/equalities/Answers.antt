@@ -43,7 +43,7 @@ returns-clause-ipv4_header c a b =
     (slice_eq-Decides Decides-eqb a.destination b.destination _ refl)
     (returns-clause-ipv4_options c a.options b.options))))
 
--- payloads that slices show
+-- Comparing the payloads of two slices decides whether they are equal.
 same_payload : {r : Bool} (a b : IpPayloadSlice)
     → Decides r ((a.ip_number ≡ b.ip_number) × (a.fragmented ≡ b.fragmented) × (a.len_source ≡ b.len_source)
     × (a.payload.now ≡ b.payload.now))

@@ -30,7 +30,7 @@ returns-clause-ip_payloads c a b =
     (Decides-and _ _ (c.equalities.ensures.len_sources a.len_source b.len_source)
     (slice_eq-Decides Decides-eqb a.payload.now b.payload.now _ refl)))))
 
--- payloads that slices show, of which bytes are missing or not
+-- Payloads that slices contain, with bytes missing or not.
 same_payload : {r : Bool} (a b : LaxIpPayloadSlice)
     → Decides r ((a.incomplete ≡ b.incomplete) × (a.ip_number ≡ b.ip_number) × (a.fragmented ≡ b.fragmented)
     × (a.len_source ≡ b.len_source) × (a.payload.now ≡ b.payload.now))

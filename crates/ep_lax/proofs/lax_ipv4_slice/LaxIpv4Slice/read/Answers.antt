@@ -11,17 +11,17 @@ use Rattle.ep_lax.proofs.LaxIpLemmas.{ipv4_put_together, stop_within}
 use Rattle.ep_lax.proofs.LaxSliceLemmas.{parts_shown}
 use Rattle.ep_lax.proofs.lax_ipv4_slice.LaxIpv4Slice.read.Goals as goal
 
-pub cut-content-requires-clause-header : goal.cut-content-requires-clause-header
-cut-content-requires-clause-header c =
+pub limit_by_length_field-content-requires-clause-header : goal.limit_by_length_field-content-requires-clause-header
+limit_by_length_field-content-requires-clause-header c =
     let ok = c.in-Ok.ensures.ok in
     let front = ipv4_header_slice_bytes c.in-Ok.header in
     omega (arith, ap length ok.1, length-append front ok.0, c.header_len-header_len.ensures.bytes)
 
-pub behind_header-stop-requires : goal.behind_header-stop-requires
-behind_header-stop-requires c = λ error same.
+pub after_header-stop-requires : goal.after_header-stop-requires
+after_header-stop-requires c = λ error same.
     let n = c.header_len-header_len.result in
-    let cutting = c.cut-content.ensures in
-    let content = c.cut-content.result.payload.now in
+    let cutting = c.limit_by_length_field-content.ensures in
+    let content = c.limit_by_length_field-content.result.payload.now in
     let read = c.from_slice_lax-refused.result in
     let chain = chain_of (ipv4_slice_parts read.0) read.1.0 read.2.now in
     let within = stop_within ipv4 c.protocol.result.0 content chain (option_map auth_refusal read.3)
@@ -41,8 +41,8 @@ returns-clause-ok c =
     let ok = c.in-Ok.ensures.ok in
     let front = ipv4_header_slice_bytes c.in-Ok.header in
     let fragmenting = c.is_fragmenting_payload-fragmented in
-    let cutting = c.cut-content.ensures in
-    let content = c.cut-content.result.payload.now in
+    let cutting = c.limit_by_length_field-content.ensures in
+    let content = c.limit_by_length_field-content.result.payload.now in
     let read = c.from_slice_lax-refused.result in
     let chain = chain_of (ipv4_slice_parts read.0) read.1.0 read.2.now in (
       cutting.0,
@@ -50,8 +50,8 @@ returns-clause-ok c =
           c.header_len-header_len.ensures.bytes cutting.1.parts c.from_slice_lax-refused.ensures.bytes,
       ipv4_put_together c.args.outer bytes front ok.0 (ipv4_header_slice_header c.in-Ok.header) ok.1 ok.2 n
           c.header_len-header_len.ensures.bytes c.header_len-header_len.ensures.value _ c.total_len.ensures
-          (lax_cut_of c.cut-content.result cutting.0) cutting.1 c.protocol.result.0
+          (lax_cut_of c.limit_by_length_field-content.result cutting.0) cutting.1 c.protocol.result.0
           (ap (λ (number : IpNumber). number.0) c.protocol.ensures) chain (option_map auth_refusal read.3)
           c.from_slice_lax-refused.ensures.chain fragmenting.result fragmenting.ensures
-          (option_map auth_refusal c.behind_header-stop.result) c.behind_header-stop.ensures,
+          (option_map auth_refusal c.after_header-stop.result) c.after_header-stop.ensures,
     )

@@ -5,22 +5,22 @@ use Rattle.ep_base.specs.declared.ip_number.IpNumber.{IpNumber}
 use Rattle.ep_ext.specs.Chains.{ipv6, chain_of}
 use Rattle.ep_ext.specs.Ipv6ExtensionSlices.{ipv6_slice_parts, ipv6_slice_bytes as extension_bytes}
 use Rattle.ep_ip.specs.Ipv6Slices.{ipv6_header_slice_bytes, ipv6_header_slice_header}
-use Rattle.ep_lax.specs.LaxIp.{stop_behind}
+use Rattle.ep_lax.specs.LaxIp.{stop_after}
 use Rattle.ep_lax.specs.LaxSlices.{lax_cut_of}
 use Rattle.ep_lax.proofs.LaxIpLemmas.{ipv6_put_together, stop_within, told_stop}
 use Rattle.ep_lax.proofs.LaxSliceLemmas.{parts_shown}
 use Rattle.ep_lax.proofs.lax_ipv6_slice.LaxIpv6Slice.read.Goals as goal
 
-pub cut-content-requires-clause-header : goal.cut-content-requires-clause-header
-cut-content-requires-clause-header c =
+pub limit_by_length_field-content-requires-clause-header : goal.limit_by_length_field-content-requires-clause-header
+limit_by_length_field-content-requires-clause-header c =
     let ok = c.in-Ok.ensures.ok in
     let header = c.in-Ok.header in
     omega (arith, ap length ok.1, length-append (ipv6_header_slice_bytes header) ok.0, header.bytes.whole)
 
-pub behind_header-stop-requires : goal.behind_header-stop-requires
-behind_header-stop-requires c = λ error same.
-    let cutting = c.cut-content.ensures in
-    let content = c.cut-content.result.payload.now in
+pub after_header-stop-requires : goal.after_header-stop-requires
+after_header-stop-requires c = λ error same.
+    let cutting = c.limit_by_length_field-content.ensures in
+    let content = c.limit_by_length_field-content.result.payload.now in
     let read = c.from_slice_lax-refused.result in
     let chain = chain_of (ipv6_slice_parts read.0) read.1.0 read.2.now in
     let front = c.from_slice_lax-refused.ensures.chain in
@@ -40,15 +40,15 @@ returns-clause-ok c =
     let ok = c.in-Ok.ensures.ok in
     let header = c.in-Ok.header in
     let front = ipv6_header_slice_bytes header in
-    let cutting = c.cut-content.ensures in
-    let content = c.cut-content.result.payload.now in
+    let cutting = c.limit_by_length_field-content.ensures in
+    let content = c.limit_by_length_field-content.result.payload.now in
     let read = c.from_slice_lax-refused.result in
     let chain = chain_of (ipv6_slice_parts read.0) read.1.0 read.2.now in
     let stopped = c.from_slice_lax-refused.ensures.chain in
     let end = c.payload_source-len_source.result in
-    let cut = lax_cut_of c.cut-content.result cutting.0 in (
+    let cut = lax_cut_of c.limit_by_length_field-content.result cutting.0 in (
       cutting.0,
-      option_map (stop_behind 40 end) stopped.0,
+      option_map (stop_after 40 end) stopped.0,
       parts_shown bytes front ok.0 content (extension_bytes read.0 ++ read.2.now) cutting.0 40 ok.1
           (sym header.bytes.whole) cutting.1.parts c.from_slice_lax-refused.ensures.bytes,
       ipv6_put_together c.args.outer bytes front ok.0 (ipv6_header_slice_header header) ok.1 ok.2
@@ -56,5 +56,5 @@ returns-clause-ok c =
           c.next_header.result.0 (ap (λ (number : IpNumber). number.0) c.next_header.ensures) chain stopped.0 stopped.1
           c.is_fragmenting_payload.result c.is_fragmenting_payload.ensures end
           (c.payload_source-len_source.ensures cut refl refl),
-      c.behind_header-stop.ensures stopped.0 stopped.2,
+      c.after_header-stop.ensures stopped.0 stopped.2,
     )

@@ -5,8 +5,8 @@ use Rattle.ep_lax.specs.LaxSlices.{lax_cut_of, lax_macsec_payload_of}
 use Rattle.ep_lax.proofs.LaxMacsecLemmas.{macsec_put_together}
 use Rattle.ep_lax.proofs.lax_macsec_slice.LaxMacsecSlice.read.Goals as goal
 
-pub cut-content-requires-clause-header : goal.cut-content-requires-clause-header
-cut-content-requires-clause-header c =
+pub limit_by_length_field-content-requires-clause-header : goal.limit_by_length_field-content-requires-clause-header
+limit_by_length_field-content-requires-clause-header c =
     let ok = c.in-Ok.ensures.ok in
     let front = macsec_header_slice_bytes c.in-Ok.header in
     omega (arith, ap length ok.1, length-append front ok.0, c.header_len-header_len.ensures.bytes)
@@ -18,17 +18,17 @@ returns-clause-ok c =
     let ok = c.in-Ok.ensures.ok in
     let tag = macsec_header_slice_bytes c.in-Ok.header in
     let header = macsec_header_slice_header c.in-Ok.header in
-    let cutting = c.cut-content.ensures in
-    let cut = lax_cut_of c.cut-content.result cutting.0 in
-    let payload = lax_macsec_payload_of c.behind-payload.result in
+    let cutting = c.limit_by_length_field-content.ensures in
+    let cut = lax_cut_of c.limit_by_length_field-content.result cutting.0 in
+    let payload = lax_macsec_payload_of c.of_tag-payload.result in
     let is = macsec_put_together c.args.outer bytes tag ok.0 header ok.1 ok.2 n
-    c.header_len-header_len.ensures.bytes c.header_len-header_len.ensures.value _ c.macsec_says.ensures cut cutting.1
-    payload c.behind-payload.ensures.payload in (
+    c.header_len-header_len.ensures.bytes c.header_len-header_len.ensures.value _ c.macsec_stated_len.ensures cut cutting.1
+    payload c.of_tag-payload.ensures.payload in (
       cut,
       record {
         parts = is.parts;
         is = is.is;
-        payload = c.behind-payload.ensures.payload;
-        incomplete = c.behind-payload.ensures.incomplete;
+        payload = c.of_tag-payload.ensures.payload;
+        incomplete = c.of_tag-payload.ensures.incomplete;
       },
     )

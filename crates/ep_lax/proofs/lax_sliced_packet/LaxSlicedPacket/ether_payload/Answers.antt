@@ -5,7 +5,7 @@ use Rattle.ep_base.specs.declared.len_source.LenSource.TheVariants as source
 use Rattle.ep_link.specs.LinkExtensions.{extension_type}
 use Rattle.ep_link.specs.LinkSlices.{link_layer_of}
 use Rattle.ep_lax.specs.LaxPackets.{extensions_incomplete}
-use Rattle.ep_lax.specs.LaxPayloads.{lax_ether_payload_of, source_behind, typed_payload}
+use Rattle.ep_lax.specs.LaxPayloads.{lax_ether_payload_of, source_after, typed_payload}
 use Rattle.ep_lax.specs.LaxViews.{lax_extension_of}
 use Rattle.ep_lax.proofs.LaxPayloadLemmas.{ether_payload_of_last}
 use Rattle.ep_lax.proofs.lax_sliced_packet.LaxSlicedPacket.ether_payload.Goals as goal
@@ -19,7 +19,7 @@ returns-in_err-ether_type c =
     let type_is : extension_type (lax_extension_of last) ≡ None =
     sym c.next_ether_type.ensures ∙ c.in_err-ether_type.was in
     ap (option_map lax_ether_payload_of) c.from_residual-in_err-ether_type.ensures
-    ∙ ap (option_map (typed_payload (source_behind source.Slice (map lax_extension_of slices))
+    ∙ ap (option_map (typed_payload (source_after source.Slice (map lax_extension_of slices))
     (lax_extension_of last, extensions_incomplete false slices))) (sym type_is)
     ∙ sym shown
 
@@ -38,6 +38,6 @@ returns c =
       bytes = c.payload_slice.ensures i;
       incomplete = c.extensions_incomplete.ensures i;
     }))
-    ∙ ap (option_map (typed_payload (source_behind source.Slice (map lax_extension_of slices))
+    ∙ ap (option_map (typed_payload (source_after source.Slice (map lax_extension_of slices))
     (lax_extension_of last, extensions_incomplete false slices))) (sym type_is)
     ∙ sym shown

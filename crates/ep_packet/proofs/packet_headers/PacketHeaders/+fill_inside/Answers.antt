@@ -21,7 +21,7 @@ use Rattle.ep_packet.proofs.InsideHeadersLemmas.{fills_one, fills_modified, tag_
 use Rattle.ep_packet.proofs.WalkLemmas.{found_there, none_there}
 use Rattle.ep_packet.proofs.packet_headers.PacketHeaders.+fill_inside.Goals as goal
 
--- where no more extensions are taken, or the type begins none, bytes are refused for a net part alone
+-- If no further link extension is read, an error of the network layer is an error of the bytes.
 refused_alone : (room offset : ℕ) (type : EtherType) (bytes : List ℕ) → ((room ≡ 0) ⊎ (¬ BeginsLinkExtension type))
     → (error : SliceError) → RefusesNetPart headers offset (net_kind type) bytes error
     → RefusesInside headers room offset (Some type) bytes error
@@ -29,7 +29,7 @@ refused_alone zero offset type bytes why error refused = refused
 refused_alone (suc room) offset type bytes (inl full) error refused = absurd (omega (arith, full))
 refused_alone (suc room) offset type bytes (inr none) error refused = inl (none, refused)
 
--- and else for an extension that must be there
+-- Otherwise an error of the required link extension is an error of the bytes.
 refused_extension : (room rest offset : ℕ) (type : EtherType) (bytes : List ℕ) (error : SliceError) → room ≡ suc rest
     → RefusesExtensionAt offset type bytes error → RefusesInside headers room offset (Some type) bytes error
 refused_extension room rest offset type bytes error more refused =
@@ -112,7 +112,7 @@ returns-in-Some-clause-ok t c =
     (ether_payload_of c.in-Some.inside) there.0 found
     old middle new more there.2 same (ap (λ (x : List LinkExtHeader). record old { link_exts = x }) tagged)
     (subst (λ (s : LenSource). FillsInside rest (ending_by s (ether_payload_of c.in-Some.inside)) middle new)
-    c.cut_by.ensures behind))
+    c.limited_by.ensures behind))
     c.fill_inside.ensures.ok
 
 pub returns-in-Some-clause-err : goal.returns-in-Some-clause-err
@@ -150,7 +150,7 @@ returns-in-None-clause-ok t c =
     let none : extension_ether_payload found ≡ None =
     sym c.ether_payload.ensures ∙ ap (option_map ether_payload_of) c.in-None.is in
     fills_modified room rest (ether_payload_of c.args.payload) there.0 found old _ more there.2 none
-    (c.end.ensures
+    (c.set_payload.ensures
     ∙ ap (λ (x : List LinkExtHeader). record old {
       link_exts = x;
       net = None;

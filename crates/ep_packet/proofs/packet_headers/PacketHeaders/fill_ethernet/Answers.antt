@@ -8,8 +8,8 @@ returns-clause-ok c =
     let ok = c.in-Ok.ensures.ok in
     IfOk-weaker c.fill_inside.result _ _
     (λ done fills. ethernet_filled c.args.bytes.now ok.0 c.in-Ok.frame c.to_header.result c.payload.result
-    (headers_of c.args.self.now) c.begin.new.self c.fill_inside.new.self ok.2 c.to_header.ensures
-    c.payload.ensures.ether_type c.payload.ensures.len_source c.payload.ensures.payload c.begin.ensures fills)
+    (headers_of c.args.self.now) c.set_link.new.self c.fill_inside.new.self ok.2 c.to_header.ensures
+    c.payload.ensures.ether_type c.payload.ensures.len_source c.payload.ensures.payload c.set_link.ensures fills)
     c.fill_inside.ensures.ok
 
 pub returns-clause-err : goal.returns-clause-err
@@ -17,6 +17,6 @@ returns-clause-err c =
     let ok = c.in-Ok.ensures.ok in
     IfErr-weaker c.fill_inside.result _ _
     (λ error refused. ethernet_behind_refused c.args.bytes.now ok.0 c.in-Ok.frame c.payload.result
-    (headers_of c.args.self.now) c.begin.new.self _ error ok.2 c.payload.ensures.ether_type c.payload.ensures.payload
-    c.begin.ensures refused)
+    (headers_of c.args.self.now) c.set_link.new.self _ error ok.2 c.payload.ensures.ether_type c.payload.ensures.payload
+    c.set_link.ensures refused)
     c.fill_inside.ensures.err

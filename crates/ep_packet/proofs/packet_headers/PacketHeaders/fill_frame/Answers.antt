@@ -12,14 +12,14 @@ use Rattle.ep_packet.proofs.packet_headers.PacketHeaders.fill_frame.Goals as goa
 pub returns-in-EtherType-clause-ok : goal.returns-in-EtherType-clause-ok
 returns-in-EtherType-clause-ok c =
     let bytes = c.args.bytes.now in
-    let begun = c.begin.new.self in
+    let begun = c.set_link.new.self in
     let new = c.fill_inside.new.self in
     subst (λ (e : Entry). OnOk c.fill_inside.result (IsFilled e bytes (headers_of new))) (sym c.in-EtherType.is)
     (IfOk-weaker c.fill_inside.result _ _
     (λ done fills. ether_payload_filled bytes c.in-EtherType.ether_type (headers_of c.args.self.now) begun new
-    c.begin.ensures
+    c.set_link.ensures
     (subst (λ (p : EtherPayload). FillsInside (most_link_exts - length begun.link_exts.items) p (headers_of begun)
-    (headers_of new)) c.whole_payload.ensures fills))
+    (headers_of new)) c.link_ether_payload.ensures fills))
     c.fill_inside.ensures.ok)
 
 pub returns-in-Ip-clause-ok : goal.returns-in-Ip-clause-ok
@@ -28,6 +28,6 @@ returns-in-Ip-clause-ok c =
     let new = headers_of c.fill_ip.new.self in
     subst (λ (e : Entry). OnOk c.fill_ip.result (IsFilled e bytes new)) (sym c.in-Ip.is)
     (IfOk-weaker c.fill_ip.result _ _
-    (λ done fills. ip_fills bytes (headers_of c.args.self.now) (headers_of c.begin-in-Ip.new.self) new
-    c.begin-in-Ip.ensures fills)
+    (λ done fills. ip_fills bytes (headers_of c.args.self.now) (headers_of c.set_link-in-Ip.new.self) new
+    c.set_link-in-Ip.ensures fills)
     c.fill_ip.ensures.ok)

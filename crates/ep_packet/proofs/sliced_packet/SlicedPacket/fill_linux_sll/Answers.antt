@@ -5,7 +5,7 @@ use Rattle.ep_packet.proofs.sliced_packet.SlicedPacket.fill_linux_sll.Goals as g
 
 pub returns-in-Ok : goal.returns-in-Ok
 returns-in-Ok c =
-    let packet = c.fill_behind.new.self in
-    let enters = enters_frame linux_sll c.args.slice.now c.in-Ok.part c.fill_behind.result (λ _. packet)
-    (λ i. omega (arith, c.type_inv.slice i)) c.in-Ok.ensures.ok c.fill_behind.ensures.ok c.fill_behind.ensures.err in
+    let packet = c.fill_from_link.new.self in
+    let enters = enters_frame linux_sll c.args.slice.now c.in-Ok.part c.fill_from_link.result (λ _. packet)
+    (λ i. omega (arith, c.type_inv.slice i)) c.in-Ok.ensures.ok c.fill_from_link.ensures.ok c.fill_from_link.ensures.err in
     record { ok = enters.ok; bytes = enters.shows; err = enters.err }

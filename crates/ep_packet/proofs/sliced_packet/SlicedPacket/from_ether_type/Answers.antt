@@ -5,8 +5,8 @@ use Rattle.ep_packet.proofs.sliced_packet.SlicedPacket.from_ether_type.Goals as 
 
 pub returns : goal.returns
 returns c =
-    let enters = enters_frame (ether_type c.args.ether_type) c.args.slice.now c.ether_type.result c.slice_behind.result
+    let enters = enters_frame (ether_type c.args.ether_type) c.args.slice.now c.ether_type.result c.slice_from_link.result
     (λ packet. packet)
-    (λ i. omega (arith, c.type_inv.slice i)) c.ether_type.ensures.begins c.slice_behind.ensures.ok
-    c.slice_behind.ensures.err in
+    (λ i. omega (arith, c.type_inv.slice i)) c.ether_type.ensures.begins c.slice_from_link.ensures.ok
+    c.slice_from_link.ensures.err in
     record { ok = enters.ok; only = enters.only; bytes = enters.shows; err = enters.err }

@@ -12,6 +12,6 @@ returns-in-Err-clause-only c = λ layers is.
 
 pub returns-in-Ok : goal.returns-in-Ok
 returns-in-Ok c =
-    let enters = enters_frame ethernet c.args.slice.now c.in-Ok.part c.slice_behind.result (λ packet. packet)
-    (λ i. omega (arith, c.type_inv.slice i)) c.in-Ok.ensures.ok c.slice_behind.ensures.ok c.slice_behind.ensures.err in
+    let enters = enters_frame ethernet c.args.slice.now c.in-Ok.part c.slice_from_link.result (λ packet. packet)
+    (λ i. omega (arith, c.type_inv.slice i)) c.in-Ok.ensures.ok c.slice_from_link.ensures.ok c.slice_from_link.ensures.err in
     record { ok = enters.ok; only = enters.only; bytes = enters.shows; err = enters.err }

@@ -16,17 +16,17 @@ loop-element-preserved c =
     options_next elements i Noop c.loop-element-test.true in
     let len : length (options_bytes (take (i + 1) elements)) ≡ length before + length option =
     ap length next ∙ length-append before option in
-    let one : c.push_if_room.result ≡ length option = c.push_if_room.ensures.len in
+    let one : c.append_if_fits.result ≡ length option = c.append_if_fits.ensures.len in
     let counted : c.saturating_add-len.result ≡ min (length (options_bytes (take (i + 1) elements))) (2 ^ 64 - 1) =
     omega (arith, c.saturating_add-len.ensures, c.loop-element.invariant.counted, len, one) in
     record {
       counted = counted;
       fits = All-more FitsOption elements i Noop c.loop-element-test.true c.loop-element.invariant.fits
-          c.push_if_room.ensures.fits;
+          c.append_if_fits.ensures.fits;
       copied = λ short.
           let copied : c.loop-element.bytes.items ≡ before =
           c.loop-element.invariant.copied (omega (arith, short, c.saturating_add-len.ensures)) in
-          c.push_if_room.ensures.room
+          c.append_if_fits.ensures.room
           (omega (arith, short, c.saturating_add-len.ensures, c.loop-element.invariant.counted, one, ap length copied))
           ∙ ap (λ (bytes : List ℕ). bytes ++ option) copied ∙ sym next;
     }

@@ -3,7 +3,7 @@ use Rattle.std.specs.List.{All}
 use Rattle.ep_transport.specs.TcpOptionBytes.{FitsOption, options_bytes}
 use Rattle.ep_transport.proofs.tcp_options.TcpOptions.set_elements.Given as goal
 
--- the options so far are counted and fit, and are copied as long as there is room
+-- The options so far are counted and fit their widths, and are copied as long as they fit into 40 bytes.
 abbrev pub invariant-loop-element : goal.invariant-loop-element
 invariant-loop-element l = record {
   counted : l.len ≡ min (length (options_bytes (take l.element-index l.elements))) (2 ^ 64 - 1);

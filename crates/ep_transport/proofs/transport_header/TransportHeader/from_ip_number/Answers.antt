@@ -12,4 +12,4 @@ returns-clause-only c =
     only_of (option_map (λ read. transport_layer read.0 read.1.now))
     (decided (transport_is_read headers c.args.number.0 c.args.fragmented) c.args.slice.now
     (λ i. omega (arith, c.type_inv.slice i)))
-    c.part_of.result c.part_of.ensures.ok c.part_of.ensures.err
+    c.parse_ip_payload.result c.parse_ip_payload.ensures.ok c.parse_ip_payload.ensures.err

@@ -3,13 +3,13 @@ use Rattle.std.proofs.lemmas.Grind.{common_steps}
 use Rattle.ep_base.specs.Bytes.{AreBytes, word_at}
 use Rattle.ep_transport.proofs.UdpLemmas.{lax_udp_cut, lax_udp_whole, one_lax_udp}
 use Rattle.ep_transport.proofs.udp_slice.UdpSlice.from_slice_lax.Goals as goal
-use Rattle.ep_transport.proofs.udp_slice.UdpSlice.from_slice_lax.Goals.{then-says-lt-LEN-via-then-says-lt-LEN, then-says-lt-LEN-via-else-says-lt-LEN+then-slice-says}
+use Rattle.ep_transport.proofs.udp_slice.UdpSlice.from_slice_lax.Goals.{then-stated-lt-LEN-via-then-stated-lt-LEN, then-stated-lt-LEN-via-else-stated-lt-LEN+then-slice-stated}
 
 pub returns : goal.returns
 returns c =
     let bytes = c.args.slice.now in
     let fits : AreBytes bytes = λ i. omega (arith, c.type_inv.slice i) in
-    let shows = lax_udp_cut false bytes c.from_be_bytes-says.result fits (grind (arith, common_steps))
+    let shows = lax_udp_cut false bytes c.from_be_bytes-stated.result fits (grind (arith, common_steps))
     (omega arith) (omega arith) in
     record {
       ok = (shows.cut, shows.parts, shows.is, shows.payload);
@@ -19,14 +19,14 @@ returns c =
       err = tt;
     }
 
-pub returns-then-says-lt-LEN : goal.returns-then-says-lt-LEN
-returns-then-says-lt-LEN c =
+pub returns-then-stated-lt-LEN : goal.returns-then-stated-lt-LEN
+returns-then-stated-lt-LEN c =
     let bytes = c.args.slice.now in
     let fits : AreBytes bytes = λ i. omega (arith, c.type_inv.slice i) in
-    let field : c.from_be_bytes-says.result ≡ word_at bytes 4 = grind (arith, common_steps) in
-    let why : (word_at bytes 4 < 8) ⊎ (length bytes < word_at bytes 4) = elim c.then-says-lt-LEN.branch [
-      | then-says-lt-LEN-via-then-says-lt-LEN w ↦ inl (omega (arith, field, w.if-says-lt-LEN.true))
-      | then-says-lt-LEN-via-else-says-lt-LEN+then-slice-says w ↦ inr (omega (arith, field, w.if-slice-says.true))
+    let field : c.from_be_bytes-stated.result ≡ word_at bytes 4 = grind (arith, common_steps) in
+    let why : (word_at bytes 4 < 8) ⊎ (length bytes < word_at bytes 4) = elim c.then-stated-lt-LEN.branch [
+      | then-stated-lt-LEN-via-then-stated-lt-LEN w ↦ inl (omega (arith, field, w.if-stated-lt-LEN.true))
+      | then-stated-lt-LEN-via-else-stated-lt-LEN+then-slice-stated w ↦ inr (omega (arith, field, w.if-slice-stated.true))
     ] in
     let shows = lax_udp_whole false bytes fits (omega arith) why in
     record {

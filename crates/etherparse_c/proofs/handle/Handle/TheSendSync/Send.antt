@@ -1,4 +1,4 @@
--- The address of a pool behind a pointer may go to another thread.
+-- The address of a pool can be sent to another thread.
 use base.Shift.{Keyless}
 use denote.Param.Send.{IsSend, AllSend, owning_send, sendable}
 use denote.Struct.Owning.{fields}

@@ -1,4 +1,4 @@
--- `of` keeps the pointer.
+-- `of` stores the pointer.
 use Rattle.std.proofs.Common.{◌≡◌, List, [], ◌∷◌, ◌++◌, refl, sym, subst}
 use mir.Val.{Val, vptr}
 use base.Logic.{SProp, ent, emp, id⊢}
@@ -22,7 +22,7 @@ use Rattle.std.specs.Prelude.{Some}
 use Rattle.std.proofs.alloc.Global.TheLaws as heap_laws
 use Rattle.std.specs.contracts.impls.GlobalAllocator.TheImpl.{ghosts}
 use Rattle.etherparse_c.specs.contracts.pool.Pool.{the_row}
-use Rattle.etherparse_c.proofs.HeldStepLemmas.{Heap, Loose, both, handle_in, loose_good, loose_out}
+use Rattle.etherparse_c.proofs.HeldStepLemmas.{Heap, RawBox, both, handle_in, loose_good, loose_out}
 use Rattle.etherparse_c.specs.contracts.handle.Handle.of.{ended, clauses}
 use Rattle.etherparse_c.specs.contracts.handle.Handle.of.Key.{name as #self}
 use Rattle.etherparse_c.proofs.handle.Handle.of.Statement.{statement}
@@ -31,8 +31,8 @@ use Rattle.etherparse_c.proofs.handle.Handle.of.Code as code
 pub of_spec : {M : Type 1} → statement M
 of_spec 𝓤 𝓛 𝓜 𝓡 wired =
     let H = 𝓛.H in let 𝓣 = tables 𝓤 H 𝓜 𝓡 𝓡.env in let LZ = heap_laws.the_row_laws in let c = clauses 𝓛 𝓜.mem 𝓡.returns in let fn = code.function in
-    let hs : Stays ended.signature.params ended.kept = (stay_dropped (plain (λ _. Loose the_row Heap LZ ghosts)) yes, tt) in
-    proved_at 𝓛 ended hs c 𝓜 𝓡 (Goes-blank 𝓛 0 (plain (λ _. Loose the_row Heap LZ ghosts)) yes (λ κs x f. tt), tt) #self fn (code.unfolded 𝓤 H 𝓜 𝓡 wired) (λ z are.
+    let hs : Stays ended.signature.params ended.kept = (stay_dropped (plain (λ _. RawBox the_row Heap LZ ghosts)) yes, tt) in
+    proved_at 𝓛 ended hs c 𝓜 𝓡 (Goes-blank 𝓛 0 (plain (λ _. RawBox the_row Heap LZ ghosts)) yes (λ κs x f. tt), tt) #self fn (code.unfolded 𝓤 H 𝓜 𝓡 wired) (λ z are.
     let v = z.0.3.0 in let Post : Val → SProp 𝓤 = (walk_of 𝓛 ended hs c).post z in let Run : List Val → SProp 𝓤 = λ ws. WpFn 𝓤 H 𝓣.C 𝓣.Λ fn ws Post in
     let start : (w : Val) → z.0.4.0 ≡ w ∷ [] → ent 𝓤 (Run (w ∷ [])) (Run (z.0.4.0 ++ [])) =
     λ w ws. subst (λ (us : List Val). ent 𝓤 (Run (w ∷ [])) (Run us)) (sym (λ i. ws i ++ [])) (id⊢ 𝓤 (Run (w ∷ []))) in

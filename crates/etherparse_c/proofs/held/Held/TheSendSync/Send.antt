@@ -1,4 +1,4 @@
--- A state behind a pointer may go to another thread.
+-- The pointer to a state can be sent to another thread.
 use base.Shift.{Keyless}
 use denote.Param.Send.{IsSend, AllSend, owning_send, sendable}
 use denote.Struct.Owning.{fields}

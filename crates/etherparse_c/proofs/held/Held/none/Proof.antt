@@ -1,4 +1,4 @@
--- `none` points nowhere.
+-- `none` stores a null pointer.
 use Rattle.std.proofs.Common.{◌≡◌, List, [], ◌∷◌, ◌++◌, refl, sym, subst, lit<, T, ◌&&◌, true}
 use mir.Val.{Val, vint, has_ty, WT}
 use denote.Param.{layout}

@@ -1,4 +1,4 @@
--- The value of an option is read, or a word.
+-- The argument is read as the value of an option.
 use Rattle.std.proofs.Common.{Option, subst, sym}
 use Rattle.packet_dump.specs.OptionSteps.{StepGives, reading_state, step_from}
 use Rattle.packet_dump.specs.declared.options.Awaited.{Awaited}

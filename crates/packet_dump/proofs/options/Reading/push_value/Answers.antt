@@ -1,4 +1,4 @@
--- A value is said, or none is.
+-- The value of an option is valid, or it is not.
 use Rattle.std.proofs.Common.{◌≡◌, Bool, Option, None, ap, rules, sym, ◌∙◌}
 use Rattle.packet_dump.specs.Options.{Item}
 use Rattle.packet_dump.proofs.ValueLemmas.{value_in-none, value_in-some}

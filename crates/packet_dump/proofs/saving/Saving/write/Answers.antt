@@ -1,6 +1,6 @@
 use Rattle.std.proofs.Common.{subst}
 use Rattle.std.specs.Io.KnownBytes.{Appends}
-use Rattle.line_io.specs.WatchedWords.{AppendsFront, inner_of}
+use Rattle.line_io.specs.WatchedWords.{AppendsPrefix, inner_of}
 use Rattle.packet_dump.proofs.SavingLemmas.{saves_failed}
 use Rattle.packet_dump.proofs.saving.Saving.write.Goals as goal
 
@@ -18,7 +18,7 @@ pub returns-in-Err-clause-flushes : goal.returns-in-Err-clause-flushes
 returns-in-Err-clause-flushes g c =
     let holds = g.F.Write.contents (inner_of c.args.file.now) in
     let then_holds = g.F.Write.contents (inner_of c.write_all.new.self) in
-    let front = subst (AppendsFront holds then_holds) c.as_slice.ensures.value c.in-Err.ensures.front in
+    let front = subst (AppendsPrefix holds then_holds) c.as_slice.ensures.value c.in-Err.ensures.front in
     λ options wanted closed items saved saves. (
       front.0,
       front.2,

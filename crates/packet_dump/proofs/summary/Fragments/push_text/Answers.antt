@@ -13,5 +13,5 @@ returns c =
     four_parts (string_bytes c.args.text.now) (string_bytes c.push_count.new.text) (string_bytes c.push_count-2.new.text)
     (string_bytes c.push_count-3.new.text) (string_bytes c.push_count-4.new.text)
     (count_text (codes "reassembled") self.reassembled) (count_text (codes "not reassembled") self.not_reassembled)
-    (count_text (codes "given up") self.given_up) (count_text (codes "open at the end") self.open)
+    (count_text (codes "expired or evicted") self.given_up) (count_text (codes "incomplete at the end") self.open)
     c.in_ok-push_count.ensures c.in_ok-push_count-2.ensures c.in_ok-push_count-3.ensures fourth) c.push_count-4.ensures

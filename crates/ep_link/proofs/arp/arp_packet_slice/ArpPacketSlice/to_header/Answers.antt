@@ -6,7 +6,7 @@ use Rattle.ep_link.specs.Arp.{arp_address_rows}
 use Rattle.ep_link.proofs.ArpLemmas.{addresses, addresses_taken}
 use Rattle.ep_link.proofs.arp.arp_packet_slice.ArpPacketSlice.to_header.Goals as goal
 
--- an answer that is refused by the rows of a table alone, where none holds
+-- A call that fails only with errors of a table succeeds if no row of the table holds.
 is_taken : {A E : Type 0} (rows : List (Bool × E)) (answer : Result A E) → IfErr answer (Refuses rows)
     → first_row rows ≡ None → IsOk answer
 is_taken rows (Ok value) refused none = refl

@@ -31,14 +31,14 @@ returns c =
     let payload = take (end - n) (drop n bytes) in
     let left = drop end bytes in
     let header = macsec_header_of tag in
-    let shown = macsec_payload_of c.behind-payload.result in
+    let shown = macsec_payload_of c.of_tag-payload.result in
     let same : macsec_payload_bytes shown ≡ payload =
-    ap macsec_payload_bytes c.behind-payload.ensures ∙ payload_by_bytes _ _ payload in
+    ap macsec_payload_bytes c.of_tag-payload.ensures ∙ payload_by_bytes _ _ payload in
     let Ok : List ℕ → Type 0 =
     λ x. (left : List ℕ) × (bytes ≡ (tag ++ x) ++ left) × IsMacsec bytes (parts_of header x left) in
     record {
       ok = subst Ok (sym same) (left, is.parts, is.is);
-      payload = c.behind-payload.ensures ∙ ap (macsec_payload header) (sym same);
+      payload = c.of_tag-payload.ensures ∙ ap (macsec_payload header) (sym same);
       only = λ packet other.
           let one = one_value macsec_is_read bytes (parts_of header payload left) packet is.is other in
           ap (λ x. parts_of header x packet.left) same ∙ (λ i. parts_of (one i).header (one i).payload packet.left);

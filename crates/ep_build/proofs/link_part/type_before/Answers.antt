@@ -1,5 +1,0 @@
-use Rattle.std.proofs.Common.{refl}
-use Rattle.ep_build.proofs.link_part.type_before.Goals as goal
-
-pub returns-in-Single : goal.returns-in-Single
-returns-in-Single c = rw c.in-Single.is refl

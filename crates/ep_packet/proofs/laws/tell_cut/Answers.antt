@@ -1,5 +1,0 @@
-use Rattle.ep_packet.proofs.CutRefusalLemmas.{frame_cut}
-use Rattle.ep_packet.proofs.laws.tell_cut.Goals as goal
-
-pub returns : goal.returns
-returns c = frame_cut
