@@ -385,7 +385,7 @@ class Route:
     ipv6_destination: bytes = bytes(16)
     vlan_ids: Tuple[int, ...] = ()
 
-    def _told(self) -> _TaggedRoute:
+    def _to_c(self) -> _TaggedRoute:
         tagged = _TaggedRoute()
         route = tagged.route
         route.version = _number("version", self.version, 8)
@@ -421,7 +421,7 @@ class TcpFields:
     flags: int = 0
     """Sum of TcpFlag."""
 
-    def _told(self) -> _TcpFields:
+    def _to_c(self) -> _TcpFields:
         widths = (16, 16, 32, 32, 16, 16, 8)
         names = [name for name, _ in _TcpFields._fields_]
         return _TcpFields(*(_number(name, getattr(self, name), width) for name, width in zip(names, widths)))
@@ -437,7 +437,7 @@ class FragmentFields:
     fragment_offset: int = 0
     """Offset of the fragment in the reassembled payload, in bytes: a multiple of 8."""
 
-    def _told(self) -> _FragmentFields:
+    def _to_c(self) -> _FragmentFields:
         return _FragmentFields(
             _number("ip_number", self.ip_number, 8), bool(self.more_fragments),
             _number("fragment_offset", self.fragment_offset, 16), _number("identification", self.identification, 32),
@@ -629,12 +629,12 @@ def checksum(data: Bytes) -> int:
     return int(_library.etherparse_1_checksum(data, len(data)))
 
 
-def _built(call: Any, told: tuple[Any, ...], payload: Bytes) -> bytes:
+def _built(call: Any, arguments: tuple[Any, ...], payload: Bytes) -> bytes:
     """Builds a frame by one of the building calls, in a buffer for the longest headers (Ethernet, two tags, IPv6 with a
     fragment header, TCP with options), so that it is never too small."""
     payload = _as_bytes(payload)
     buffer, written = (_u8 * (14 + 8 + 48 + 60 + len(payload)))(), _size()
-    status = call(*told, payload, len(payload), buffer, len(buffer), written)
+    status = call(*arguments, payload, len(payload), buffer, len(buffer), written)
     if status == Status.OK:
         return ctypes.string_at(buffer, written.value)
     if status == Status.OUT_OF_MEMORY:
@@ -647,27 +647,27 @@ def _built(call: Any, told: tuple[Any, ...], payload: Bytes) -> bytes:
 def build_udp(route: Route, source_port: int, destination_port: int, payload: Bytes) -> bytes:
     """Returns the frame of a UDP datagram. Raises TooLong and UnknownChoice."""
     ports = _number("source_port", source_port, 16), _number("destination_port", destination_port, 16)
-    return _built(_library.etherparse_1_build_tagged_udp, (route._told(), *ports), payload)
+    return _built(_library.etherparse_1_build_tagged_udp, (route._to_c(), *ports), payload)
 
 
 def build_tcp(route: Route, fields: TcpFields, payload: Bytes, options: Bytes = b"") -> bytes:
     """Returns the frame of a TCP segment; options are padded with zero bytes to a multiple of 4. Raises TooLong and
     UnknownChoice."""
     options = _as_bytes(options)
-    told = (route._told(), fields._told(), options, len(options))
-    return _built(_library.etherparse_1_build_tagged_tcp, told, payload)
+    arguments = (route._to_c(), fields._to_c(), options, len(options))
+    return _built(_library.etherparse_1_build_tagged_tcp, arguments, payload)
 
 
 def build_icmp_echo(route: Route, is_reply: bool, id: int, seq: int, payload: Bytes) -> bytes:
     """Returns the frame of an ICMP echo message, or ICMPv6 if the version is 6. Raises TooLong and UnknownChoice."""
-    told = (route._told(), bool(is_reply), _number("id", id, 16), _number("seq", seq, 16))
-    return _built(_library.etherparse_1_build_tagged_icmp_echo, told, payload)
+    arguments = (route._to_c(), bool(is_reply), _number("id", id, 16), _number("seq", seq, 16))
+    return _built(_library.etherparse_1_build_tagged_icmp_echo, arguments, payload)
 
 
 def build_fragment(route: Route, fields: FragmentFields, payload: Bytes) -> bytes:
     """Returns the frame of a fragment of a longer payload. Needs up to 64 KB of stack, all other calls 2. Raises
     TooLong and UnknownChoice."""
-    return _built(_library.etherparse_1_build_fragment, (route._told(), fields._told()), payload)
+    return _built(_library.etherparse_1_build_fragment, (route._to_c(), fields._to_c()), payload)
 
 
 class PoolPayload(NamedTuple):
@@ -710,10 +710,10 @@ class Pool:
         UnknownChoice; the streams are then unchanged.
         """
         frame, answer = _as_bytes(frame), _PoolAnswer()
-        told = (_number("entry", entry, 32), _number("ether_type", ether_type, 16), frame, len(frame),
-                _number("timestamp", timestamp, 64), _number("channel", channel, 64))
+        arguments = (_number("entry", entry, 32), _number("ether_type", ether_type, 16), frame, len(frame),
+                     _number("timestamp", timestamp, 64), _number("channel", channel, 64))
         with self._lock:
-            status = _library.etherparse_1_pool_push(self._open(), *told, self._buffer, self._limit, answer)
+            status = _library.etherparse_1_pool_push(self._open(), *arguments, self._buffer, self._limit, answer)
             if status == Status.COMPLETE:
                 data = ctypes.string_at(self._buffer, answer.len)
                 return PoolPayload(data, answer.ip_number, LenSource(answer.len_source))

@@ -29,14 +29,14 @@ def needs(layer, needed, data, at, source=LenSource.SLICE):
         short(layer, needed, data, at, source)
 
 
-def cut(data, header_len, least, says, field, outer):
+def cut(data, header_len, least, stated, field, outer):
     """Returns the payload of a layer with a length field: its bytes, their limit, and whether some are missing."""
-    if least <= says <= len(data):
-        return data[header_len:says], field, False
-    return data[header_len:], LenSource.SLICE, outer or says > len(data)
+    if least <= stated <= len(data):
+        return data[header_len:stated], field, False
+    return data[header_len:], LenSource.SLICE, outer or stated > len(data)
 
 
-class Told:
+class Description:
     """Description so far; offset of the next layer, its bytes, their limit, and whether some are missing."""
 
     def __init__(self, data):
@@ -44,7 +44,7 @@ class Told:
         self.ip, self.ports, self.refusal = (0,) * 7, (0, 0), (0,) * 7
         self.at, self.data, self.end, self.incomplete = 0, data, LenSource.SLICE, False
 
-    def behind(self, header_len, data):
+    def advance(self, header_len, data):
         self.at, self.data = self.at + header_len, data
 
     def numbers(self):
@@ -61,35 +61,35 @@ class Told:
 # ---- link layers
 
 
-def ethernet(told):
-    needs(Layer.ETHERNET2_HEADER, 14, told.data, 0)
-    ether_type = word(told.data, 12)
-    told.link = (1, 14)
-    told.behind(14, told.data[14:])
+def ethernet(packet):
+    needs(Layer.ETHERNET2_HEADER, 14, packet.data, 0)
+    ether_type = word(packet.data, 12)
+    packet.link = (1, 14)
+    packet.advance(14, packet.data[14:])
     return ether_type
 
 
-def linux_sll(told):
-    data = told.data
+def linux_sll(packet):
+    data = packet.data
     needs(Layer.LINUX_SLL_HEADER, 16, data, 0)
     if word(data, 0) > 7:
         wrong(RefusalKind.SLL_PACKET_TYPE, word(data, 0))
     if word(data, 2) not in SLL_HARDWARE:
         wrong(RefusalKind.SLL_ARP_HARDWARE, word(data, 2))
-    told.link = (2, 16)
-    told.behind(16, data[16:])
+    packet.link = (2, 16)
+    packet.advance(16, data[16:])
     return word(data, 14) if word(data, 2) in (1, 772) else None
 
 
-def tag(told, ether_type):
+def tag(packet, ether_type):
     """Parses one link extension and returns the ether type of its payload."""
-    data = told.data
+    data = packet.data
     if ether_type in VLAN_TYPES:
-        needs(Layer.VLAN_HEADER, 4, data, told.at)
-        told.tags.append((1, word(data, 0) & 0xfff, 4))
-        told.behind(4, data[4:])
+        needs(Layer.VLAN_HEADER, 4, data, packet.at)
+        packet.tags.append((1, word(data, 0) & 0xfff, 4))
+        packet.advance(4, data[4:])
         return word(data, 2)
-    needs(Layer.MACSEC_HEADER, 6, data, told.at)
+    needs(Layer.MACSEC_HEADER, 6, data, packet.at)
     if data[0] & 0x80:
         wrong(RefusalKind.MACSEC_VERSION)
     is_open, short_len = data[0] & 0x0c == 0, data[1] & 0x3f
@@ -97,25 +97,25 @@ def tag(told, ether_type):
         wrong(RefusalKind.MACSEC_SHORT_LEN)
     proper = 14 if data[0] & 0x20 else 6
     header_len = proper + (2 if is_open else 0)
-    needs(Layer.MACSEC_HEADER, header_len, data, told.at)
-    says = proper + short_len if short_len else 0
-    payload, end, told.incomplete = cut(data, header_len, header_len, says, LenSource.MACSEC, told.incomplete)
-    told.end = end or told.end
-    told.tags.append((2, 0, header_len))
-    told.behind(header_len, payload)
+    needs(Layer.MACSEC_HEADER, header_len, data, packet.at)
+    stated = proper + short_len if short_len else 0
+    payload, end, packet.incomplete = cut(data, header_len, header_len, stated, LenSource.MACSEC, packet.incomplete)
+    packet.end = end or packet.end
+    packet.tags.append((2, 0, header_len))
+    packet.advance(header_len, payload)
     return word(data, proper) if is_open else None
 
 
 # ---- network layers
 
 
-def arp(told):
-    data = told.data
-    needs(Layer.ARP, 8, data, told.at)
+def arp(packet):
+    data = packet.data
+    needs(Layer.ARP, 8, data, packet.at)
     whole = 8 + 2 * (data[4] + data[5])
-    needs(Layer.ARP, whole, data, told.at, LenSource.ARP)
-    told.net, told.end, told.incomplete = (1, whole), LenSource.ARP, False
-    told.behind(whole, b"")
+    needs(Layer.ARP, whole, data, packet.at, LenSource.ARP)
+    packet.net, packet.end, packet.incomplete = (1, whole), LenSource.ARP, False
+    packet.advance(whole, b"")
 
 
 def authentication(data, at, end, zero):
@@ -140,19 +140,20 @@ def extension(number, data, at, end, is_first):
     return 8 * data[1] + 8
 
 
-def ipv4(told, is_entry=False):
-    data = told.data
-    needs(Layer.IPV4_HEADER, 20, data, told.at)
+def ipv4(packet, is_entry=False):
+    data = packet.data
+    needs(Layer.IPV4_HEADER, 20, data, packet.at)
     if data[0] >> 4 != 4:
         wrong(RefusalKind.IPV4_VERSION, data[0] >> 4)
     header_len = data[0] % 16 * 4
     if header_len < 20:
         wrong(RefusalKind.IP_IHL if is_entry else RefusalKind.IPV4_IHL, data[0] % 16)
-    needs(Layer.IPV4_HEADER, header_len, data, told.at)
-    payload, end, told.incomplete = cut(data, header_len, header_len, word(data, 2), LenSource.IPV4, told.incomplete)
-    told.end = end or told.end
+    needs(Layer.IPV4_HEADER, header_len, data, packet.at)
+    total_len = word(data, 2)
+    payload, end, packet.incomplete = cut(data, header_len, header_len, total_len, LenSource.IPV4, packet.incomplete)
+    packet.end = end or packet.end
     more, offset, number = word(data, 6) >> 13 & 1, word(data, 6) % 8192 * 8, data[9]
-    begin, stop = told.at + header_len, None
+    begin, stop = packet.at + header_len, None
     if number == AUTHENTICATION:
         try:
             length = authentication(payload, begin, end, RefusalKind.IPV4_AUTH)
@@ -160,25 +161,25 @@ def ipv4(told, is_entry=False):
         except Stop as refused:
             stop = refused
     fragmented = bool(more or offset)
-    told.net, told.ip = (4, begin - told.at), (4, number, fragmented, more, offset, word(data, 4), header_len)
-    told.behind(begin - told.at, payload)
+    packet.net, packet.ip = (4, begin - packet.at), (4, number, fragmented, more, offset, word(data, 4), header_len)
+    packet.advance(begin - packet.at, payload)
     if stop:
         raise stop
     if not fragmented:
-        transport(told, number, end)
+        transport(packet, number, end)
 
 
-def ipv6(told):
-    data = told.data
-    needs(Layer.IPV6_HEADER, 40, data, told.at)
+def ipv6(packet):
+    data = packet.data
+    needs(Layer.IPV6_HEADER, 40, data, packet.at)
     if data[0] >> 4 != 6:
         wrong(RefusalKind.IPV6_VERSION, data[0] >> 4)
     length, number = word(data, 4), data[6]
-    payload, end, told.incomplete = cut(data, 40, 41, 40 + length, LenSource.IPV6, told.incomplete)
+    payload, end, packet.incomplete = cut(data, 40, 41, 40 + length, LenSource.IPV6, packet.incomplete)
     if length == 0 and not payload:
         end = LenSource.IPV6
-    told.end = end or told.end
-    begin, stop, fragmented, first_fragment, is_first = told.at + 40, None, False, None, True
+    packet.end = end or packet.end
+    begin, stop, fragmented, first_fragment, is_first = packet.at + 40, None, False, None, True
     while number in (HOP_BY_HOP, ROUTING, FRAGMENT, AUTHENTICATION, DESTINATION):
         try:
             length = extension(number, payload, begin, end, is_first)
@@ -190,55 +191,55 @@ def ipv6(told):
             first_fragment = first_fragment or fields
             fragmented = fragmented or fields[:2] != (0, 0)
         number, payload, begin, is_first = payload[0], payload[length:], begin + length, False
-    told.net, told.ip = (6, begin - told.at), (6, number, fragmented, *(first_fragment or (0, 0, 0)), 40)
-    told.behind(begin - told.at, payload)
+    packet.net, packet.ip = (6, begin - packet.at), (6, number, fragmented, *(first_fragment or (0, 0, 0)), 40)
+    packet.advance(begin - packet.at, payload)
     if stop:
         raise stop
     if not fragmented:
-        transport(told, number, end)
+        transport(packet, number, end)
 
 
 # ---- transport layers
 
 
-def transport(told, number, end):
-    data, at = told.data, told.at
+def transport(packet, number, end):
+    data, at = packet.data, packet.at
     if number == 17:
         needs(Layer.UDP_HEADER, 8, data, at, end)
-        payload, field, told.incomplete = cut(data, 8, 8, word(data, 4), LenSource.UDP, told.incomplete)
-        told.end = field or told.end
-        told.transport, told.ports = (17, 8), (word(data, 0), word(data, 2))
-        told.behind(8, payload)
+        payload, field, packet.incomplete = cut(data, 8, 8, word(data, 4), LenSource.UDP, packet.incomplete)
+        packet.end = field or packet.end
+        packet.transport, packet.ports = (17, 8), (word(data, 0), word(data, 2))
+        packet.advance(8, payload)
     elif number == 6:
         needs(Layer.TCP_HEADER, 20, data, at, end)
         words = data[12] >> 4
         if words < 5:
             wrong(RefusalKind.TCP_DATA_OFFSET, words)
         needs(Layer.TCP_HEADER, 4 * words, data, at, end)
-        told.transport, told.ports = (6, 4 * words), (word(data, 0), word(data, 2))
-        told.behind(4 * words, data[4 * words :])
+        packet.transport, packet.ports = (6, 4 * words), (word(data, 0), word(data, 2))
+        packet.advance(4 * words, data[4 * words :])
     elif number == 1:
         needs(Layer.ICMPV4, 8, data, at, end)
         times = {13: Layer.ICMPV4_TIMESTAMP, 14: Layer.ICMPV4_TIMESTAMP_REPLY}.get(data[0]) if data[1] == 0 else None
         if times and len(data) != 20:
             short(times, 20, data, at, end)
-        told.transport = (1, 20 if times else 8)
-        told.behind(told.transport[1], data[told.transport[1] :])
+        packet.transport = (1, 20 if times else 8)
+        packet.advance(packet.transport[1], data[packet.transport[1] :])
     elif number == 58:
         needs(Layer.ICMPV6, 8, data, at, end)
-        told.transport = (58, 8)
-        told.behind(8, data[8:])
+        packet.transport = (58, 8)
+        packet.advance(8, data[8:])
 
 
 # ---- all layers
 
 
-def behind_link(told, ether_type):
-    while len(told.tags) < 3 and (ether_type in VLAN_TYPES or ether_type == MACSEC_TYPE):
-        ether_type = tag(told, ether_type)
+def after_link(packet, ether_type):
+    while len(packet.tags) < 3 and (ether_type in VLAN_TYPES or ether_type == MACSEC_TYPE):
+        ether_type = tag(packet, ether_type)
     layer = {0x0800: ipv4, 0x86dd: ipv6, 0x0806: arp}.get(ether_type)
     if layer:
-        layer(told)
+        layer(packet)
 
 
 def ip_header(data):
@@ -250,23 +251,23 @@ def ip_header(data):
 
 def read(data, entry, ether_type=0):
     """Returns the numbers of the valid layers and the error where parsing stops, or the error of the first header."""
-    told = Told(data)
+    packet = Description(data)
     try:
         if entry == 3:
             ip_header(data)
         elif entry != 2:
-            ether_type = (ethernet, linux_sll)[entry](told)
+            ether_type = (ethernet, linux_sll)[entry](packet)
     except Stop as refused:
         return None, tuple(refused.args)
     try:
         if entry != 3:
-            behind_link(told, ether_type)
+            after_link(packet, ether_type)
         elif data[0] >> 4 == 4:
-            ipv4(told, is_entry=True)
+            ipv4(packet, is_entry=True)
         else:
-            ipv6(told)
+            ipv6(packet)
     except Stop as refused:
-        told.refusal = tuple(refused.args)
-    if entry == 3 and told.net == (0, 0):
-        return None, told.refusal
-    return told.numbers(), told.refusal
+        packet.refusal = tuple(refused.args)
+    if entry == 3 and packet.net == (0, 0):
+        return None, packet.refusal
+    return packet.numbers(), packet.refusal

@@ -94,10 +94,10 @@ class Program(unittest.TestCase):
             for line, wanted in zip(lines, case.read_text().splitlines()):
                 if wanted == "err line":
                     continue  # not a call
-                told, pool = answered(line, pool)
+                answer, pool = answered(line, pool)
                 if wanted.split(" ")[1:2] and wanted.split(" ")[1] in FRAGMENTS.values():
                     wanted = " ".join(wanted.split(" ")[:2])
-                self.assertEqual(told, wanted, f"{case.name}: {line}")
+                self.assertEqual(answer, wanted, f"{case.name}: {line}")
                 compared += 1
             pool.close()
         self.assertGreater(compared, 200)
@@ -195,8 +195,8 @@ class Slicing(unittest.TestCase):
         with self.assertRaises(ep.Refused) as raised:
             ep.slice(FRAME[:40])
         error = raised.exception
-        told = (error.kind, error.layer, error.required_len, error.len, error.len_source, error.layer_start_offset)
-        self.assertEqual(told, (ep.RefusalKind.LEN, ep.Layer.IPV4_PACKET, 36, 26, ep.LenSource.SLICE, 14))
+        fields = (error.kind, error.layer, error.required_len, error.len, error.len_source, error.layer_start_offset)
+        self.assertEqual(fields, (ep.RefusalKind.LEN, ep.Layer.IPV4_PACKET, 36, 26, ep.LenSource.SLICE, 14))
         self.assertEqual(str(error), "Ipv4Packet: 36 bytes needed, 26 there (limit Slice, offset 14)")
         for again in (pickle.loads(pickle.dumps(error)), copy.copy(error)):
             self.assertEqual((type(again), str(again), again.layer), (ep.Refused, str(error), error.layer))

@@ -65,7 +65,7 @@ CHAIN_HEADERS = [
 
 
 class Rows(unittest.TestCase):
-    def told(self, packet):
+    def limits(self, packet):
         payload = packet.payload
         return LenSource(payload.len_source).name, packet.is_incomplete, payload.offset, payload.len
 
@@ -77,7 +77,7 @@ class Rows(unittest.TestCase):
                 source, incomplete = end, incomplete or missing
             outer_type, data = wrap(ether_type, inside)
             packet = ep.slice_lax(data, ep.Entry.ETHER_TYPE, outer_type)
-            self.assertEqual(self.told(packet), (source, incomplete, offset + front, length), (outer_type, data.hex()))
+            self.assertEqual(self.limits(packet), (source, incomplete, offset + front, length), (outer_type, data.hex()))
             yield packet, front
 
     def ends(self, ether_type, inside, wanted, around=AROUND):
@@ -121,8 +121,8 @@ class Rows(unittest.TestCase):
                 needed = next(step for step in steps if there < step)
                 cut = CHAIN[: begin + there]
                 # missing bytes, and a payload length that counts the available bytes
-                told = [(ipv6(cut, 0, 99), "SLICE", True), (ipv6(cut, 0) + b"behind", "IPV6", False)]
-                for data, source, incomplete in told if cut else told[:1]:
+                rows = [(ipv6(cut, 0, 99), "SLICE", True), (ipv6(cut, 0) + b"behind", "IPV6", False)]
+                for data, source, incomplete in rows if cut else rows[:1]:
                     self.misses(IPV6, data, (source, incomplete, 40 + begin, there),
                                 (layer, source, needed, there, 40 + begin), OF_ANY_LENGTH)
                     packet = ep.slice_lax(data, ep.Entry.IP)
@@ -211,8 +211,8 @@ class Rows(unittest.TestCase):
         ]:
             packet = ep.slice_lax(data, entry, ether_type)
             payload, stop = packet.payload, packet.stop
-            told = (ep.LenSource(payload.len_source).name, packet.is_incomplete, payload.offset, payload.len)
-            self.assertEqual((*told, stop.layer, stop.required_len, stop.len, stop.layer_start_offset), wanted, data.hex())
+            limits = (ep.LenSource(payload.len_source).name, packet.is_incomplete, payload.offset, payload.len)
+            self.assertEqual((*limits, stop.layer, stop.required_len, stop.len, stop.layer_start_offset), wanted, data.hex())
         for data, entry, kind in [
             (b"", ep.Entry.IP, ep.RefusalKind.LEN), (b"\x50", ep.Entry.IP, ep.RefusalKind.IP_VERSION),
             (b"\x44" + bytes(19), ep.Entry.IP, ep.RefusalKind.IP_IHL), (bytes(13), ep.Entry.ETHERNET, ep.RefusalKind.LEN),

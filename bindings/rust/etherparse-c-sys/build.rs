@@ -80,9 +80,9 @@ fn installed() -> Option<PathBuf> {
     let (major, minor) = (env!("CARGO_PKG_VERSION_MAJOR"), env!("CARGO_PKG_VERSION_MINOR").parse::<u32>().ok()?);
     let wanted = [concat!("etherparse >= ", env!("CARGO_PKG_VERSION")), &format!("etherparse < {major}.{}", minor + 1)];
     let fits = Command::new(&program).arg("--exists").args(wanted).status().ok()?;
-    let told = Command::new(&program).args(["--variable=libdir", "etherparse"]).output().ok()?;
-    let folder = String::from_utf8(told.stdout).ok()?;
-    (fits.success() && told.status.success()).then(|| PathBuf::from(folder.trim_end()))
+    let output = Command::new(&program).args(["--variable=libdir", "etherparse"]).output().ok()?;
+    let folder = String::from_utf8(output.stdout).ok()?;
+    (fits.success() && output.status.success()).then(|| PathBuf::from(folder.trim_end()))
 }
 
 /// Returns whether the symbol table of an archive, its first member, has this name.

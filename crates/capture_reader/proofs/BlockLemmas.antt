@@ -14,10 +14,10 @@ use Rattle.capture_reader.specs.Blocks.{FitsContent, IsBlock, PlainBlock, Sectio
 use Rattle.capture_reader.specs.Blocks.{header, interface, enhanced, obsolete, simple, other, block_body, block_bytes}
 use Rattle.capture_reader.specs.Blocks.{block_in}
 use Rattle.capture_reader.specs.Blocks.{block_len, block_number, block_of, block_order, block_rows, body_rows}
-use Rattle.capture_reader.specs.Blocks.{front_rows}
+use Rattle.capture_reader.specs.Blocks.{framing_rows}
 use Rattle.capture_reader.specs.Blocks.{has_no_order, is_other, kind_in, kind_of, min_len, most_block, order_in}
 use Rattle.capture_reader.specs.Blocks.{order_of}
-use Rattle.capture_reader.specs.Blocks.{order_or, byte_order_of_magic, whole_rows}
+use Rattle.capture_reader.specs.Blocks.{order_or, byte_order_of_magic, complete_rows}
 use Rattle.capture_reader.specs.Captures.{BeginsSection, block_shown}
 use Rattle.capture_reader.specs.declared.block.BlockKind.{BlockKind}
 use Rattle.capture_reader.specs.declared.block.BlockKind.TheVariants.{SectionHeader, InterfaceDescription, SimplePacket}
@@ -134,14 +134,14 @@ holds_block : (section : Section) (order : ByteOrder) (number len : ℕ) (bytes 
     → Holds section order number body block → len ≡ 12 + length body → len ≤ most_block → len % 4 ≡ 0
     → bytes ≡ word32 section.order number ++ (word32 order len ++ (body ++ (word32 order len ++ rest)))
     → IsBlock section bytes (block, rest)
-holds_block section order number len bytes body rest block holds size most whole parts =
+holds_block section order number len bytes body rest block holds size most aligned parts =
     let before = section.order in
     let len_is : len ≡ block_len order block = size ∙ ap (λ (s : List ℕ). 12 + length s) holds.body_is in
     let body_len : length body ≡ length (block_body order block) = ap length holds.body_is in
     let Parts : ByteOrder → Type 0 = λ o. bytes ≡ word32 o (block_number block) ++ (word32 o (block_len o block)
     ++ (block_body o block ++ (word32 o (block_len o block) ++ rest))) in
     let Most : ByteOrder → Type 0 = λ o. block_len o block ≤ most_block in
-    let Whole : ByteOrder → Type 0 = λ o. length (block_body o block) % 4 ≡ 0 in
+    let Aligned : ByteOrder → Type 0 = λ o. length (block_body o block) % 4 ≡ 0 in
     let all : Parts order =
     parts ∙ ap (λ (s : List ℕ). s ++ (word32 order len ++ (body ++ (word32 order len ++ rest)))) holds.number_is
     ∙ ap (λ (n : ℕ). word32 order (block_number block) ++ (word32 order n ++ (body ++ (word32 order n ++ rest)))) len_is
@@ -151,7 +151,7 @@ holds_block section order number len bytes body rest block holds size most whole
       fits = record {
         content = holds.fits;
         len = subst Most (sym holds.order_is) (omega (arith, len_is, most));
-        whole = subst Whole (sym holds.order_is) (omega (arith, whole, size, body_len));
+        aligned = subst Aligned (sym holds.order_is) (omega (arith, aligned, size, body_len));
       };
       parts = subst Parts (sym holds.order_is) all ∙ sym (block_parts before block rest);
     }
@@ -163,9 +163,9 @@ abbrev pub rows_of : ByteOrder → List Interface → ByteOrder → BlockKind �
     → List (Bool × Refusal)
 rows_of before interfaces order kind magic len bytes =
     (nat_lt (length bytes) 12, refusal.Cut 12 (length bytes))
-    ∷ front_rows before kind magic len
+    ∷ framing_rows before kind magic len
     ++ (nat_lt (length bytes) len, refusal.Cut len (length bytes))
-    ∷ whole_rows interfaces order kind len bytes
+    ∷ complete_rows interfaces order kind len bytes
 
 -- Holds if no row of the table rejects the bytes.
 pub record Passes (before : ByteOrder) (interfaces : List Interface) (order : ByteOrder) (kind : BlockKind)
@@ -173,7 +173,7 @@ pub record Passes (before : ByteOrder) (interfaces : List Interface) (order : By
   pub long : 12 ≤ length bytes
   pub known : has_no_order before kind magic ≡ false
   pub least : min_len kind ≤ len
-  pub whole : len % 4 ≡ 0
+  pub aligned : len % 4 ≡ 0
   pub most : len ≤ most_block
   pub within : len ≤ length bytes
   pub trailing : word32_at order bytes (len - 4) ≡ len
@@ -195,7 +195,7 @@ passes before interfaces order kind magic len bytes none =
       long = ltb-false (length bytes) 12 a.0;
       known = b.0;
       least = ltb-false len (min_len kind) lens.0;
-      whole = eqb-true (len % 4) 0 (not-false (len % 4 == 0) lens.1);
+      aligned = eqb-true (len % 4) 0 (not-false (len % 4 == 0) lens.1);
       most = ltb-false most_block len d.0;
       within = ltb-false (length bytes) len e.0;
       trailing = eqb-true (word32_at order bytes (len - 4)) len
@@ -212,7 +212,7 @@ none_of before interfaces order kind magic len bytes passed =
     ∙ row_pass (has_no_order before kind magic) _ _ passed.known
     ∙ row_pass (nat_lt len (min_len kind) || not (len % 4 == 0)) _ _
     (or_from (nat_lt len (min_len kind)) (not (len % 4 == 0)) (le-ltb len (min_len kind) passed.least)
-    (not_from_true (len % 4 == 0) (eq-eqb (len % 4) 0 passed.whole)))
+    (not_from_true (len % 4 == 0) (eq-eqb (len % 4) 0 passed.aligned)))
     ∙ row_pass (nat_lt most_block len) _ _ (le-ltb most_block len passed.most)
     ∙ row_pass (nat_lt (length bytes) len) _ _ (le-ltb (length bytes) len passed.within)
     ∙ row_pass (not (word32_at order bytes (len - 4) == len)) _ _
@@ -229,8 +229,8 @@ least_12 ObsoletePacket = omega arith
 least_12 Other = omega arith
 
 -- A multiple of four plus twelve is a multiple of four.
-whole_by_4 : (n : ℕ) → n % 4 ≡ 0 → (12 + n) % 4 ≡ 0
-whole_by_4 n whole = omega (arith, whole)
+aligned_with_header : (n : ℕ) → n % 4 ≡ 0 → (12 + n) % 4 ≡ 0
+aligned_with_header n aligned = omega (arith, aligned)
 
 -- the block that parsing returns, and the bytes after it
 abbrev pub block_read : Section → List ℕ → PlainBlock × List ℕ
@@ -325,7 +325,7 @@ reads_with section kind bytes fits is passed =
     holds_block section order (word32_at section.order bytes 0) len bytes body (drop len bytes)
     (block_of section.interfaces order kind (word32_at section.order bytes 0) body)
     (holds_with section kind bytes len fits is body_fits front.0 front.1 passed)
-    (omega (arith, front.0, long)) passed.most passed.whole front.2
+    (omega (arith, front.0, long)) passed.most passed.aligned front.2
 
 block_reads : (section : Section) (bytes : List ℕ) → AreBytes bytes → first_row (block_rows section bytes) ≡ None
     → IsBlock section bytes (block_read section bytes)
@@ -378,7 +378,7 @@ order_read : (section : Section) (block : PlainBlock) (bytes behind : List ℕ)
     × (has_no_order section.order (block_kind block) (word32_at Big bytes 8) ≡ false)
 order_read section (header plain) bytes behind parts =
     let order = plain.order in
-    let rest = word16 order 1 ++ word16 order plain.minor ++ plain.behind ++ behind in
+    let rest = word16 order 1 ++ word16 order plain.minor ++ plain.rest ++ behind in
     let all : drop 8 bytes ≡ word32 order 0x1a2b3c4d ++ rest = parts ∙ simp append_assoc in
     let magic : word32_at Big bytes 8 ≡ word32_at Big (word32 order 0x1a2b3c4d ++ rest) 0 =
     sym (word32_at-drop Big bytes 8) ∙ ap (λ (s : List ℕ). word32_at Big s 0) all in
@@ -494,7 +494,7 @@ block_is_read section bytes (block, rest) is =
       long = omega (arith, found.long);
       known = found.known;
       least = omega (arith, content.least, body_len);
-      whole = whole_by_4 (length (block_body order block)) is.fits.whole;
+      aligned = aligned_with_header (length (block_body order block)) is.fits.aligned;
       most = is.fits.len;
       within = omega (arith, found.long);
       trailing = found.trailing;

@@ -7,9 +7,9 @@ use Rattle.std.proofs.lemmas.List.{take-append-le, drop-append-le}
 use Rattle.ep_base.specs.Tables.{first_row}
 use Rattle.ep_base.proofs.TableLemmas.{AllErrors, refusal_is}
 use Rattle.capture_reader.specs.Numbers.{word32_at}
-use Rattle.capture_reader.specs.Blocks.{Section, block_rows, body_rows, front_rows, has_no_order, kind_in, kind_of}
+use Rattle.capture_reader.specs.Blocks.{Section, block_rows, body_rows, framing_rows, has_no_order, kind_in, kind_of}
 use Rattle.capture_reader.specs.Blocks.{min_len}
-use Rattle.capture_reader.specs.Blocks.{most_block, order_in, order_of, whole_rows}
+use Rattle.capture_reader.specs.Blocks.{complete_rows, most_block, order_in, order_of}
 use Rattle.capture_reader.specs.declared.block.BlockKind.{BlockKind}
 use Rattle.capture_reader.specs.declared.block.BlockKind.TheVariants.{SectionHeader, InterfaceDescription, SimplePacket}
 use Rattle.capture_reader.specs.declared.block.BlockKind.TheVariants.{EnhancedPacket, ObsoletePacket, Other}
@@ -75,7 +75,7 @@ abbrev rows_by : ByteOrder → List Interface → ByteOrder → BlockKind → (m
     → List (Bool × Refusal)
 rows_by before interfaces order kind magic len n trailing body =
     (nat_lt n 12, refusal.Cut 12 n)
-    ∷ front_rows before kind magic len
+    ∷ framing_rows before kind magic len
     ++ (nat_lt n len, refusal.Cut len n)
     ∷ (not (trailing == len), refusal.TrailingLength len trailing)
     ∷ body_rows interfaces order kind len body
@@ -86,9 +86,9 @@ rows_behind section bytes =
     let kind = kind_in section.order bytes in
     let order = order_in section.order bytes in
     let len = word32_at order bytes 4 in
-    front_rows section.order kind (word32_at Big bytes 8) len
+    framing_rows section.order kind (word32_at Big bytes 8) len
     ++ (nat_lt (length bytes) len, refusal.Cut len (length bytes))
-    ∷ whole_rows section.interfaces order kind len bytes
+    ∷ complete_rows section.interfaces order kind len bytes
 
 pub block_more : (section : Section) (bytes more : List ℕ) (e : Refusal) → IsFinal e
     → first_row (block_rows section bytes) ≡ Some e → first_row (block_rows section (bytes ++ more)) ≡ Some e
@@ -114,8 +114,8 @@ block_more section bytes more e final refused =
     let other_trailing = word32_at order (bytes ++ more) (len - 4) in
     let body = slice_range bytes 8 (len - 4) in
     let other_body = slice_range (bytes ++ more) 8 (len - 4) in
-    let last = whole_rows interfaces order kind len bytes in
-    let other_last = whole_rows interfaces order kind len (bytes ++ more) in
+    let last = complete_rows interfaces order kind len bytes in
+    let other_last = complete_rows interfaces order kind len (bytes ++ more) in
     let goes_on : nat_lt n len ≡ false → (nat_lt m len ≡ false) × (first_row other_last ≡ first_row last) =
     λ enough. let within : len ≤ n = ltb-false n len enough in
     let same_trailing : other_trailing ≡ trailing = word32_at-more order bytes more (len - 4) (omega arith) in
@@ -135,7 +135,7 @@ block_more section bytes more e final refused =
     ≡ first_row (rows_by before interfaces order kind magic len m other_trailing other_body) =
     ap first_row same_rows in
     same ∙ row_pass (nat_lt m 12) (refusal.Cut 12 m) _ (le-ltb m 12 (omega (arith, size)))
-    ∙ past_front (front_rows before kind magic len) (nat_lt n len) (nat_lt m len) len n m last other_last e final
+    ∙ past_front (framing_rows before kind magic len) (nat_lt n len) (nat_lt m len) len n m last other_last e final
     goes_on is.1
 
 -- A final error of a block requires its first 12 bytes.
@@ -186,8 +186,8 @@ block_few section bytes required there refused =
       | inl few ↦ let below : n < 12 = ltb-true n 12 few in omega arith
       | inr behind ↦
           let magic = word32_at Big bytes 8 in
-          let cut = cut_behind (front_rows section.order kind magic len) (nat_lt n len) len n required there
-          (whole_rows section.interfaces order kind len bytes) (tt, (tt, (tt, tt)))
+          let cut = cut_behind (framing_rows section.order kind magic len) (nat_lt n len) len n required there
+          (complete_rows section.interfaces order kind len bytes) (tt, (tt, (tt, tt)))
           (tt, body_final section.interfaces order kind len (slice_range bytes 8 (len - 4))) behind in
           let a = row_none (has_no_order section.order kind magic) _ _ cut.0 in
           let b = row_none (nat_lt len (min_len kind) || not (len % 4 == 0)) _ _ a.1 in

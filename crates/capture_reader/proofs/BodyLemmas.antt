@@ -14,14 +14,15 @@ use Rattle.ep_base.proofs.BytesLemmas.{AreBytes-drop}
 use Rattle.capture_reader.specs.Numbers.{word16, word16_at, word32, word32_at}
 use Rattle.capture_reader.specs.Classic.{most_kept}
 use Rattle.capture_reader.specs.Options.{ends_options, has_len, knows_resolution, options_bytes}
-use Rattle.capture_reader.specs.Options.{padding_of, resolution_said, value_of}
+use Rattle.capture_reader.specs.Options.{padding_of, resolution_or_default, value_of}
 use Rattle.capture_reader.specs.Blocks.{FitsEnhanced, FitsHeader, FitsInterface, FitsObsolete, FitsSimple}
 use Rattle.capture_reader.specs.Blocks.{PlainEnhanced, PlainHeader, PlainInterface, PlainObsolete, PlainSimple}
 use Rattle.capture_reader.specs.Blocks.{header, interface, enhanced, obsolete, simple, Section, block_body}
 use Rattle.capture_reader.specs.Blocks.{body_rows, enhanced_of, header_of, interface_read, kept_rows, numbered_rows}
 use Rattle.capture_reader.specs.Blocks.{obsolete_of}
 use Rattle.capture_reader.specs.Blocks.{packet_body, packet_with}
-use Rattle.capture_reader.specs.Blocks.{knows_minor, most_interfaces, options_rows, said_rows, captured_len_of_simple, simple_of}
+use Rattle.capture_reader.specs.Blocks.{knows_minor, most_interfaces, options_rows, option_value_rows}
+use Rattle.capture_reader.specs.Blocks.{captured_len_of_simple, simple_of}
 use Rattle.capture_reader.specs.Blocks.{version_rows}
 use Rattle.capture_reader.specs.declared.block.BlockKind.TheVariants.{SectionHeader, InterfaceDescription, SimplePacket}
 use Rattle.capture_reader.specs.declared.block.BlockKind.TheVariants.{EnhancedPacket, ObsoletePacket}
@@ -65,26 +66,26 @@ kept_front body i kept within =
     )
 
 -- The captured bytes, their padding and the remaining bytes are found at index i.
-record FindsKept (body : List ℕ) (i kept : ℕ) (bytes padding behind : List ℕ) : Type 0 where
+record FindsKept (body : List ℕ) (i kept : ℕ) (bytes padding after : List ℕ) : Type 0 where
   bytes_is : slice_range body i (i + kept) ≡ bytes
   padding_is : slice_range body (i + kept) (i + kept + padding_of kept) ≡ padding
-  behind_is : drop (i + kept + padding_of kept) body ≡ behind
+  rest_is : drop (i + kept + padding_of kept) body ≡ after
   within : i + kept + padding_of kept ≤ length body
 
-kept_read : (body bytes padding behind : List ℕ) (i kept : ℕ) → i ≤ length body
-    → drop i body ≡ bytes ++ (padding ++ behind) → kept ≡ length bytes → length padding ≡ padding_of (length bytes)
-    → FindsKept body i kept bytes padding behind
-kept_read body bytes padding behind i kept long parts len filled =
+kept_read : (body bytes padding after : List ℕ) (i kept : ℕ) → i ≤ length body
+    → drop i body ≡ bytes ++ (padding ++ after) → kept ≡ length bytes → length padding ≡ padding_of (length bytes)
+    → FindsKept body i kept bytes padding after
+kept_read body bytes padding after i kept long parts len filled =
     let same : padding_of kept ≡ length padding = ap padding_of len ∙ sym filled in
-    let first = range_read body bytes (padding ++ behind) i kept parts len in
-    let second = range_read body padding behind (i + kept) (padding_of kept) first.1 same in
-    let size : length body - i ≡ length bytes + (length padding + length behind) =
-    sym (length-drop i body) ∙ ap length parts ∙ length-append bytes (padding ++ behind)
-    ∙ ap (λ (n : ℕ). length bytes + n) (length-append padding behind) in
+    let first = range_read body bytes (padding ++ after) i kept parts len in
+    let second = range_read body padding after (i + kept) (padding_of kept) first.1 same in
+    let size : length body - i ≡ length bytes + (length padding + length after) =
+    sym (length-drop i body) ∙ ap length parts ∙ length-append bytes (padding ++ after)
+    ∙ ap (λ (n : ℕ). length bytes + n) (length-append padding after) in
     record {
       bytes_is = first.0;
       padding_is = second.0;
-      behind_is = second.1;
+      rest_is = second.1;
       within = omega (arith, long, size, len, same);
     }
 
@@ -107,7 +108,7 @@ kept_none len before kept there few within =
 
 header_parts : (order : ByteOrder) (plain : PlainHeader)
     → block_body order (header plain)
-    ≡ word32 plain.order 0x1a2b3c4d ++ (word16 plain.order 1 ++ (word16 plain.order plain.minor ++ plain.behind))
+    ≡ word32 plain.order 0x1a2b3c4d ++ (word16 plain.order 1 ++ (word16 plain.order plain.minor ++ plain.rest))
 header_parts order plain = simp append_assoc
 
 -- If no row of the version applies, it is a supported one.
@@ -139,7 +140,7 @@ header_reads before order len body fits long magic none =
     let second : drop 4 body ≡ word16 order 1 ++ drop 6 body =
     word16_front order body 4 fits (omega arith) ∙ ap (λ (n : ℕ). word16 order n ++ drop 6 body) major in
     let third : drop 6 body ≡ word16 order plain.minor ++ drop 8 body = word16_front order body 6 fits (omega arith) in (
-      record { minor = version.1; behind = omega (arith, length-drop 8 body) },
+      record { minor = version.1; rest = omega (arith, length-drop 8 body) },
       word32_front Big body 0 fits (omega arith)
           ∙ ap (λ (s : List ℕ). s ++ drop 4 body) magic
           ∙ ap (λ (s : List ℕ). word32 order 0x1a2b3c4d ++ s)
@@ -156,10 +157,10 @@ header_is_read before len interfaces plain body fits is =
     let parts = is ∙ header_parts before plain in
     let magic = word32_read order 0x1a2b3c4d 0 body _ (omega arith) parts in
     let major = word16_read order 1 4 body _ (omega arith) magic.1 in
-    let minor = word16_read order plain.minor 6 body plain.behind (minor_fits plain.minor fits.minor) major.1 in (
+    let minor = word16_read order plain.minor 6 body plain.rest (minor_fits plain.minor fits.minor) major.1 in (
       version_none (word16_at order body 4) (word16_at order body 6) major.0 (ap knows_minor minor.0 ∙ fits.minor),
-      λ i. record { order = order; minor = minor.0 i; behind = minor.1 i },
-      omega (arith, ap length minor.1, length-drop 8 body, fits.behind),
+      λ i. record { order = order; minor = minor.0 i; rest = minor.1 i },
+      omega (arith, ap length minor.1, length-drop 8 body, fits.rest),
     )
 
 -- ---- interface descriptions
@@ -180,24 +181,24 @@ interface_reads section len body fits long none =
     let options = parsed order (drop 8 body) (AreBytes-drop 8 body fits) in
     let said = value_of 9 plain.options in
     let few = nat_lt (length section.interfaces) most_interfaces in
-    let room = row_none (not few) _ _ none in
-    let ends = row_none (not (ends_options order plain.ending)) _ _ room.1 in
+    let count = row_none (not few) _ _ none in
+    let ends = row_none (not (ends_options order plain.ending)) _ _ count.1 in
     let first_len = row_none (not (has_len 1 said)) _ _ ends.1 in
     let second_len = row_none (not (has_len 8 (value_of 14 plain.options))) _ _ first_len.1 in
-    let known = row_none (not (knows_resolution (resolution_said said))) _ _ second_len.1 in
+    let known = row_none (not (knows_resolution (resolution_or_default said))) _ _ second_len.1 in
     let second : drop 2 body ≡ word16 order plain.reserved ++ drop 4 body = word16_front order body 2 fits (omega arith)
     in
     let third : drop 4 body ≡ word32 order plain.snap_len ++ drop 8 body = word32_front order body 4 fits
     (omega arith) in (
       record {
-        room = ltb-true (length section.interfaces) most_interfaces (not-false few room.0);
+        count = ltb-true (length section.interfaces) most_interfaces (not-false few count.0);
         link_type = word16_at-fits order body 0 fits;
         reserved = word16_at-fits order body 2 fits;
         snap_len = word32_at-fits order body 4 fits;
         options = options.are;
         ending = not-false (ends_options order plain.ending) ends.0;
         resolution_len = not-false (has_len 1 said) first_len.0;
-        resolution = not-false (knows_resolution (resolution_said said)) known.0;
+        resolution = not-false (knows_resolution (resolution_or_default said)) known.0;
         offset_len = not-false (has_len 8 (value_of 14 plain.options)) second_len.0;
       },
       word16_front order body 0 fits (omega arith)
@@ -222,17 +223,18 @@ interface_is_read section len plain body fits is =
       parts = snap.1;
       stuck = ends_stuck order plain.ending fits.ending;
     }) in
-    let rows = said_rows (ends_options order plain.ending) (value_of 9 plain.options) (value_of 14 plain.options) in
+    let rows = option_value_rows (ends_options order plain.ending) (value_of 9 plain.options)
+    (value_of 14 plain.options) in
     let said = value_of 9 plain.options in
     let none : first_row rows ≡ None =
     row_pass (not (ends_options order plain.ending)) _ _ (not_from_true (ends_options order plain.ending) fits.ending)
     ∙ row_pass (not (has_len 1 said)) _ _ (not_from_true (has_len 1 said) fits.resolution_len)
     ∙ row_pass (not (has_len 8 (value_of 14 plain.options))) _ _
     (not_from_true (has_len 8 (value_of 14 plain.options)) fits.offset_len)
-    ∙ row_pass (not (knows_resolution (resolution_said said))) _ _
-    (not_from_true (knows_resolution (resolution_said said)) fits.resolution) in
+    ∙ row_pass (not (knows_resolution (resolution_or_default said))) _ _
+    (not_from_true (knows_resolution (resolution_or_default said)) fits.resolution) in
     let same_rows : options_rows order (drop 8 body) ≡ rows =
-    λ i. said_rows (ends_options order (options.1 i)) (value_of 9 (options.0 i)) (value_of 14 (options.0 i)) in
+    λ i. option_value_rows (ends_options order (options.1 i)) (value_of 9 (options.0 i)) (value_of 14 (options.0 i)) in
     let size : length body
     ≡ length (word16 order plain.link_type) + (length (word16 order plain.reserved) +
     (length (word32 order plain.snap_len)
@@ -242,7 +244,7 @@ interface_is_read section len plain body fits is =
     ∙ ap (λ (n : ℕ). length (word16 order plain.reserved) + n) (length-append (word32 order plain.snap_len) _)) in (
       row_pass (not (nat_lt (length section.interfaces) most_interfaces)) _ _
           (not_from_true (nat_lt (length section.interfaces) most_interfaces)
-          (lt-ltb (length section.interfaces) most_interfaces fits.room))
+          (lt-ltb (length section.interfaces) most_interfaces fits.count))
           ∙ ap first_row same_rows
           ∙ none,
       λ i. record {
@@ -308,17 +310,17 @@ packet_is_read : (section : Section) (number len : ℕ) (plain : PlainEnhanced) 
     × (packet_with section.order number body ≡ plain) × (20 ≤ length body)
 packet_is_read section number len plain body fits number_is some is =
     let order = section.order in
-    let behind = plain.bytes ++ (plain.padding ++ plain.options) in
+    let contents = plain.bytes ++ (plain.padding ++ plain.options) in
     let few : length plain.bytes < 2 ^ 32 = omega (arith, fits.kept) in
     let parts = is ∙ packet_parts order plain in
-    let read = words_read order (packet_words plain) 4 body behind
+    let read = words_read order (packet_words plain) 4 body contents
     (fits.high, (fits.low, (few, (fits.original_len, tt)))) parts in
     let high : word32_at order body 4 ≡ plain.high = ap (λ (s : List ℕ). get_or s 0 0) read.0 in
     let low : word32_at order body 8 ≡ plain.low = ap (λ (s : List ℕ). get_or s 1 0) read.0 in
     let kept : word32_at order body 12 ≡ length plain.bytes = ap (λ (s : List ℕ). get_or s 2 0) read.0 in
     let original : word32_at order body 16 ≡ plain.original_len = ap (λ (s : List ℕ). get_or s 3 0) read.0 in
     let long : 20 ≤ length body =
-    omega (arith, some, ap length parts, length-drop 4 body, length-words_then order (packet_words plain) behind) in
+    omega (arith, some, ap length parts, length-drop 4 body, length-words_then order (packet_words plain) contents) in
     let found = kept_read body plain.bytes plain.padding plain.options 20 (word32_at order body 12) long read.1 kept
     fits.padding in
     let described : nat_lt number (length section.interfaces) ≡ true =
@@ -333,7 +335,7 @@ packet_is_read section number len plain body fits number_is some is =
         original_len = original i;
         bytes = found.bytes_is i;
         padding = found.padding_is i;
-        options = found.behind_is i;
+        options = found.rest_is i;
       },
       long,
     )
@@ -409,7 +411,7 @@ obsolete_is_read section len plain body fits is =
 
 simple_parts : (order : ByteOrder) (plain : PlainSimple)
     → block_body order (simple plain)
-    ≡ word32 order plain.original_len ++ (plain.bytes ++ (plain.padding ++ plain.behind))
+    ≡ word32 order plain.original_len ++ (plain.bytes ++ (plain.padding ++ plain.rest))
 simple_parts order plain = simp append_assoc
 
 pub simple_reads : (section : Section) (len : ℕ) (body : List ℕ) → AreBytes body → 4 ≤ length body
@@ -450,10 +452,10 @@ simple_is_read section len plain body fits is =
     omega (
       arith,
       ap length parts,
-      length-append (word32 order plain.original_len) (plain.bytes ++ (plain.padding ++ plain.behind)),
+      length-append (word32 order plain.original_len) (plain.bytes ++ (plain.padding ++ plain.rest)),
       length-word32 order plain.original_len,
     ) in
-    let found = kept_read body plain.bytes plain.padding plain.behind 4
+    let found = kept_read body plain.bytes plain.padding plain.rest 4
     (captured_len_of_simple interfaces (word32_at order body 0))
     long read.1 kept fits.padding in
     let described : nat_lt 0 (length interfaces) ≡ true = lt-ltb 0 (length interfaces) fits.described in (
@@ -464,7 +466,7 @@ simple_is_read section len plain body fits is =
         original_len = read.0 i;
         bytes = found.bytes_is i;
         padding = found.padding_is i;
-        behind = found.behind_is i;
+        rest = found.rest_is i;
       },
       long,
     )

@@ -18,12 +18,13 @@ use Rattle.ep_base.proofs.BytesLemmas.{AreBytes-back}
 use Rattle.ep_base.proofs.TableLemmas.{IsReadBy, one_value}
 use Rattle.capture_reader.specs.Blocks.{IsBlock, PlainBlock, block_in, block_of, block_rows, kind_in, kind_of}
 use Rattle.capture_reader.specs.Blocks.{Section, is_other, most_block, no_section, order_in}
-use Rattle.capture_reader.specs.Captures.{Item, heading, packet, block, part, front, stretch, back, Stage, at_start}
+use Rattle.capture_reader.specs.Captures.{Item, heading, packet, block, part, long_header, stretch}
+use Rattle.capture_reader.specs.Captures.{trailing_len, Stage, at_start}
 use Rattle.capture_reader.specs.Captures.{in_records}
-use Rattle.capture_reader.specs.Captures.{in_section, inside, FitsFront, begins_long, inside_rows, most_stretch}
+use Rattle.capture_reader.specs.Captures.{in_section, inside, FitsLongHeader, begins_long, inside_rows, most_stretch}
 use Rattle.capture_reader.specs.Captures.{section_rows}
 use Rattle.capture_reader.specs.Captures.{AreItems, BeginsSection, Fits, IsCapture, RefusesCapture, begins_section}
-use Rattle.capture_reader.specs.Captures.{item_bytes, item_rows, items_bytes, may_end, stage_after, stage_behind}
+use Rattle.capture_reader.specs.Captures.{item_bytes, item_rows, items_bytes, may_end, stage_after, stage_after_items}
 use Rattle.capture_reader.specs.Classic.{heading_rows, style_in, style_of}
 use Rattle.capture_reader.specs.Numbers.{word32, word32_at}
 use Rattle.capture_reader.specs.declared.block.BlockKind.{BlockKind}
@@ -60,12 +61,12 @@ start_read false bytes = (heading (heading_read bytes).0, (heading_read bytes).1
 -- an item of a section as it is read, a long block or not, and the bytes after it
 abbrev section_read : Bool → Section → List ℕ → Item × List ℕ
 section_read true section bytes =
-    (part (front (word32_at section.order bytes 0) (word32_at section.order bytes 4)), drop 8 bytes)
+    (part (long_header (word32_at section.order bytes 0) (word32_at section.order bytes 4)), drop 8 bytes)
 section_read false section bytes = (block (block_read section bytes).0, (block_read section bytes).1)
 
 -- a part of a long block as it is read, its trailing length field or a stretch of its body, and the bytes after it
 abbrev inside_read : Bool → ℕ → List ℕ → Item × List ℕ
-inside_read true left bytes = (part back, drop 4 bytes)
+inside_read true left bytes = (part trailing_len, drop 4 bytes)
 inside_read false left bytes =
     (part (stretch (take (min left most_stretch) bytes)), drop (min left most_stretch) bytes)
 
@@ -143,11 +144,11 @@ long_facts order bytes long =
       ltb-true most_block (word32_at order bytes 4) both.1,
     )
 
-pub front_fits : (order : ByteOrder) (bytes : List ℕ) → AreBytes bytes → begins_long order bytes ≡ true
+pub long_header_fits : (order : ByteOrder) (bytes : List ℕ) → AreBytes bytes → begins_long order bytes ≡ true
     → word32_at order bytes 4 % 4 ≡ 0
-    → FitsFront (word32_at order bytes 0) (word32_at order bytes 4)
+    → FitsLongHeader (word32_at order bytes 0) (word32_at order bytes 4)
     × (bytes ≡ (word32 order (word32_at order bytes 0) ++ word32 order (word32_at order bytes 4)) ++ drop 8 bytes)
-front_fits order bytes fits long whole =
+long_header_fits order bytes fits long aligned =
     let facts = long_facts order bytes long in
     let number = word32 order (word32_at order bytes 0) in
     let len = word32 order (word32_at order bytes 4) in
@@ -157,7 +158,7 @@ front_fits order bytes fits long whole =
         kind = facts.1;
         long = facts.2;
         within = word32_at-fits order bytes 4 fits;
-        whole = whole;
+        aligned = aligned;
       },
       word32_front order bytes 0 fits (omega (arith, facts.0)) ∙ ap (λ (s : List ℕ). number ++ s) second
           ∙ sym (append_assoc number len (drop 8 bytes)),
@@ -169,7 +170,7 @@ section_reads : (long : Bool) (section : Section) (bytes : List ℕ) → AreByte
 section_reads true section bytes fits long none =
     let len = word32_at section.order bytes 4 in
     let row = row_none (not (len % 4 == 0)) (refusal.BlockLength len) None none in
-    let is = front_fits section.order bytes fits long (eqb-true (len % 4) 0 (not-false (len % 4 == 0) row.0)) in
+    let is = long_header_fits section.order bytes fits long (eqb-true (len % 4) 0 (not-false (len % 4 == 0) row.0)) in
     record { fits = is.0; parts = is.1 }
 section_reads false section bytes fits long none =
     let is = (block_is_read_by section).reads bytes fits none in record { fits = is.fits; parts = is.parts }
@@ -214,9 +215,9 @@ step_reads (in_section section) bytes fits none =
     section_reads (begins_long section.order bytes) section bytes fits refl none
 step_reads (inside section len left) bytes fits none = inside_reads (left == 0) section len left bytes fits refl none
 
-whole_not_long : (section : Section) (bytes : List ℕ) (one : PlainBlock) (rest : List ℕ)
+not_begins_long : (section : Section) (bytes : List ℕ) (one : PlainBlock) (rest : List ℕ)
     → IsBlock section bytes (one, rest) → begins_long section.order bytes ≡ false
-whole_not_long section bytes one rest is =
+not_begins_long section bytes one rest is =
     let there = le-leb 8 (length bytes) (omega (arith, (number_of_block section one bytes rest is).1)) in
     let short = block_not_long section one bytes rest is in
     λ i. there i && short i
@@ -254,13 +255,13 @@ step_is_read (in_section section) bytes (packet one, rest) is = absurd is.fits
 step_is_read (in_section section) bytes (block one, rest) is =
     let is_block : IsBlock section bytes (one, rest) = record { fits = is.fits; parts = is.parts } in
     let read = (block_is_read_by section).is_read bytes (one, rest) is_block in
-    let whole = whole_not_long section bytes one rest is_block in
+    let not_long = not_begins_long section bytes one rest is_block in
     let step : Item × List ℕ = (block one, rest) in
     let same : step ≡ section_read false section bytes = λ i. (block (read.1 i).0, (read.1 i).1) in (
-      ap (λ (b : Bool). first_row (section_rows b section bytes)) whole ∙ read.0,
-      same ∙ ap (λ (b : Bool). section_read b section bytes) (sym whole),
+      ap (λ (b : Bool). first_row (section_rows b section bytes)) not_long ∙ read.0,
+      same ∙ ap (λ (b : Bool). section_read b section bytes) (sym not_long),
     )
-step_is_read (in_section section) bytes (part (front number len), rest) is =
+step_is_read (in_section section) bytes (part (long_header number len), rest) is =
     let order = section.order in
     let parts = is.parts ∙ append_assoc (word32 order number) (word32 order len) rest in
     let first = word32_read order number 0 bytes (word32 order len ++ rest) is.fits.numbered parts in
@@ -279,22 +280,22 @@ step_is_read (in_section section) bytes (part (front number len), rest) is =
     let more = lt-ltb most_block (word32_at order bytes 4) (omega (arith, second.0, is.fits.long)) in
     let long : begins_long order bytes ≡ true = λ i. there i && (is_other (kind i) && more i) in
     let said = word32_at order bytes 4 in
-    let whole : said % 4 ≡ 0 = ap (λ (n : ℕ). n % 4) second.0 ∙ is.fits.whole in
+    let aligned : said % 4 ≡ 0 = ap (λ (n : ℕ). n % 4) second.0 ∙ is.fits.aligned in
     let none : first_row (section_rows true section bytes) ≡ None =
     row_pass (not (said % 4 == 0)) (refusal.BlockLength said) None
-    (not_from_true (said % 4 == 0) (eq-eqb (said % 4) 0 whole)) in
-    let step : Item × List ℕ = (part (front number len), rest) in
+    (not_from_true (said % 4 == 0) (eq-eqb (said % 4) 0 aligned)) in
+    let step : Item × List ℕ = (part (long_header number len), rest) in
     let same : step ≡ section_read true section bytes =
-    λ i. (part (front (sym first.0 i) (sym second.0 i)), sym second.1 i) in (
+    λ i. (part (long_header (sym first.0 i) (sym second.0 i)), sym second.1 i) in (
       ap (λ (b : Bool). first_row (section_rows b section bytes)) long ∙ none,
       same ∙ ap (λ (b : Bool). section_read b section bytes) (sym long),
     )
 step_is_read (in_section section) bytes (part (stretch some), rest) is = absurd is.fits
-step_is_read (in_section section) bytes (part back, rest) is = absurd is.fits
+step_is_read (in_section section) bytes (part trailing_len, rest) is = absurd is.fits
 step_is_read (inside section len left) bytes (heading other, rest) is = absurd is.fits
 step_is_read (inside section len left) bytes (packet one, rest) is = absurd is.fits
 step_is_read (inside section len left) bytes (block one, rest) is = absurd is.fits
-step_is_read (inside section len left) bytes (part (front number other), rest) is = absurd is.fits
+step_is_read (inside section len left) bytes (part (long_header number other), rest) is = absurd is.fits
 step_is_read (inside section len left) bytes (part (stretch some), rest) is =
     let k = min left most_stretch in
     let n = length bytes in
@@ -309,7 +310,7 @@ step_is_read (inside section len left) bytes (part (stretch some), rest) is =
       ap (λ (b : Bool). first_row (inside_rows b section.order len left bytes)) more ∙ none,
       same ∙ ap (λ (b : Bool). inside_read b left bytes) (sym more),
     )
-step_is_read (inside section len left) bytes (part back, rest) is =
+step_is_read (inside section len left) bytes (part trailing_len, rest) is =
     let order = section.order in
     let n = length bytes in
     let done = eq-eqb left 0 is.fits.0 in
@@ -321,8 +322,8 @@ step_is_read (inside section len left) bytes (part back, rest) is =
     row_pass (nat_lt n 4) (refusal.Cut 4 n) _ (le-ltb n 4 size)
     ∙ row_pass (not (said == len)) (refusal.TrailingLength len said) None
     (not_from_true (said == len) (eq-eqb said len read.0)) in
-    let step : Item × List ℕ = (part back, rest) in
-    let same : step ≡ inside_read true left bytes = λ i. (part back, sym read.1 i) in (
+    let step : Item × List ℕ = (part trailing_len, rest) in
+    let same : step ≡ inside_read true left bytes = λ i. (part trailing_len, sym read.1 i) in (
       ap (λ (b : Bool). first_row (inside_rows b order len left bytes)) done ∙ none,
       same ∙ ap (λ (b : Bool). inside_read b left bytes) (sym done),
     )
@@ -344,18 +345,18 @@ item_some (in_section section) (packet one) fits = absurd fits
 item_some (in_section section) (block one) fits = block_some section.order one
 item_some at_start (part one) fits = absurd fits
 item_some (in_records first) (part one) fits = absurd fits
-item_some (in_section section) (part (front number len)) fits = grind (arith, length-append, length-word32)
+item_some (in_section section) (part (long_header number len)) fits = grind (arith, length-append, length-word32)
 item_some (in_section section) (part (stretch bytes)) fits = absurd fits
-item_some (in_section section) (part back) fits = absurd fits
+item_some (in_section section) (part trailing_len) fits = absurd fits
 item_some (inside section len left) (heading other) fits = absurd fits
 item_some (inside section len left) (packet one) fits = absurd fits
 item_some (inside section len left) (block one) fits = absurd fits
-item_some (inside section len left) (part (front number other)) fits = absurd fits
+item_some (inside section len left) (part (long_header number other)) fits = absurd fits
 item_some (inside section len left) (part (stretch bytes)) fits =
     let k = min left most_stretch in
     let some : 1 ≤ k = le-min (omega (arith, fits.0)) (omega arith) in
     omega (arith, some, fits.1)
-item_some (inside section len left) (part back) fits = omega (arith, length-word32 section.order len)
+item_some (inside section len left) (part trailing_len) fits = omega (arith, length-word32 section.order len)
 
 -- ---- sequences of items
 
@@ -370,7 +371,7 @@ record Runs (stage : Stage) (bytes : List ℕ) (items : List Item) (ending : Opt
   fits : AreItems stage items
   rest : List ℕ
   parts : bytes ≡ items_bytes stage items ++ rest
-  stops : Stops (stage_behind stage items) rest ending
+  stops : Stops (stage_after_items stage items) rest ending
 
 -- The bytes begin with the first item, and the other items follow it.
 first_step : (stage : Stage) (bytes : List ℕ) (item : Item) (items : List Item) (ending : Option Refusal)
@@ -480,19 +481,19 @@ some_run (suc fuel) stage bytes fits within =
         | inl none ↦
             let is = (step_is_read_by stage).reads bytes fits none in
             let step = step_read stage bytes in
-            let front = item_bytes stage step.0 in
+            let first = item_bytes stage step.0 in
             further stage bytes step is
             (some_run fuel (stage_after stage step.0) step.1
-            (AreBytes-back front step.1 (subst AreBytes is.parts fits))
-            (omega (arith, ap length is.parts, length-append front step.1, item_some stage step.0 is.fits)))
+            (AreBytes-back first step.1 (subst AreBytes is.parts fits))
+            (omega (arith, ap length is.parts, length-append first step.1, item_some stage step.0 is.fits)))
       ]
     ]
 
 -- ---- captures
 
-whole : (bytes : List ℕ) (items : List Item) → Runs at_start bytes items None → IsCapture bytes items
-whole bytes items run =
-    let stage = stage_behind at_start items in
+is_capture : (bytes : List ℕ) (items : List Item) → Runs at_start bytes items None → IsCapture bytes items
+is_capture bytes items run =
+    let stage = stage_after_items at_start items in
     let none = ended_empty stage run.rest run.stops in
     record {
       fits = run.fits;
@@ -501,8 +502,8 @@ whole bytes items run =
       ended = subst (λ (s : List ℕ). may_end stage s ≡ true) none run.stops;
     }
 
-whole_runs : (bytes : List ℕ) (items : List Item) → IsCapture bytes items → Runs at_start bytes items None
-whole_runs bytes items is = record {
+capture_runs : (bytes : List ℕ) (items : List Item) → IsCapture bytes items → Runs at_start bytes items None
+capture_runs bytes items is = record {
   fits = is.fits;
   rest = [];
   parts = is.parts ∙ sym (append-nil (items_bytes at_start items));
@@ -517,7 +518,7 @@ refused_runs bytes found is =
 decide : (bytes : List ℕ) → SomeRun at_start bytes
     → ((items : List Item) × IsCapture bytes items)
     ⊎ ((found : List Item × CaptureError) × RefusesCapture bytes found)
-decide bytes (items, None, run) = inl (items, whole bytes items run)
+decide bytes (items, None, run) = inl (items, is_capture bytes items run)
 decide bytes (items, Some refusal, run) = inr (
   (items, record { offset = length (items_bytes at_start items); refusal = refusal }),
   record {
@@ -545,14 +546,14 @@ not_both : (bytes : List ℕ) (items : List Item) (found : List Item × CaptureE
     → RefusesCapture bytes found → ⊥
 not_both bytes items found a b =
     none-some found.1.refusal
-    (one_run items found.0 at_start bytes _ _ (whole_runs bytes items a) (refused_runs bytes found b)).1
+    (one_run items found.0 at_start bytes _ _ (capture_runs bytes items a) (refused_runs bytes found b)).1
 
 -- Bytes either are a capture in exactly one way, or are rejected with exactly one error.
 pub capture_decided : (bytes : List ℕ) → AreBytes bytes → IsDecided (IsCapture bytes) (RefusesCapture bytes)
 capture_decided bytes fits = record {
   some = decide bytes (some_run (length bytes + 1) at_start bytes fits (omega arith));
   one_value = λ items others a b.
-      (one_run items others at_start bytes None None (whole_runs bytes items a) (whole_runs bytes others b)).0;
+      (one_run items others at_start bytes None None (capture_runs bytes items a) (capture_runs bytes others b)).0;
   one_error = one_refusal bytes;
   not_both = not_both bytes;
 }

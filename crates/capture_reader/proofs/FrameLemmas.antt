@@ -11,7 +11,8 @@ use Rattle.capture_reader.specs.Numbers.{word32_at}
 use Rattle.capture_reader.specs.Blocks.{IsBlock, section_after}
 use Rattle.capture_reader.specs.Blocks.{block_in, block_of, block_rows, body_rows}
 use Rattle.capture_reader.specs.Blocks.{is_other, most_block, order_in, order_of}
-use Rattle.capture_reader.specs.BlockContents.{FitsLen, IsFramed, Says, StandsIn, content_interfaces, content_shown}
+use Rattle.capture_reader.specs.BlockContents.{FitsLen, FitsSectionOrder, HasContent, IsFramed, content_interfaces}
+use Rattle.capture_reader.specs.BlockContents.{content_shown}
 use Rattle.capture_reader.specs.BlockContents.{section_of}
 use Rattle.capture_reader.specs.Captures.{begins_long, block_shown}
 use Rattle.capture_reader.specs.declared.block.BlockKind.{BlockKind}
@@ -47,7 +48,7 @@ framed_none before bytes frame interfaces is none =
       long = omega (arith, is.within, is.least, least_12 frame.kind);
       known = is.known;
       least = is.least;
-      whole = is.whole;
+      aligned = is.aligned;
       most = is.most;
       within = is.within;
       trailing = is.trailing;
@@ -64,7 +65,7 @@ framed_block before bytes frame interfaces is =
     (slice_range bytes 8 (lens i - 4))
 
 stands_as : (before order : ByteOrder) (kind : BlockKind) (magic : ℕ) → order ≡ order_of before kind magic
-    → StandsIn kind order before
+    → FitsSectionOrder kind order before
 stands_as before order SectionHeader magic is = tt
 stands_as before order InterfaceDescription magic is = is
 stands_as before order SimplePacket magic is = is
@@ -73,22 +74,22 @@ stands_as before order ObsoletePacket magic is = is
 stands_as before order Other magic is = is
 
 pub framed_stands : (before : ByteOrder) (bytes : List ℕ) (frame : Framing) → IsFramed before bytes frame
-    → StandsIn frame.kind frame.order before
+    → FitsSectionOrder frame.kind frame.order before
 framed_stands before bytes frame is =
     stands_as before frame.order frame.kind (word32_at Big bytes 8)
     (is.order_is ∙ ap (λ k. order_of before k (word32_at Big bytes 8)) (sym is.kind))
 
 -- A block with valid framing and this content is read as a block of that content.
-pub whole_block : (before : ByteOrder) (bytes : List ℕ) (frame : Framing) (interfaces : List Interface)
+pub complete_block : (before : ByteOrder) (bytes : List ℕ) (frame : Framing) (interfaces : List Interface)
     (content : Content)
     → AreBytes bytes → IsFramed before bytes frame
-    → Says interfaces frame.order frame.kind frame.len (slice_range bytes 8 (frame.len - 4)) content
+    → HasContent interfaces frame.order frame.kind frame.len (slice_range bytes 8 (frame.len - 4)) content
     → let section = section_of before interfaces in
     IsBlock section bytes (block_in section bytes, drop frame.len bytes)
     × (section_after section (block_in section bytes) ≡ section_of frame.order (content_interfaces interfaces content))
     × (block_shown interfaces (block_in section bytes) ≡ content_shown (slice_range bytes 8 (frame.len - 4)) content)
     × FitsLen content frame.len
-whole_block before bytes frame interfaces content fits is says =
+complete_block before bytes frame interfaces content fits is says =
     let section = section_of before interfaces in
     let number = word32_at before bytes 0 in
     let block = framed_block before bytes frame interfaces is in

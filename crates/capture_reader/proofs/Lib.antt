@@ -5,7 +5,7 @@ pub mod BodyLemmas
 pub mod BlockLemmas
 pub mod BlockRefusalLemmas
 pub mod FrameLemmas
-pub mod SaysLemmas
+pub mod ContentLemmas
 pub mod InterfaceLemmas
 pub mod CaptureLemmas
 pub mod ClassicRefusalLemmas

@@ -7,7 +7,7 @@ use Rattle.std.proofs.lemmas.Bool.{leb-true, lt-leb, ne_eqb, not-true, not_from_
 use Rattle.ep_base.specs.Bytes.{AreBytes}
 use Rattle.ep_base.proofs.BytesLemmas.{AreBytes-drop}
 use Rattle.capture_reader.specs.Numbers.{word16, word16_at}
-use Rattle.capture_reader.specs.Options.{AreOptions, FitsOption, PlainOption, behind_options, ends_options, first_value}
+use Rattle.capture_reader.specs.Options.{AreOptions, FitsOption, PlainOption, after_options, ends_options, first_value}
 use Rattle.capture_reader.specs.Options.{has_option}
 use Rattle.capture_reader.specs.Options.{option_bytes, option_len, option_of, options_bytes, options_end, options_in}
 use Rattle.capture_reader.specs.Options.{options_of, padding_of, value_of}
@@ -114,21 +114,21 @@ option_read order bytes option rest fits is =
 options_more : (most : ℕ) (order : ByteOrder) (bytes : List ℕ) → has_option order bytes ≡ true
     → (options_in (suc most) order bytes
     ≡ option_of order bytes ∷ options_in most order (drop (option_len order bytes) bytes))
-    × (behind_options (suc most) order bytes ≡ behind_options most order (drop (option_len order bytes) bytes))
+    × (after_options (suc most) order bytes ≡ after_options most order (drop (option_len order bytes) bytes))
 options_more most order bytes has =
     let next = drop (option_len order bytes) bytes in (
       ap (λ (b : Bool). if b then option_of order bytes ∷ options_in most order next else []) has,
-      ap (λ (b : Bool). if b then behind_options most order next else bytes) has,
+      ap (λ (b : Bool). if b then after_options most order next else bytes) has,
     )
 
 -- Bytes that begin with no option contain none.
 pub options_stop : (most : ℕ) (order : ByteOrder) (bytes : List ℕ) → has_option order bytes ≡ false
-    → (options_in most order bytes ≡ []) × (behind_options most order bytes ≡ bytes)
+    → (options_in most order bytes ≡ []) × (after_options most order bytes ≡ bytes)
 options_stop zero order bytes stuck = (refl, refl)
 options_stop (suc most) order bytes stuck =
     let next = drop (option_len order bytes) bytes in (
       ap (λ (b : Bool). if b then option_of order bytes ∷ options_in most order next else []) stuck,
-      ap (λ (b : Bool). if b then behind_options most order next else bytes) stuck,
+      ap (λ (b : Bool). if b then after_options most order next else bytes) stuck,
     )
 
 -- Bytes that begin with an option contain it and the options after it.
@@ -136,7 +136,7 @@ pub options_go : (most : ℕ) (order : ByteOrder) (bytes : List ℕ) → has_opt
     → (length (drop (option_len order bytes) bytes) ≤ most - 1)
     × (options_in most order bytes
     ≡ option_of order bytes ∷ options_in (most - 1) order (drop (option_len order bytes) bytes))
-    × (behind_options most order bytes ≡ behind_options (most - 1) order (drop (option_len order bytes) bytes))
+    × (after_options most order bytes ≡ after_options (most - 1) order (drop (option_len order bytes) bytes))
 options_go zero order bytes has within =
     let facts = has_facts (length bytes) (word16_at order bytes 0) (option_len order bytes) has in
     absurd (omega (arith, facts.0, within))
@@ -147,7 +147,7 @@ options_go (suc most) order bytes has within =
     let more = options_more most order bytes has in (
       omega (arith, facts.0, within, length-drop (option_len order bytes) bytes),
       more.0 ∙ ap (λ (k : ℕ). option_of order bytes ∷ options_in k order next) (sym one_less),
-      more.1 ∙ ap (λ (k : ℕ). behind_options k order next) (sym one_less),
+      more.1 ∙ ap (λ (k : ℕ). after_options k order next) (sym one_less),
     )
 
 -- The bytes are these options and then bytes that begin with none.
@@ -164,14 +164,14 @@ few_stuck order bytes few =
     (lt-leb 4 (length bytes) few)
 
 parsed_by : (most : ℕ) (order : ByteOrder) (bytes : List ℕ) → AreBytes bytes → length bytes ≤ most
-    → Parses order bytes (options_in most order bytes) (behind_options most order bytes)
+    → Parses order bytes (options_in most order bytes) (after_options most order bytes)
 parsed_by zero order bytes fits within =
     record { are = tt; parts = refl; stuck = few_stuck order bytes (omega arith) }
 parsed_by (suc most) order bytes fits within =
     elim (cases_Bool (has_option order bytes)) [
       | inr stuck ↦
           let stop = options_stop (suc most) order bytes stuck in
-          subst (λ os. Parses order bytes os (behind_options (suc most) order bytes)) (sym stop.0)
+          subst (λ os. Parses order bytes os (after_options (suc most) order bytes)) (sym stop.0)
           (subst (Parses order bytes []) (sym stop.1) (record { are = tt; parts = refl; stuck = stuck }))
       | inl has ↦
           let facts = has_facts (length bytes) (word16_at order bytes 0) (option_len order bytes) has in
@@ -182,8 +182,8 @@ parsed_by (suc most) order bytes fits within =
           let more = options_more most order bytes has in
           let first = option_bytes order (option_of order bytes) in
           let options = options_in most order next in
-          let ending = behind_options most order next in
-          subst (λ os. Parses order bytes os (behind_options (suc most) order bytes)) (sym more.0)
+          let ending = after_options most order next in
+          subst (λ os. Parses order bytes os (after_options (suc most) order bytes)) (sym more.0)
           (subst (Parses order bytes (option_of order bytes ∷ options)) (sym more.1) (record {
             are = (front.0, others.are);
             parts = front.1 ∙ ap (λ (s : List ℕ). first ++ s) others.parts
@@ -199,7 +199,7 @@ parsed order bytes fits = parsed_by (length bytes) order bytes fits (omega arith
 
 parses_so : (options : List PlainOption) (most : ℕ) (order : ByteOrder) (bytes ending : List ℕ)
     → Parses order bytes options ending → length bytes ≤ most
-    → (options_in most order bytes ≡ options) × (behind_options most order bytes ≡ ending)
+    → (options_in most order bytes ≡ options) × (after_options most order bytes ≡ ending)
 parses_so [] most order bytes ending is within =
     let stuck : has_option order bytes ≡ false = ap (has_option order) is.parts ∙ is.stuck in
     let stop = options_stop most order bytes stuck in (stop.0, stop.1 ∙ is.parts)
@@ -245,7 +245,7 @@ pub record Told (order : ByteOrder) (bytes rest : List ℕ) (resolution offset :
   pub resolution_is : first_value resolution (value_of 9 (options_in most order rest))
       ≡ value_of 9 (options_of order bytes)
   pub offset_is : first_value offset (value_of 14 (options_in most order rest)) ≡ value_of 14 (options_of order bytes)
-  pub ending_is : behind_options most order rest ≡ options_end order bytes
+  pub ending_is : after_options most order rest ≡ options_end order bytes
 
 pub told_start : (order : ByteOrder) (bytes : List ℕ) → Told order bytes bytes None None
 told_start order bytes =

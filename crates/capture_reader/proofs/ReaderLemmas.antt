@@ -17,12 +17,12 @@ use Rattle.capture_reader.specs.Captures.{Item, Stage, at_start, in_records, in_
 use Rattle.capture_reader.specs.Captures.{Fits, IsCapture, RefusesCapture, begins_long, begins_section, inside_rows}
 use Rattle.capture_reader.specs.Captures.{long_rows, most_stretch, section_rows}
 use Rattle.capture_reader.specs.Captures.{item_bytes, item_rows, items_bytes, may_end}
-use Rattle.capture_reader.specs.Captures.{stage_after, stage_behind}
+use Rattle.capture_reader.specs.Captures.{stage_after, stage_after_items}
 use Rattle.capture_reader.specs.BlockContents.{section_of}
-use Rattle.capture_reader.specs.Readers.{AdvancesTo, Answers, BlocksStand, IsOther, IsUnmoved, Passes, Reads}
+use Rattle.capture_reader.specs.Readers.{AdvancesTo, Answers, IsOther, IsUnmoved, NextIsBlock, Passes, Reads}
 use Rattle.capture_reader.specs.Readers.{ReadsBlocks}
-use Rattle.capture_reader.specs.Readers.{ReadsMore, ShowsItem, StepsOver, StopsAt, Waits, WantsBytes, most_held}
-use Rattle.capture_reader.specs.Readers.{reader_left, reader_offset, reader_rest, reader_stage}
+use Rattle.capture_reader.specs.Readers.{ReadsMore, ShowsItem, StepsOver, StopsAt, Waits, WantsBytes, most_unread}
+use Rattle.capture_reader.specs.Readers.{reader_offset, reader_rest, reader_stage, reader_unread}
 use Rattle.capture_reader.specs.Readers.{refused_at}
 use Rattle.capture_reader.specs.Readers.{stage_of}
 use Rattle.capture_reader.specs.declared.byte_order.ByteOrder.{ByteOrder}
@@ -47,21 +47,23 @@ use Rattle.capture_reader.proofs.WantLemmas.{item_wants}
 
 -- ---- one more item
 
-stage_behind-append : (items : List Item) (stage : Stage) (item : Item)
-    → stage_behind stage (items ++ item ∷ []) ≡ stage_after (stage_behind stage items) item
-stage_behind-append [] stage item = refl
-stage_behind-append (first ∷ items) stage item = stage_behind-append items (stage_after stage first) item
+stage_after_items-append : (items : List Item) (stage : Stage) (item : Item)
+    → stage_after_items stage (items ++ item ∷ []) ≡ stage_after (stage_after_items stage items) item
+stage_after_items-append [] stage item = refl
+stage_after_items-append (first ∷ items) stage item = stage_after_items-append items (stage_after stage first) item
 
 items_bytes-append : (items : List Item) (stage : Stage) (item : Item)
-    → items_bytes stage (items ++ item ∷ []) ≡ items_bytes stage items ++ item_bytes (stage_behind stage items) item
+    → items_bytes stage (items ++ item ∷ [])
+    ≡ items_bytes stage items ++ item_bytes (stage_after_items stage items) item
 items_bytes-append [] stage item = append-nil (item_bytes stage item)
 items_bytes-append (first ∷ items) stage item =
     let next = stage_after stage first in
     ap (λ (s : List ℕ). item_bytes stage first ++ s) (items_bytes-append items next item)
-    ∙ sym (append_assoc (item_bytes stage first) (items_bytes next items) (item_bytes (stage_behind next items) item))
+    ∙ sym (append_assoc (item_bytes stage first) (items_bytes next items)
+    (item_bytes (stage_after_items next items) item))
 
 AreItems-append : (items : List Item) (stage : Stage) (item : Item) → AreItems stage items
-    → Fits (stage_behind stage items) item → AreItems stage (items ++ item ∷ [])
+    → Fits (stage_after_items stage items) item → AreItems stage (items ++ item ∷ [])
 AreItems-append [] stage item are fits = (fits, tt)
 AreItems-append (first ∷ items) stage item are fits =
     (are.0, AreItems-append items (stage_after stage first) item are.1 fits)
@@ -71,17 +73,17 @@ reads_more : (reader next : CaptureReader) (item : Item) (taken : List ℕ) (ite
     → StepsOver reader next item → Reads reader taken items → ReadsMore next taken items item
 reads_more reader next item taken items step reads =
     let before = items_bytes at_start items in
-    let after = stage_behind at_start items in
-    let stands = reads.stage in
+    let after = stage_after_items at_start items in
+    let at_stage = reads.stage in
     let one = item_bytes (reader_stage reader) item in
     let bytes : items_bytes at_start (items ++ item ∷ []) ≡ before ++ one =
-    items_bytes-append items at_start item ∙ ap (λ s. before ++ item_bytes s item) (sym stands) in
+    items_bytes-append items at_start item ∙ ap (λ s. before ++ item_bytes s item) (sym at_stage) in
     record {
-      fits = AreItems-append items at_start item reads.fits (subst (λ s. Fits s item) stands step.fits);
+      fits = AreItems-append items at_start item reads.fits (subst (λ s. Fits s item) at_stage step.fits);
       parts = reads.parts ∙ ap (λ (s : List ℕ). before ++ s) step.parts
           ∙ sym (append_assoc before one (reader_rest next))
           ∙ ap (λ (s : List ℕ). s ++ reader_rest next) (sym bytes);
-      stage = step.stage ∙ ap (λ s. stage_after s item) stands ∙ sym (stage_behind-append items at_start item);
+      stage = step.stage ∙ ap (λ s. stage_after s item) at_stage ∙ sym (stage_after_items-append items at_start item);
       offset = step.offset ∙ ap (λ (n : ℕ). n + length one) reads.offset ∙ sym (length-append before one)
           ∙ ap length (sym bytes);
     }
@@ -145,12 +147,12 @@ ends reader taken items ended reads =
           ∙ ap (may_end (reader_stage reader)) (sym none) ∙ ended;
     }
 
-left_is : (reader : CaptureReader) → reader_left reader ≡ length (reader_rest reader)
+left_is : (reader : CaptureReader) → reader_unread reader ≡ length (reader_rest reader)
 left_is reader = sym (length-drop reader.end reader.buffer.items)
 
 unmoved_left : (reader next : CaptureReader) → IsUnmoved reader next
-    → (reader_offset next + reader_left next ≡ reader_offset reader + reader_left reader)
-    × (reader_left next ≡ length (reader_rest reader))
+    → (reader_offset next + reader_unread next ≡ reader_offset reader + reader_unread reader)
+    × (reader_unread next ≡ length (reader_rest reader))
 unmoved_left reader next same =
     let len = ap length same.rest in
     (omega (arith, len, same.offset, left_is reader, left_is next), left_is next ∙ len)
@@ -184,8 +186,8 @@ advances reader next (Err error) step taken items reads = (
 -- ---- number of unread bytes
 
 step_left : (reader next : CaptureReader) (item : Item) → StepsOver reader next item
-    → (reader_offset next + reader_left next ≡ reader_offset reader + reader_left reader)
-    × (reader_left next < reader_left reader)
+    → (reader_offset next + reader_unread next ≡ reader_offset reader + reader_unread reader)
+    × (reader_unread next < reader_unread reader)
 step_left reader next item step =
     let one = item_bytes (reader_stage reader) item in
     let len : length (reader_rest reader) ≡ length one + length (reader_rest next) =
@@ -197,7 +199,7 @@ step_left reader next item step =
     )
 
 pub keeps_total : (reader next : CaptureReader) (answer : Result Advance CaptureError) → Answers reader next answer
-    → reader_offset next + reader_left next ≡ reader_offset reader + reader_left reader
+    → reader_offset next + reader_unread next ≡ reader_offset reader + reader_unread reader
 keeps_total reader next (Ok Packet) step = (step_left reader next step.0 step.1).0
 keeps_total reader next (Ok Other) step = (step_left reader next step.0 step.2).0
 keeps_total reader next (Ok MayEnd) step = (unmoved_left reader next step.0).0
@@ -213,7 +215,7 @@ never_back reader next (Ok (Cut error)) step = omega (arith, step.0.offset)
 never_back reader next (Err error) step = omega (arith, step.0.offset)
 
 pub reads_some : (reader next : CaptureReader) (answer : Result Advance CaptureError) → Answers reader next answer
-    → Passes answer → reader_left next < reader_left reader
+    → Passes answer → reader_unread next < reader_unread reader
 reads_some reader next (Ok Packet) step passes = (step_left reader next step.0 step.1).1
 reads_some reader next (Ok Other) step passes = (step_left reader next step.0 step.2).1
 reads_some reader next (Ok MayEnd) step passes = absurd passes
@@ -221,14 +223,14 @@ reads_some reader next (Ok (Cut error)) step passes = absurd passes
 reads_some reader next (Err error) step passes = absurd passes
 
 -- A record or block has at least one byte.
-most_some : (stage : Stage) → 0 < most_held stage
+most_some : (stage : Stage) → 0 < most_unread stage
 most_some at_start = omega arith
 most_some (in_records first) = omega arith
 most_some (in_section section) = omega arith
 most_some (inside section len left) = omega arith
 
 pub holds_few : (reader next : CaptureReader) (answer : Result Advance CaptureError) → Answers reader next answer
-    → Waits answer → reader_left next < most_held (reader_stage next)
+    → Waits answer → reader_unread next < most_unread (reader_stage next)
 holds_few reader next (Ok Packet) step waits = absurd waits
 holds_few reader next (Ok Other) step waits = absurd waits
 holds_few reader next (Ok MayEnd) step waits =
@@ -239,7 +241,7 @@ holds_few reader next (Ok MayEnd) step waits =
       most_some (reader_stage next),
     )
 holds_few reader next (Ok (Cut error)) step waits =
-    subst (λ s. reader_left next < most_held s) (sym step.0.stage)
+    subst (λ s. reader_unread next < most_unread s) (sym step.0.stage)
     (omega (arith, (unmoved_left reader next step.0).1, step.2))
 holds_few reader next (Err error) step waits = absurd waits
 
@@ -357,7 +359,7 @@ item_more (inside section len left) bytes more e final refused =
     inside_more (left == 0) section.order len left bytes more e final refused
 
 item_few : (stage : Stage) (bytes : List ℕ) (required there : ℕ)
-    → first_row (item_rows stage bytes) ≡ Some (refusal.Cut required there) → length bytes < most_held stage
+    → first_row (item_rows stage bytes) ≡ Some (refusal.Cut required there) → length bytes < most_unread stage
 item_few at_start bytes required there refused = start_few (begins_section bytes) bytes required there refused
 item_few (in_records first) bytes required there refused = record_few first.order bytes required there refused
 item_few (in_section section) bytes required there refused =
@@ -459,21 +461,21 @@ refused_heading reader e start not_so refused =
 
 -- If no block is read, a reader of blocks reports that error.
 block_refused : (state : State) (interfaces : List Interface) (order : ByteOrder) (bytes : List ℕ) (e : Refusal)
-    → BlocksStand state interfaces order bytes → first_row (block_rows (section_of order interfaces) bytes) ≡ Some e
+    → NextIsBlock state interfaces order bytes → first_row (block_rows (section_of order interfaces) bytes) ≡ Some e
     → (may_end (stage_of state interfaces) bytes ≡ false)
     × (first_row (item_rows (stage_of state interfaces) bytes) ≡ Some e)
-block_refused Start interfaces order bytes e stands refused =
-    let same : no_section ≡ section_of order interfaces = λ i. section_of (sym stands.0 i) (sym stands.1 i) in (
+block_refused Start interfaces order bytes e is_next refused =
+    let same : no_section ≡ section_of order interfaces = λ i. section_of (sym is_next.0 i) (sym is_next.1 i) in (
       refl,
-      ap (λ (b : Bool). first_row (start_rows b bytes)) stands.2 ∙ ap (λ s. first_row (block_rows s bytes)) same
+      ap (λ (b : Bool). first_row (start_rows b bytes)) is_next.2 ∙ ap (λ s. first_row (block_rows s bytes)) same
           ∙ refused,
     )
-block_refused (Records first) interfaces order bytes e stands refused = absurd stands
-block_refused (Inside before len left) interfaces order bytes e stands refused = absurd stands
-block_refused (Blocks before) interfaces order bytes e stands refused = (
-  some_left (in_section (section_of before interfaces)) bytes stands.1,
-  ap (λ (b : Bool). first_row (section_rows b (section_of before interfaces) bytes)) stands.2
-      ∙ ap (λ o. first_row (block_rows (section_of o interfaces) bytes)) (sym stands.0)
+block_refused (Records first) interfaces order bytes e is_next refused = absurd is_next
+block_refused (Inside before len left) interfaces order bytes e is_next refused = absurd is_next
+block_refused (Blocks before) interfaces order bytes e is_next refused = (
+  some_left (in_section (section_of before interfaces)) bytes is_next.1,
+  ap (λ (b : Bool). first_row (section_rows b (section_of before interfaces) bytes)) is_next.2
+      ∙ ap (λ o. first_row (block_rows (section_of o interfaces) bytes)) (sym is_next.0)
       ∙ refused,
 )
 
@@ -481,17 +483,17 @@ pub refused_block : (reader : CaptureReader) (order : ByteOrder) (e : Refusal) �
     → first_row (block_rows (section_of order reader.interfaces.items) (reader_rest reader)) ≡ Some e
     → (may_end (reader_stage reader) (reader_rest reader) ≡ false)
     × (first_row (item_rows (reader_stage reader) (reader_rest reader)) ≡ Some e)
-refused_block reader order e stands refused =
-    block_refused reader.state reader.interfaces.items order (reader_rest reader) e stands refused
+refused_block reader order e is_next refused =
+    block_refused reader.state reader.interfaces.items order (reader_rest reader) e is_next refused
 
 -- If no part is read, a reader of a long block reports that error.
 pub refused_part : (reader : CaptureReader) (stage : Stage) (e : Refusal) → reader_stage reader ≡ stage
     → may_end stage (reader_rest reader) ≡ false → first_row (item_rows stage (reader_rest reader)) ≡ Some e
     → Answers reader reader (refused_at (reader_offset reader) e)
-refused_part reader stage e stands goes_on refused =
+refused_part reader stage e at_stage goes_on refused =
     refused_answers reader reader e (record { stage = refl; rest = refl; offset = refl })
-    (ap (λ s. may_end s (reader_rest reader)) stands ∙ goes_on)
-    (ap (λ s. first_row (item_rows s (reader_rest reader))) stands ∙ refused)
+    (ap (λ s. may_end s (reader_rest reader)) at_stage ∙ goes_on)
+    (ap (λ s. first_row (item_rows s (reader_rest reader))) at_stage ∙ refused)
 
 -- If the start of a long block is rejected, a reader of blocks reports that error.
 pub front_refused : (section : Section) (bytes : List ℕ) (e : Refusal) → begins_long section.order bytes ≡ true

@@ -14,7 +14,7 @@ use Rattle.capture_reader.specs.Captures.{BeginsSection, Fits, PlainShown, begin
 use Rattle.capture_reader.specs.Captures.{block_shown, item_bytes, may_end, record_shown, shown_in}
 use Rattle.capture_reader.specs.Captures.{stage_after}
 use Rattle.capture_reader.specs.BlockContents.{FitsLen, content_interfaces, content_shown, known_shown, section_of}
-use Rattle.capture_reader.specs.Readers.{Answers, BlocksStand, IsOther, ReadsBlock, ReadsBlocks}
+use Rattle.capture_reader.specs.Readers.{Answers, IsOther, NextIsBlock, ReadsBlock, ReadsBlocks}
 use Rattle.capture_reader.specs.Readers.{ShowsItem, StepsOver, reader_bytes}
 use Rattle.capture_reader.specs.Readers.{reader_packet, reader_rest, reader_shown, reader_stage}
 use Rattle.capture_reader.specs.Readers.{stage_of}
@@ -158,14 +158,14 @@ record Steps (state : State) (interfaces : List Interface) (order : ByteOrder) (
   shows : shown_in (stage_of state interfaces) (block one) ≡ block_shown interfaces one
 
 block_steps : (state : State) (interfaces : List Interface) (order : ByteOrder) (bytes behind : List ℕ)
-    → BlocksStand state interfaces order bytes
+    → NextIsBlock state interfaces order bytes
     → IsBlock (section_of order interfaces) bytes (block_in (section_of order interfaces) bytes, behind)
     → Steps state interfaces order bytes behind (block_in (section_of order interfaces) bytes)
-block_steps Start interfaces order bytes behind stands is =
-    let same : no_section ≡ section_of order interfaces = λ i. section_of (sym stands.0 i) (sym stands.1 i) in
+block_steps Start interfaces order bytes behind is_next is =
+    let same : no_section ≡ section_of order interfaces = λ i. section_of (sym is_next.0 i) (sym is_next.1 i) in
     let one = block_in (section_of order interfaces) bytes in
     let begins : BeginsSection one =
-    subst (λ s. BeginsSection (block_in s bytes)) same (begins_header bytes stands.2) in
+    subst (λ s. BeginsSection (block_in s bytes)) same (begins_header bytes is_next.2) in
     let is_block : IsBlock no_section bytes (one, behind) =
     subst (λ s. IsBlock s bytes (one, behind)) (sym same) is in
     record {
@@ -174,11 +174,11 @@ block_steps Start interfaces order bytes behind stands is =
       after = ap (λ s. in_section (section_after s one)) same;
       shows = sym (shows_none interfaces one begins);
     }
-block_steps (Records first) interfaces order bytes behind stands is = absurd stands
-block_steps (Inside before len left) interfaces order bytes behind stands is = absurd stands
-block_steps (Blocks before) interfaces order bytes behind stands is =
+block_steps (Records first) interfaces order bytes behind is_next is = absurd is_next
+block_steps (Inside before len left) interfaces order bytes behind is_next is = absurd is_next
+block_steps (Blocks before) interfaces order bytes behind is_next is =
     let same : section_of before interfaces ≡ section_of order interfaces =
-    ap (λ o. section_of o interfaces) (sym stands.0) in
+    ap (λ o. section_of o interfaces) (sym is_next.0) in
     let one = block_in (section_of order interfaces) bytes in
     let is_block : IsBlock (section_of before interfaces) bytes (one, behind) =
     subst (λ s. IsBlock s bytes (one, behind)) (sym same) is in
@@ -199,14 +199,14 @@ pub steps_block : (reader next : CaptureReader) (order next_order : ByteOrder) (
     → section_after section (block_in section (reader_rest reader))
     ≡ section_of next_order (content_interfaces reader.interfaces.items said)
     → StepsOver reader next (block (block_in section (reader_rest reader)))
-steps_block reader next order next_order len said stands state buffer end offset within interfaces is after =
+steps_block reader next order next_order len said is_next state buffer end offset within interfaces is after =
     let rest = reader_rest reader in
     let section = section_of order reader.interfaces.items in
     let one = block_in section rest in
     let behind : drop len rest ≡ reader_rest next =
     drop-drop len reader.end reader.buffer.items ∙ ap (λ (k : ℕ). drop k reader.buffer.items) (sym end)
     ∙ ap (drop next.end) (sym buffer) in
-    let steps = block_steps reader.state reader.interfaces.items order rest (drop len rest) stands is in
+    let steps = block_steps reader.state reader.interfaces.items order rest (drop len rest) is_next is in
     let bytes = item_bytes (reader_stage reader) (block one) in
     let size : length bytes ≡ len =
     omega (arith, within, ap length steps.parts, length-append bytes (drop len rest), length-drop len rest) in
@@ -224,8 +224,8 @@ pub block_shows : (reader : CaptureReader) (order : ByteOrder) (len : ℕ) (show
     IsBlock section (reader_rest reader) (block_in section (reader_rest reader), drop len (reader_rest reader))
     → block_shown reader.interfaces.items (block_in section (reader_rest reader)) ≡ shown
     → shown_in (reader_stage reader) (block (block_in section (reader_rest reader))) ≡ shown
-block_shows reader order len shown stands is shows =
-    (block_steps reader.state reader.interfaces.items order (reader_rest reader) (drop len (reader_rest reader)) stands
+block_shows reader order len shown is_next is shows =
+    (block_steps reader.state reader.interfaces.items order (reader_rest reader) (drop len (reader_rest reader)) is_next
     is).shows
     ∙ shows
 
@@ -251,14 +251,14 @@ nothing (x ∷ xs) none = absurd (omega arith)
 pub blocks_first : (reader : CaptureReader) → reader.state ≡ Start → length reader.interfaces.items ≡ 0
     → begins_section (reader_rest reader) ≡ true → ReadsBlocks reader Big
 blocks_first reader start none begins =
-    subst (λ s. BlocksStand s reader.interfaces.items Big (reader_rest reader)) (sym start)
+    subst (λ s. NextIsBlock s reader.interfaces.items Big (reader_rest reader)) (sym start)
     (refl, nothing reader.interfaces.items none, begins)
 
 -- Another block may follow a block.
 pub blocks_next : (reader : CaptureReader) (order : ByteOrder) → reader.state ≡ Blocks order
     → 0 < length (reader_rest reader) → begins_long order (reader_rest reader) ≡ false → ReadsBlocks reader order
 blocks_next reader order blocks some whole =
-    subst (λ s. BlocksStand s reader.interfaces.items order (reader_rest reader)) (sym blocks) (refl, some, whole)
+    subst (λ s. NextIsBlock s reader.interfaces.items order (reader_rest reader)) (sym blocks) (refl, some, whole)
 
 -- A capture may end after a block.
 pub ends_blocks : (reader : CaptureReader) (order : ByteOrder) → reader.state ≡ Blocks order
@@ -273,41 +273,41 @@ ends_blocks reader order blocks none =
 -- ---- blocks that were parsed
 
 -- The reader has moved to the end of the block.
-pub record StandsBehind (reader next : CaptureReader) (one : Block) : Type 0 where
+pub record MovedPast (reader next : CaptureReader) (one : Block) : Type 0 where
   pub state : next.state ≡ Blocks one.order
   pub buffer : next.buffer.items ≡ reader.buffer.items
   pub end : next.end ≡ reader.end + one.len
   pub offset : next.offset ≡ reader.offset + one.len
   pub interfaces : next.interfaces.items ≡ content_interfaces reader.interfaces.items one.content
 
-pub stands_behind : (reader next : CaptureReader) (one : Block) → next.state ≡ Blocks one.order
+pub moved_past : (reader next : CaptureReader) (one : Block) → next.state ≡ Blocks one.order
     → next.buffer.items ≡ reader.buffer.items → next.end ≡ reader.end + one.len
     → next.offset ≡ reader.offset + one.len
-    → next.interfaces.items ≡ content_interfaces reader.interfaces.items one.content → StandsBehind reader next one
-stands_behind reader next one state buffer end offset interfaces =
+    → next.interfaces.items ≡ content_interfaces reader.interfaces.items one.content → MovedPast reader next one
+moved_past reader next one state buffer end offset interfaces =
     record { state = state; buffer = buffer; end = end; offset = offset; interfaces = interfaces }
 
 stepped : (reader next : CaptureReader) (order : ByteOrder) (one : Block) → ReadsBlock reader order one
-    → StandsBehind reader next one
+    → MovedPast reader next one
     → StepsOver reader next (block (block_in (section_of order reader.interfaces.items) (reader_rest reader)))
 stepped reader next order one read behind =
-    steps_block reader next order one.order one.len one.content read.stands behind.state behind.buffer behind.end
+    steps_block reader next order one.order one.len one.content read.next_is_block behind.state behind.buffer behind.end
     behind.offset read.within behind.interfaces read.is read.after
 
 -- A block without a packet is an item that is no packet.
 pub other_block : (reader next : CaptureReader) (order : ByteOrder) (one : Block) → ReadsBlock reader order one
-    → StandsBehind reader next one
+    → MovedPast reader next one
     → content_shown (slice_range (reader_rest reader) 8 (one.len - 4)) one.content ≡ None
     → Answers reader next (Ok Other)
 other_block reader next order one read behind nothing_shown = (
   block (block_in (section_of order reader.interfaces.items) (reader_rest reader)),
-  block_shows reader order one.len None read.stands read.is (read.shown ∙ nothing_shown),
+  block_shows reader order one.len None read.next_is_block read.is (read.shown ∙ nothing_shown),
   stepped reader next order one read behind,
 )
 
 -- A block with a packet becomes the reader's last packet.
 pub packet_block : (reader next : CaptureReader) (order : ByteOrder) (one : Block) (packet_in : BlockPacket)
-    → ReadsBlock reader order one → StandsBehind reader next one → one.content ≡ content.Packet packet_in
+    → ReadsBlock reader order one → MovedPast reader next one → one.content ≡ content.Packet packet_in
     → next.start ≡ reader.end + 8 + packet_in.start → next.last ≡ reader.end + 8 + packet_in.start + packet_in.kept
     → next.known ≡ packet_in.known → Answers reader next (Ok Packet)
 packet_block reader next order one packet_in read behind content_is start last known =
@@ -320,7 +320,7 @@ packet_block reader next order one packet_in read behind content_is start last k
       block (block_in (section_of order reader.interfaces.items) (reader_rest reader)),
       stepped reader next order one read behind,
       record {
-        shown = block_shows reader order one.len (Some (reader_shown next)) read.stands read.is
+        shown = block_shows reader order one.len (Some (reader_shown next)) read.next_is_block read.is
             (read.shown ∙ ap (content_shown body) content_is ∙ ap (λ (s : PlainShown). Some s) shows);
         has_record = tt;
       },
@@ -336,22 +336,22 @@ pub part_steps : (reader next : CaptureReader) (stage after : Stage) (one : Part
     → len ≤ length (reader_rest reader) → next.buffer.items ≡ reader.buffer.items → next.end ≡ reader.end + len
     → next.offset ≡ reader.offset + len → stage_after stage (part one) ≡ after → reader_stage next ≡ after
     → Answers reader next (Ok Other)
-part_steps reader next stage after one len stands fits nothing_shown parts within buffer end offset leads behind_is =
+part_steps reader next stage after one len is_next fits nothing_shown parts within buffer end offset leads behind_is =
     let rest = reader_rest reader in
     let behind : drop len rest ≡ reader_rest next =
     drop-drop len reader.end reader.buffer.items ∙ ap (λ (k : ℕ). drop k reader.buffer.items) (sym end)
     ∙ ap (drop next.end) (sym buffer) in
     let bytes = item_bytes stage (part one) in
-    let same : item_bytes (reader_stage reader) (part one) ≡ bytes = ap (λ s. item_bytes s (part one)) stands in
+    let same : item_bytes (reader_stage reader) (part one) ≡ bytes = ap (λ s. item_bytes s (part one)) is_next in
     let size : length bytes ≡ len =
     omega (arith, within, ap length parts, length-append bytes (drop len rest), length-drop len rest) in (
       part one,
-      ap (λ s. shown_in s (part one)) stands ∙ nothing_shown,
+      ap (λ s. shown_in s (part one)) is_next ∙ nothing_shown,
       record {
-        fits = subst (λ s. Fits s (part one)) (sym stands) fits;
+        fits = subst (λ s. Fits s (part one)) (sym is_next) fits;
         parts = parts ∙ ap (λ (s : List ℕ). bytes ++ s) behind
             ∙ ap (λ (s : List ℕ). s ++ reader_rest next) (sym same);
-        stage = behind_is ∙ sym leads ∙ ap (λ s. stage_after s (part one)) (sym stands);
+        stage = behind_is ∙ sym leads ∙ ap (λ s. stage_after s (part one)) (sym is_next);
         offset = omega (arith, offset, size, ap length same);
       },
     )

@@ -45,31 +45,31 @@ timed_known order number about body = record {
 abbrev pub content_interfaces : List Interface → Content → List Interface
 content_interfaces interfaces content.Section = []
 content_interfaces interfaces (content.Interface about) = interfaces ++ about ∷ []
-content_interfaces interfaces said = interfaces
+content_interfaces interfaces _ = interfaces
 
 -- the packet that a block with this content and this body shows, if any
 abbrev pub content_shown : List ℕ → Content → Option PlainShown
 content_shown body (content.Packet one) =
     Some (known_shown one.known (slice_range body one.start (one.start + one.kept)))
-content_shown body said = None
+content_shown body _ = None
 
 -- Holds if a block of this kind and byte order may be in a section of the byte order `before`.
-abbrev pub StandsIn : BlockKind → ByteOrder → ByteOrder → Type 0
-StandsIn SectionHeader order before = Unit {0}
-StandsIn kind order before = order ≡ before
+abbrev pub FitsSectionOrder : BlockKind → ByteOrder → ByteOrder → Type 0
+FitsSectionOrder SectionHeader order before = Unit {0}
+FitsSectionOrder kind order before = order ≡ before
 
 -- Holds if the content fits in a block of this length: an interface description has at least 20 bytes, and a packet
 -- ends within its block.
 abbrev pub FitsLen : Content → ℕ → Type 0
 FitsLen (content.Interface about) len = 20 ≤ len
 FitsLen (content.Packet one) len = one.start + one.kept + 12 ≤ len
-FitsLen said len = Unit {0}
+FitsLen _ len = Unit {0}
 
 -- A body of a block of this kind is not rejected, and has this content.
-pub record Says (interfaces : List Interface) (order : ByteOrder) (kind : BlockKind) (len : ℕ) (body : List ℕ)
+pub record HasContent (interfaces : List Interface) (order : ByteOrder) (kind : BlockKind) (len : ℕ) (body : List ℕ)
     (content : Content) : Type 0 where
   pub none : first_row (body_rows interfaces order kind len body) ≡ None
-  pub after : (before : ByteOrder) (number : ℕ) → StandsIn kind order before
+  pub after : (before : ByteOrder) (number : ℕ) → FitsSectionOrder kind order before
       → section_after (section_of before interfaces) (block_of interfaces order kind number body)
       ≡ section_of order (content_interfaces interfaces content)
   pub shown : (number : ℕ)
@@ -83,7 +83,7 @@ pub record IsFramed (order : ByteOrder) (bytes : List ℕ) (framing : Framing) :
   pub len : framing.len ≡ word32_at framing.order bytes 4
   pub known : has_no_order order framing.kind (word32_at Big bytes 8) ≡ false
   pub least : min_len framing.kind ≤ framing.len
-  pub whole : framing.len % 4 ≡ 0
+  pub aligned : framing.len % 4 ≡ 0
   pub most : framing.len ≤ most_block
   pub within : framing.len ≤ length bytes
   pub trailing : word32_at framing.order bytes (framing.len - 4) ≡ framing.len

@@ -9,8 +9,8 @@ use Rattle.ep_base.specs.Tables.{Refuses}
 use Rattle.capture_reader.specs.Numbers.{word16, word32, word16_at, word32_at}
 use Rattle.capture_reader.specs.Classic.{most_kept}
 use Rattle.capture_reader.specs.Options.{AreOptions, PlainOption, ends_options, has_len, options_end}
-use Rattle.capture_reader.specs.Options.{knows_resolution, offset_said, options_bytes, options_of, padding_of}
-use Rattle.capture_reader.specs.Options.{per_second_of, resolution_said, value_len, value_of}
+use Rattle.capture_reader.specs.Options.{knows_resolution, offset_or_zero, options_bytes, options_of, padding_of}
+use Rattle.capture_reader.specs.Options.{per_second_of, resolution_or_default, value_len, value_of}
 use Rattle.capture_reader.specs.declared.block.BlockKind.{BlockKind}
 use Rattle.capture_reader.specs.declared.block.BlockKind.TheVariants.{SectionHeader, InterfaceDescription, SimplePacket}
 use Rattle.capture_reader.specs.declared.block.BlockKind.TheVariants.{EnhancedPacket, ObsoletePacket, Other}
@@ -27,7 +27,7 @@ use Rattle.capture_reader.specs.declared.refusal.Refusal.TheVariants as refusal
 pub record PlainHeader : Type 0 where
   pub order : ByteOrder
   pub minor : ℕ
-  pub behind : List ℕ
+  pub rest : List ℕ
 
 -- an Interface Description Block (4.2); after its options come no bytes, or the end-of-options marker and any bytes
 pub record PlainInterface : Type 0 where
@@ -60,7 +60,7 @@ pub record PlainSimple : Type 0 where
   pub original_len : ℕ
   pub bytes : List ℕ
   pub padding : List ℕ
-  pub behind : List ℕ
+  pub rest : List ℕ
 
 -- a block of another kind, whose body is not interpreted
 pub record PlainOther : Type 0 where
@@ -89,8 +89,8 @@ abbrev pub interface_of : ByteOrder → PlainInterface → Interface
 interface_of order plain = record {
   link_type = plain.link_type;
   snap_len = plain.snap_len;
-  per_second = per_second_of (resolution_said (value_of 9 plain.options));
-  offset = offset_said order (value_of 14 plain.options);
+  per_second = per_second_of (resolution_or_default (value_of 9 plain.options));
+  offset = offset_or_zero order (value_of 14 plain.options);
 }
 
 -- the description used for a number without interface
@@ -153,14 +153,14 @@ packet_body order plain =
 -- the body of a block
 abbrev pub block_body : ByteOrder → PlainBlock → List ℕ
 block_body order (header plain) =
-    word32 plain.order 0x1a2b3c4d ++ word16 plain.order 1 ++ word16 plain.order plain.minor ++ plain.behind
+    word32 plain.order 0x1a2b3c4d ++ word16 plain.order 1 ++ word16 plain.order plain.minor ++ plain.rest
 block_body order (interface plain) =
     word16 order plain.link_type ++ word16 order plain.reserved ++ word32 order plain.snap_len
     ++ options_bytes order plain.options ++ plain.ending
 block_body order (enhanced plain) = word32 order plain.number ++ packet_body order plain
 block_body order (obsolete plain) =
     word16 order plain.packet.number ++ (word16 order plain.drops ++ packet_body order plain.packet)
-block_body order (simple plain) = word32 order plain.original_len ++ plain.bytes ++ plain.padding ++ plain.behind
+block_body order (simple plain) = word32 order plain.original_len ++ plain.bytes ++ plain.padding ++ plain.rest
 block_body order (other plain) = plain.body
 
 -- the length of a block: that of its body, and 12 bytes for the type and both length fields
@@ -198,17 +198,17 @@ captured_len_of_simple interfaces original = kept_of (interface_at interfaces 0)
 
 pub record FitsHeader (plain : PlainHeader) : Type 0 where
   pub minor : knows_minor plain.minor ≡ true
-  pub behind : 8 ≤ length plain.behind
+  pub rest : 8 ≤ length plain.rest
 
 pub record FitsInterface (section : Section) (plain : PlainInterface) : Type 0 where
-  pub room : length section.interfaces < most_interfaces
+  pub count : length section.interfaces < most_interfaces
   pub link_type : plain.link_type < 2 ^ 16
   pub reserved : plain.reserved < 2 ^ 16
   pub snap_len : plain.snap_len < 2 ^ 32
   pub options : AreOptions plain.options
   pub ending : ends_options section.order plain.ending ≡ true
   pub resolution_len : has_len 1 (value_of 9 plain.options) ≡ true
-  pub resolution : knows_resolution (resolution_said (value_of 9 plain.options)) ≡ true
+  pub resolution : knows_resolution (resolution_or_default (value_of 9 plain.options)) ≡ true
   pub offset_len : has_len 8 (value_of 14 plain.options) ≡ true
 
 pub record FitsEnhanced (section : Section) (plain : PlainEnhanced) : Type 0 where
@@ -248,7 +248,7 @@ FitsContent section (other plain) = FitsOther plain
 pub record FitsBlock (section : Section) (block : PlainBlock) : Type 0 where
   pub content : FitsContent section block
   pub len : block_len (block_order section.order block) block ≤ most_block
-  pub whole : length (block_body (block_order section.order block) block) % 4 ≡ 0
+  pub aligned : length (block_body (block_order section.order block) block) % 4 ≡ 0
 
 -- The bytes begin with this block, and these bytes follow it.
 pub record IsBlock (section : Section) (bytes : List ℕ) (read : PlainBlock × List ℕ) : Type 0 where
@@ -301,33 +301,33 @@ min_len ObsoletePacket = 32
 min_len Other = 12
 
 -- the refusal table of a block's type, byte order and length; its first 12 bytes are present
-abbrev pub front_rows : ByteOrder → BlockKind → (magic len : ℕ) → List (Bool × Refusal)
-front_rows before kind magic len =
+abbrev pub framing_rows : ByteOrder → BlockKind → (magic len : ℕ) → List (Bool × Refusal)
+framing_rows before kind magic len =
     (has_no_order before kind magic, refusal.UnknownByteOrder magic)
     ∷ (nat_lt len (min_len kind) || not (len % 4 == 0), refusal.BlockLength len)
     ∷ (nat_lt most_block len, refusal.BlockTooLong len)
     ∷ []
 
 -- the refusal table of a packet with `kept` captured bytes that start at byte `before` of the body
-abbrev pub kept_rows : (len before kept there : ℕ) → List (Bool × Refusal)
-kept_rows len before kept there =
+abbrev pub kept_rows : (len before kept body_len : ℕ) → List (Bool × Refusal)
+kept_rows len before kept body_len =
     (nat_lt most_kept kept, refusal.PacketTooLong kept)
-    ∷ (nat_lt there (before + kept + padding_of kept), refusal.BlockLength len)
+    ∷ (nat_lt body_len (before + kept + padding_of kept), refusal.BlockLength len)
     ∷ []
 
 -- the refusal table of an interface, from whether its options end within the block and the values of options 9 and 14
-abbrev pub said_rows : Bool → (resolution offset : Option (List ℕ)) → List (Bool × Refusal)
-said_rows ends resolution offset =
+abbrev pub option_value_rows : Bool → (resolution offset : Option (List ℕ)) → List (Bool × Refusal)
+option_value_rows ends resolution offset =
     (not ends, refusal.OptionBeyondBlock)
     ∷ (not (has_len 1 resolution), refusal.OptionLength 9 (value_len resolution))
     ∷ (not (has_len 8 offset), refusal.OptionLength 14 (value_len offset))
-    ∷ (not (knows_resolution (resolution_said resolution)), refusal.UnsupportedResolution (resolution_said resolution))
+    ∷ (not (knows_resolution (resolution_or_default resolution)), refusal.UnsupportedResolution (resolution_or_default resolution))
     ∷ []
 
 abbrev pub options_rows : ByteOrder → List ℕ → List (Bool × Refusal)
 options_rows order bytes =
     let options = options_of order bytes in
-    said_rows (ends_options order (options_end order bytes)) (value_of 9 options) (value_of 14 options)
+    option_value_rows (ends_options order (options_end order bytes)) (value_of 9 options) (value_of 14 options)
 
 -- the refusal table of a section's version
 abbrev pub version_rows : (major minor : ℕ) → List (Bool × Refusal)
@@ -353,8 +353,8 @@ body_rows interfaces order SimplePacket len body =
 body_rows interfaces order Other len body = []
 
 -- the refusal table of a complete block
-abbrev pub whole_rows : List Interface → ByteOrder → BlockKind → ℕ → List ℕ → List (Bool × Refusal)
-whole_rows interfaces order kind len bytes =
+abbrev pub complete_rows : List Interface → ByteOrder → BlockKind → ℕ → List ℕ → List (Bool × Refusal)
+complete_rows interfaces order kind len bytes =
     (not (word32_at order bytes (len - 4) == len), refusal.TrailingLength len (word32_at order bytes (len - 4)))
     ∷ body_rows interfaces order kind len (slice_range bytes 8 (len - 4))
 
@@ -364,9 +364,9 @@ block_rows section bytes =
     let kind = kind_in section.order bytes in
     let len = word32_at order bytes 4 in
     (nat_lt (length bytes) 12, refusal.Cut 12 (length bytes))
-    ∷ front_rows section.order kind (word32_at Big bytes 8) len
+    ∷ framing_rows section.order kind (word32_at Big bytes 8) len
     ++ (nat_lt (length bytes) len, refusal.Cut len (length bytes))
-    ∷ whole_rows section.interfaces order kind len bytes
+    ∷ complete_rows section.interfaces order kind len bytes
 
 abbrev pub RefusesBlock : Section → List ℕ → Refusal → Type 0
 RefusesBlock section bytes = Refuses (block_rows section bytes)
@@ -374,7 +374,7 @@ RefusesBlock section bytes = Refuses (block_rows section bytes)
 -- ---- the block at the start of the bytes, if no row rejects them
 
 abbrev pub header_of : ByteOrder → List ℕ → PlainHeader
-header_of order body = record { order = order; minor = word16_at order body 6; behind = drop 8 body }
+header_of order body = record { order = order; minor = word16_at order body 6; rest = drop 8 body }
 
 abbrev pub interface_read : ByteOrder → List ℕ → PlainInterface
 interface_read order body = record {
@@ -412,7 +412,7 @@ simple_of interfaces order body =
       original_len = word32_at order body 0;
       bytes = slice_range body 4 (4 + kept);
       padding = slice_range body (4 + kept) (4 + kept + padding_of kept);
-      behind = drop (4 + kept + padding_of kept) body;
+      rest = drop (4 + kept + padding_of kept) body;
     }
 
 -- the block of this kind and block type that has this body

@@ -26,9 +26,9 @@ use Rattle.capture_reader.specs.declared.shown.Time.{Time}
 -- A part of a long block, which is longer than 320 KiB and of a kind whose content is skipped: its type and length,
 -- some bytes of its body, or its trailing length field.
 pub data Part : Type 0 where
-  front : (number len : ℕ) → Part
+  long_header : (number len : ℕ) → Part
   stretch : List ℕ → Part
-  back : Part
+  trailing_len : Part
 
 -- an item of a capture: a file header, a packet record, a block, or a part of a long block
 pub data Item : Type 0 where
@@ -50,15 +50,15 @@ abbrev pub stage_after : Stage → Item → Stage
 stage_after at_start (heading first) = in_records first
 stage_after at_start (block one) = in_section (section_after no_section one)
 stage_after (in_section section) (block one) = in_section (section_after section one)
-stage_after (in_section section) (part (front number len)) = inside section len (len - 12)
+stage_after (in_section section) (part (long_header number len)) = inside section len (len - 12)
 stage_after (inside section len left) (part (stretch bytes)) = inside section len (left - length bytes)
-stage_after (inside section len left) (part back) = in_section section
+stage_after (inside section len left) (part trailing_len) = in_section section
 stage_after stage item = stage
 
 -- the stage after several items
-abbrev pub stage_behind : Stage → List Item → Stage
-stage_behind stage [] = stage
-stage_behind stage (item ∷ items) = stage_behind (stage_after stage item) items
+abbrev pub stage_after_items : Stage → List Item → Stage
+stage_after_items stage [] = stage
+stage_after_items stage (item ∷ items) = stage_after_items (stage_after stage item) items
 
 -- Holds if the block begins a section.
 abbrev pub BeginsSection : PlainBlock → Type 0
@@ -70,12 +70,12 @@ abbrev pub most_stretch : ℕ
 most_stretch = 65536
 
 -- A block of this type and length is read in parts.
-pub record FitsFront (number len : ℕ) : Type 0 where
+pub record FitsLongHeader (number len : ℕ) : Type 0 where
   pub numbered : number < 2 ^ 32
   pub kind : kind_of number ≡ Other
   pub long : most_block < len
   pub within : len < 2 ^ 32
-  pub whole : len % 4 ≡ 0
+  pub aligned : len % 4 ≡ 0
 
 -- The item is valid at this stage.
 abbrev pub Fits : Stage → Item → Type 0
@@ -83,9 +83,9 @@ Fits at_start (heading first) = FitsHeading first
 Fits at_start (block one) = BeginsSection one × FitsBlock no_section one
 Fits (in_records first) (packet one) = FitsRecord one
 Fits (in_section section) (block one) = FitsBlock section one
-Fits (in_section section) (part (front number len)) = FitsFront number len
+Fits (in_section section) (part (long_header number len)) = FitsLongHeader number len
 Fits (inside section len left) (part (stretch bytes)) = (0 < left) × (length bytes ≡ min left most_stretch)
-Fits (inside section len left) (part back) = (left ≡ 0) × (len < 2 ^ 32)
+Fits (inside section len left) (part trailing_len) = (left ≡ 0) × (len < 2 ^ 32)
 Fits stage item = ⊥
 
 -- the wire bytes of an item
@@ -94,9 +94,10 @@ item_bytes at_start (heading first) = heading_bytes first
 item_bytes at_start (block one) = block_bytes Big one
 item_bytes (in_records first) (packet one) = record_bytes first.order one
 item_bytes (in_section section) (block one) = block_bytes section.order one
-item_bytes (in_section section) (part (front number len)) = word32 section.order number ++ word32 section.order len
+item_bytes (in_section section) (part (long_header number len)) =
+    word32 section.order number ++ word32 section.order len
 item_bytes (inside section len left) (part (stretch bytes)) = bytes
-item_bytes (inside section len left) (part back) = word32 section.order len
+item_bytes (inside section len left) (part trailing_len) = word32 section.order len
 item_bytes stage item = []
 
 -- The items are valid one after the other, from this stage on.
@@ -136,8 +137,8 @@ section_rows true section bytes = long_rows section.order bytes
 section_rows false section bytes = block_rows section bytes
 
 -- the refusal table of the trailing length field of a block of this length
-abbrev pub back_rows : ByteOrder → ℕ → List ℕ → List (Bool × Refusal)
-back_rows order len bytes =
+abbrev pub trailing_rows : ByteOrder → ℕ → List ℕ → List (Bool × Refusal)
+trailing_rows order len bytes =
     (nat_lt (length bytes) 4, refusal.Cut 4 (length bytes))
     ∷ (not (word32_at order bytes 0 == len), refusal.TrailingLength len (word32_at order bytes 0))
     ∷ []
@@ -145,7 +146,7 @@ back_rows order len bytes =
 -- the refusal table inside of a long block: of its trailing length field if nothing is left before it, otherwise of a
 -- stretch of its body
 abbrev pub inside_rows : Bool → ByteOrder → (len left : ℕ) → List ℕ → List (Bool × Refusal)
-inside_rows true order len left bytes = back_rows order len bytes
+inside_rows true order len left bytes = trailing_rows order len bytes
 inside_rows false order len left bytes =
     (nat_lt (length bytes) (min left most_stretch), refusal.Cut (min left most_stretch) (length bytes)) ∷ []
 
@@ -232,13 +233,13 @@ shown_in stage item = None
 pub record IsCapture (bytes : List ℕ) (items : List Item) : Type 0 where
   pub fits : AreItems at_start items
   pub parts : bytes ≡ items_bytes at_start items
-  pub ended : may_end (stage_behind at_start items) [] ≡ true
+  pub ended : may_end (stage_after_items at_start items) [] ≡ true
 
 -- The bytes are no capture: after these items come bytes that are rejected, at the offset in the error.
 pub record RefusesCapture (bytes : List ℕ) (found : List Item × CaptureError) : Type 0 where
   pub fits : AreItems at_start found.0
   pub rest : List ℕ
   pub parts : bytes ≡ items_bytes at_start found.0 ++ rest
-  pub goes_on : may_end (stage_behind at_start found.0) rest ≡ false
+  pub goes_on : may_end (stage_after_items at_start found.0) rest ≡ false
   pub offset : found.1.offset ≡ length (items_bytes at_start found.0)
-  pub refused : Refuses (item_rows (stage_behind at_start found.0) rest) found.1.refusal
+  pub refused : Refuses (item_rows (stage_after_items at_start found.0) rest) found.1.refusal

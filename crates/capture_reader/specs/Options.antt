@@ -71,17 +71,17 @@ options_in (suc most) order bytes =
     then option_of order bytes ∷ options_in most order (drop (option_len order bytes) bytes)
     else []
 
-abbrev pub behind_options : ℕ → ByteOrder → List ℕ → List ℕ
-behind_options zero order bytes = bytes
-behind_options (suc most) order bytes =
-    if has_option order bytes then behind_options most order (drop (option_len order bytes) bytes) else bytes
+abbrev pub after_options : ℕ → ByteOrder → List ℕ → List ℕ
+after_options zero order bytes = bytes
+after_options (suc most) order bytes =
+    if has_option order bytes then after_options most order (drop (option_len order bytes) bytes) else bytes
 
 -- all complete options at the start of the bytes, and the bytes after them
 abbrev pub options_of : ByteOrder → List ℕ → List PlainOption
 options_of order bytes = options_in (length bytes) order bytes
 
 abbrev pub options_end : ByteOrder → List ℕ → List ℕ
-options_end order bytes = behind_options (length bytes) order bytes
+options_end order bytes = after_options (length bytes) order bytes
 
 -- ---- options of an interface
 
@@ -106,9 +106,9 @@ value_len None = 0
 value_len (Some value) = length value
 
 -- the timestamp resolution (if_tsresol, option 9): 6, for microseconds, without the option
-abbrev pub resolution_said : Option (List ℕ) → ℕ
-resolution_said None = 6
-resolution_said (Some value) = slice_index value 0
+abbrev pub resolution_or_default : Option (List ℕ) → ℕ
+resolution_or_default None = 6
+resolution_or_default (Some value) = slice_index value 0
 
 -- the units per second: a power of ten, or from 128 on a power of two
 abbrev pub per_second_of : ℕ → ℕ
@@ -119,6 +119,6 @@ abbrev pub knows_resolution : ℕ → Bool
 knows_resolution resolution = if nat_lt resolution 128 then nat_lt resolution 20 else nat_lt resolution 192
 
 -- the seconds that are added to timestamps (if_tsoffset, option 14): 0 without the option
-abbrev pub offset_said : ByteOrder → Option (List ℕ) → ℤ
-offset_said order None = pos 0
-offset_said order (Some value) = cast_signed w64 (word64_of order value)
+abbrev pub offset_or_zero : ByteOrder → Option (List ℕ) → ℤ
+offset_or_zero order None = pos 0
+offset_or_zero order (Some value) = cast_signed w64 (word64_of order value)

@@ -7,7 +7,7 @@ use Rattle.capture_reader.specs.Captures.{Item, packet, Stage, at_start, in_reco
 use Rattle.capture_reader.specs.Captures.{AreItems, Fits, IsCapture, PlainShown, RefusesCapture, begins_long}
 use Rattle.capture_reader.specs.Captures.{begins_section}
 use Rattle.capture_reader.specs.Captures.{item_bytes, item_rows, items_bytes, may_end, shown_in, stage_after}
-use Rattle.capture_reader.specs.Captures.{block_shown, stage_behind}
+use Rattle.capture_reader.specs.Captures.{block_shown, stage_after_items}
 use Rattle.capture_reader.specs.BlockContents.{FitsLen, content_interfaces, content_shown, known_shown, section_of}
 use Rattle.capture_reader.specs.declared.block.Block.{Block}
 use Rattle.capture_reader.specs.Classic.{PlainPacket, kept_packet, most_kept}
@@ -46,12 +46,12 @@ abbrev pub reader_rest : CaptureReader → List ℕ
 reader_rest reader = drop reader.end reader.buffer.items
 
 -- the number of bytes that are not yet read
-abbrev pub reader_left : CaptureReader → ℕ
-reader_left reader = length reader.buffer.items - reader.end
+abbrev pub reader_unread : CaptureReader → ℕ
+reader_unread reader = length reader.buffer.items - reader.end
 
 -- the number of bytes in the reader's buffer, read or not
-abbrev pub reader_held : CaptureReader → ℕ
-reader_held reader = length reader.buffer.items
+abbrev pub reader_buffered : CaptureReader → ℕ
+reader_buffered reader = length reader.buffer.items
 
 -- the capacity of the buffer, for the unread bytes and the next chunk
 abbrev pub bytes_capacity : CaptureReader → ℕ
@@ -62,8 +62,8 @@ abbrev pub interfaces_capacity : CaptureReader → ℕ
 interfaces_capacity reader = vec_capacity reader.interfaces
 
 -- the number of interfaces that the section has described so far
-abbrev pub interfaces_held : CaptureReader → ℕ
-interfaces_held reader = vec_len reader.interfaces
+abbrev pub interfaces_described : CaptureReader → ℕ
+interfaces_described reader = vec_len reader.interfaces
 
 -- the number of bytes that were read
 abbrev pub reader_offset : CaptureReader → ℕ
@@ -95,7 +95,7 @@ shown_of shown = record {
 pub record Reads (reader : CaptureReader) (taken : List ℕ) (items : List Item) : Type 0 where
   pub fits : AreItems at_start items
   pub parts : taken ≡ items_bytes at_start items ++ reader_rest reader
-  pub stage : reader_stage reader ≡ stage_behind at_start items
+  pub stage : reader_stage reader ≡ stage_after_items at_start items
   pub offset : reader_offset reader ≡ length (items_bytes at_start items)
 
 -- The reader has read one item more.
@@ -118,19 +118,19 @@ IsOther stage item = shown_in stage item ≡ None
 
 -- Holds if the error is that bytes are missing, with `left` bytes present and more required.
 abbrev pub WantsBytes : ℕ → Refusal → Type 0
-WantsBytes left (refusal.Cut required there) = (there ≡ left) × (left < required)
+WantsBytes left (refusal.Cut required available) = (available ≡ left) × (left < required)
 WantsBytes left other = ⊥
 
 -- Result of `advance` after these bytes and items: a packet, which is the last packet now, or another item; the end of
 -- a capture; too few bytes; or bytes that are rejected whatever follows.
 abbrev pub AdvancesTo : CaptureReader → List ℕ → List Item → Result Advance CaptureError → Type 0
 AdvancesTo reader taken items (Ok Packet) =
-    (item : Item) × ReadsMore reader taken items item × ShowsItem reader (stage_behind at_start items) item
+    (item : Item) × ReadsMore reader taken items item × ShowsItem reader (stage_after_items at_start items) item
 AdvancesTo reader taken items (Ok Other) =
-    (item : Item) × IsOther (stage_behind at_start items) item × ReadsMore reader taken items item
+    (item : Item) × IsOther (stage_after_items at_start items) item × ReadsMore reader taken items item
 AdvancesTo reader taken items (Ok MayEnd) = Reads reader taken items × IsCapture taken items
 AdvancesTo reader taken items (Ok (Cut error)) =
-    Reads reader taken items × RefusesCapture taken (items, error) × WantsBytes (reader_left reader) error.refusal
+    Reads reader taken items × RefusesCapture taken (items, error) × WantsBytes (reader_unread reader) error.refusal
 AdvancesTo reader taken items (Err error) =
     Reads reader taken items × ((more : List ℕ) → RefusesCapture (taken ++ more) (items, error))
 
@@ -147,27 +147,27 @@ Waits (Ok (Cut error)) = Unit {0}
 Waits answer = ⊥
 
 -- the length of the longest record or block; a reader that needs more bytes has fewer unread ones
-abbrev pub most_held : Stage → ℕ
-most_held (in_records first) = 16 + most_kept
-most_held stage = most_block
+abbrev pub most_unread : Stage → ℕ
+most_unread (in_records first) = 16 + most_kept
+most_unread stage = most_block
 
 -- ---- one step
 
 -- The bytes are not empty, and the next item is a block in a section of this byte order that is not read in parts.
-abbrev pub BlocksStand : State → List Interface → ByteOrder → List ℕ → Type 0
-BlocksStand Start interfaces order bytes = (order ≡ Big) × (interfaces ≡ []) × (begins_section bytes ≡ true)
-BlocksStand (Records first) interfaces order bytes = ⊥
-BlocksStand (Blocks other) interfaces order bytes =
+abbrev pub NextIsBlock : State → List Interface → ByteOrder → List ℕ → Type 0
+NextIsBlock Start interfaces order bytes = (order ≡ Big) × (interfaces ≡ []) × (begins_section bytes ≡ true)
+NextIsBlock (Records first) interfaces order bytes = ⊥
+NextIsBlock (Blocks other) interfaces order bytes =
     (order ≡ other) × (0 < length bytes) × (begins_long other bytes ≡ false)
-BlocksStand (Inside other len left) interfaces order bytes = ⊥
+NextIsBlock (Inside other len left) interfaces order bytes = ⊥
 
 -- The next item of the reader is a block in a section of this byte order that is not read in parts.
 abbrev pub ReadsBlocks : CaptureReader → ByteOrder → Type 0
-ReadsBlocks reader order = BlocksStand reader.state reader.interfaces.items order (reader_rest reader)
+ReadsBlocks reader order = NextIsBlock reader.state reader.interfaces.items order (reader_rest reader)
 
 -- The next item is a block, which was parsed as this value.
 pub record ReadsBlock (reader : CaptureReader) (order : ByteOrder) (one : Block) : Type 0 where
-  pub stands : ReadsBlocks reader order
+  pub next_is_block : ReadsBlocks reader order
   pub is : IsBlock (section_of order reader.interfaces.items) (reader_rest reader)
       (block_in (section_of order reader.interfaces.items) (reader_rest reader), drop one.len (reader_rest reader))
   pub within : one.len ≤ length (reader_rest reader)
@@ -206,7 +206,7 @@ Answers reader next (Ok Other) = (item : Item) × IsOther (reader_stage reader) 
 Answers reader next (Ok MayEnd) =
     IsUnmoved reader next × (may_end (reader_stage reader) (reader_rest reader) ≡ true)
 Answers reader next (Ok (Cut error)) =
-    IsUnmoved reader next × StopsAt reader [] error × (length (reader_rest reader) < most_held (reader_stage reader))
+    IsUnmoved reader next × StopsAt reader [] error × (length (reader_rest reader) < most_unread (reader_stage reader))
     × WantsBytes (length (reader_rest reader)) error.refusal
 Answers reader next (Err error) = IsUnmoved reader next × ((more : List ℕ) → StopsAt reader more error)
 

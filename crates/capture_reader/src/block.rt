@@ -5,7 +5,8 @@ ghost use Rattle.ep_base.specs.Tables.{Refuses, first_row};
 ghost use Rattle.capture_reader.specs.Blocks.{IsBlock, RefusesBlock, block_in, body_rows, kept_of, kept_rows, kind_in};
 ghost use Rattle.capture_reader.specs.Blocks.{is_other, kind_of, known_order, knows_minor, min_len, byte_order_of_magic, section_after};
 ghost use Rattle.capture_reader.specs.Captures.{begins_long, block_shown};
-ghost use Rattle.capture_reader.specs.BlockContents.{FitsLen, IsFramed, Says, content_interfaces, content_shown, section_of, timed_known};
+ghost use Rattle.capture_reader.specs.BlockContents.{FitsLen, HasContent, IsFramed, content_interfaces, content_shown};
+ghost use Rattle.capture_reader.specs.BlockContents.{section_of, timed_known};
 
 use crate::byte_order::ByteOrder;
 use crate::interface::{Interface, padding_of};
@@ -85,7 +86,7 @@ pub struct Block {
 
 impl Block {
     /// Number of bytes before the body of a pcapng block: 8, its type and its length field.
-    pub const FRONT_LEN: usize = 8;
+    pub const HEADER_LEN: usize = 8;
 
     /// Parses the pcapng block at the start of `bytes`. `order` and `interfaces` are the byte order of the section so
     /// far and the interfaces that it has described; a section header states its own byte order.
@@ -271,7 +272,7 @@ impl Framing {
     #[inline(always)]
     fn content(&self, interfaces: &[Interface], body: &[u8]) -> Result<Content, Refusal>
         requires { min_len self.now.kind ≤ 12 + length body.now }
-        ensures ok { IfOk result (Says interfaces.now self.now.order self.now.kind self.now.len body.now) }
+        ensures ok { IfOk result (HasContent interfaces.now self.now.order self.now.kind self.now.len body.now) }
         ensures err { IfErr result (Refuses (body_rows interfaces.now self.now.order self.now.kind self.now.len
             body.now)) }
     {
@@ -288,7 +289,8 @@ impl Framing {
     /// Checks the version in the body of a pcapng Section Header Block: it has to be 1.0 or 1.2.
     fn section(&self, interfaces: &[Interface], body: &[u8]) -> Result<Content, Refusal>
         requires { 16 ≤ length body.now }
-        ensures ok { IfOk result (Says interfaces.now self.now.order BlockKind.SectionHeader self.now.len body.now) }
+        ensures ok { IfOk result (HasContent interfaces.now self.now.order BlockKind.SectionHeader self.now.len
+            body.now) }
         ensures err { IfErr result (Refuses (body_rows interfaces.now self.now.order BlockKind.SectionHeader
             self.now.len body.now)) }
     {
@@ -304,7 +306,7 @@ impl Framing {
     /// interfaces.
     fn interface(&self, interfaces: &[Interface], body: &[u8]) -> Result<Content, Refusal>
         requires { 8 ≤ length body.now }
-        ensures ok { IfOk result (Says interfaces.now self.now.order BlockKind.InterfaceDescription self.now.len
+        ensures ok { IfOk result (HasContent interfaces.now self.now.order BlockKind.InterfaceDescription self.now.len
             body.now) }
         ensures err { IfErr result (Refuses (body_rows interfaces.now self.now.order BlockKind.InterfaceDescription
             self.now.len body.now)) }
@@ -322,7 +324,8 @@ impl Framing {
     #[inline(always)]
     fn simple(&self, interfaces: &[Interface], body: &[u8]) -> Result<Content, Refusal>
         requires { 4 ≤ length body.now }
-        ensures ok { IfOk result (Says interfaces.now self.now.order BlockKind.SimplePacket self.now.len body.now) }
+        ensures ok { IfOk result (HasContent interfaces.now self.now.order BlockKind.SimplePacket self.now.len
+            body.now) }
         ensures err { IfErr result (Refuses (body_rows interfaces.now self.now.order BlockKind.SimplePacket
             self.now.len body.now)) }
     {
@@ -345,7 +348,8 @@ impl Framing {
     #[inline(always)]
     fn enhanced(&self, interfaces: &[Interface], body: &[u8]) -> Result<Content, Refusal>
         requires { 20 ≤ length body.now }
-        ensures ok { IfOk result (Says interfaces.now self.now.order BlockKind.EnhancedPacket self.now.len body.now) }
+        ensures ok { IfOk result (HasContent interfaces.now self.now.order BlockKind.EnhancedPacket self.now.len
+            body.now) }
         ensures err { IfErr result (Refuses (body_rows interfaces.now self.now.order BlockKind.EnhancedPacket
             self.now.len body.now)) }
     {
@@ -363,7 +367,8 @@ impl Framing {
     #[inline(always)]
     fn obsolete(&self, interfaces: &[Interface], body: &[u8]) -> Result<Content, Refusal>
         requires { 20 ≤ length body.now }
-        ensures ok { IfOk result (Says interfaces.now self.now.order BlockKind.ObsoletePacket self.now.len body.now) }
+        ensures ok { IfOk result (HasContent interfaces.now self.now.order BlockKind.ObsoletePacket self.now.len
+            body.now) }
         ensures err { IfErr result (Refuses (body_rows interfaces.now self.now.order BlockKind.ObsoletePacket
             self.now.len body.now)) }
     {

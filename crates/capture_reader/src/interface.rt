@@ -3,10 +3,10 @@
 ghost use Rattle.std.specs.Prelude.{◌≡◌, ◌≤◌, ◌==◌, if◌then◌else◌, true, false, None, Some, IfErr, IfOk, drop, length};
 ghost use Rattle.std.specs.Prelude.{option_copied};
 ghost use Rattle.ep_base.specs.Tables.{Refuses, first_row};
-ghost use Rattle.capture_reader.specs.Blocks.{interface_of, interface_read, options_rows, said_rows};
+ghost use Rattle.capture_reader.specs.Blocks.{interface_of, interface_read, option_value_rows, options_rows};
 ghost use Rattle.capture_reader.specs.Options.{ends_options, first_value, has_len, has_option, knows_resolution};
-ghost use Rattle.capture_reader.specs.Options.{offset_said, options_end, options_of, padding_of, per_second_of};
-ghost use Rattle.capture_reader.specs.Options.{resolution_said, value_len, value_of};
+ghost use Rattle.capture_reader.specs.Options.{offset_or_zero, options_end, options_of, padding_of, per_second_of};
+ghost use Rattle.capture_reader.specs.Options.{resolution_or_default, value_len, value_of};
 
 use crate::byte_order::ByteOrder;
 use crate::refusal::Refusal;
@@ -36,10 +36,10 @@ impl Interface {
         ensures ok { IfOk result (λ about. about ≡ interface_of order (interface_read order body.now)) }
         ensures err { IfErr result (Refuses (options_rows order (drop 8 body.now))) }
     {
-        let said = Said::by(order, &body[8..]);
+        let options = InterfaceOptions::parse(order, &body[8..]);
         let link_type = order.word16(body, 0);
         let snap_len = order.word32(body, 4);
-        match said.interface(order, link_type, snap_len) {
+        match options.interface(order, link_type, snap_len) {
             Ok(about) => Ok(about),
             Err(refusal) => Err(refusal),
         }
@@ -50,7 +50,7 @@ impl Interface {
 /// without it. Returns an error if the option is not 1 byte long.
 fn resolution_of(value: Option<&[u8]>) -> Result<u8, Refusal>
     ensures ok { IfOk result (λ resolution. (has_len 1 (option_copied value.entry) ≡ true)
-        × (resolution ≡ resolution_said (option_copied value.entry))) }
+        × (resolution ≡ resolution_or_default (option_copied value.entry))) }
     ensures err { IfErr result (λ error. (has_len 1 (option_copied value.entry) ≡ false)
         × (error ≡ Refusal.OptionLength 9 (value_len (option_copied value.entry)))) }
 {
@@ -72,7 +72,7 @@ fn resolution_of(value: Option<&[u8]>) -> Result<u8, Refusal>
 /// the option is not 8 bytes long.
 fn offset_of(order: ByteOrder, value: Option<&[u8]>) -> Result<i64, Refusal>
     ensures ok { IfOk result (λ offset. (has_len 8 (option_copied value.entry) ≡ true)
-        × (offset ≡ offset_said order (option_copied value.entry))) }
+        × (offset ≡ offset_or_zero order (option_copied value.entry))) }
     ensures err { IfErr result (λ error. (has_len 8 (option_copied value.entry) ≡ false)
         × (error ≡ Refusal.OptionLength 14 (value_len (option_copied value.entry)))) }
 {
@@ -124,7 +124,7 @@ pub(crate) fn padding_of(len: usize) -> usize
 
 /// Options of a pcapng interface that are read: timestamp resolution and offset.
 #[derive(Clone, Copy)]
-struct Said<'a> {
+struct InterfaceOptions<'a> {
     /// Value of the first option `if_tsresol` (code 9: timestamp resolution) of a pcapng interface, if present.
     resolution: Option<&'a [u8]>,
     /// Value of the first option `if_tsoffset` (code 14: seconds to add to timestamps) of a pcapng interface, if
@@ -134,10 +134,10 @@ struct Said<'a> {
     ended: bool,
 }
 
-impl<'a> Said<'a> {
+impl<'a> InterfaceOptions<'a> {
     /// Parses the options of a pcapng Interface Description Block, which are all of `bytes` up to the end-of-options
     /// marker.
-    fn by(order: ByteOrder, bytes: &'a [u8]) -> Said<'a>
+    fn parse(order: ByteOrder, bytes: &'a [u8]) -> InterfaceOptions<'a>
         ensures resolution { option_copied result.resolution ≡ value_of 9 (options_of order bytes.now) }
         ensures offset { option_copied result.offset ≡ value_of 14 (options_of order bytes.now) }
         ensures ended { result.ended ≡ ends_options order (options_end order bytes.now) }
@@ -153,7 +153,7 @@ impl<'a> Said<'a> {
             offset = first_of(offset, 14, code, value);
             rest = &rest[4 + len + padding_of(len)..];
         }
-        Said {
+        InterfaceOptions {
             resolution,
             offset,
             ended: ends_options(order, rest),
@@ -168,14 +168,14 @@ impl<'a> Said<'a> {
         link_type: u16,
         snap_len: u32,
     ) -> Result<Interface, Refusal>
-        ensures none { IfOk result (λ about. first_row (said_rows self.now.ended (option_copied self.now.resolution)
-            (option_copied self.now.offset)) ≡ None) }
+        ensures none { IfOk result (λ about. first_row (option_value_rows self.now.ended
+            (option_copied self.now.resolution) (option_copied self.now.offset)) ≡ None) }
         ensures link_type { IfOk result (λ about. about.link_type ≡ link_type) }
         ensures snap_len { IfOk result (λ about. about.snap_len ≡ snap_len) }
         ensures per_second { IfOk result (λ about.
-            about.per_second ≡ per_second_of (resolution_said (option_copied self.now.resolution))) }
-        ensures offset { IfOk result (λ about. about.offset ≡ offset_said order (option_copied self.now.offset)) }
-        ensures err { IfErr result (Refuses (said_rows self.now.ended (option_copied self.now.resolution)
+            about.per_second ≡ per_second_of (resolution_or_default (option_copied self.now.resolution))) }
+        ensures offset { IfOk result (λ about. about.offset ≡ offset_or_zero order (option_copied self.now.offset)) }
+        ensures err { IfErr result (Refuses (option_value_rows self.now.ended (option_copied self.now.resolution)
             (option_copied self.now.offset))) }
     {
         if !self.ended {

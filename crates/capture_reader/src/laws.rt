@@ -49,7 +49,7 @@ pub fn capture()
 /// States the values of the constants of captures: header lengths, the maximum number of captured bytes of a packet,
 /// and the values of a reader that has read no packet.
 pub fn constants()
-    ensures lengths { (Heading.LEN ≡ 24) × (Record.LEN ≡ 16) × (Block.FRONT_LEN ≡ 8) }
+    ensures lengths { (Heading.LEN ≡ 24) × (Record.LEN ≡ 16) × (Block.HEADER_LEN ≡ 8) }
     ensures most_kept { packet.MOST_KEPT ≡ 262144 }
     ensures no_record { Record.NONE ≡ record { seconds = 0; fraction = 0; original_len = 0; kept = 0 } }
     ensures known { Known.NONE ≡ record { link_type = 0; interface = None; time = None; original_len = 0 } }

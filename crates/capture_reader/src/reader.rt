@@ -3,14 +3,14 @@
 ghost use Rattle.std.specs.Prelude.{◌≡◌, ◌≤◌, ◌<◌, ◌+◌, ◌-◌, ◌^◌, ◌++◌, [], ℕ, List, IfErr, IfOk, IfSome, OnErr, OnOk};
 ghost use Rattle.std.specs.Prelude.{◌*◌, ◌/◌, ◌⊎◌, false, true, drop, length, vec_capacity, vec_len};
 ghost use Rattle.capture_reader.specs.Captures.{begins_long, begins_section};
-ghost use Rattle.capture_reader.specs.States.{in_front};
+ghost use Rattle.capture_reader.specs.States.{described_at_start};
 
 use crate::block::{Block, Content, SECTION};
 use crate::byte_order::ByteOrder;
 use crate::heading::Heading;
 use crate::interface::Interface;
 use crate::packet::{Packet, Record};
-use crate::parts::{MOST_STRETCH, begins_long, check_back, parse_long_len};
+use crate::parts::{MOST_STRETCH, begins_long, check_trailing_len, parse_long_len};
 use crate::refusal::{CaptureError, Refusal};
 use crate::shown::{Known, Shown};
 use std::alloc::{AllocError, Global};
@@ -75,8 +75,8 @@ pub struct CaptureReader {
     ghost before: { last ≤ end },
     ghost within: { end ≤ vec_len buffer },
     ghost bounded: { offset + (vec_len buffer - end) < 2 ^ 64 },
-    ghost fresh: { in_front state (vec_len interfaces) ≡ 0 },
-    ghost room: { 20 * vec_len interfaces + vec_len buffer ≤ 20 * vec_capacity interfaces + 19 + end },
+    ghost fresh: { described_at_start state (vec_len interfaces) ≡ 0 },
+    ghost spare: { 20 * vec_len interfaces + vec_len buffer ≤ 20 * vec_capacity interfaces + 19 + end },
 }
 
 impl CaptureReader {
@@ -85,16 +85,17 @@ impl CaptureReader {
     ghost use Rattle.capture_reader.specs.BlockContents.{known_shown, section_of};
     ghost use Rattle.capture_reader.specs.Classic.{kept_packet, packet_of};
     ghost use Rattle.capture_reader.specs.Readers.{AdvancesTo, Answers, Passes, Reads, ReadsBlock, ReadsBlocks, Waits};
-    ghost use Rattle.capture_reader.specs.Readers.{bytes_capacity, interfaces_held, interfaces_capacity};
-    ghost use Rattle.capture_reader.specs.Readers.{heading_in, most_held, reader_held, reader_left, reader_offset, reader_packet};
+    ghost use Rattle.capture_reader.specs.Readers.{bytes_capacity, interfaces_capacity, interfaces_described};
+    ghost use Rattle.capture_reader.specs.Readers.{heading_in, most_unread, reader_buffered, reader_unread};
+    ghost use Rattle.capture_reader.specs.Readers.{reader_offset, reader_packet};
     ghost use Rattle.capture_reader.specs.Readers.{reader_rest, reader_shown, reader_stage, refused_at, shown_of};
 
     /// Returns a capture reader that was given no bytes so far. It does not allocate.
     pub fn new(alloc: Global) -> CaptureReader
         ensures reads { Reads result [] [] }
-        ensures left { reader_left result ≡ 0 }
+        ensures unread { reader_unread result ≡ 0 }
         ensures offset { reader_offset result ≡ 0 }
-        ensures held { reader_held result ≡ 0 }
+        ensures buffered { reader_buffered result ≡ 0 }
         ensures packet { reader_packet result ≡ kept_packet Record.NONE [] }
         ensures shown { reader_shown result ≡ known_shown Known.NONE [] }
     {
@@ -113,39 +114,39 @@ impl CaptureReader {
 
     /// Number of bytes of the capture that the reader was given so far by calls of `take`.
     pub fn taken(&self) -> u64
-        ensures { result ≡ reader_offset self.now + reader_left self.now }
+        ensures { result ≡ reader_offset self.now + reader_unread self.now }
     {
         self.offset + (self.buffer.len() - self.end) as u64
     }
 
     /// Gives the next chunk of the capture to the reader; all chunks together have fewer than 2^64 bytes. Allocates if
     /// the buffer or the list of interfaces has to grow. If that fails, the chunk is not taken.
-    pub fn take(&mut self, piece: &[u8]) -> Result<(), AllocError>
-        requires { reader_offset self.old + reader_left self.old + length piece.now < 2 ^ 64 }
+    pub fn take(&mut self, chunk: &[u8]) -> Result<(), AllocError>
+        requires { reader_offset self.old + reader_unread self.old + length chunk.now < 2 ^ 64 }
         ensures ok { OnOk result ((taken : List ℕ) (items : List Item) → Reads self.old taken items →
-            Reads self.new (taken ++ piece.now) items) }
+            Reads self.new (taken ++ chunk.now) items) }
         ensures err { OnErr result ((taken : List ℕ) (items : List Item) → Reads self.old taken items →
             Reads self.new taken items) }
-        ensures left { OnOk result (reader_left self.new ≡ reader_left self.old + length piece.now) }
-        ensures held { OnOk result (reader_held self.new ≡ reader_left self.new) }
+        ensures unread { OnOk result (reader_unread self.new ≡ reader_unread self.old + length chunk.now) }
+        ensures buffered { OnOk result (reader_buffered self.new ≡ reader_unread self.new) }
         ensures offset { reader_offset self.new ≡ reader_offset self.old }
 
         // An allocation fails only if the unread bytes exceed the capacity, or if the interfaces do, at one for each 20
         // bytes.
-        ensures full { let left = reader_left self.old + length piece.now in
-            OnErr result ((bytes_capacity self.old < left)
-            ⊎ (interfaces_capacity self.old < interfaces_held self.old + left / 20)) }
+        ensures full { let unread = reader_unread self.old + length chunk.now in
+            OnErr result ((bytes_capacity self.old < unread)
+            ⊎ (interfaces_capacity self.old < interfaces_described self.old + unread / 20)) }
     {
         // Both allocations come first, so that a failure changes nothing.
-        let left = self.buffer.len() - self.end;
-        self.buffer.reserve(piece.len().saturating_sub(self.end))?;
+        let unread = self.buffer.len() - self.end;
+        self.buffer.reserve(chunk.len().saturating_sub(self.end))?;
         self.interfaces
-            .reserve((left + piece.len()) / Interface::LEN)?;
+            .reserve((unread + chunk.len()) / Interface::LEN)?;
         remove_prefix(&mut self.buffer, self.end);
         self.start = 0;
         self.last = 0;
         self.end = 0;
-        self.buffer.extend_from_slice(piece)?;
+        self.buffer.extend_from_slice(chunk)?;
         Ok(())
     }
 
@@ -154,10 +155,11 @@ impl CaptureReader {
     pub fn advance(&mut self) -> Result<Advance, CaptureError>
         ensures reads { (taken : List ℕ) (items : List Item) → Reads self.old taken items →
             AdvancesTo self.new taken items result }
-        ensures total { reader_offset self.new + reader_left self.new ≡ reader_offset self.old + reader_left self.old }
+        ensures total { reader_offset self.new + reader_unread self.new
+            ≡ reader_offset self.old + reader_unread self.old }
         ensures grows { reader_offset self.old ≤ reader_offset self.new }
-        ensures less { Passes result → reader_left self.new < reader_left self.old }
-        ensures memory { Waits result → reader_left self.new < most_held (reader_stage self.new) }
+        ensures less { Passes result → reader_unread self.new < reader_unread self.old }
+        ensures memory { Waits result → reader_unread self.new < most_unread (reader_stage self.new) }
     {
         self.step()
     }
@@ -285,7 +287,7 @@ impl CaptureReader {
         requires { (order : ByteOrder) × ReadsBlock self.old order block }
         ensures { Answers self.old self.new result }
     {
-        let start = self.end + Block::FRONT_LEN;
+        let start = self.end + Block::HEADER_LEN;
         self.end += block.len;
         self.offset += block.len as u64;
         self.state = State::Blocks(block.order);
@@ -327,8 +329,8 @@ impl CaptureReader {
     {
         match parse_long_len(order, self.rest()) {
             Ok(len) => {
-                self.end += Block::FRONT_LEN;
-                self.offset += Block::FRONT_LEN as u64;
+                self.end += Block::HEADER_LEN;
+                self.offset += Block::HEADER_LEN as u64;
                 self.state = State::Inside {
                     order,
                     len,
@@ -353,11 +355,11 @@ impl CaptureReader {
         ensures { Answers self.old self.new result }
     {
         let wanted = left.min(MOST_STRETCH);
-        let there = self.rest().len();
-        if there < wanted as usize {
+        let available = self.rest().len();
+        if available < wanted as usize {
             return self.refuse(Refusal::Cut {
                 required_len: wanted as usize,
-                len: there,
+                len: available,
             });
         }
         self.end += wanted as usize;
@@ -375,7 +377,7 @@ impl CaptureReader {
         requires { self.old.state ≡ State.Inside order len 0 }
         ensures { Answers self.old self.new result }
     {
-        match check_back(order, len, self.rest()) {
+        match check_trailing_len(order, len, self.rest()) {
             Ok(()) => {
                 self.end += 4;
                 self.offset += 4;

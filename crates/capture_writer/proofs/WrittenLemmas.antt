@@ -10,7 +10,7 @@ use Rattle.ep_base.specs.Bytes.{AreBytes}
 use Rattle.ep_base.specs.Tables.{IsDecided, first_row}
 use Rattle.capture_reader.specs.Captures.{AreItems, IsCapture, Item, PlainShown, RefusesCapture, Stage}
 use Rattle.capture_reader.specs.Captures.{heading, in_records, items_bytes, may_end, packet, record_shown}
-use Rattle.capture_reader.specs.Captures.{stage_behind}
+use Rattle.capture_reader.specs.Captures.{stage_after_items}
 use Rattle.capture_reader.specs.Classic.{FitsHeading, FitsRecord, heading_bytes, most_kept}
 use Rattle.capture_reader.specs.Numbers.{word16, word32}
 use Rattle.capture_reader.specs.declared.byte_order.ByteOrder.TheVariants.{Little}
@@ -122,7 +122,7 @@ records_parts link [] = refl
 records_parts link (shown ∷ more) = ap (λ (s : List ℕ). packet_bytes shown ++ s) (records_parts link more)
 
 records_stage : (link : ℕ) (packets : List PlainShown)
-    → stage_behind (in_records (written_heading link)) (packet_items packets) ≡ in_records (written_heading link)
+    → stage_after_items (in_records (written_heading link)) (packet_items packets) ≡ in_records (written_heading link)
 records_stage link [] = refl
 records_stage link (shown ∷ more) = records_stage link more
 

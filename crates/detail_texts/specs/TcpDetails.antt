@@ -13,14 +13,14 @@ abbrev pub block_text : Block → List ℕ
 block_text block = (codes " " ++ decimal block.0) ++ (codes "-" ++ decimal block.1)
 
 -- a SACK block, if present
-abbrev pub place_text : Option Block → List ℕ
-place_text (Some block) = block_text block
-place_text None = []
+abbrev pub sack_block_text : Option Block → List ℕ
+sack_block_text (Some block) = block_text block
+sack_block_text None = []
 
 -- the SACK blocks that are present
-abbrev pub places_text : List (Option Block) → List ℕ
-places_text [] = []
-places_text (place ∷ others) = place_text place ++ places_text others
+abbrev pub sack_blocks_text : List (Option Block) → List ℕ
+sack_blocks_text [] = []
+sack_blocks_text (place ∷ others) = sack_block_text place ++ sack_blocks_text others
 
 -- an option: its name and its values
 abbrev pub option_text : TcpOptionElement → List ℕ
@@ -28,7 +28,7 @@ option_text Noop = codes " nop"
 option_text (MaximumSegmentSize size) = codes " mss " ++ decimal size
 option_text (WindowScale shift) = codes " wscale " ++ decimal shift
 option_text SelectiveAcknowledgementPermitted = codes " sack-permitted"
-option_text (SelectiveAcknowledgement first others) = codes " sack" ++ block_text first ++ places_text others
+option_text (SelectiveAcknowledgement first others) = codes " sack" ++ block_text first ++ sack_blocks_text others
 option_text (Timestamp time echo) = (codes " timestamp " ++ decimal time) ++ (codes " echo " ++ decimal echo)
 
 -- why an option cannot be read: its kind is unknown, it is truncated, or its length is invalid for its kind

@@ -3,7 +3,7 @@
 ghost use Rattle.std.specs.Prelude.{◌≡◌, ◌++◌, OnOk, List, ℕ};
 ghost use Rattle.ep_transport.specs.TcpOptionSteps.{options_left};
 ghost use Rattle.ep_transport.specs.TcpSlices.{tcp_slice_header};
-ghost use Rattle.detail_texts.specs.TcpDetails.{IsOptionsText, IsTcpDetails, block_text, option_text, place_text, places_text};
+ghost use Rattle.detail_texts.specs.TcpDetails.{IsOptionsText, IsTcpDetails, block_text, option_text, sack_block_text, sack_blocks_text};
 ghost use Rattle.detail_texts.specs.TcpDetails.{unread_text};
 
 use ep_transport::{TcpOptionElement, TcpOptionReadError, TcpOptionsIterator, TcpSlice};
@@ -19,8 +19,8 @@ pub fn push_tcp(output: &mut Vec<u8>, segment: &TcpSlice<'_>) -> Result<(), Allo
     push_options(output, segment.options_iterator())
 }
 
-/// Appends TCP options as text, up to the end of the option list, or up to the first option that cannot be read, which
-/// is named.
+/// Appends TCP options as text, up to the end of the option list, or up to the first invalid option, whose error is
+/// appended.
 fn push_options(output: &mut Vec<u8>, options: TcpOptionsIterator<'_>) -> Result<(), AllocError>
     ensures { OnOk result ((text : List ℕ) × IsOptionsText (options_left options.entry) text
         × (output.new.items ≡ output.old.items ++ text)) }
@@ -52,7 +52,7 @@ fn push_option(output: &mut Vec<u8>, option: &TcpOptionElement) -> Result<(), Al
         TcpOptionElement::SelectiveAcknowledgement(first, others) => {
             output.extend_from_slice(b" sack")?;
             push_block(output, *first)?;
-            push_places(output, others)
+            push_sack_blocks(output, others)
         }
         TcpOptionElement::Timestamp(time, echo) => {
             decimals::push_with_text(output, b" timestamp ", u64::from(*time))?;
@@ -62,8 +62,8 @@ fn push_option(output: &mut Vec<u8>, option: &TcpOptionElement) -> Result<(), Al
 }
 
 /// Appends the blocks of a TCP SACK option that are present, as text.
-fn push_places(output: &mut Vec<u8>, places: &[Option<(u32, u32)>]) -> Result<(), AllocError>
-    ensures { OnOk result (output.new.items ≡ output.old.items ++ places_text places.now) }
+fn push_sack_blocks(output: &mut Vec<u8>, places: &[Option<(u32, u32)>]) -> Result<(), AllocError>
+    ensures { OnOk result (output.new.items ≡ output.old.items ++ sack_blocks_text places.now) }
 {
     for place in places {
         push_block_if_present(output, *place)?;
@@ -73,7 +73,7 @@ fn push_places(output: &mut Vec<u8>, places: &[Option<(u32, u32)>]) -> Result<()
 
 /// Appends a block of a TCP SACK option as text; nothing for `None`.
 fn push_block_if_present(output: &mut Vec<u8>, place: Option<(u32, u32)>) -> Result<(), AllocError>
-    ensures { OnOk result (output.new.items ≡ output.old.items ++ place_text place) }
+    ensures { OnOk result (output.new.items ≡ output.old.items ++ sack_block_text place) }
 {
     match place {
         Some(block) => push_block(output, block),

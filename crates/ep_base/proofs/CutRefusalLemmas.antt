@@ -86,7 +86,7 @@ cut_row named limit front back required needed end place by same enough short = 
   missing = len_error required (length front) end place;
   is = refl;
   short = record {
-    there = omega arith;
+    available = omega arith;
     needed = grind (arith, common_steps);
     within = grind (arith, common_steps);
   };
@@ -171,7 +171,7 @@ pub further_short : (offset cut whole : ℕ) (limit : LenSource) (missing : LenE
     → IsTruncationLenError (offset + cut) (offset + whole)
     (record missing { layer_start_offset = missing.layer_start_offset + offset; len_source = limit })
 further_short offset cut whole limit missing short = record {
-  there = omega (arith, short.there);
+  available = omega (arith, short.available);
   needed = short.needed;
   within = omega (arith, short.within);
 }

@@ -4,7 +4,7 @@ use Rattle.std.specs.Prelude.{nat_lt}
 use Rattle.std.proofs.lemmas.Grind.{common_steps}
 use Rattle.std.proofs.lemmas.Option.{none-some}
 use Rattle.ep_base.specs.Readings.{len_error}
-use Rattle.ep_base.specs.Missing.{CountsMissing, IsOfBytesAtHand, IsShortAt, ReportsMissing, that_row}
+use Rattle.ep_base.specs.Missing.{CountsMissing, IsOfAvailableBytes, IsShortAt, ReportsMissing, that_row}
 use Rattle.ep_base.specs.Tables.{first_row}
 use Rattle.ep_base.specs.declared.err.layer.Layer.{Layer}
 use Rattle.ep_base.specs.declared.err.len_error.LenError.{LenError}
@@ -23,7 +23,7 @@ pub short_once : (limit further : ℕ) (more : List ℕ) (error : LenError) (len
     → IsShortAt further (that_row error len) → further ≡ limit + length more
     → error.required_len ≤ error.len + length more → ⊥
 short_once limit further more error len first again longer enough =
-    omega (arith, first.there, again.there, again.needed, longer)
+    omega (arith, first.available, again.available, again.needed, longer)
 
 -- `ReportsMissing` follows if all errors count the available bytes.
 pub tells_missing : (Refuses : List ℕ → LenError → Type 0)
@@ -55,7 +55,7 @@ refusal_where Such ((false, row_error) ∷ rows) all error refused = refusal_whe
 pub short_row : (bytes : List ℕ) (required : ℕ) (limit : LenSource) (place : Layer)
     → nat_lt (length bytes) required ≡ true → IsShortAt (length bytes) (len_error required (length bytes) limit place)
 short_row bytes required limit place below =
-    record { there = omega arith; needed = grind (arith, common_steps) }
+    record { available = omega arith; needed = grind (arith, common_steps) }
 
 -- A row for too few bytes counts the available bytes.
 pub counted : (bytes : List ℕ) (required : ℕ) (limit : LenSource) (place : Layer)
@@ -70,23 +70,23 @@ either_where Such true rows others all also = all
 either_where Such false rows others all also = also
 
 -- A row whose limit is a length field counts no available bytes.
-pub not_counted : (bound required len : ℕ) (limit : LenSource) (place : Layer) → (IsOfBytesAtHand limit → ⊥)
+pub not_counted : (bound required len : ℕ) (limit : LenSource) (place : Layer) → (IsOfAvailableBytes limit → ⊥)
     → CountsMissing bound (len_error required len limit place)
 not_counted bound required len limit place other at_hand inexact = absurd (other at_hand)
 
 -- Length fields are not the end of the available bytes.
-pub not_macsec : IsOfBytesAtHand source.MacsecShortLength → ⊥
+pub not_macsec : IsOfAvailableBytes source.MacsecShortLength → ⊥
 not_macsec (inl same) = cc
 not_macsec (inr same) = cc
 
-pub not_total : IsOfBytesAtHand source.Ipv4HeaderTotalLen → ⊥
+pub not_total : IsOfAvailableBytes source.Ipv4HeaderTotalLen → ⊥
 not_total (inl same) = cc
 not_total (inr same) = cc
 
-pub not_payload : IsOfBytesAtHand source.Ipv6HeaderPayloadLen → ⊥
+pub not_payload : IsOfAvailableBytes source.Ipv6HeaderPayloadLen → ⊥
 not_payload (inl same) = cc
 not_payload (inr same) = cc
 
-pub not_udp : IsOfBytesAtHand source.UdpHeaderLen → ⊥
+pub not_udp : IsOfAvailableBytes source.UdpHeaderLen → ⊥
 not_udp (inl same) = cc
 not_udp (inr same) = cc

@@ -11,24 +11,24 @@ pub record LaxCut : Type 0 where
   pub source : LenSource
   pub incomplete : Bool
 
--- Whether a length field applies: its value `stated` is at least the minimum `least`, and at most `there`, the number of
--- available bytes.
+-- Whether a length field applies: its value `stated` is at least the minimum `least`, and at most `available`, the
+-- number of available bytes.
 abbrev pub cuts : ℕ → ℕ → ℕ → Bool
-cuts least stated there = nat_le least stated && nat_le stated there
+cuts least stated available = nat_le least stated && nat_le stated available
 
 -- Whether bytes of the payload are missing: the length field does not apply, and either its value `stated` is greater
--- than the number of available bytes (`there`), or the enclosing layer is itself incomplete (`outer`).
+-- than the number of available bytes (`available`), or the enclosing layer is itself incomplete (`outer`).
 abbrev pub is_missing : ℕ → ℕ → Bool → ℕ → Bool
-is_missing least stated outer there = not (cuts least stated there) && (outer || nat_lt there stated)
+is_missing least stated outer available = not (cuts least stated available) && (outer || nat_lt available stated)
 
 -- The bytes after a layer's header, split by the layer's length field. The field counts from the start of the layer,
 -- and its minimum is `least`. If the field applies, it is the source of the payload's length, and the payload is
 -- complete. Otherwise the payload takes all bytes; it is incomplete if the field is greater than the number of
 -- available bytes, or if the layer's own bytes are incomplete (`outer`).
-pub record IsLaxCut (least stated : ℕ) (named : LenSource) (outer : Bool) (header_len : ℕ) (behind : List ℕ)
+pub record IsLaxCut (least stated : ℕ) (named : LenSource) (outer : Bool) (header_len : ℕ) (after : List ℕ)
     (cut : LaxCut) : Type 0 where
-  pub parts : behind ≡ cut.payload ++ cut.left
-  pub ends : let there = header_len + length behind in
-      header_len + length cut.payload ≡ (if cuts least stated there then stated else there)
-  pub source : cut.source ≡ (if cuts least stated (header_len + length behind) then named else source.Slice)
-  pub incomplete : cut.incomplete ≡ is_missing least stated outer (header_len + length behind)
+  pub parts : after ≡ cut.payload ++ cut.left
+  pub ends : let available = header_len + length after in
+      header_len + length cut.payload ≡ (if cuts least stated available then stated else available)
+  pub source : cut.source ≡ (if cuts least stated (header_len + length after) then named else source.Slice)
+  pub incomplete : cut.incomplete ≡ is_missing least stated outer (header_len + length after)

@@ -9,8 +9,8 @@ use Rattle.ep_base.specs.declared.len_source.LenSource.TheVariants as source
 
 -- The available bytes are the limit: the length source is the end of the slice, or the address lengths of an ARP
 -- packet.
-abbrev pub IsOfBytesAtHand : LenSource → Type 0
-IsOfBytesAtHand limit = (limit ≡ source.Slice) ⊎ (limit ≡ source.ArpAddrLengths)
+abbrev pub IsOfAvailableBytes : LenSource → Type 0
+IsOfAvailableBytes limit = (limit ≡ source.Slice) ⊎ (limit ≡ source.ArpAddrLengths)
 
 -- The message must have an exact length (RFC 792, timestamp and timestamp reply), and is also rejected if it is longer.
 abbrev pub HasExactLength : Layer → Type 0
@@ -18,14 +18,14 @@ HasExactLength place = (place ≡ layer.Icmpv4Timestamp) ⊎ (place ≡ layer.Ic
 
 -- A layer needs more bytes than are available from its start to this limit.
 pub record IsShortAt (limit : ℕ) (error : LenError) : Type 0 where
-  pub there : error.layer_start_offset + error.len ≡ limit
+  pub available : error.layer_start_offset + error.len ≡ limit
   pub needed : error.len < error.required_len
 
 -- If the available bytes are the limit, and the layer does not require an exact length, the error counts the bytes up
 -- to the limit, and these are too few.
 abbrev pub CountsMissing : ℕ → LenError → Type 0
 CountsMissing limit error =
-    IsOfBytesAtHand error.len_source → (¬ HasExactLength error.layer) → IsShortAt limit error
+    IsOfAvailableBytes error.len_source → (¬ HasExactLength error.layer) → IsShortAt limit error
 
 -- The error of a row of a refusal table, with another number of available bytes.
 abbrev pub that_row : LenError → ℕ → LenError
@@ -36,13 +36,13 @@ that_row error len = record error { len = len }
 pub record ReportsMissing (Refuses : List ℕ → LenError → Type 0) : Type 0 where
   pub counts : (bytes : List ℕ) (error : LenError) → Refuses bytes error → CountsMissing (length bytes) error
   pub not_again : (bytes more : List ℕ) (error : LenError) (len : ℕ) → Refuses bytes error
-      → IsOfBytesAtHand error.len_source → (¬ HasExactLength error.layer)
+      → IsOfAvailableBytes error.len_source → (¬ HasExactLength error.layer)
       → error.required_len ≤ error.len + length more → Refuses (bytes ++ more) (that_row error len) → ⊥
 
 -- The length error of bytes that are truncated from `whole` to `cut` bytes: a layer needs more bytes than there are
 -- from its start to the truncation, but none past the original end.
 pub record IsTruncationLenError (cut whole : ℕ) (error : LenError) : Type 0 where
-  pub there : error.layer_start_offset + error.len ≡ cut
+  pub available : error.layer_start_offset + error.len ≡ cut
   pub needed : error.len < error.required_len
   pub within : error.layer_start_offset + error.required_len ≤ whole
 
@@ -62,6 +62,6 @@ slice_end error = source.Slice
 abbrev pub ReportsTruncation : {V E : Type 0} → (List ℕ → V → Type 0) → (List ℕ → E → Type 0) → (LenError → E)
     → (V → LenError → LenSource) → Type 0
 ReportsTruncation {V = V} {E = E} Is Refuses named limit =
-    (front back : List ℕ) → AreBytes (front ++ back) → (value : V) → Is (front ++ back) value
-    → (error : E) → Refuses front error
-    → IsTruncationError named (limit value) (length front) (length (front ++ back)) error
+    (prefix rest : List ℕ) → AreBytes (prefix ++ rest) → (value : V) → Is (prefix ++ rest) value
+    → (error : E) → Refuses prefix error
+    → IsTruncationError named (limit value) (length prefix) (length (prefix ++ rest)) error

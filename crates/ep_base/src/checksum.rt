@@ -158,7 +158,7 @@ fn in_64_bits(sum: u128) -> u64
 #[inline]
 fn add_short(sum: u128, bytes: &[u8]) -> u64
     requires short { length bytes.now < 128 }
-    requires room { sum < 2 ^ 127 }
+    requires sum_bound { sum < 2 ^ 127 }
     ensures { residue result ≡ residue (sum + word_sum bytes.now) }
 {
     let mut sum = sum;
@@ -194,7 +194,7 @@ fn add_long(sum: u64, bytes: &[u8]) -> u64
 #[inline]
 fn block_sum(block: &[u8]) -> u64
     requires short { length block.now ≤ 2048 }
-    requires whole { length block.now % 8 ≡ 0 }
+    requires words { length block.now % 8 ≡ 0 }
     ensures { residue result ≡ residue (word_sum block.now) }
 {
     let mut both: u64 = 0;

@@ -27,7 +27,7 @@ use Rattle.ep_packet.specs.IpHeaders.{FitIpHeaders, headers_for, ip_extensions_l
 use Rattle.ep_packet.specs.declared.ip_headers.IpHeaders.{IpHeaders}
 use Rattle.ep_packet.specs.declared.ip_headers.IpHeaders.TheVariants as version
 use Rattle.ep_build.specs.BuildErrors.{IsBuildable}
-use Rattle.ep_build.specs.BuiltFrames.{held_ip}
+use Rattle.ep_build.specs.BuiltFrames.{ip_frame_headers}
 use Rattle.ep_build.specs.declared.link_part.LinkPart.{LinkPart}
 use Rattle.ep_build.proofs.LengthLemmas.{linked_len}
 use Rattle.ep_build.proofs.HeaderListLemmas.{header_lists}
@@ -175,14 +175,14 @@ within total most first second none = grind (arith, common_steps)
 
 -- The length field can count the length if no row of the table is met.
 counts : (part : LinkPart) (headers : IpHeaders) (last : IpNumber) (len : ℕ)
-    → IsBuildable (held_ip part headers last) len → len + ip_extensions_len headers ≤ most_after_header headers
+    → IsBuildable (ip_frame_headers part headers last) len → len + ip_extensions_len headers ≤ most_after_header headers
 counts part headers last len buildable =
     within (len + ip_extensions_len headers) (most_after_header headers) _ _ buildable
 
 -- ---- all headers
 
 pub linked_fit : (part : LinkPart) (headers : IpHeaders) (last : IpNumber) (len : ℕ) → FitIpHeaders headers
-    → last.0 < 2 ^ 8 → IsBuildable (held_ip part headers last) len → FitIpHeaders (headers_for headers last len)
+    → last.0 < 2 ^ 8 → IsBuildable (ip_frame_headers part headers last) len → FitIpHeaders (headers_for headers last len)
 linked_fit part (version.Ipv4 header extensions) last len fit small buildable = (
   record {
     dscp = fit.0.dscp;

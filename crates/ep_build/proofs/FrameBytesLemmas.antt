@@ -19,7 +19,7 @@ use Rattle.ep_packet.specs.IpHeaders.{FitIpHeaders, FitsIpHeader, headers_for, i
 use Rattle.ep_packet.specs.IpHeaders.{ip_headers_type, with_checksum, written_headers}
 use Rattle.ep_packet.specs.declared.ip_headers.IpHeaders.{IpHeaders}
 use Rattle.ep_packet.specs.declared.ip_headers.IpHeaders.TheVariants as version
-use Rattle.ep_build.specs.BuiltFrames.{as_ether_type, built_frame, held_ip, link_with_type, link_part_bytes}
+use Rattle.ep_build.specs.BuiltFrames.{as_ether_type, built_frame, ip_frame_headers, link_with_type, link_part_bytes}
 use Rattle.ep_build.specs.Fits.{FitsLink}
 use Rattle.ep_build.specs.declared.link_part.LinkPart.{LinkPart}
 use Rattle.ep_build.specs.declared.link_part.LinkPart.TheVariants as link
@@ -96,7 +96,7 @@ link_is_bytes (link.LinuxSll header) type fits =
 
 pub ip_frame_is_bytes : (part : LinkPart) (headers : IpHeaders) (last : IpNumber) (payload : List ℕ) → FitsLink part
     → FitIpHeaders (headers_for headers last (length payload)) → AreBytes payload
-    → AreBytes (built_frame (held_ip part headers last) payload)
+    → AreBytes (built_frame (ip_frame_headers part headers last) payload)
 ip_frame_is_bytes part headers last payload fits_link fit bytes =
     let written = headers_for headers last (length payload) in
     both_bytes (link_part_bytes (link_with_type part (as_ether_type (ip_headers_type headers))))

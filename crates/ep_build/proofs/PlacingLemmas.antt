@@ -7,7 +7,7 @@ use Rattle.ep_ext.specs.Chains.{FitParts, parts_bytes}
 use Rattle.ep_ext.specs.ExtensionParts.{ExtensionPart, destination_options, hop_by_hop, part_bytes, optional_part}
 use Rattle.ep_ext.specs.declared.ipv6_raw_ext_header.Ipv6RawExtHeader.{Ipv6RawExtHeader}
 use Rattle.ep_build.specs.BuildErrors.{IsBuildable}
-use Rattle.ep_build.specs.BuiltFrames.{Held, built_frame}
+use Rattle.ep_build.specs.BuiltFrames.{FrameHeaders, built_frame}
 use Rattle.ep_build.specs.Placing.{AreAt, FillsStart, PartsAreAt}
 
 -- ---- bytes
@@ -137,7 +137,7 @@ packet_at front written content frame old mid new middle end first second is =
     (both_at (front ++ written) content old mid new 0 middle end first second)
 
 -- A frame at the start of the slice is a successful result of building into it.
-pub fills : (held : Held) (payload old new : List ℕ) (size end : ℕ) → IsBuildable held (length payload)
+pub fills : (held : FrameHeaders) (payload old new : List ℕ) (size end : ℕ) → IsBuildable held (length payload)
     → size ≡ length (built_frame held payload) → AreAt (built_frame held payload) old new 0 end
     → FillsStart held payload old new (Ok size)
 fills held payload old new size end buildable len there =

@@ -14,7 +14,7 @@ use Rattle.ep_transport.specs.TransportHeaders.{transport_bytes, transport_heade
 use Rattle.ep_transport.specs.declared.transport_header.TransportHeader.{TransportHeader}
 use Rattle.ep_transport.specs.declared.transport_header.TransportHeader.TheVariants as transport
 use Rattle.ep_link.specs.declared.link_ext.vlan_header.VlanHeader.TheVariants as tags
-use Rattle.ep_build.specs.BuiltFrames.{as_ether_type, built_frame, built_size, held_arp, held_ip, held_transport}
+use Rattle.ep_build.specs.BuiltFrames.{as_ether_type, built_frame, built_size, arp_frame_headers, ip_frame_headers, transport_frame_headers}
 use Rattle.ep_build.specs.BuiltFrames.{inside_type, ip_frame, ip_packet, link_with_type, link_part_bytes, link_part_len}
 use Rattle.ep_build.specs.BuiltFrames.{transport_between, transport_number}
 use Rattle.ep_build.specs.Fits.{FitsLink}
@@ -85,7 +85,7 @@ between_bytes (version.Ipv6 ip extensions) payload (transport.Icmpv6 header) len
 
 pub ip_size : (part : LinkPart) (headers : IpHeaders) (last : IpNumber) (payload : List ℕ) → FitsLink part
     → FitsIpHeader headers
-    → length (built_frame (held_ip part headers last) payload) ≡ built_size (held_ip part headers last) (length payload)
+    → length (built_frame (ip_frame_headers part headers last) payload) ≡ built_size (ip_frame_headers part headers last) (length payload)
 ip_size part headers last payload fits_link fits =
     let type = as_ether_type (inside_type (ip_packet headers last)) in omega (
       arith,
@@ -96,8 +96,8 @@ ip_size part headers last payload fits_link fits =
 
 pub transport_size : (part : LinkPart) (headers : IpHeaders) (behind : TransportHeader) (payload : List ℕ)
     → FitsLink part → FitsIpHeader headers → length (transport_bytes behind) ≡ transport_header_len behind
-    → length (built_frame (held_transport part headers behind) payload)
-    ≡ built_size (held_transport part headers behind) (length payload)
+    → length (built_frame (transport_frame_headers part headers behind) payload)
+    ≡ built_size (transport_frame_headers part headers behind) (length payload)
 transport_size part headers behind payload fits_link fits len =
     let last : IpNumber = record { 0 = transport_number behind } in
     let filled = transport_bytes (transport_between headers payload behind) in
@@ -111,7 +111,7 @@ transport_size part headers behind payload fits_link fits len =
     )
 
 pub arp_size : (part : LinkPart) (packet : Arp) → FitsLink part → length (arp_bytes packet) ≡ arp_len packet
-    → length (built_frame (held_arp part packet) []) ≡ built_size (held_arp part packet) 0
+    → length (built_frame (arp_frame_headers part packet) []) ≡ built_size (arp_frame_headers part packet) 0
 arp_size part packet fits_link len =
     let type = as_ether_type 0x0806 in omega (
       arith,

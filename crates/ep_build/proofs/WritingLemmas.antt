@@ -31,7 +31,7 @@ use Rattle.ep_transport.specs.declared.transport_header.TransportHeader.{Transpo
 use Rattle.ep_transport.specs.declared.transport_header.TransportHeader.TheVariants as transport
 use Rattle.ep_build.specs.BuildErrors.{IsBuildable, is_icmpv6_in_ipv4}
 use Rattle.ep_build.specs.BuiltFragments.{IsFragmentReadBack}
-use Rattle.ep_build.specs.BuiltFrames.{Held, as_ether_type, built_frame, held_ip, held_transport}
+use Rattle.ep_build.specs.BuiltFrames.{FrameHeaders, as_ether_type, built_frame, ip_frame_headers, transport_frame_headers}
 use Rattle.ep_build.specs.BuiltFrames.{link_with_type, link_part_bytes, link_part_len, transport_between, transport_number}
 use Rattle.ep_build.specs.BuiltFrames.{with_checksum_after, with_length}
 use Rattle.ep_build.specs.declared.err.build_write_error.BuildWriteError.{BuildWriteError}
@@ -174,7 +174,7 @@ icmpv6_row_none false is = refl
 pub transport_passes : (link : LinkPart) (headers : IpHeaders) (behind : TransportHeader) (len : ℕ)
     → first_row (payload_len_rows headers (transport_header_len behind + len)) ≡ None
     → is_icmpv6_in_ipv4 headers behind ≡ false
-    → IsBuildable (held_transport link headers behind) len
+    → IsBuildable (transport_frame_headers link headers behind) len
 transport_passes link headers behind len none carried =
     let rows = payload_len_rows headers (transport_header_len behind + len) in
     first_row-append_none (rows_as error.PayloadLen rows) (icmpv6_rows (is_icmpv6_in_ipv4 headers behind))
@@ -230,7 +230,7 @@ pub is_transport_frame : (link : LinkPart) (headers linked : IpHeaders) (behind 
     → len ≡ length (transport_bytes filled ++ payload) → type.0 ≡ ip_headers_type headers
     → link_part_bytes (link_with_type link type)
     ++ (written_headers linked (ip_headers_parts linked) ++ (transport_bytes filled ++ payload))
-    ≡ built_frame (held_transport link headers behind) payload
+    ≡ built_frame (transport_frame_headers link headers behind) payload
 is_transport_frame link headers linked behind filled last len type payload is number between counts typed =
     let content = transport_bytes filled ++ payload in
     let whole : linked ≡ headers_for headers (record { 0 = transport_number behind }) (length content) =
@@ -246,7 +246,7 @@ is_transport_frame link headers linked behind filled last len type payload is nu
 pub is_ip_frame : (link : LinkPart) (headers linked : IpHeaders) (last : IpNumber) (type : EtherType) (payload : List ℕ)
     → linked ≡ headers_for headers last (length payload) → type.0 ≡ ip_headers_type headers
     → link_part_bytes (link_with_type link type) ++ (written_headers linked (ip_headers_parts linked) ++ payload)
-    ≡ built_frame (held_ip link headers last) payload
+    ≡ built_frame (ip_frame_headers link headers last) payload
 is_ip_frame link headers linked last type payload is typed =
     ap (λ (n : ℕ). link_part_bytes (link_with_type link (as_ether_type n))
     ++ (written_headers linked (ip_headers_parts linked) ++ payload)) typed
@@ -310,7 +310,7 @@ are_prepared link headers linked behind set filled last len type payload link_si
       fits_header = fits_header;
       fits_transport = fits;
       parts = omega (arith, link_is, headers_is, counts, filled_len);
-      whole = omega (arith, link_is, headers_is, counts, linked_len);
+      size_is = omega (arith, link_is, headers_is, counts, linked_len);
     }
 
 -- Prepared headers and the payload are the frame.
@@ -319,7 +319,7 @@ pub prepared_frame : (link : LinkPart) (headers : IpHeaders) (behind : Transport
     → ArePrepared link headers behind payload linked filled type size
     → link_part_bytes (link_with_type link type)
     ++ (written_headers linked (ip_headers_parts linked) ++ (transport_bytes filled ++ payload))
-    ≡ built_frame (held_transport link headers behind) payload
+    ≡ built_frame (transport_frame_headers link headers behind) payload
 prepared_frame link headers behind payload linked filled type size made =
     let len = transport_header_len behind + length payload in
     is_transport_frame link headers linked behind filled (record { 0 = transport_number behind }) len type payload
@@ -330,7 +330,7 @@ prepared_frame link headers behind payload linked filled type size made =
 pub prepared_len : (link : LinkPart) (headers : IpHeaders) (behind : TransportHeader) (payload : List ℕ)
     (linked : IpHeaders) (filled : TransportHeader) (type : EtherType) (size : ℕ)
     → ArePrepared link headers behind payload linked filled type size
-    → size ≡ length (built_frame (held_transport link headers behind) payload)
+    → size ≡ length (built_frame (transport_frame_headers link headers behind) payload)
 prepared_len link headers behind payload linked filled type size made =
     let front = link_part_bytes (link_with_type link type) in
     let written = written_headers linked (ip_headers_parts linked) in
@@ -347,7 +347,7 @@ prepared_len link headers behind payload linked filled type size made =
     )
 
 -- The buffer has the frame of the headers appended.
-abbrev pub Appends : Held → List ℕ → List ℕ → List ℕ → Type 0
+abbrev pub Appends : FrameHeaders → List ℕ → List ℕ → List ℕ → Type 0
 Appends held payload old new = IsBuildable held (length payload) × (new ≡ old ++ built_frame held payload)
 
 -- ---- reading back

@@ -10,7 +10,7 @@ use Rattle.ep_packet.specs.declared.ip_headers.IpHeaders.TheVariants as version
 use Rattle.ep_transport.specs.TransportHeaders.{transport_header_len}
 use Rattle.ep_transport.specs.declared.transport_header.TransportHeader.{TransportHeader}
 use Rattle.ep_transport.specs.declared.transport_header.TransportHeader.TheVariants as transport
-use Rattle.ep_build.specs.BuiltFrames.{Held, Inside, ip_packet, transport_packet, arp_packet}
+use Rattle.ep_build.specs.BuiltFrames.{FrameHeaders, Inside, ip_packet, transport_packet, arp_packet}
 use Rattle.ep_build.specs.declared.err.build_write_error.BuildWriteError.{BuildWriteError}
 use Rattle.ep_build.specs.declared.err.build_write_error.BuildWriteError.TheVariants as error
 
@@ -22,33 +22,33 @@ is_icmpv6_in_ipv4 (version.Ipv4 header extensions) (transport.Udp datagram) = fa
 is_icmpv6_in_ipv4 (version.Ipv4 header extensions) (transport.Tcp segment) = false
 is_icmpv6_in_ipv4 (version.Ipv4 header extensions) (transport.Icmpv4 message) = false
 is_icmpv6_in_ipv4 (version.Ipv4 header extensions) (transport.Icmpv6 message) = true
-is_icmpv6_in_ipv4 (version.Ipv6 header extensions) behind = false
+is_icmpv6_in_ipv4 (version.Ipv6 header extensions) upper = false
 
 -- Refusal table of the headers after the link part and `len` bytes of payload.
 abbrev pub inside_rows : Inside → ℕ → List (Bool × BuildWriteError)
 inside_rows (ip_packet headers last) len = rows_as error.PayloadLen (payload_len_rows headers len)
-inside_rows (transport_packet headers behind) len =
-    rows_as error.PayloadLen (payload_len_rows headers (transport_header_len behind + len))
-    ++ (is_icmpv6_in_ipv4 headers behind, error.Icmpv6InIpv4)
+inside_rows (transport_packet headers upper) len =
+    rows_as error.PayloadLen (payload_len_rows headers (transport_header_len upper + len))
+    ++ (is_icmpv6_in_ipv4 headers upper, error.Icmpv6InIpv4)
     ∷ []
 inside_rows (arp_packet packet) len = []
 
 -- Refusal table of the headers of a frame and `len` bytes of payload.
-abbrev pub build_rows : Held → ℕ → List (Bool × BuildWriteError)
-build_rows held len = inside_rows held.inside len
+abbrev pub build_rows : FrameHeaders → ℕ → List (Bool × BuildWriteError)
+build_rows frame len = inside_rows frame.inside len
 
 -- The error of the headers and `len` bytes of payload, by the table.
-abbrev pub RefusesBuild : Held → ℕ → BuildWriteError → Type 0
-RefusesBuild held len = Refuses (build_rows held len)
+abbrev pub RefusesBuild : FrameHeaders → ℕ → BuildWriteError → Type 0
+RefusesBuild frame len = Refuses (build_rows frame len)
 
 -- No row of the table is met.
-abbrev pub IsBuildable : Held → ℕ → Type 0
-IsBuildable held len = first_row (build_rows held len) ≡ None
+abbrev pub IsBuildable : FrameHeaders → ℕ → Type 0
+IsBuildable frame len = first_row (build_rows frame len) ≡ None
 
 -- The error of writing the frame: that of the table, or out of memory if no row is met.
-abbrev pub IsBuildError : Held → ℕ → BuildWriteError → Type 0
-IsBuildError held len refusal =
-    RefusesBuild held len refusal ⊎ ((refusal ≡ error.OutOfMemory) × IsBuildable held len)
+abbrev pub IsBuildError : FrameHeaders → ℕ → BuildWriteError → Type 0
+IsBuildError frame len refusal =
+    RefusesBuild frame len refusal ⊎ ((refusal ≡ error.OutOfMemory) × IsBuildable frame len)
 
 -- ---- parts of an error
 

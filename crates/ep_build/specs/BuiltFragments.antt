@@ -14,7 +14,7 @@ use Rattle.ep_packet.specs.Layers.{Layers}
 use Rattle.ep_packet.specs.declared.entry.Entry.{Entry}
 use Rattle.ep_packet.specs.declared.ip_headers.IpHeaders.{IpHeaders}
 use Rattle.ep_packet.specs.declared.ip_headers.IpHeaders.TheVariants as version
-use Rattle.ep_build.specs.BuiltFrames.{built_frame, held_ip, ip_packet}
+use Rattle.ep_build.specs.BuiltFrames.{built_frame, ip_frame_headers, ip_packet}
 use Rattle.ep_build.specs.ReadBack.{IsEntryOf}
 use Rattle.ep_build.specs.declared.link_part.LinkPart.{LinkPart}
 use Rattle.ep_build.specs.declared.link_part.LinkPart.TheVariants as link
@@ -60,4 +60,4 @@ abbrev pub IsFragmentReadBack : LinkPart → IpHeaders → IpNumber → List ℕ
 IsFragmentReadBack part headers last payload =
     (found : FrameFragment) → built_fragment part headers last payload ≡ Some found → EndsExtensions headers last.0
     → (reading : Reading) (entry : Entry) → IsEntryOf part (ip_packet headers last) entry
-    → CarriesFragment reading entry (built_frame (held_ip part headers last) payload) found
+    → CarriesFragment reading entry (built_frame (ip_frame_headers part headers last) payload) found

@@ -33,21 +33,21 @@ pub data Inside : Type 0 where
   arp_packet : Arp → Inside
 
 -- The headers of a frame: link header and VLAN tags, if any, and the headers after them.
-pub record Held : Type 0 where
+pub record FrameHeaders : Type 0 where
   pub link : LinkPart
   pub inside : Inside
 
 -- IP headers after a link part, with the protocol number of the payload.
-abbrev pub held_ip : LinkPart → IpHeaders → IpNumber → Held
-held_ip part headers last = record { link = part; inside = ip_packet headers last }
+abbrev pub ip_frame_headers : LinkPart → IpHeaders → IpNumber → FrameHeaders
+ip_frame_headers part headers last = record { link = part; inside = ip_packet headers last }
 
 -- An IP packet with a transport header after a link part.
-abbrev pub held_transport : LinkPart → IpHeaders → TransportHeader → Held
-held_transport part headers behind = record { link = part; inside = transport_packet headers behind }
+abbrev pub transport_frame_headers : LinkPart → IpHeaders → TransportHeader → FrameHeaders
+transport_frame_headers part headers upper = record { link = part; inside = transport_packet headers upper }
 
 -- An ARP packet after a link part.
-abbrev pub held_arp : LinkPart → Arp → Held
-held_arp part packet = record { link = part; inside = arp_packet packet }
+abbrev pub arp_frame_headers : LinkPart → Arp → FrameHeaders
+arp_frame_headers part packet = record { link = part; inside = arp_packet packet }
 
 -- ---- link part
 
@@ -118,12 +118,12 @@ with_length len (transport.Icmpv6 header) = transport.Icmpv6 header
 
 -- A transport header with its checksum between the addresses of IP headers and this payload.
 abbrev pub with_checksum_after : IpHeaders → List ℕ → TransportHeader → TransportHeader
-with_checksum_after (version.Ipv4 header extensions) payload behind = with_checksum_ipv4 header payload behind
-with_checksum_after (version.Ipv6 header extensions) payload behind = with_checksum_ipv6 header payload behind
+with_checksum_after (version.Ipv4 header extensions) payload upper = with_checksum_ipv4 header payload upper
+with_checksum_after (version.Ipv6 header extensions) payload upper = with_checksum_ipv6 header payload upper
 
 -- A transport header as it is written between IP headers and this payload.
 abbrev pub transport_between : IpHeaders → List ℕ → TransportHeader → TransportHeader
-transport_between headers payload behind = with_checksum_after headers payload (with_length (length payload) behind)
+transport_between headers payload upper = with_checksum_after headers payload (with_length (length payload) upper)
 
 -- ---- frame
 
@@ -136,30 +136,30 @@ ip_frame headers last content =
 -- The ether type of the headers after the link part.
 abbrev pub inside_type : Inside → ℕ
 inside_type (ip_packet headers last) = ip_headers_type headers
-inside_type (transport_packet headers behind) = ip_headers_type headers
+inside_type (transport_packet headers upper) = ip_headers_type headers
 inside_type (arp_packet packet) = arp_type
 
 -- Bytes of the headers after the link part, and of the payload.
 abbrev pub inside_frame : Inside → List ℕ → List ℕ
 inside_frame (ip_packet headers last) payload = ip_frame headers last payload
-inside_frame (transport_packet headers behind) payload = ip_frame
+inside_frame (transport_packet headers upper) payload = ip_frame
     headers
-    (record { 0 = transport_number behind })
-    (transport_bytes (transport_between headers payload behind) ++ payload)
+    (record { 0 = transport_number upper })
+    (transport_bytes (transport_between headers payload upper) ++ payload)
 inside_frame (arp_packet packet) payload = arp_bytes packet ++ payload
 
 -- The frame of headers and a payload.
-abbrev pub built_frame : Held → List ℕ → List ℕ
-built_frame held payload =
-    link_part_bytes (link_with_type held.link (as_ether_type (inside_type held.inside)))
-    ++ inside_frame held.inside payload
+abbrev pub built_frame : FrameHeaders → List ℕ → List ℕ
+built_frame frame payload =
+    link_part_bytes (link_with_type frame.link (as_ether_type (inside_type frame.inside)))
+    ++ inside_frame frame.inside payload
 
 -- Length in bytes of the headers after the link part and `len` bytes of payload.
 abbrev pub inside_size : Inside → ℕ → ℕ
 inside_size (ip_packet headers last) len = ip_headers_len headers + len
-inside_size (transport_packet headers behind) len = ip_headers_len headers + (transport_header_len behind + len)
+inside_size (transport_packet headers upper) len = ip_headers_len headers + (transport_header_len upper + len)
 inside_size (arp_packet packet) len = arp_len packet + len
 
 -- Length in bytes of the frame of headers and `len` bytes of payload.
-abbrev pub built_size : Held → ℕ → ℕ
-built_size held len = link_part_len held.link + inside_size held.inside len
+abbrev pub built_size : FrameHeaders → ℕ → ℕ
+built_size frame len = link_part_len frame.link + inside_size frame.inside len

@@ -8,7 +8,7 @@ use Rattle.ep_packet.specs.declared.ip_headers.IpHeaders.{IpHeaders}
 use Rattle.ep_transport.specs.TransportHeaders.{transport_header_len}
 use Rattle.ep_transport.specs.declared.transport_header.TransportHeader.{TransportHeader}
 use Rattle.ep_build.specs.BuildErrors.{IsBuildable, RefusesBuild}
-use Rattle.ep_build.specs.BuiltFrames.{Held, built_frame, built_size, held_transport, link_part_len}
+use Rattle.ep_build.specs.BuiltFrames.{FrameHeaders, built_frame, built_size, transport_frame_headers, link_part_len}
 use Rattle.ep_build.specs.BuiltFrames.{transport_between, transport_number}
 use Rattle.ep_build.specs.Fits.{FitsLink, FitsTransport}
 use Rattle.ep_build.specs.declared.err.build_slice_write_error.BuildSliceWriteError.{BuildSliceWriteError}
@@ -32,34 +32,34 @@ pub record PartsAreAt (parts : List ExtensionPart) (old new : List ℕ) (at end 
 
 -- The headers are linked, and the transport header has its length and checksum. `type` is the ether type before them,
 -- and `size` the length of the frame in bytes.
-pub record ArePrepared (part : LinkPart) (headers : IpHeaders) (behind : TransportHeader) (payload : List ℕ)
+pub record ArePrepared (part : LinkPart) (headers : IpHeaders) (upper : TransportHeader) (payload : List ℕ)
     (linked : IpHeaders) (filled : TransportHeader) (type : EtherType) (size : ℕ) : Type 0 where
-  pub buildable : IsBuildable (held_transport part headers behind) (length payload)
-  pub is_linked : linked ≡ headers_for headers (record { 0 = transport_number behind })
-      (transport_header_len behind + length payload)
-  pub is_filled : filled ≡ transport_between headers payload behind
+  pub buildable : IsBuildable (transport_frame_headers part headers upper) (length payload)
+  pub is_linked : linked ≡ headers_for headers (record { 0 = transport_number upper })
+      (transport_header_len upper + length payload)
+  pub is_filled : filled ≡ transport_between headers payload upper
   pub typed : type.0 ≡ ip_headers_type headers
   pub fits_link : FitsLink part
   pub fits_header : FitsIpHeader linked
   pub fits_transport : FitsTransport filled
   pub parts : size ≡ link_part_len part + (ip_headers_len linked + (transport_header_len filled + length payload))
-  pub whole : size ≡ built_size (held_transport part headers behind) (length payload)
+  pub size_is : size ≡ built_size (transport_frame_headers part headers upper) (length payload)
 
 -- ---- frames
 
 -- The error of building a frame into a slice of `len` bytes: the slice is too short, with the length needed, or a row
 -- of the builder's table is met.
-abbrev pub RefusesFilling : Held → List ℕ → ℕ → BuildSliceWriteError → Type 0
-RefusesFilling held payload len (error.Space needed) =
-    IsBuildable held (length payload) × (needed ≡ length (built_frame held payload)) × (len < needed)
-RefusesFilling held payload len (error.Build refusal) = RefusesBuild held (length payload) refusal
+abbrev pub RefusesFilling : FrameHeaders → List ℕ → ℕ → BuildSliceWriteError → Type 0
+RefusesFilling frame payload len (error.Space needed) =
+    IsBuildable frame (length payload) × (needed ≡ length (built_frame frame payload)) × (len < needed)
+RefusesFilling frame payload len (error.Build refusal) = RefusesBuild frame (length payload) refusal
 
 -- The frame is at the start of the slice, the bytes after it are unchanged, and its length is returned. On an error the
 -- slice is unchanged.
-abbrev pub FillsStart : Held → List ℕ → List ℕ → List ℕ → Result ℕ BuildSliceWriteError → Type 0
-FillsStart held payload old new result =
-    let frame = built_frame held payload in
+abbrev pub FillsStart : FrameHeaders → List ℕ → List ℕ → List ℕ → Result ℕ BuildSliceWriteError → Type 0
+FillsStart frame payload old new result =
+    let built = built_frame frame payload in
     MatchResult result
-    (λ len. IsBuildable held (length payload) × (len ≡ length frame) × (len ≤ length old)
-    × (new ≡ frame ++ drop len old))
-    (λ refusal. RefusesFilling held payload (length old) refusal × (new ≡ old))
+    (λ len. IsBuildable frame (length payload) × (len ≡ length built) × (len ≤ length old)
+    × (new ≡ built ++ drop len old))
+    (λ refusal. RefusesFilling frame payload (length old) refusal × (new ≡ old))

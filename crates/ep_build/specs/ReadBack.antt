@@ -19,7 +19,7 @@ use Rattle.ep_transport.specs.TransportParts.{TransportLayer}
 use Rattle.ep_transport.specs.declared.transport_header.TransportHeader.{TransportHeader}
 use Rattle.ep_transport.specs.declared.transport_header.TransportHeader.TheVariants as transport
 use Rattle.ep_build.specs.BuiltFrames.{Inside, ip_packet, transport_packet, arp_packet, as_ether_type, built_frame}
-use Rattle.ep_build.specs.BuiltFrames.{held_arp, held_transport, inside_type, transport_between}
+use Rattle.ep_build.specs.BuiltFrames.{arp_frame_headers, transport_frame_headers, inside_type, transport_between}
 use Rattle.ep_build.specs.declared.link_part.LinkPart.{LinkPart}
 use Rattle.ep_build.specs.declared.link_part.LinkPart.TheVariants as link
 
@@ -29,8 +29,8 @@ use Rattle.ep_build.specs.declared.link_part.LinkPart.TheVariants as link
 abbrev pub IsBareEntry : Inside → Entry → Type 0
 IsBareEntry (ip_packet headers last) entry =
     (entry ≡ ip) ⊎ (entry ≡ ether_type (as_ether_type (inside_type (ip_packet headers last))))
-IsBareEntry (transport_packet headers behind) entry =
-    (entry ≡ ip) ⊎ (entry ≡ ether_type (as_ether_type (inside_type (transport_packet headers behind))))
+IsBareEntry (transport_packet headers upper) entry =
+    (entry ≡ ip) ⊎ (entry ≡ ether_type (as_ether_type (inside_type (transport_packet headers upper))))
 IsBareEntry (arp_packet packet) entry = entry ≡ ether_type (as_ether_type arp_type)
 
 -- The entries of a frame. A Linux cooked capture header is read back if its packet type is a known one.
@@ -51,13 +51,13 @@ pub record HoldsArp (reading : Reading) (entry : Entry) (bytes : List ℕ) (pack
 -- The frame of an ARP packet is read back.
 abbrev pub IsArpReadBack : LinkPart → Arp → Type 0
 IsArpReadBack part packet = (reading : Reading) (entry : Entry) → IsEntryOf part (arp_packet packet) entry
-    → HoldsArp reading entry (built_frame (held_arp part packet) []) packet
+    → HoldsArp reading entry (built_frame (arp_frame_headers part packet) []) packet
 
 -- ---- transport layers
 
 -- Bytes of a transport header as it is written, and of the payload.
 abbrev pub message_of : IpHeaders → TransportHeader → List ℕ → List ℕ
-message_of headers behind payload = transport_bytes (transport_between headers payload behind) ++ payload
+message_of headers upper payload = transport_bytes (transport_between headers payload upper) ++ payload
 
 -- An ICMPv4 message has the length of its type: a timestamp message has 20 bytes.
 abbrev pub HasItsLength : TransportHeader → List ℕ → Type 0
@@ -84,7 +84,7 @@ pub record HoldsTransport (reading : Reading) (entry : Entry) (bytes : List ℕ)
   pub is : IsFrameIn reading entry bytes layers
   pub payload : IpPayload
   pub has_payload : ip_payload_in layers ≡ Some payload
-  pub lies : payload.bytes ≡ message
+  pub is_payload : payload.bytes ≡ message
   pub transport : TransportLayer
   pub has_transport : layers.transport ≡ Some transport
   pub header : List ℕ
@@ -95,8 +95,8 @@ pub record HoldsTransport (reading : Reading) (entry : Entry) (bytes : List ℕ)
 -- The frame of a transport header is read back, if it is no fragment and an ICMPv4 message has the length of its type.
 -- A raw ICMP type may be read as a known one, as another header with equal bytes.
 abbrev pub IsReadBack : LinkPart → IpHeaders → TransportHeader → List ℕ → Type 0
-IsReadBack part headers behind payload =
-    headers_fragment headers ≡ false → HasItsLength behind (message_of headers behind payload)
-    → (reading : Reading) (entry : Entry) → IsEntryOf part (transport_packet headers behind) entry
-    → HoldsTransport reading entry (built_frame (held_transport part headers behind) payload) headers
-    (message_of headers behind payload)
+IsReadBack part headers upper payload =
+    headers_fragment headers ≡ false → HasItsLength upper (message_of headers upper payload)
+    → (reading : Reading) (entry : Entry) → IsEntryOf part (transport_packet headers upper) entry
+    → HoldsTransport reading entry (built_frame (transport_frame_headers part headers upper) payload) headers
+    (message_of headers upper payload)

@@ -16,7 +16,7 @@ use Rattle.ep_link.specs.declared.link_ext.vlan_header.VlanHeader.{VlanHeader}
 use Rattle.ep_packet.specs.declared.ip_headers.IpHeaders.{IpHeaders}
 use Rattle.ep_packet.specs.declared.ip_headers.IpHeaders.TheVariants as version
 use Rattle.ep_transport.specs.declared.transport_header.TransportHeader.{TransportHeader}
-use Rattle.ep_build.specs.BuiltFrames.{Held, held_arp, held_ip, held_transport, link_part_len}
+use Rattle.ep_build.specs.BuiltFrames.{FrameHeaders, arp_frame_headers, ip_frame_headers, transport_frame_headers, link_part_len}
 use Rattle.ep_packet.specs.IpHeaders.{ip_headers_len}
 use Rattle.ep_build.specs.BuiltFragments.{IsFragmentReadBack}
 use Rattle.ep_build.specs.ReadBack.{IsArpReadBack, IsReadBack}
@@ -65,8 +65,8 @@ abbrev pub ip_step_headers : PacketBuilderStep IpHeaders LinkPart IpPart → IpH
 ip_step_headers step = part_headers step.last
 
 -- Headers of the step's frame, with the protocol number of the payload.
-abbrev pub ip_held : PacketBuilderStep IpHeaders LinkPart IpPart → IpNumber → Held
-ip_held step last = held_ip (ip_link step) (ip_step_headers step) last
+abbrev pub ip_step_frame : PacketBuilderStep IpHeaders LinkPart IpPart → IpNumber → FrameHeaders
+ip_step_frame step last = ip_frame_headers (ip_link step) (ip_step_headers step) last
 
 -- Length in bytes of the step's frame with `len` bytes of payload.
 abbrev pub ip_step_size : PacketBuilderStep IpHeaders LinkPart IpPart → ℕ → ℕ
@@ -83,8 +83,8 @@ abbrev pub transport_header : {H : Type 0} → PacketBuilderStep H (LinkPart × 
 transport_header step = step.last
 
 -- Headers of the step's frame, with its header as a `TransportHeader`.
-abbrev pub transport_held : {H : Type 0} → (H → TransportHeader) → PacketBuilderStep H (LinkPart × IpPart) H → Held
-transport_held kind step = held_transport step.before.0 (part_headers step.before.1) (kind (transport_header step))
+abbrev pub transport_step_frame : {H : Type 0} → (H → TransportHeader) → PacketBuilderStep H (LinkPart × IpPart) H → FrameHeaders
+transport_step_frame kind step = transport_frame_headers step.before.0 (part_headers step.before.1) (kind (transport_header step))
 
 -- The frame of the step and a payload is read back.
 abbrev pub StepReadsBack : {H : Type 0} → (H → TransportHeader) → PacketBuilderStep H (LinkPart × IpPart) H → List ℕ
@@ -93,8 +93,8 @@ StepReadsBack kind step payload =
     IsReadBack step.before.0 (part_headers step.before.1) (kind (transport_header step)) payload
 
 -- Headers of the frame of a step of IP headers and a transport header.
-abbrev pub held_after : PacketBuilderStep IpHeaders LinkPart IpPart → TransportHeader → Held
-held_after step behind = held_transport (ip_link step) (ip_step_headers step) behind
+abbrev pub frame_after : PacketBuilderStep IpHeaders LinkPart IpPart → TransportHeader → FrameHeaders
+frame_after step upper = transport_frame_headers (ip_link step) (ip_step_headers step) upper
 
 -- The step with another header.
 abbrev pub with_header : {H : Type 0} → PacketBuilderStep H (LinkPart × IpPart) H → H
@@ -104,8 +104,8 @@ with_header step header = record step { last = header }
 -- ---- step of an ARP packet
 
 -- Headers of the step's frame.
-abbrev pub arp_held : PacketBuilderStep ArpPacket LinkPart ArpPacket → Held
-arp_held step = held_arp step.before (arp_of step.last)
+abbrev pub arp_step_frame : PacketBuilderStep ArpPacket LinkPart ArpPacket → FrameHeaders
+arp_step_frame step = arp_frame_headers step.before (arp_of step.last)
 
 -- The step's frame is read back.
 abbrev pub ArpStepReadsBack : PacketBuilderStep ArpPacket LinkPart ArpPacket → Type 0

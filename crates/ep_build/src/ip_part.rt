@@ -85,7 +85,7 @@ pub(crate) trait IsIpHeaders {
     /// them in the order of RFC 8200, 4.1. The buffer must have the capacity.
     fn append(&self, buf: &mut Vec<u8>)
         requires leads { (last : ℕ) × LeadThrough (headers self.now) (ip_headers_parts (headers self.now)) last }
-        requires room { vec_len buf.old + ip_headers_len (headers self.now) ≤ vec_capacity buf.old }
+        requires capacity { vec_len buf.old + ip_headers_len (headers self.now) ≤ vec_capacity buf.old }
         ensures items { buf.new.items
             ≡ buf.old.items ++ written_headers (headers self.now) (ip_headers_parts (headers self.now)) }
         ensures capacity { vec_capacity buf.old ≤ vec_capacity buf.new }
@@ -214,12 +214,12 @@ impl IsIpHeaders for IpHeaders {
         ip_header_fits(self);
         match self {
             IpHeaders::Ipv4(header, extensions) => {
-                let behind = header.place(at, slice);
-                place_authentication(&extensions.auth, behind, slice)
+                let header_end = header.place(at, slice);
+                place_authentication(&extensions.auth, header_end, slice)
             }
             IpHeaders::Ipv6(header, extensions) => {
-                let behind = header.place(at, slice);
-                place_extensions(extensions, behind, slice)
+                let header_end = header.place(at, slice);
+                place_extensions(extensions, header_end, slice)
             }
         }
     }

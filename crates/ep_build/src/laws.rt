@@ -8,7 +8,7 @@ ghost use Rattle.ep_packet.specs.IpHeaders.{FitIpHeaders};
 ghost use Rattle.ep_packet.specs.declared.ip_headers.IpHeaders.{IpHeaders};
 ghost use Rattle.ep_build.specs.BuildErrors.{IsBuildable};
 ghost use Rattle.ep_build.specs.BuiltFragments.{IsFragmentReadBack};
-ghost use Rattle.ep_build.specs.BuiltFrames.{built_frame, held_ip};
+ghost use Rattle.ep_build.specs.BuiltFrames.{built_frame, ip_frame_headers};
 ghost use Rattle.ep_build.specs.Fits.{FitsLink};
 ghost use Rattle.ep_build.specs.declared.link_part.LinkPart.{LinkPart};
 
@@ -20,11 +20,11 @@ use crate::err::{BuildSliceWriteError, BuildWriteError};
 /// known packet type. If the payload consists of bytes, so does the frame.
 pub fn built_fragments()
     ensures read_back { (part : LinkPart) (headers : IpHeaders) (last : IpNumber) (payload : List ℕ) → FitsLink part
-        → FitIpHeaders headers → last.0 < 2 ^ 8 → IsBuildable (held_ip part headers last) (length payload)
+        → FitIpHeaders headers → last.0 < 2 ^ 8 → IsBuildable (ip_frame_headers part headers last) (length payload)
         → IsFragmentReadBack part headers last payload }
     ensures bytes { (part : LinkPart) (headers : IpHeaders) (last : IpNumber) (payload : List ℕ) → FitsLink part
-        → FitIpHeaders headers → last.0 < 2 ^ 8 → IsBuildable (held_ip part headers last) (length payload)
-        → AreBytes payload → AreBytes (built_frame (held_ip part headers last) payload) }
+        → FitIpHeaders headers → last.0 < 2 ^ 8 → IsBuildable (ip_frame_headers part headers last) (length payload)
+        → AreBytes payload → AreBytes (built_frame (ip_frame_headers part headers last) payload) }
 {}
 
 /// States that two errors of building a frame are equal (`==`) if and only if they are identical.

@@ -43,7 +43,7 @@ impl LinkPart {
     /// The buffer must have the capacity.
     #[inline]
     pub(crate) fn append_with_type(&self, ether_type: EtherType, buf: &mut Vec<u8>)
-        requires room { vec_len buf.old + length (link_part_bytes (link_with_type self.now ether_type))
+        requires capacity { vec_len buf.old + length (link_part_bytes (link_with_type self.now ether_type))
             ≤ vec_capacity buf.old }
         ensures items { buf.new.items ≡ buf.old.items ++ link_part_bytes (link_with_type self.now ether_type) }
         ensures capacity { vec_capacity buf.old ≤ vec_capacity buf.new }
@@ -96,7 +96,7 @@ fn write_tagged(
     ether_type: EtherType,
     buf: &mut Vec<u8>,
 )
-    requires room { vec_len buf.old + length (link_part_bytes (link_with_type (LinkPart.Tagged header.now tags.now)
+    requires capacity { vec_len buf.old + length (link_part_bytes (link_with_type (LinkPart.Tagged header.now tags.now)
         ether_type)) ≤ vec_capacity buf.old }
     ensures items { buf.new.items ≡ buf.old.items
         ++ link_part_bytes (link_with_type (LinkPart.Tagged header.now tags.now) ether_type) }

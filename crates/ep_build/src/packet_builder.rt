@@ -31,7 +31,7 @@ pub struct PacketBuilderStep<LastStep: HoldsHeaders> {
     /// Headers of the frame before the innermost one.
     before: LastStep::Before,
     /// Innermost header of the frame so far.
-    last: LastStep::Held,
+    last: LastStep::Last,
 }
 
 impl PacketBuilder {

@@ -8,7 +8,7 @@ ghost use Rattle.ep_ext.specs.Chains.{FitParts, parts_bytes};
 ghost use Rattle.ep_ext.specs.ExtensionParts.{authentication, fragment, hop_by_hop, optional_part, routing};
 ghost use Rattle.ep_ext.specs.Ipv6Chains.{final_by, ipv6_parts, routing_header};
 ghost use Rattle.ep_build.specs.BuiltFragments.{IsFragmentReadBack};
-ghost use Rattle.ep_build.specs.BuiltFrames.{held_ip, held_transport, link_with_type, link_part_bytes, link_part_len};
+ghost use Rattle.ep_build.specs.BuiltFrames.{ip_frame_headers, transport_frame_headers, link_with_type, link_part_bytes, link_part_len};
 ghost use Rattle.ep_build.specs.Fits.{FitsTransport};
 ghost use Rattle.ep_build.specs.Placing.{AreAt, FillsStart, PartsAreAt};
 ghost use Rattle.ep_build.specs.ReadBack.{IsReadBack};
@@ -35,7 +35,7 @@ pub(crate) fn place_transport_step(
     payload: &[u8],
     slice: &mut [u8],
 ) -> SliceWriteResult
-    ensures filled { FillsStart (held_transport link (part_headers ip) transport) payload.now
+    ensures filled { FillsStart (transport_frame_headers link (part_headers ip) transport) payload.now
         slice.old slice.new result }
     ensures read_back { OnOk result (IsReadBack link (part_headers ip) transport payload.now) }
 {
@@ -62,7 +62,8 @@ fn place_transport<Headers: IsIpHeaders>(
     payload: &[u8],
     slice: &mut [u8],
 ) -> SliceWriteResult
-    ensures filled { FillsStart (held_transport link.now (Headers.headers headers.old) transport.old) payload.now
+    ensures filled { FillsStart (transport_frame_headers link.now (Headers.headers headers.old) transport.old)
+        payload.now
         slice.old slice.new result }
     ensures read_back { OnOk result (IsReadBack link.now (Headers.headers headers.old) transport.old payload.now) }
 {
@@ -73,9 +74,9 @@ fn place_transport<Headers: IsIpHeaders>(
     if slice.len() < size {
         return Err(BuildSliceWriteError::Space(size));
     }
-    let behind_ip = place_headers(link, ether_type, headers, slice);
-    let behind = place_header(transport, behind_ip, slice);
-    put(payload, behind, slice);
+    let ip_end = place_headers(link, ether_type, headers, slice);
+    let header_end = place_header(transport, ip_end, slice);
+    put(payload, header_end, slice);
     Ok(size)
 }
 
@@ -89,7 +90,7 @@ pub(crate) fn place_ip_step(
     payload: &[u8],
     slice: &mut [u8],
 ) -> SliceWriteResult
-    ensures filled { FillsStart (held_ip link (part_headers ip) last) payload.now slice.old slice.new result }
+    ensures filled { FillsStart (ip_frame_headers link (part_headers ip) last) payload.now slice.old slice.new result }
     ensures fragment { OnOk result (IsFragmentReadBack link (part_headers ip) last payload.now) }
 {
     match ip {
@@ -109,7 +110,7 @@ fn place_ip<Headers: IsIpHeaders>(
     payload: &[u8],
     slice: &mut [u8],
 ) -> SliceWriteResult
-    ensures filled { FillsStart (held_ip link.now (Headers.headers headers.old) last) payload.now
+    ensures filled { FillsStart (ip_frame_headers link.now (Headers.headers headers.old) last) payload.now
         slice.old slice.new result }
     ensures fragment { OnOk result (IsFragmentReadBack link.now (Headers.headers headers.old) last payload.now) }
 {
@@ -124,8 +125,8 @@ fn place_ip<Headers: IsIpHeaders>(
     if slice.len() < size {
         return Err(BuildSliceWriteError::Space(size));
     }
-    let behind = place_headers(link, ether_type, headers, slice);
-    put(payload, behind, slice);
+    let ip_end = place_headers(link, ether_type, headers, slice);
+    put(payload, ip_end, slice);
     Ok(size)
 }
 
@@ -138,7 +139,7 @@ fn place_headers<Headers: IsIpHeaders>(
     headers: &mut Headers,
     slice: &mut [u8],
 ) -> usize
-    requires room { link_part_len link.now + ip_headers_len (Headers.headers headers.old) ≤ length slice.old }
+    requires slice_len { link_part_len link.now + ip_headers_len (Headers.headers headers.old) ≤ length slice.old }
     requires fits { FitsIpHeader (Headers.headers headers.old) }
     ensures bytes { AreAt (link_part_bytes (link_with_type link.now ether_type) ++ written_headers
         (Headers.headers headers.old) (ip_headers_parts (Headers.headers headers.old))) slice.old slice.new 0 result }
@@ -153,7 +154,7 @@ fn place_headers<Headers: IsIpHeaders>(
 /// enough.
 #[inline]
 fn place_header(transport: &TransportHeader, at: usize, slice: &mut [u8]) -> usize
-    requires room { at + transport_header_len transport.now ≤ length slice.old }
+    requires slice_len { at + transport_header_len transport.now ≤ length slice.old }
     requires fits { FitsTransport transport.now }
     ensures { AreAt (transport_bytes transport.now) slice.old slice.new at result }
 {
@@ -194,25 +195,26 @@ fn place_raw(header: &Option<Ipv6RawExtHeader>, at: usize, slice: &mut [u8]) -> 
 
 /// Writes an IPv6 routing header, if present, to the slice at offset `at`, and returns the offset after it.
 #[inline(never)]
-fn place_routing(behind: &Option<Ipv6RoutingExtensions>, at: usize, slice: &mut [u8]) -> usize
-    requires { at + length (parts_bytes (optional_part routing (option_map routing_header behind.now)))
+fn place_routing(routing_exts: &Option<Ipv6RoutingExtensions>, at: usize, slice: &mut [u8]) -> usize
+    requires { at + length (parts_bytes (optional_part routing (option_map routing_header routing_exts.now)))
         ≤ length slice.old }
-    ensures { PartsAreAt (optional_part routing (option_map routing_header behind.now)) slice.old slice.new at result }
+    ensures { PartsAreAt (optional_part routing (option_map routing_header routing_exts.now))
+        slice.old slice.new at result }
 {
-    match behind {
-        Some(behind) => put(behind.routing.to_bytes().as_slice(), at, slice),
+    match routing_exts {
+        Some(exts) => put(exts.routing.to_bytes().as_slice(), at, slice),
         None => at,
     }
 }
 
 /// Writes the IPv6 destination options header that follows a routing header, if present, to the slice at offset `at`,
 /// and returns the offset after it.
-fn place_final(behind: &Option<Ipv6RoutingExtensions>, at: usize, slice: &mut [u8]) -> usize
-    requires { at + length (parts_bytes (optional_part hop_by_hop (final_by behind.now))) ≤ length slice.old }
-    ensures { PartsAreAt (optional_part hop_by_hop (final_by behind.now)) slice.old slice.new at result }
+fn place_final(routing_exts: &Option<Ipv6RoutingExtensions>, at: usize, slice: &mut [u8]) -> usize
+    requires { at + length (parts_bytes (optional_part hop_by_hop (final_by routing_exts.now))) ≤ length slice.old }
+    ensures { PartsAreAt (optional_part hop_by_hop (final_by routing_exts.now)) slice.old slice.new at result }
 {
-    match behind {
-        Some(behind) => place_raw(&behind.final_destination_options, at, slice),
+    match routing_exts {
+        Some(exts) => place_raw(&exts.final_destination_options, at, slice),
         None => at,
     }
 }

@@ -11,7 +11,7 @@ ghost use Rattle.ep_ext.specs.Chains.{FitParts};
 ghost use Rattle.ep_build.specs.BuiltFragments.{IsFragmentReadBack};
 ghost use Rattle.ep_build.specs.ReadBack.{IsArpReadBack, IsReadBack};
 ghost use Rattle.ep_build.specs.BuildErrors.{IsBuildable, IsBuildError, RefusesBuild};
-ghost use Rattle.ep_build.specs.BuiltFrames.{held_ip, held_transport, held_arp, built_frame, built_size};
+ghost use Rattle.ep_build.specs.BuiltFrames.{ip_frame_headers, transport_frame_headers, arp_frame_headers, built_frame, built_size};
 ghost use Rattle.ep_build.specs.BuiltFrames.{link_with_type, link_part_bytes, link_part_len, transport_number};
 ghost use Rattle.ep_build.specs.BuiltFrames.{with_length};
 ghost use Rattle.ep_build.specs.Placing.{ArePrepared};
@@ -35,15 +35,16 @@ pub(crate) fn write_ip<Headers: IsIpHeaders>(
     payload: &[u8],
     buf: &mut Vec<u8>,
 ) -> WriteResult
-    ensures ok { let held = held_ip link.now (Headers.headers headers.old) last in
-        OnOk result (IsBuildable held (length payload.now)
-        × (buf.new.items ≡ buf.old.items ++ built_frame held payload.now)) }
+    ensures ok { let frame = ip_frame_headers link.now (Headers.headers headers.old) last in
+        OnOk result (IsBuildable frame (length payload.now)
+        × (buf.new.items ≡ buf.old.items ++ built_frame frame payload.now)) }
     ensures err { OnErr result (buf.new.items ≡ buf.old.items) }
     ensures refused { IfErr result
-        (IsBuildError (held_ip link.now (Headers.headers headers.old) last) (length payload.now)) }
+        (IsBuildError (ip_frame_headers link.now (Headers.headers headers.old) last) (length payload.now)) }
     ensures fragment { OnOk result (IsFragmentReadBack link.now (Headers.headers headers.old) last payload.now) }
     ensures full { result ≡ Err BuildWriteError.OutOfMemory → vec_capacity buf.old
-        < vec_len buf.old + built_size (held_ip link.now (Headers.headers headers.old) last) (length payload.now) }
+        < vec_len buf.old + built_size (ip_frame_headers link.now (Headers.headers headers.old) last)
+        (length payload.now) }
     ensures capacity { vec_capacity buf.old ≤ vec_capacity buf.new }
 {
     link_fits(link);
@@ -70,14 +71,14 @@ pub(crate) fn append_ip_step(
     payload: &[u8],
     buf: &mut Vec<u8>,
 ) -> WriteResult
-    ensures ok { let held = held_ip link (part_headers ip) last in
-        OnOk result (IsBuildable held (length payload.now)
-        × (buf.new.items ≡ buf.old.items ++ built_frame held payload.now)) }
+    ensures ok { let frame = ip_frame_headers link (part_headers ip) last in
+        OnOk result (IsBuildable frame (length payload.now)
+        × (buf.new.items ≡ buf.old.items ++ built_frame frame payload.now)) }
     ensures err { OnErr result (buf.new.items ≡ buf.old.items) }
-    ensures refused { IfErr result (IsBuildError (held_ip link (part_headers ip) last) (length payload.now)) }
+    ensures refused { IfErr result (IsBuildError (ip_frame_headers link (part_headers ip) last) (length payload.now)) }
     ensures fragment { OnOk result (IsFragmentReadBack link (part_headers ip) last payload.now) }
     ensures full { result ≡ Err BuildWriteError.OutOfMemory → vec_capacity buf.old
-        < vec_len buf.old + built_size (held_ip link (part_headers ip) last) (length payload.now) }
+        < vec_len buf.old + built_size (ip_frame_headers link (part_headers ip) last) (length payload.now) }
     ensures capacity { vec_capacity buf.old ≤ vec_capacity buf.new }
 {
     match ip {
@@ -97,15 +98,15 @@ pub(crate) fn append_transport_step(
     payload: &[u8],
     buf: &mut Vec<u8>,
 ) -> WriteResult
-    ensures ok { let held = held_transport link (part_headers ip) transport in
-        OnOk result (IsBuildable held (length payload.now)
-        × (buf.new.items ≡ buf.old.items ++ built_frame held payload.now)) }
+    ensures ok { let frame = transport_frame_headers link (part_headers ip) transport in
+        OnOk result (IsBuildable frame (length payload.now)
+        × (buf.new.items ≡ buf.old.items ++ built_frame frame payload.now)) }
     ensures err { OnErr result (buf.new.items ≡ buf.old.items) }
-    ensures refused { IfErr result (IsBuildError (held_transport link (part_headers ip) transport)
+    ensures refused { IfErr result (IsBuildError (transport_frame_headers link (part_headers ip) transport)
         (length payload.now)) }
     ensures read_back { OnOk result (IsReadBack link (part_headers ip) transport payload.now) }
     ensures full { result ≡ Err BuildWriteError.OutOfMemory → vec_capacity buf.old
-        < vec_len buf.old + built_size (held_transport link (part_headers ip) transport) (length payload.now) }
+        < vec_len buf.old + built_size (transport_frame_headers link (part_headers ip) transport) (length payload.now) }
     ensures capacity { vec_capacity buf.old ≤ vec_capacity buf.new }
 {
     match ip {
@@ -131,15 +132,17 @@ pub(crate) fn write_transport<Headers: IsIpHeaders>(
     payload: &[u8],
     buf: &mut Vec<u8>,
 ) -> WriteResult
-    ensures ok { let held = held_transport link.now (Headers.headers headers.old) transport.old in
-        OnOk result (IsBuildable held (length payload.now)
-        × (buf.new.items ≡ buf.old.items ++ built_frame held payload.now)) }
+    ensures ok { let frame = transport_frame_headers link.now (Headers.headers headers.old) transport.old in
+        OnOk result (IsBuildable frame (length payload.now)
+        × (buf.new.items ≡ buf.old.items ++ built_frame frame payload.now)) }
     ensures err { OnErr result (buf.new.items ≡ buf.old.items) }
     ensures refused { IfErr result
-        (IsBuildError (held_transport link.now (Headers.headers headers.old) transport.old) (length payload.now)) }
+        (IsBuildError (transport_frame_headers link.now (Headers.headers headers.old) transport.old)
+        (length payload.now)) }
     ensures read_back { OnOk result (IsReadBack link.now (Headers.headers headers.old) transport.old payload.now) }
     ensures full { result ≡ Err BuildWriteError.OutOfMemory → vec_capacity buf.old < vec_len buf.old
-        + built_size (held_transport link.now (Headers.headers headers.old) transport.old) (length payload.now) }
+        + built_size (transport_frame_headers link.now (Headers.headers headers.old) transport.old)
+        (length payload.now) }
     ensures capacity { vec_capacity buf.old ≤ vec_capacity buf.new }
 {
     let (ether_type, size) = prepared(link, headers, transport, payload)?;
@@ -164,7 +167,8 @@ pub(crate) fn prepared<Headers: IsIpHeaders>(
     ensures { MatchResult result
         (λ made. ArePrepared link.now (Headers.headers headers.old) transport.old payload.now
         (Headers.headers headers.new) transport.new made.0 made.1)
-        (RefusesBuild (held_transport link.now (Headers.headers headers.old) transport.old) (length payload.now)) }
+        (RefusesBuild (transport_frame_headers link.now (Headers.headers headers.old) transport.old)
+        (length payload.now)) }
 {
     link_fits(link);
     let last = number_of(transport);
@@ -183,12 +187,12 @@ pub(crate) fn prepared<Headers: IsIpHeaders>(
 /// Appends the frame of a link header and an ARP packet to a buffer.
 pub(crate) fn write_arp(link: &LinkPart, packet: &ArpPacket, buf: &mut Vec<u8>) -> WriteResult
     ensures ok { OnOk result (buf.new.items
-        ≡ buf.old.items ++ built_frame (held_arp link.now (arp_of packet.now)) []) }
+        ≡ buf.old.items ++ built_frame (arp_frame_headers link.now (arp_of packet.now)) []) }
     ensures err { OnErr result (buf.new.items ≡ buf.old.items) }
     ensures memory { IfErr result (λ error. error ≡ BuildWriteError.OutOfMemory) }
     ensures read_back { OnOk result (IsArpReadBack link.now (arp_of packet.now)) }
     ensures full { OnErr result
-        (vec_capacity buf.old < vec_len buf.old + built_size (held_arp link.now (arp_of packet.now)) 0) }
+        (vec_capacity buf.old < vec_len buf.old + built_size (arp_frame_headers link.now (arp_of packet.now)) 0) }
     ensures capacity { vec_capacity buf.old ≤ vec_capacity buf.new }
 {
     link_fits(link);
@@ -236,7 +240,7 @@ fn append_headers<Headers: IsIpHeaders>(
 )
     requires leads { (last : ℕ) × LeadThrough (Headers.headers headers.now)
         (ip_headers_parts (Headers.headers headers.now)) last }
-    requires room { vec_len buf.old + (link_part_len link.now + ip_headers_len (Headers.headers headers.now))
+    requires capacity { vec_len buf.old + (link_part_len link.now + ip_headers_len (Headers.headers headers.now))
         ≤ vec_capacity buf.old }
     requires fits { FitsIpHeader (Headers.headers headers.now) }
     ensures items { buf.new.items ≡ buf.old.items ++ (link_part_bytes (link_with_type link.now ether_type)

@@ -16,8 +16,8 @@ use Rattle.ep_defrag.specs.Streams.{name_of, same_stream}
 use Rattle.ep_defrag.specs.Calls.{Call, gives_frame, drops_streams, returns_buffer, Kept, accepted_in, kept_of, kept_by}
 use Rattle.ep_defrag.specs.Calls.{kept_with, kept_after, kept_after_all, concerns, calls_of, table_after, Answer}
 use Rattle.ep_defrag.specs.Calls.{answer_unless, answer_with, answer_to, answers_after, answers_to, accepted_at}
-use Rattle.ep_defrag.specs.Calls.{IfHandedOut}
-use Rattle.ep_defrag.specs.Isolation.{answers_of, fragments_of, GivesCut, StaysOpen, HandsOut, HandsOutAtMost}
+use Rattle.ep_defrag.specs.Calls.{IfPayloadReturned}
+use Rattle.ep_defrag.specs.Isolation.{answers_of, fragments_of, GivesCut, StaysOpen, ReturnsPayload, ReturnsAtMost}
 use Rattle.ep_defrag.proofs.StreamLemmas.{same_stream_laws}
 use Rattle.ep_defrag.proofs.CutLemmas.{cut_fits_after, assembled-cuts}
 use Rattle.ep_defrag.proofs.CallLemmas.{after_one_more}
@@ -27,7 +27,7 @@ use Rattle.ep_defrag.proofs.OpenLemmas.{drop_keeps, StaysKept, stays_kept}
 module _ (payload : List ℕ) where
   handed_cuts : {C : Type 0} (refusal : Option IpDefragError) (name : IpFragId C) (accepted : List IpFragment)
       → AllByRecursion (IsCut payload) accepted
-      → IfHandedOut (answer_unless refusal name accepted) (λ handed. handed.bytes ≡ payload)
+      → IfPayloadReturned (answer_unless refusal name accepted) (λ handed. handed.bytes ≡ payload)
   handed_cuts (Some error) name accepted cuts = tt
   handed_cuts None name accepted cuts = elim (cases_Bool (is_complete accepted)) [
     | inl whole ↦ rw whole (assembled-cuts payload accepted cuts whole)
@@ -36,7 +36,7 @@ module _ (payload : List ℕ) where
 
   pub handed_at : {T C V : Type 0} (limit : ℕ) (table : IpFragId C → Option (Kept T)) (call : Call T C V)
       → AllByRecursion (IsCut payload) (accepted_at table call)
-      → IfHandedOut (answer_to limit table call) (λ handed. handed.bytes ≡ payload)
+      → IfPayloadReturned (answer_to limit table call) (λ handed. handed.bytes ≡ payload)
   handed_at limit table (gives_frame None timestamp channel) cuts = tt
   handed_at limit table (gives_frame (Some carried) timestamp channel) cuts =
       handed_cuts (refusal_within limit (accepted_in (table (name_of carried channel))) carried.fragment)
@@ -63,7 +63,7 @@ module _ {T C V : Type 0} (limit : ℕ) (eq : C → C → Bool) (keep : V → T 
       → map said answers ≡ answers_to limit eq keep (map shown calls) → (at : ℕ) (call : X) (answer : Y)
       → slice_get calls at ≡ Some call → slice_get answers at ≡ Some answer → (payload : List ℕ)
       → All (IsCut payload) (accepted_at (table_after limit eq keep (map shown (take at calls))) (shown call))
-      → IfHandedOut (said answer) (λ handed. handed.bytes ≡ payload)
+      → IfPayloadReturned (said answer) (λ handed. handed.bytes ≡ payload)
   cuts_at shown said calls answers same at call answer is_call is_answer payload cuts =
       let call_is : slice_get (map shown calls) at ≡ Some (shown call) =
       slice_get-map shown calls at ∙ ap (option_map shown) is_call in
@@ -153,7 +153,7 @@ module _ {T C V : Type 0} (limit : ℕ) (eq : C → C → Bool) (keep : V → T 
     -- The answer to a cut that fits returns nothing but the payload.
     answer_to_cut : (name : IpFragId C) (accepted : List IpFragment) (refusal : Option IpDefragError)
         → refusal ≡ None → AllByRecursion (IsCut payload) accepted
-        → HandsOutAtMost payload (answer_unless refusal name accepted)
+        → ReturnsAtMost payload (answer_unless refusal name accepted)
     answer_to_cut name accepted (Some error) fits cuts = absurd (cc)
     answer_to_cut name accepted None fits cuts = elim (cases_Bool (is_complete accepted)) [
       | inl whole ↦ rw whole (assembled-cuts payload accepted cuts whole)
@@ -169,7 +169,7 @@ module _ {T C V : Type 0} (limit : ℕ) (eq : C → C → Bool) (keep : V → T 
 
     only_alone : (calls : List (Call T C V)) (kept : Option (Kept T))
         → AllByRecursion (IsCut payload) (accepted_in kept) → AllByRecursion (GivesCut payload) calls
-        → StaysKept limit keep kept calls → AllByRecursion (HandsOutAtMost payload) (answers_alone kept calls)
+        → StaysKept limit keep kept calls → AllByRecursion (ReturnsAtMost payload) (answers_alone kept calls)
     only_alone [] kept cuts gives stays = tt
     only_alone (gives_frame None timestamp channel ∷ calls) kept cuts gives stays =
         (tt, only_alone calls kept cuts gives.1 stays)
@@ -193,23 +193,23 @@ module _ {T C V : Type 0} (limit : ℕ) (eq : C → C → Bool) (keep : V → T 
         → StaysKept limit keep kept calls
         → is_complete (accepted_in kept) ≡ false
         → is_complete (accepted_in kept ++ fragments_of calls) ≡ true
-        → Any (HandsOut payload) (answers_alone kept calls)
+        → Any (ReturnsPayload payload) (answers_alone kept calls)
     comes_alone [] kept cuts gives stays partly whole =
         absurd (false≢true (sym partly ∙ ap is_complete (sym (append-nil (accepted_in kept))) ∙ whole))
     comes_alone (gives_frame None timestamp channel ∷ calls) kept cuts gives stays partly whole =
-        any_later (HandsOut payload) _ _ (comes_alone calls kept cuts gives.1 stays partly whole)
+        any_later (ReturnsPayload payload) _ _ (comes_alone calls kept cuts gives.1 stays partly whole)
     comes_alone (gives_frame (Some carried) timestamp channel ∷ calls) kept cuts gives stays partly whole =
         let fits : refusal_within limit (accepted_in kept) carried.fragment ≡ None =
         cut_fits_after payload limit (accepted_in kept) carried.fragment short cuts gives.0.0 gives.0.1 in
         let after = accepted_in kept ++ carried.fragment ∷ [] in
         let more = all_more (IsCut payload) (accepted_in kept) carried.fragment cuts gives.0.0 in
         elim (cases_Bool (is_complete after)) [
-          | inl now ↦ any_here (HandsOut payload) _ _ (rw (fits, now) (assembled-cuts payload after more now))
+          | inl now ↦ any_here (ReturnsPayload payload) _ _ (rw (fits, now) (assembled-cuts payload after more now))
           | inr not_yet ↦
               let same : kept_with limit kept carried.fragment timestamp
               ≡ Some (record { accepted = after; timestamp = timestamp }) =
               rw (fits, not_yet) refl in
-              any_later (HandsOut payload) _ _
+              any_later (ReturnsPayload payload) _ _
               (rw same
               (comes_alone calls (Some (record { accepted = after; timestamp = timestamp })) more gives.1
               (rw same at stays) not_yet
@@ -217,22 +217,22 @@ module _ {T C V : Type 0} (limit : ℕ) (eq : C → C → Bool) (keep : V → T 
         ]
     comes_alone (drops_streams value ∷ calls) kept cuts gives stays partly whole =
         let same = drop_keeps (keep value) kept stays.0 in
-        any_later (HandsOut payload) _ _
+        any_later (ReturnsPayload payload) _ _
         (rw same (comes_alone calls kept cuts gives.1 (rw same at stays.1) partly whole))
     comes_alone (returns_buffer ∷ calls) kept cuts gives stays partly whole =
-        any_later (HandsOut payload) _ _ (comes_alone calls kept cuts gives.1 stays partly whole)
+        any_later (ReturnsPayload payload) _ _ (comes_alone calls kept cuts gives.1 stays partly whole)
 
     module _ (laws : IsEquivalence eq) (name : IpFragId C) (calls : List (Call T C V))
         (stays : StaysOpen limit eq keep name calls) (gives : All (GivesCut payload) (calls_of eq name calls)) where
-      pub cuts_only : All (HandsOutAtMost payload) (answers_of eq name calls (answers_to limit eq keep calls))
+      pub cuts_only : All (ReturnsAtMost payload) (answers_of eq name calls (answers_to limit eq keep calls))
       cuts_only =
-          All-from_recursion (HandsOutAtMost payload) _
+          All-from_recursion (ReturnsAtMost payload) _
           (rw (answers_of_stream laws name calls)
           (only_alone (calls_of eq name calls) None tt (recursion_from_All (GivesCut payload) _ gives)
           (stays_kept limit eq keep name calls stays)))
 
       pub cuts_come : is_complete (fragments_of (calls_of eq name calls)) ≡ true
-          → Any (HandsOut payload) (answers_of eq name calls (answers_to limit eq keep calls))
+          → Any (ReturnsPayload payload) (answers_of eq name calls (answers_to limit eq keep calls))
       cuts_come whole =
           rw (answers_of_stream laws name calls)
           (comes_alone (calls_of eq name calls) None tt (recursion_from_All (GivesCut payload) _ gives)

@@ -10,7 +10,7 @@ use Rattle.ep_base.specs.Tables.{IsDecided}
 use Rattle.ep_base.specs.declared.ip_number.IpNumber.{IpNumber}
 use Rattle.ep_build.specs.BuildErrors.{IsBuildable}
 use Rattle.ep_build.specs.BuiltFragments.{IsFragmentReadBack}
-use Rattle.ep_build.specs.BuiltFrames.{built_frame, held_ip}
+use Rattle.ep_build.specs.BuiltFrames.{built_frame, ip_frame_headers}
 use Rattle.ep_build.specs.Fits.{FitsLink}
 use Rattle.ep_build.specs.declared.link_part.LinkPart.{LinkPart}
 use Rattle.ep_packet.specs.FrameFragments.{FrameFragment, fragment_of}
@@ -31,7 +31,7 @@ use Rattle.ep_defrag.specs.Calls.{Call, gives_frame, drops_streams, returns_buff
 use Rattle.ep_defrag.specs.Calls.{kept_unless, table_after, Payload, payload_of, payload_returned, no_payload}
 use Rattle.ep_defrag.specs.Calls.{Answer, answer_unless, answer_to, answers_after}
 use Rattle.ep_defrag.specs.BuiltCuts.{BuiltCut, IsBuiltCut, IsUnder, answers_to_frames, cut_answers, cut_call}
-use Rattle.ep_defrag.specs.BuiltCuts.{cut_fragment, cut_frame, frames_to, gives_to, whole_of}
+use Rattle.ep_defrag.specs.BuiltCuts.{cut_fragment, cut_frame, frames_to, gives_to, complete_payload_of}
 use Rattle.ep_defrag.proofs.CutLemmas.{cut_fits_after, assembled-cuts}
 use Rattle.ep_defrag.proofs.CallLemmas.{after_one_more}
 use Rattle.ep_defrag.proofs.AloneLemmas.{answer_alone, all_more, kept_cuts}
@@ -47,7 +47,7 @@ same_source (Ipv6 source destination number) (Ipv4 source' destination' number')
 
 module _ {C : Type 0} (eq : C → C → Bool) (name : IpFragId C) (payload : List ℕ) where
   handed_is : (id : IpFragId C) (accepted : List IpFragment) → same_stream eq id name ≡ true
-      → assembled accepted ≡ payload → payload_of id accepted ≡ whole_of name payload
+      → assembled accepted ≡ payload → payload_of id accepted ≡ complete_payload_of name payload
   handed_is id accepted alike same =
       let first = and_parts _ _ alike in
       let second = and_parts _ _ first.0 in
@@ -59,7 +59,7 @@ module _ {C : Type 0} (eq : C → C → Bool) (name : IpFragId C) (payload : Lis
   -- A cut that fits is answered with the payload if it is then complete, and with nothing otherwise.
   answer_cut : (id : IpFragId C) (accepted : List IpFragment) → same_stream eq id name ≡ true
       → AllByRecursion (IsCut payload) accepted → answer_unless None id accepted
-      ≡ cond (is_complete accepted) (payload_returned (whole_of name payload)) no_payload
+      ≡ cond (is_complete accepted) (payload_returned (complete_payload_of name payload)) no_payload
   answer_cut id accepted alike cuts = elim (cases_Bool (is_complete accepted)) [
     | inl now ↦ rw now
         (ap (λ (handed : Payload). payload_returned handed)
@@ -72,14 +72,14 @@ module _ {C : Type 0} (eq : C → C → Bool) (name : IpFragId C) (payload : Lis
 -- Holds if built frames are read back.
 abbrev AreReadBack : Type 0
 AreReadBack = (part : LinkPart) (headers : IpHeaders) (last : IpNumber) (payload : List ℕ) → FitsLink part
-    → FitIpHeaders headers → last.0 < 2 ^ 8 → IsBuildable (held_ip part headers last) (length payload)
+    → FitIpHeaders headers → last.0 < 2 ^ 8 → IsBuildable (ip_frame_headers part headers last) (length payload)
     → IsFragmentReadBack part headers last payload
 
 -- Holds if built frames consist of bytes.
 abbrev HaveBytes : Type 0
 HaveBytes = (part : LinkPart) (headers : IpHeaders) (last : IpNumber) (payload : List ℕ) → FitsLink part
-    → FitIpHeaders headers → last.0 < 2 ^ 8 → IsBuildable (held_ip part headers last) (length payload)
-    → AreBytes payload → AreBytes (built_frame (held_ip part headers last) payload)
+    → FitIpHeaders headers → last.0 < 2 ^ 8 → IsBuildable (ip_frame_headers part headers last) (length payload)
+    → AreBytes payload → AreBytes (built_frame (ip_frame_headers part headers last) payload)
 
 -- Holds if bytes are either one frame or rejected with one error.
 abbrev AreDecided : Type 0
@@ -148,7 +148,7 @@ module _ (read_back : AreReadBack) (have_bytes : HaveBytes) (decided : AreDecide
     module _ (laws : IsEquivalence eq) (short : length payload ≤ limit) where
       -- expected answers, after calls that leave the stream in this state
       abbrev expected : Option (Kept T) → List (BuiltCut T C) → List Answer
-      expected kept cuts = cut_answers (whole_of name payload) (accepted_in kept) (map cut_fragment cuts)
+      expected kept cuts = cut_answers (complete_payload_of name payload) (accepted_in kept) (map cut_fragment cuts)
 
       pub come : (earlier calls : List (Call T C V)) (cuts : List (BuiltCut T C))
           → AllByRecursion (IsCut payload) (accepted_in (table_after limit eq keep earlier name))
@@ -212,7 +212,7 @@ module _ (read_back : AreReadBack) (have_bytes : HaveBytes) (decided : AreDecide
                 after_one_more limit eq keep earlier call name true does
                 ∙ ap (λ (r : Option IpDefragError). kept_unless r before part timestamp) fits in
                 let answer : answer_to limit (table_after limit eq keep earlier) call
-                ≡ cond (is_complete after) (payload_returned (whole_of name payload)) no_payload =
+                ≡ cond (is_complete after) (payload_returned (complete_payload_of name payload)) no_payload =
                 answer_alone limit eq keep laws earlier name call does
                 ∙ ap (λ (r : Option IpDefragError). answer_unless r (name_of carried channel) after) fits
                 ∙ answer_cut eq name payload (name_of carried channel) after does more in
@@ -221,15 +221,15 @@ module _ (read_back : AreReadBack) (have_bytes : HaveBytes) (decided : AreDecide
                 (stays_later limit eq keep name earlier calls call stays) later
                 ∙ ap (λ (k : Option (Kept T)). expected k cuts) table in
                 let goal : answers_to_frames eq name (call ∷ calls) (answers_after limit eq keep earlier (call ∷ calls))
-                ≡ cut_answers (whole_of name payload) (accepted_in before) (part ∷ map cut_fragment cuts) =
+                ≡ cut_answers (complete_payload_of name payload) (accepted_in before) (part ∷ map cut_fragment cuts) =
                 elim (cases_Bool (is_complete after)) [
                   | inl now ↦ rw (does, now, answer) (rw now (ap (λ (answers : List Answer).
-                      payload_returned (whole_of name payload) ∷ answers) (rw now at rest)))
+                      payload_returned (complete_payload_of name payload) ∷ answers) (rw now at rest)))
                   | inr not_yet ↦ rw (does, not_yet, answer) (rw not_yet (ap (λ (answers : List Answer).
                       no_payload ∷ answers) (rw not_yet at rest)))
                 ] in
                 goal ∙ ap (λ (f : IpFragment).
-                cut_answers (whole_of name payload) (accepted_in before) (f ∷ map cut_fragment cuts)) is_part
+                cut_answers (complete_payload_of name payload) (accepted_in before) (f ∷ map cut_fragment cuts)) is_part
             | inr not ↦
                 let unchanged = after_one_more limit eq keep earlier call name false not in
                 rw not

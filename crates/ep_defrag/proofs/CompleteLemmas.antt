@@ -11,7 +11,7 @@ use Rattle.ep_defrag.specs.declared.ip_frag_range.IpFragRange.{IpFragRange}
 use Rattle.ep_defrag.specs.Ranges.{has_byte, touches}
 use Rattle.ep_defrag.specs.IpFragments.{IpFragment, fragment_start, fragment_end, range_of, is_covered, is_touched}
 use Rattle.ep_defrag.specs.IpFragments.{reach_of, end_of, IsComplete}
-use Rattle.ep_defrag.specs.Buffers.{is_whole}
+use Rattle.ep_defrag.specs.Buffers.{is_gapless}
 use Rattle.ep_defrag.proofs.ListLemmas.{list_all-range, each_of_range, count_by-positive}
 use Rattle.ep_defrag.proofs.SectionLemmas.{IsOrdered}
 use Rattle.ep_defrag.proofs.DataLemmas.{EndIsGreatest}
@@ -99,7 +99,7 @@ touches_end section ordered = grind (arith, nat_tests, ordered)
 
 -- If all positions are covered, there is one section and it starts at 0.
 whole_from_covered : (sections : List IpFragRange) (fragments : List IpFragment) → Fill sections fragments
-    → AllCovered fragments → 0 < length sections → is_whole sections ≡ true
+    → AllCovered fragments → 0 < length sections → is_gapless sections ≡ true
 whole_from_covered [] fragments fill covered some = absurd (omega arith)
 whole_from_covered (section ∷ []) fragments fill covered some =
     eq-eqb section.start 0
@@ -121,7 +121,7 @@ whole_from_covered (section ∷ other ∷ others) fragments fill covered some =
 
 -- If there is one section and it starts at 0, all positions are covered.
 covered_from_whole : (sections : List IpFragRange) (fragments : List IpFragment) → Fill sections fragments
-    → is_whole sections ≡ true → AllCovered fragments
+    → is_gapless sections ≡ true → AllCovered fragments
 unfolding AllCovered
 covered_from_whole [] fragments fill whole position below = absurd (false≢true whole)
 covered_from_whole (section ∷ []) fragments fill whole position below =
@@ -151,11 +151,11 @@ known_reach (Some end) reach greatest some = greatest
 -- starts at 0.
 pub complete_by_sections : (sections : List IpFragRange) (fragments : List IpFragment) → Fill sections fragments
     → EndIsGreatest fragments
-    → ((is_some (end_of fragments) && is_whole sections) ≡ true) ↔ IsComplete fragments
+    → ((is_some (end_of fragments) && is_gapless sections) ≡ true) ↔ IsComplete fragments
 unfolding AllCovered
 complete_by_sections sections fragments fill greatest = (
   λ whole.
-      let parts = and_parts (is_some (end_of fragments)) (is_whole sections) whole in
+      let parts = and_parts (is_some (end_of fragments)) (is_gapless sections) whole in
       let covered = covered_from_whole sections fragments fill parts.1 in
       let end = known_reach (end_of fragments) (reach_of fragments) greatest parts.0 in
       and_from _ _ parts.0

@@ -9,7 +9,7 @@ use Rattle.std.proofs.lemmas.List.{append-nil}
 use Rattle.ep_defrag.specs.IpFragments.{IpFragment, fragment_with, fragment_end, covers, is_covered, reach_of, end_of}
 use Rattle.ep_defrag.specs.IpFragments.{is_complete, IsComplete}
 use Rattle.ep_defrag.specs.FragmentRefusals.{end_row, FitsWithin, FitAfterWithin, FitInTurnWithin, is_unaligned}
-use Rattle.ep_defrag.specs.Completing.{whole_end, meeting_at, FillBoth, front_fragment, back_fragment, is_part}
+use Rattle.ep_defrag.specs.Completing.{completed_end, split_offset, FillBoth, opening_fragment, final_fragment, is_part}
 use Rattle.ep_defrag.specs.Completing.{CompleteInTurn}
 use Rattle.ep_defrag.proofs.ListLemmas.{list_all-range}
 use Rattle.ep_defrag.proofs.DataLemmas.{reach_of-push, end_of-push, is_covered-push, fits_at, refusal_at-fits}
@@ -116,7 +116,7 @@ module _ (limit : ℕ) (accepted : List IpFragment) (fit : FitInTurnWithin limit
 
   -- ---- two fragments
   abbrev whole : ℕ
-  whole = whole_end accepted
+  whole = completed_end accepted
 
   whole_short : (known : Option ℕ) → unwrap_or known (reach_of accepted) ≡ reach_of accepted
       → 8 ≤ limit → unwrap_or known (max (reach_of accepted) 8) ≤ limit
@@ -125,10 +125,10 @@ module _ (limit : ℕ) (accepted : List IpFragment) (fit : FitInTurnWithin limit
 
   module _ (front back : List ℕ) (fill : FillBoth accepted front back) (least : 8 ≤ limit) where
     abbrev first : IpFragment
-    first = front_fragment front
+    first = opening_fragment front
 
     abbrev second : IpFragment
-    second = back_fragment accepted back
+    second = final_fragment accepted back
 
     abbrev with_first : List IpFragment
     with_first = accepted ++ first ∷ []
@@ -140,7 +140,7 @@ module _ (limit : ℕ) (accepted : List IpFragment) (fit : FitInTurnWithin limit
     short = whole_short (end_of accepted) greatest least
 
     aligned : is_unaligned first ≡ false
-    aligned = grind (arith, nat_tests, fill.front_len)
+    aligned = grind (arith, nat_tests, fill.first_len)
 
     first_fits : FitsWithin limit accepted first
     first_fits =
@@ -157,7 +157,7 @@ module _ (limit : ℕ) (accepted : List IpFragment) (fit : FitInTurnWithin limit
     same_end = end_of-push accepted first ∙ none_more (end_of accepted)
 
     second_end : fragment_end second ≡ whole
-    second_end = omega (arith, fill.front_len, fill.both_len)
+    second_end = omega (arith, fill.first_len, fill.both_len)
 
     second_fits : FitsWithin limit with_first second
     second_fits =
@@ -174,9 +174,9 @@ module _ (limit : ℕ) (accepted : List IpFragment) (fit : FitInTurnWithin limit
         })
 
     -- A frame can carry either fragment.
-    pub parts_short : limit ≤ 65535 → (length front ≤ 32768) × (length back ≤ 32768) × (meeting_at whole < 2 ^ 13)
+    pub parts_short : limit ≤ 65535 → (length front ≤ 32768) × (length back ≤ 32768) × (split_offset whole < 2 ^ 13)
     parts_short most =
-        (omega (arith, fill.front_len), omega (arith, fill.front_len, fill.both_len, short, most), omega arith)
+        (omega (arith, fill.first_len), omega (arith, fill.first_len, fill.both_len, short, most), omega arith)
 
     covered : (position : ℕ) → position < whole → is_covered (with_first ++ second ∷ []) position ≡ true
     covered position below =
@@ -185,7 +185,7 @@ module _ (limit : ℕ) (accepted : List IpFragment) (fit : FitInTurnWithin limit
               (is_covered-push accepted first position
               ∙ or_right (is_covered accepted position) (covers position first) (grind (arith, nat_tests, within)))
           | inr behind ↦ or_right (is_covered with_first position) (covers position second)
-              (grind (arith, nat_tests, behind, below, fill.front_len, fill.both_len))
+              (grind (arith, nat_tests, behind, below, fill.first_len, fill.both_len))
         ]
 
     complete : IsComplete (accepted ++ first ∷ second ∷ [])
@@ -211,8 +211,8 @@ module _ (limit : ℕ) (accepted : List IpFragment) (fit : FitInTurnWithin limit
       second_fits = second_fits;
       complete = complete;
       first_part = refl;
-      second_part = elim (cases_lt 0 (meeting_at whole)) [
-        | inl some ↦ inr (lt-ltb 0 (meeting_at whole) some)
+      second_part = elim (cases_lt 0 (split_offset whole)) [
+        | inl some ↦ inr (lt-ltb 0 (split_offset whole) some)
         | inr none ↦ inl (all_there (omega (arith, none)))
       ];
       short = λ most. let parts = parts_short most in (parts.0, parts.1);

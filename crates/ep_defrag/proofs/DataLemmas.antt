@@ -231,15 +231,15 @@ pub get_or-overwritten : (contents : List ℕ) (start : ℕ) (bytes : List ℕ) 
 get_or-overwritten contents start bytes position within =
     let front = take start contents in
     let back = drop (start + length bytes) contents in
-    let front_len : length front ≡ start = length-take-le start contents (omega arith) in
+    let first_len : length front ≡ start = length-take-le start contents (omega arith) in
     let both_len : length (front ++ bytes) ≡ start + length bytes =
-    omega (arith, length-append front bytes, front_len) in
+    omega (arith, length-append front bytes, first_len) in
     elim (cases_lt position start) [
       | inl before ↦
           let test : leb start position ≡ false = lt-leb start position before in
           rw test
           (get_or_append_left (front ++ bytes) back 0 position (omega (arith, both_len))
-          ∙ get_or_append_left front bytes 0 position (omega (arith, front_len))
+          ∙ get_or_append_left front bytes 0 position (omega (arith, first_len))
           ∙ get_or-take start contents position 0 before)
       | inr from ↦ elim (cases_lt position (start + length bytes)) [
         | inl inside ↦
@@ -247,7 +247,7 @@ get_or-overwritten contents start bytes position within =
             let right : ltb position (start + length bytes) ≡ true = lt-ltb position (start + length bytes) inside in
             rw (left, right)
             (get_or_append_left (front ++ bytes) back 0 position (omega (arith, both_len))
-            ∙ get_or-append_right front bytes start position 0 front_len from)
+            ∙ get_or-append_right front bytes start position 0 first_len from)
         | inr behind ↦
             let left : leb start position ≡ true = le-leb start position from in
             let right : ltb position (start + length bytes) ≡ false = le-ltb position (start + length bytes) behind in

@@ -6,13 +6,13 @@ use Rattle.std.proofs.lemmas.Bool.Decides.{nat_tests}
 use Rattle.std.proofs.lemmas.List.Elements.{recursion_from_All}
 use Rattle.ep_defrag.specs.declared.ip_defrag_buf.IpDefragBuf.{IpDefragBuf}
 use Rattle.ep_defrag.specs.Ranges.{has_byte, touches}
-use Rattle.ep_defrag.specs.IpFragments.{IpFragment, range_of, covers, is_covered, is_touched, FillAlike, TouchAlike}
+use Rattle.ep_defrag.specs.IpFragments.{IpFragment, range_of, covers, is_covered, is_touched, FillEqually, TouchSamePositions}
 use Rattle.ep_defrag.specs.Buffers.{HoldsFragments, IsUnchanged, ip_number_of, sections_of}
 use Rattle.ep_defrag.proofs.ApartLemmas.{from_apart, same_from_positions}
 
 -- Buffers with equal contents hold lists that fill and touch the same positions.
 pub alike_from_same : (a b : IpDefragBuf) (fragments others : List IpFragment) → HoldsFragments a fragments
-    → HoldsFragments b others → IsUnchanged a b → FillAlike fragments others × TouchAlike fragments others
+    → HoldsFragments b others → IsUnchanged a b → FillEqually fragments others × TouchSamePositions fragments others
 alike_from_same a b fragments others held held' same = (
   record {
     covered = λ position.
@@ -30,7 +30,8 @@ alike_from_same a b fragments others held held' same = (
 
 -- Buffers that hold lists which fill and touch the same positions have equal contents, since the sections are in order.
 pub same_from_alike : (a b : IpDefragBuf) (fragments others : List IpFragment) → ip_number_of a ≡ ip_number_of b
-    → HoldsFragments a fragments → HoldsFragments b others → FillAlike fragments others → TouchAlike fragments others
+    → HoldsFragments a fragments → HoldsFragments b others → FillEqually fragments others
+    → TouchSamePositions fragments others
     → IsUnchanged a b
 same_from_alike a b fragments others number held held' alike touched = record {
   ip_number = sym number;
@@ -74,7 +75,7 @@ touched_behind before (fragment ∷ fragments) all =
     ∙ or_pairs (covers (suc before) fragment) (covers before fragment) (is_covered fragments (suc before))
     (is_covered fragments before)
 
-touch_by_recursion : (fragments others : List IpFragment) → FillAlike fragments others
+touch_by_recursion : (fragments others : List IpFragment) → FillEqually fragments others
     → AllByRecursion (λ fragment. 0 < length fragment.bytes) fragments
     → AllByRecursion (λ fragment. 0 < length fragment.bytes) others → (position : ℕ)
     → is_touched fragments position ≡ is_touched others position
@@ -87,9 +88,9 @@ touch_by_recursion fragments others alike all all' (suc before) =
     ∙ sym (touched_behind before others all')
 
 -- Lists of such fragments touch the same positions if they fill the same positions.
-pub touch_from_fill : (fragments others : List IpFragment) → FillAlike fragments others
+pub touch_from_fill : (fragments others : List IpFragment) → FillEqually fragments others
     → All (λ fragment. 0 < length fragment.bytes) fragments → All (λ fragment. 0 < length fragment.bytes) others
-    → TouchAlike fragments others
+    → TouchSamePositions fragments others
 touch_from_fill fragments others alike all all' =
     touch_by_recursion fragments others alike
     (recursion_from_All (λ fragment. 0 < length fragment.bytes) fragments all)

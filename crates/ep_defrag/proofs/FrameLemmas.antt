@@ -27,7 +27,7 @@ use Rattle.ep_defrag.specs.Calls.{answers_to, answer_to, accepted_at}
 use Rattle.ep_defrag.specs.Pools.{plain_call, plain_answer}
 use Rattle.ep_defrag.specs.FrameCalls.{ReadCall, calls_pool, refuses_frame, IsReadAs, IsOnlyRead, HasBytes, AreReadAs}
 use Rattle.ep_defrag.specs.FrameCalls.{pool_calls, ReadAnswer, not_sliced, pool_answers, read_answer_to}
-use Rattle.ep_defrag.specs.FrameCalls.{frame_answers_after, frame_answers_to, pool_answers_in, IfPoolHandsOut}
+use Rattle.ep_defrag.specs.FrameCalls.{frame_answers_after, frame_answers_to, pool_answers_in, IfFramePayloadReturned}
 use Rattle.ep_defrag.specs.FrameCalls.{read_answer, table_with_read}
 use Rattle.ep_defrag.proofs.CallLemmas.{table_after-push}
 use Rattle.ep_defrag.proofs.AloneLemmas.{handed_at}
@@ -175,7 +175,7 @@ module _ {T C V : Type 0} (limit : ℕ) (eq : C → C → Bool) (keep : V → T 
       (answer : FrameAnswer) → slice_get reads at ≡ Some (calls_pool brought)
       → slice_get answers at ≡ Some answer → (payload : List ℕ)
       → All (IsCut payload) (accepted_at (table_after limit eq keep (pool_calls (take at reads))) brought)
-      → IfPoolHandsOut (read_answer answer) (λ handed. handed.bytes ≡ payload)
+      → IfFramePayloadReturned (read_answer answer) (λ handed. handed.bytes ≡ payload)
   read_cuts_at reads answers same at brought answer is_call is_answer payload cuts =
       let answer_is : slice_get (frame_answers_to limit eq keep reads) at ≡ Some (read_answer answer) =
       ap (λ answers. slice_get answers at) (sym same) ∙ slice_get-map read_answer answers at

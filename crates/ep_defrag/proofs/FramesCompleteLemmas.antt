@@ -11,8 +11,8 @@ use Rattle.ep_defrag.specs.FragmentRefusals.{FitsWithin, FitInTurn, FitInTurnWit
 use Rattle.ep_defrag.specs.Buffers.{data_of}
 use Rattle.ep_defrag.specs.Calls.{Kept, accepted_in, no_payload, answer_to_frame, table_with_frame}
 use Rattle.ep_defrag.specs.Pools.{Stream, HoldsEntry}
-use Rattle.ep_defrag.specs.Completing.{FillBoth, front_fragment, back_fragment, is_part, CarryingFrame, given_by}
-use Rattle.ep_defrag.specs.Completing.{name_in, CarriesOf, HandsOutAll, FramesComplete}
+use Rattle.ep_defrag.specs.Completing.{FillBoth, opening_fragment, final_fragment, is_part, CarryingFrame, given_by}
+use Rattle.ep_defrag.specs.Completing.{name_in, CarriesOf, ReturnsAll, FramesComplete}
 use Rattle.ep_defrag.proofs.StreamLemmas.{same_stream_laws}
 use Rattle.ep_defrag.proofs.OneFragmentLemmas.{kept_more, answer_complete, answer_nothing}
 use Rattle.ep_defrag.proofs.CompletingLemmas.{reach_short, two_complete, parts_short}
@@ -40,9 +40,9 @@ module _ {T C : Type 0} (limit : ℕ) (eq : C → C → Bool) (laws : IsEquivale
     -- Given the entry of the stream in the table.
     module _ (table : IpFragId C → Option (Kept T)) (kept : Option (Kept T)) (has : table (name_in seen channel) ≡ kept)
         (wanted : IpFragment) (frame : CarryingFrame) (is : CarriesOf seen wanted frame) where
-      hands_out : FitsWithin limit (accepted_in kept) wanted → is_complete (accepted_in kept ++ wanted ∷ []) ≡ true
-          → HandsOutAll limit table frame channel (accepted_in kept ++ wanted ∷ [])
-      hands_out fits whole =
+      returns_all : FitsWithin limit (accepted_in kept) wanted → is_complete (accepted_in kept ++ wanted ∷ []) ≡ true
+          → ReturnsAll limit table frame channel (accepted_in kept ++ wanted ∷ [])
+      returns_all fits whole =
           rw (frame.carries, is, has)
           (sym (answer_complete limit (name_in seen channel) kept wanted fits whole))
 
@@ -64,12 +64,12 @@ module _ {T C : Type 0} (limit : ℕ) (eq : C → C → Bool) (laws : IsEquivale
         → table (name_in seen channel) ≡ kept → FitInTurnWithin limit (accepted_in kept) → FitInTurn (accepted_in kept)
         → 8 ≤ limit → (front back : List ℕ)
         → FillBoth (accepted_in kept) front back → AreBytes front → AreBytes back → (timestamp : T)
-        → FramesComplete limit eq table seen channel timestamp (accepted_in kept) (front_fragment front)
-        (back_fragment (accepted_in kept) back)
+        → FramesComplete limit eq table seen channel timestamp (accepted_in kept) (opening_fragment front)
+        (final_fragment (accepted_in kept) back)
     frames_complete table kept has fit short least front back fill front_bytes back_bytes timestamp =
         let accepted = accepted_in kept in
-        let first = front_fragment front in
-        let second = back_fragment accepted back in
+        let first = opening_fragment front in
+        let second = final_fragment accepted back in
         let two = two_complete limit accepted fit front back fill least in
         let lens = parts_short 65535 accepted short front back fill (omega arith) (omega arith) in
         let carried = carrying seen first (omega arith) lens.0 front_bytes two.first_part in
@@ -77,7 +77,7 @@ module _ {T C : Type 0} (limit : ℕ) (eq : C → C → Bool) (laws : IsEquivale
           | inl whole ↦ record {
             frame = carried.0;
             is_first = carried.1;
-            hands_out = inl (hands_out table kept has first carried.0 carried.1 two.first_fits whole);
+            returns_all = inl (returns_all table kept has first carried.0 carried.1 two.first_fits whole);
           }
           | inr partly ↦
               let part : is_part second ≡ true = elim (two.second_part) [
@@ -89,13 +89,13 @@ module _ {T C : Type 0} (limit : ℕ) (eq : C → C → Bool) (laws : IsEquivale
               let same = append_assoc accepted (first ∷ []) (second ∷ []) in
               let whole : is_complete ((accepted ++ first ∷ []) ++ second ∷ []) ≡ true = rw same (two.complete) in
               let out =
-              hands_out (table_with_frame limit eq table (given_by carried.0) timestamp channel) (Some now)
+              returns_all (table_with_frame limit eq table (given_by carried.0) timestamp channel) (Some now)
               (keeps table kept has first carried.0 carried.1 timestamp two.first_fits partly) second last.0 last.1
               two.second_fits whole in
               record {
                 frame = carried.0;
                 is_first = carried.1;
-                hands_out = inr (
+                returns_all = inr (
                   hands_nothing table kept has first carried.0 carried.1 two.first_fits partly,
                   (last.0, last.1, rw same at out),
                 );

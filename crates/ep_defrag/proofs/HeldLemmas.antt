@@ -13,7 +13,7 @@ use Rattle.ep_defrag.specs.Ranges.{has_byte, touches, merges}
 use Rattle.ep_defrag.specs.IpFragments.{IpFragment, fragment_end, range_of, covers, reach_of, end_of, IsComplete}
 use Rattle.ep_defrag.specs.FragmentRefusals.{Fits, IsInPlace}
 use Rattle.ep_defrag.specs.Buffers.{HoldsFragments, data_of, sections_of, known_end_of, data_after, end_after}
-use Rattle.ep_defrag.specs.Buffers.{sections_after, is_whole}
+use Rattle.ep_defrag.specs.Buffers.{sections_after, is_gapless}
 use Rattle.ep_defrag.proofs.SectionLemmas.{IsOrdered, merges-from_point, touches-hull, has_byte-hull}
 use Rattle.ep_defrag.proofs.SectionLemmas.{test-sections_after}
 use Rattle.ep_defrag.proofs.ApartLemmas.{from_apart, ordered_from, at_most_one}
@@ -30,7 +30,7 @@ HoldsFragments-same a b fragments held same_data same_sections same_end = record
   contents = same_data ∙ held.contents;
   end = same_end ∙ held.end;
   ordered = subst (λ (sections : List IpFragRange). All IsOrdered sections) (sym same_sections) held.ordered;
-  apart = λ position. rw same_sections (held.apart position);
+  separate = λ position. rw same_sections (held.separate position);
   bytes = λ position. rw same_sections (held.bytes position);
   points = λ position. rw same_sections (held.points position);
 }
@@ -75,7 +75,7 @@ HoldsFragments-push old new fragments fragment held fits data_now sections_now e
           (fits_at 65535 (end_of fragments) (reach_of fragments) fragment fits)
           ∙ sym (end_of-push fragments fragment);
       ordered = All-from_recursion IsOrdered (sections_of new) (ordered_from 0 (sections_of new) in_order);
-      apart = λ position. at_most_one position 0 (sections_of new) in_order;
+      separate = λ position. at_most_one position 0 (sections_of new) in_order;
       bytes = λ position.
           list_any-IsPermutation (has_byte position) (sections_of new) after sections_now
           ∙ test-sections_after (has_byte position) (has_byte-hull position) range ordered sections all
@@ -98,13 +98,13 @@ data_len buffer fragments held =
 
 -- The known end and the sections determine whether the fragments are complete.
 pub complete_when_held : (buffer : IpDefragBuf) (fragments : List IpFragment) → HoldsFragments buffer fragments
-    → ((is_some (known_end_of buffer) && is_whole (sections_of buffer)) ≡ true) ↔ IsComplete fragments
+    → ((is_some (known_end_of buffer) && is_gapless (sections_of buffer)) ≡ true) ↔ IsComplete fragments
 complete_when_held buffer fragments held =
     rw held.end
     (complete_by_sections (sections_of buffer) fragments
     (record {
       ordered = recursion_from_All IsOrdered (sections_of buffer) held.ordered;
-      apart = held.apart;
+      apart = held.separate;
       bytes = held.bytes;
       points = held.points;
     })

@@ -13,7 +13,7 @@ use Rattle.ep_defrag.specs.Buffers.{HoldsFragments, ip_number_of, data_of}
 use Rattle.ep_defrag.specs.Streams.{source_of}
 use Rattle.ep_defrag.specs.Calls.{Kept, accepted_in, kept_with, answer_with, Payload, payload_of, fragment_refused}
 use Rattle.ep_defrag.specs.Calls.{payload_returned, no_payload}
-use Rattle.ep_defrag.specs.Pools.{Stream, HoldsEntry, BufferTakes, IsWhole}
+use Rattle.ep_defrag.specs.Pools.{Stream, HoldsEntry, BufferTakes, IsWhetherComplete}
 use Rattle.ep_defrag.proofs.DataLemmas.{FitAfter-push}
 use Rattle.ep_defrag.proofs.RunLemmas.{no_memory}
 
@@ -97,7 +97,7 @@ module _ {T C : Type 0} (limit : ℕ) (stream next : Stream T C) where
     -- A stream with one more fragment matches its new entry, if it is not complete.
     pub entry_more : (kept : Option (Kept T)) → HoldsEntry limit (Some stream) kept
         → BufferTakes limit stream.buffer next.buffer fragment
-        → IsWhole next.buffer false
+        → IsWhetherComplete next.buffer false
         → next.id ≡ stream.id → next.timestamp ≡ timestamp
         → HoldsEntry limit (Some next) (kept_with limit kept fragment timestamp)
     entry_more None entry takes partly id time = absurd entry
@@ -115,7 +115,7 @@ module _ {T C : Type 0} (limit : ℕ) (stream next : Stream T C) where
     -- A stream that is complete has no new entry.
     pub entry_whole : (kept : Option (Kept T)) → HoldsEntry limit (Some stream) kept
         → BufferTakes limit stream.buffer next.buffer fragment
-        → IsWhole next.buffer true
+        → IsWhetherComplete next.buffer true
         → kept_with limit kept fragment timestamp ≡ None
     entry_whole None entry takes whole = absurd entry
     entry_whole (Some kept) entry takes whole =
@@ -138,7 +138,7 @@ module _ {T C : Type 0} (limit : ℕ) (stream next : Stream T C) where
   module _ (name : IpFragId C) (fragment : IpFragment) where
     pub answered_nothing : (kept : Option (Kept T)) → HoldsEntry limit (Some stream) kept
         → BufferTakes limit stream.buffer next.buffer fragment
-        → IsWhole next.buffer false
+        → IsWhetherComplete next.buffer false
         → no_payload ≡ answer_with limit name kept fragment
     answered_nothing None entry takes partly = absurd entry
     answered_nothing (Some kept) entry takes partly =
@@ -150,7 +150,7 @@ module _ {T C : Type 0} (limit : ℕ) (stream next : Stream T C) where
 
     pub answered_payload : (kept : Option (Kept T)) → HoldsEntry limit (Some stream) kept
         → BufferTakes limit stream.buffer next.buffer fragment
-        → IsWhole next.buffer true
+        → IsWhetherComplete next.buffer true
         → payload_returned (handed (data_of next.buffer)) ≡ answer_with limit name kept fragment
     answered_payload None entry takes whole = absurd entry
     answered_payload (Some kept) entry takes whole =

@@ -18,7 +18,7 @@ use Rattle.ep_defrag.specs.Streams.{PacketFragment, same_stream, source_of}
 use Rattle.ep_defrag.specs.Calls.{Kept, Payload, accepted_in, kept_with, payload_returned, answer_to_frame}
 use Rattle.ep_defrag.specs.Calls.{table_with_fragment, table_with_frame, FrameMayNeedMemory}
 use Rattle.ep_defrag.specs.Pools.{Stream, limit_of, stream_named, HoldsEntry, HoldsTable, TakesFragment, TakesFrame}
-use Rattle.ep_defrag.specs.Pools.{ChangesStream, BufferTakes, BufferRefuses, IsWhole, plain_payload, plain_frame_answer}
+use Rattle.ep_defrag.specs.Pools.{ChangesStream, BufferTakes, BufferRefuses, IsWhetherComplete, plain_payload, plain_frame_answer}
 use Rattle.ep_defrag.specs.Pools.{payload_in, is_allocation_failure_in}
 use Rattle.ep_defrag.proofs.StreamLemmas.{same_stream_laws}
 use Rattle.ep_defrag.proofs.HeldStreamLemmas.{HoldsTable-same, HoldsTable-changed, none_kept, entry_at}
@@ -85,10 +85,10 @@ module _ {T C : Type 0} (eq : C → C → Bool) (laws : IsEquivalence eq) (old n
               (λ name alike.
               entry_keeps limit stream next (table name) (entry_of table held name alike) refused.keeps number same_id
               same_time);
-          room = λ wants found is_found.
+          lacks_capacity = λ wants found is_found.
               let same : Some stream ≡ Some found = sym there_is ∙ is_found in
               let is : stream ≡ found = cc in
-              rw (← is) (refused.room wants);
+              rw (← is) (refused.lacks_capacity wants);
           limit = now.limit;
           entry = λ differ. rw (there_is, now.here) (same_id, refused.same, same_time);
           others = now.others;
@@ -96,7 +96,7 @@ module _ {T C : Type 0} (eq : C → C → Bool) (laws : IsEquivalence eq) (old n
 
     -- The fragment is accepted, and more are missing.
     pub goes_on_more : ChangesStream eq old new id (Some next) → next.timestamp ≡ timestamp
-        → BufferTakes limit stream.buffer next.buffer fragment → IsWhole next.buffer false
+        → BufferTakes limit stream.buffer next.buffer fragment → IsWhetherComplete next.buffer false
         → TakesFragment eq old new id fragment timestamp (Ok None)
     goes_on_more now time taken partly = record {
       answer = λ other table held.
@@ -110,7 +110,7 @@ module _ {T C : Type 0} (eq : C → C → Bool) (laws : IsEquivalence eq) (old n
           same_id time));
       memory = λ wants. absurd (false≢true wants);
       keeps = λ wants. absurd (false≢true wants);
-      room = λ wants. absurd (false≢true wants);
+      lacks_capacity = λ wants. absurd (false≢true wants);
       limit = now.limit;
       entry = λ differ.
           rw (there_is, now.here)
@@ -120,7 +120,7 @@ module _ {T C : Type 0} (eq : C → C → Bool) (laws : IsEquivalence eq) (old n
 
     -- The fragment is accepted, and nothing is missing.
     pub goes_on_whole : ChangesStream eq old new id None → BufferTakes limit stream.buffer next.buffer fragment
-        → IsWhole next.buffer true → (answer : Option IpDefragPayloadVec)
+        → IsWhetherComplete next.buffer true → (answer : Option IpDefragPayloadVec)
         → option_map plain_payload answer ≡ Some (payload_in id next)
         → TakesFragment eq old new id fragment timestamp (Ok answer)
     goes_on_whole now taken whole answer shows =
@@ -141,7 +141,7 @@ module _ {T C : Type 0} (eq : C → C → Bool) (laws : IsEquivalence eq) (old n
               ) tt);
           memory = λ wants. absurd (false≢true wants);
           keeps = λ wants. absurd (false≢true wants);
-          room = λ wants. absurd (false≢true wants);
+          lacks_capacity = λ wants. absurd (false≢true wants);
           limit = now.limit;
           entry = λ differ. rw there_is (now.here, ap (λ p. p.bytes) is_payload ∙ taken.contents);
           others = now.others;
@@ -180,7 +180,7 @@ module _ {T C : Type 0} (eq : C → C → Bool) (laws : IsEquivalence eq) (old n
           let wanting = wanting_only limit [] fragment error wants why in
           rw (none_of table held id (names.refl id)) (wanting.0, ap Err wanting.1);
       keeps = λ wants table held. stays now table table held (λ name. refl);
-      room = λ wants found is_found. let never : None ≡ Some found = sym absent ∙ is_found in absurd (cc);
+      lacks_capacity = λ wants found is_found. let never : None ≡ Some found = sym absent ∙ is_found in absurd (cc);
       limit = ap limit_of now;
       entry = λ differ. rw (now, absent) tt;
       others = λ name apart. ap (stream_named eq name) now;
@@ -189,7 +189,7 @@ module _ {T C : Type 0} (eq : C → C → Bool) (laws : IsEquivalence eq) (old n
     -- The fragment is the complete payload.
     pub begins_whole : new ≡ old → (buffer : IpDefragBuf) (payload : IpDefragPayloadVec)
         → plain_payload payload ≡ payload_in id (record { id = id; buffer = buffer; timestamp = timestamp })
-        → data_of empty ≡ [] → BufferTakes limit empty buffer fragment → IsWhole buffer true
+        → data_of empty ≡ [] → BufferTakes limit empty buffer fragment → IsWhetherComplete buffer true
         → TakesFragment eq old new id fragment timestamp (Ok (Some payload))
     begins_whole now buffer payload is_payload no_data taken whole =
         let fits = taken.fits [] holds_none in
@@ -212,7 +212,7 @@ module _ {T C : Type 0} (eq : C → C → Bool) (laws : IsEquivalence eq) (old n
               (λ apart. refl));
           memory = λ wants. absurd (false≢true wants);
           keeps = λ wants. absurd (false≢true wants);
-          room = λ wants. absurd (false≢true wants);
+          lacks_capacity = λ wants. absurd (false≢true wants);
           limit = ap limit_of now;
           entry = λ differ.
               rw (now, absent) (
@@ -226,7 +226,7 @@ module _ {T C : Type 0} (eq : C → C → Bool) (laws : IsEquivalence eq) (old n
     pub begins : (stream : Stream T C) → ChangesStream eq old new id (Some stream) → stream.id ≡ id
         → stream.timestamp ≡ timestamp → ip_number_of empty ≡ id.payload_ip_number → data_of empty ≡ []
         → sections_of empty ≡ [] → known_end_of empty ≡ None → BufferTakes limit empty stream.buffer fragment
-        → IsWhole stream.buffer false → TakesFragment eq old new id fragment timestamp (Ok None)
+        → IsWhetherComplete stream.buffer false → TakesFragment eq old new id fragment timestamp (Ok None)
     begins stream now named time number no_data no_sections no_end taken partly =
         let fits = taken.fits [] holds_none in
         let holds = taken.holds [] holds_none in
@@ -251,7 +251,7 @@ module _ {T C : Type 0} (eq : C → C → Bool) (laws : IsEquivalence eq) (old n
               }));
           memory = λ wants. absurd (false≢true wants);
           keeps = λ wants. absurd (false≢true wants);
-          room = λ wants. absurd (false≢true wants);
+          lacks_capacity = λ wants. absurd (false≢true wants);
           limit = now.limit;
           entry = λ differ.
               rw (absent, now.here)

@@ -70,10 +70,10 @@ pub record AreNeighbours (range : IpFragRange) (sections : List IpFragRange) (fr
   pub later : AllWithin (λ section. range.end < section.start) sections to (length sections)
 
 -- whether there is exactly one section, and it starts at 0
-abbrev pub is_whole : List IpFragRange → Bool
-is_whole [] = false
-is_whole (section ∷ []) = section.start == 0
-is_whole (section ∷ other ∷ others) = false
+abbrev pub is_gapless : List IpFragRange → Bool
+is_gapless [] = false
+is_gapless (section ∷ []) = section.start == 0
+is_gapless (section ∷ other ∷ others) = false
 
 -- Holds if the buffer's contents are those after it accepted these fragments, in their order. Other lists of fragments
 -- can have equal contents.
@@ -84,7 +84,7 @@ pub record HoldsFragments (buffer : IpDefragBuf) (fragments : List IpFragment) :
   pub end : known_end_of buffer ≡ end_of fragments
   -- No section is reversed, and no position touches two of them.
   pub ordered : All (λ section. section.start ≤ section.end) (sections_of buffer)
-  pub apart : (position : ℕ) → count_by (touches position) (sections_of buffer) ≤ 1
+  pub separate : (position : ℕ) → count_by (touches position) (sections_of buffer) ≤ 1
   -- A section has a byte exactly where a fragment has one, and touches a position exactly where a fragment does.
   pub bytes : (position : ℕ) → list_any (has_byte position) (sections_of buffer) ≡ is_covered fragments position
   pub points : (position : ℕ) → list_any (touches position) (sections_of buffer) ≡ is_touched fragments position

@@ -6,7 +6,7 @@ use Rattle.ep_base.specs.Bytes.{AreBytes}
 use Rattle.ep_base.specs.declared.ip_number.IpNumber.{IpNumber}
 use Rattle.ep_build.specs.BuildErrors.{IsBuildable}
 use Rattle.ep_build.specs.BuiltFragments.{built_fragment}
-use Rattle.ep_build.specs.BuiltFrames.{built_frame, held_ip, ip_packet}
+use Rattle.ep_build.specs.BuiltFrames.{built_frame, ip_frame_headers, ip_packet}
 use Rattle.ep_build.specs.Fits.{FitsLink}
 use Rattle.ep_build.specs.ReadBack.{IsEntryOf}
 use Rattle.ep_build.specs.declared.link_part.LinkPart.{LinkPart}
@@ -41,7 +41,7 @@ pub record BuiltCut (T C : Type 0) : Type 0 where
 
 -- bytes of the frame
 abbrev pub cut_frame : {T C : Type 0} → BuiltCut T C → List ℕ
-cut_frame cut = built_frame (held_ip cut.link cut.headers cut.last) cut.bytes
+cut_frame cut = built_frame (ip_frame_headers cut.link cut.headers cut.last) cut.bytes
 
 -- fragment of the frame, as the pool sees it
 abbrev pub cut_fragment : {T C : Type 0} → BuiltCut T C → IpFragment
@@ -58,7 +58,7 @@ pub record IsBuiltCut {T C : Type 0} (payload : List ℕ) (cut : BuiltCut T C) :
   pub fit : FitIpHeaders cut.headers
   pub number : cut.last.0 < 2 ^ 8
   pub are_bytes : AreBytes cut.bytes
-  pub buildable : IsBuildable (held_ip cut.link cut.headers cut.last) (length cut.bytes)
+  pub buildable : IsBuildable (ip_frame_headers cut.link cut.headers cut.last) (length cut.bytes)
   -- The headers mark a fragment, and the protocol number is not that of an extension header.
   pub built : built_fragment cut.link cut.headers cut.last cut.bytes ≡ Some cut.found
   pub ends : EndsExtensions cut.headers cut.last.0
@@ -92,8 +92,8 @@ abbrev pub answers_to_frames : {T C V : Type 0} → (C → C → Bool) → IpFra
 answers_to_frames eq name calls answers = items_where_true (map (gives_to eq name) calls) answers
 
 -- complete payload, as a pool returns it for an identifier
-abbrev pub whole_of : {C : Type 0} → IpFragId C → List ℕ → Payload
-whole_of name payload = record {
+abbrev pub complete_payload_of : {C : Type 0} → IpFragId C → List ℕ → Payload
+complete_payload_of name payload = record {
   ip_number = name.payload_ip_number;
   len_source = source_of name.ip;
   bytes = payload;

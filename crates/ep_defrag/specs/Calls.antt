@@ -183,9 +183,9 @@ accepted_at table (drops_streams value) = []
 accepted_at table returns_buffer = []
 
 -- Holds if the answer returns no payload, or its payload has the property.
-abbrev pub IfHandedOut : Answer → (Payload → Type 0) → Type 0
-IfHandedOut (fragment_refused error) holds = Unit {0}
-IfHandedOut (payload_returned handed) holds = holds handed
-IfHandedOut no_payload holds = Unit {0}
-IfHandedOut streams_dropped holds = Unit {0}
-IfHandedOut buffer_returned holds = Unit {0}
+abbrev pub IfPayloadReturned : Answer → (Payload → Type 0) → Type 0
+IfPayloadReturned (fragment_refused error) holds = Unit {0}
+IfPayloadReturned (payload_returned payload) holds = holds payload
+IfPayloadReturned no_payload holds = Unit {0}
+IfPayloadReturned streams_dropped holds = Unit {0}
+IfPayloadReturned buffer_returned holds = Unit {0}

@@ -16,8 +16,8 @@ sections_capacity_of buffer = vec_capacity buffer.sections
 
 -- Holds if neither capacity became smaller.
 pub record KeepsCapacity (old new : IpDefragBuf) : Type 0 where
-  pub data_room : data_capacity_of old ≤ data_capacity_of new
-  pub sections_room : sections_capacity_of old ≤ sections_capacity_of new
+  pub data_capacity : data_capacity_of old ≤ data_capacity_of new
+  pub sections_capacity : sections_capacity_of old ≤ sections_capacity_of new
 
 -- Holds if the capacity is too small for a fragment: for the data up to its end, or for a new section if it neither
 -- overlaps nor touches another.

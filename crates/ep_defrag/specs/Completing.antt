@@ -17,26 +17,26 @@ use Rattle.ep_defrag.specs.Calls.{table_with_frame}
 -- ---- two fragments
 
 -- end at which a list is completed: its known end, or if there is none, the greater of its greatest end and 8
-abbrev pub whole_end : List IpFragment → ℕ
-whole_end accepted = unwrap_or (end_of accepted) (max (reach_of accepted) 8)
+abbrev pub completed_end : List IpFragment → ℕ
+completed_end accepted = unwrap_or (end_of accepted) (max (reach_of accepted) 8)
 
 -- offset in units of 8 bytes at which the first of two fragments ends and the second starts: as close to that end as
 -- possible, but at most at 32768 bytes, so that a frame can carry either
-abbrev pub meeting_at : ℕ → ℕ
-meeting_at end = min 4096 (end / 8)
+abbrev pub split_offset : ℕ → ℕ
+split_offset end = min 4096 (end / 8)
 
 -- Holds if the bytes have the lengths of the two fragments.
 pub record FillBoth (accepted : List IpFragment) (front back : List ℕ) : Type 0 where
-  pub front_len : length front ≡ 8 * meeting_at (whole_end accepted)
-  pub both_len : length front + length back ≡ whole_end accepted
+  pub first_len : length front ≡ 8 * split_offset (completed_end accepted)
+  pub both_len : length front + length back ≡ completed_end accepted
 
 -- first of the two fragments, which is followed by more
-abbrev pub front_fragment : List ℕ → IpFragment
-front_fragment front = fragment_with 0 true front
+abbrev pub opening_fragment : List ℕ → IpFragment
+opening_fragment front = fragment_with 0 true front
 
 -- second of the two fragments, which is final
-abbrev pub back_fragment : List IpFragment → List ℕ → IpFragment
-back_fragment accepted back = fragment_with (meeting_at (whole_end accepted)) false back
+abbrev pub final_fragment : List IpFragment → List ℕ → IpFragment
+final_fragment accepted back = fragment_with (split_offset (completed_end accepted)) false back
 
 -- whether a frame can carry it as a fragment: more fragments follow, or it does not begin the payload
 abbrev pub is_part : IpFragment → Bool
@@ -78,9 +78,9 @@ CarriesOf seen fragment frame =
     frame.found ≡ record seen.found { offset = fragment.offset; more = fragment.more; bytes = fragment.bytes }
 
 -- Holds if the answer to a frame is the payload reassembled from these fragments of its stream.
-abbrev pub HandsOutAll : {T C : Type 0} → ℕ → (IpFragId C → Option (Kept T)) → CarryingFrame → C → List IpFragment
+abbrev pub ReturnsAll : {T C : Type 0} → ℕ → (IpFragId C → Option (Kept T)) → CarryingFrame → C → List IpFragment
     → Type 0
-HandsOutAll limit table frame channel fragments =
+ReturnsAll limit table frame channel fragments =
     answer_to_frame limit table (given_by frame) channel
     ≡ payload_returned (payload_of (name_in frame channel) fragments)
 
@@ -91,8 +91,8 @@ pub record FramesComplete {T C : Type 0} (limit : ℕ) (eq : C → C → Bool) (
     : Type 0 where
   pub frame : CarryingFrame
   pub is_first : CarriesOf seen first frame
-  pub hands_out : HandsOutAll limit table frame channel (accepted ++ first ∷ [])
+  pub returns_all : ReturnsAll limit table frame channel (accepted ++ first ∷ [])
       ⊎ ((answer_to_frame limit table (given_by frame) channel ≡ no_payload)
       × ((last : CarryingFrame) × CarriesOf seen second last
-      × HandsOutAll limit (table_with_frame limit eq table (given_by frame) timestamp channel) last channel
+      × ReturnsAll limit (table_with_frame limit eq table (given_by frame) timestamp channel) last channel
       (accepted ++ first ∷ second ∷ [])))

@@ -17,8 +17,8 @@ use Rattle.ep_defrag.specs.declared.frame_run.FrameAnswer.{FrameAnswer}
 use Rattle.ep_defrag.specs.declared.frame_run.FrameAnswer.TheVariants as answer
 use Rattle.ep_defrag.specs.Streams.{packet_fragment}
 use Rattle.ep_defrag.specs.Calls.{Call, gives_frame, drops_streams, returns_buffer, Kept, table_after, table_with}
-use Rattle.ep_defrag.specs.Calls.{Answer, answer_to, CallMayNeedMemory, Payload, IfHandedOut}
-use Rattle.ep_defrag.specs.Pools.{plain_call, plain_answer, answer_wants_memory}
+use Rattle.ep_defrag.specs.Calls.{Answer, answer_to, CallMayNeedMemory, Payload, IfPayloadReturned}
+use Rattle.ep_defrag.specs.Pools.{plain_call, plain_answer, answer_is_allocation_failure}
 
 -- A call after its frame is read: a call on the pool, or a frame that is rejected with this error.
 pub data ReadCall (T C V : Type 0) : Type 0 where
@@ -80,9 +80,9 @@ pool_answers_in (not_sliced error ∷ answers) = pool_answers_in answers
 pool_answers_in (pool_answers given ∷ answers) = given ∷ pool_answers_in answers
 
 -- Holds if the answer returns no payload, or its payload has the property.
-abbrev pub IfPoolHandsOut : ReadAnswer → (Payload → Type 0) → Type 0
-IfPoolHandsOut (not_sliced error) holds = Unit {0}
-IfPoolHandsOut (pool_answers given) holds = IfHandedOut given holds
+abbrev pub IfFramePayloadReturned : ReadAnswer → (Payload → Type 0) → Type 0
+IfFramePayloadReturned (not_sliced error) holds = Unit {0}
+IfFramePayloadReturned (pool_answers given) holds = IfPayloadReturned given holds
 
 -- Holds if an allocation for a call may fail: it is read as such a call on the pool.
 abbrev pub FrameCallMayNeedMemory : {T C V : Type 0} → ℕ → (IpFragId C → Option (Kept T)) → FrameCall T C V → Type 0
@@ -95,9 +95,9 @@ read_answer (answer.NotSliced error) = not_sliced error
 read_answer (answer.Pool given) = pool_answers (plain_answer given)
 
 -- whether an answer is an allocation failure of the pool
-abbrev pub frame_answer_wants_memory : FrameAnswer → Bool
-frame_answer_wants_memory (answer.NotSliced error) = false
-frame_answer_wants_memory (answer.Pool given) = answer_wants_memory given
+abbrev pub frame_answer_is_allocation_failure : FrameAnswer → Bool
+frame_answer_is_allocation_failure (answer.NotSliced error) = false
+frame_answer_is_allocation_failure (answer.Pool given) = answer_is_allocation_failure given
 
 -- ---- one call
 

@@ -81,11 +81,11 @@ abbrev pub IsComplete : List IpFragment → Type 0
 IsComplete fragments = IsTrue (is_complete fragments)
 
 -- Holds if two lists of fragments fill the same positions with the same bytes, and have the same known end.
-pub record FillAlike (fragments others : List IpFragment) : Type 0 where
+pub record FillEqually (fragments others : List IpFragment) : Type 0 where
   pub covered : (position : ℕ) → is_covered fragments position ≡ is_covered others position
   pub contents : assembled fragments ≡ assembled others
   pub end : end_of fragments ≡ end_of others
 
 -- Holds if two lists of fragments touch the same positions.
-abbrev pub TouchAlike : List IpFragment → List IpFragment → Type 0
-TouchAlike fragments others = (position : ℕ) → is_touched fragments position ≡ is_touched others position
+abbrev pub TouchSamePositions : List IpFragment → List IpFragment → Type 0
+TouchSamePositions fragments others = (position : ℕ) → is_touched fragments position ≡ is_touched others position

@@ -56,17 +56,17 @@ abbrev pub KeepsOwn : {T C V : Type 0} → (C → C → Bool) → (V → T → B
 KeepsOwn eq keep name calls = All (KeepsTimes keep (filter_map time_of_call (calls_of eq name calls))) calls
 
 -- Holds if the answer returns this payload.
-abbrev pub HandsOut : List ℕ → Answer → Type 0
-HandsOut payload (fragment_refused error) = ⊥
-HandsOut payload (payload_returned handed) = handed.bytes ≡ payload
-HandsOut payload no_payload = ⊥
-HandsOut payload streams_dropped = ⊥
-HandsOut payload buffer_returned = ⊥
+abbrev pub ReturnsPayload : List ℕ → Answer → Type 0
+ReturnsPayload payload (fragment_refused error) = ⊥
+ReturnsPayload payload (payload_returned returned) = returned.bytes ≡ payload
+ReturnsPayload payload no_payload = ⊥
+ReturnsPayload payload streams_dropped = ⊥
+ReturnsPayload payload buffer_returned = ⊥
 
 -- Holds if the answer is no error, and returns no payload other than this.
-abbrev pub HandsOutAtMost : List ℕ → Answer → Type 0
-HandsOutAtMost payload (fragment_refused error) = ⊥
-HandsOutAtMost payload (payload_returned handed) = handed.bytes ≡ payload
-HandsOutAtMost payload no_payload = Unit {0}
-HandsOutAtMost payload streams_dropped = Unit {0}
-HandsOutAtMost payload buffer_returned = Unit {0}
+abbrev pub ReturnsAtMost : List ℕ → Answer → Type 0
+ReturnsAtMost payload (fragment_refused error) = ⊥
+ReturnsAtMost payload (payload_returned returned) = returned.bytes ≡ payload
+ReturnsAtMost payload no_payload = Unit {0}
+ReturnsAtMost payload streams_dropped = Unit {0}
+ReturnsAtMost payload buffer_returned = Unit {0}

@@ -29,10 +29,10 @@ capacity_step waiting count bytes =
 
 -- step that appends bytes to the pending word
 unfoldable pub wait_step : ℕ → ℕ → ℕ → ℕ → Step
-wait_step waiting count bytes number = let room = capacity_step waiting count bytes in record {
-  given = room.given;
-  waiting = bit_or (room.waiting * 2 ^ (8 * bytes) % 2 ^ 64) number;
-  count = room.count + bytes;
+wait_step waiting count bytes number = let flushed = capacity_step waiting count bytes in record {
+  given = flushed.given;
+  waiting = bit_or (flushed.waiting * 2 ^ (8 * bytes) % 2 ^ 64) number;
+  count = flushed.count + bytes;
 }
 
 -- step of a write of eight bytes: a number below 256 starts a pending word, a greater one is passed on after a mark

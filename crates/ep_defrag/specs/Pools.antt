@@ -32,7 +32,7 @@ use Rattle.ep_defrag.specs.Capacities.{LacksCapacity}
 use Rattle.ep_defrag.specs.Streams.{PacketFragment, packet_fragment, name_of, same_stream, source_of}
 use Rattle.ep_defrag.specs.PayloadCuts.{IsCut}
 use Rattle.ep_defrag.specs.Calls.{Kept, accepted_in, accepted_at, answer_with, answers_to, table_after}
-use Rattle.ep_defrag.specs.Calls.{table_with_fragment, CallMayNeedMemory, IfHandedOut, Call, gives_frame, drops_streams}
+use Rattle.ep_defrag.specs.Calls.{table_with_fragment, CallMayNeedMemory, IfPayloadReturned, Call, gives_frame, drops_streams}
 use Rattle.ep_defrag.specs.Calls.{returns_buffer, Payload, Answer, fragment_refused, payload_returned}
 use Rattle.ep_defrag.specs.Calls.{no_payload, streams_dropped, buffer_returned}
 
@@ -222,10 +222,10 @@ is_allocation_failure_in (Ok value) = false
 is_allocation_failure_in (Err error) = is_allocation_failure error
 
 -- whether an answer is an allocation failure, as only that to a frame can be
-abbrev pub answer_wants_memory : PoolAnswer → Bool
-answer_wants_memory (answer.Frame result) = is_allocation_failure_in result
-answer_wants_memory answer.Dropped = false
-answer_wants_memory answer.Returned = false
+abbrev pub answer_is_allocation_failure : PoolAnswer → Bool
+answer_is_allocation_failure (answer.Frame result) = is_allocation_failure_in result
+answer_is_allocation_failure answer.Dropped = false
+answer_is_allocation_failure answer.Returned = false
 
 -- ---- the effect of a fragment on a pool
 
@@ -244,7 +244,8 @@ pub record TakesFragment {T C : Type 0} (eq : C → C → Bool) (old new : IpDef
   pub keeps : IsTrue (is_allocation_failure_in result) → (table : IpFragId C → Option (Kept T)) → HoldsTable eq old table
       → HoldsTable eq new table
   -- In an open stream it fails only if the buffer's capacity is too small.
-  pub room : IsTrue (is_allocation_failure_in result) → (stream : Stream T C) → stream_named eq id old ≡ Some stream
+  pub lacks_capacity : IsTrue (is_allocation_failure_in result) → (stream : Stream T C)
+      → stream_named eq id old ≡ Some stream
       → LacksCapacity stream.buffer fragment
   -- The limit is unchanged.
   pub limit : limit_of new ≡ limit_of old
@@ -281,11 +282,12 @@ pub record BufferRefuses (limit : ℕ) (old new : IpDefragBuf) (fragment : IpFra
       ⊎ (MayNeedMemoryWithin limit accepted fragment × (error ≡ AllocationFailure (fragment_end fragment)))
   pub keeps : (accepted : List IpFragment) → HoldsFragments old accepted → HoldsFragments new accepted
   pub same : IsUnchanged old new
-  pub room : IsTrue (is_allocation_failure error) → LacksCapacity old fragment
+  pub lacks_capacity : IsTrue (is_allocation_failure error) → LacksCapacity old fragment
 
--- Holds if `whole` is whether the fragments of the buffer are complete.
-abbrev pub IsWhole : IpDefragBuf → Bool → Type 0
-IsWhole buffer whole = (accepted : List IpFragment) → HoldsFragments buffer accepted → is_complete accepted ≡ whole
+-- Holds if `complete` is whether the fragments of the buffer are complete.
+abbrev pub IsWhetherComplete : IpDefragBuf → Bool → Type 0
+IsWhetherComplete buffer complete =
+    (accepted : List IpFragment) → HoldsFragments buffer accepted → is_complete accepted ≡ complete
 
 -- Holds if the stream of an identifier is now this one, or none, and no other stream has changed.
 pub record ChangesStream {T C : Type 0} (eq : C → C → Bool) (old new : IpDefragPool T C) (name : IpFragId C)
@@ -322,10 +324,10 @@ pub record RunsCalls {F T C V A : Type 0} (asks : Shared F (Bor V × (Bor T × U
       → slice_get calls at ≡ Some call → slice_get run.0.items at ≡ Some answer
       → (payload : List ℕ) → All (IsCut payload)
       (accepted_at (table_after max eq decide (map plain_call (take at calls))) (plain_call call))
-      → IfHandedOut (plain_answer answer) (λ handed. handed.bytes ≡ payload))
+      → IfPayloadReturned (plain_answer answer) (λ returned. returned.bytes ≡ payload))
   -- No answer is an allocation failure, and a run that stops after the first call stops at a frame whose fragment fits
   -- and is not in place.
-  pub no_memory : IfOk result (λ run. All (λ answer. IsFalse (answer_wants_memory answer)) run.0.items)
+  pub no_memory : IfOk result (λ run. All (λ answer. IsFalse (answer_is_allocation_failure answer)) run.0.items)
   pub within : IfErr result (λ stop. stop.at < length calls)
   pub stopped : IfErr result (λ stop. 0 < stop.at → (decide : V → T → Bool) → IsDecidedBy asks keep decide
       → HoldsAt (λ call. CallMayNeedMemory max (table_after max eq decide (map plain_call (take stop.at calls)))

@@ -10,7 +10,7 @@ ghost use Rattle.ep_packet.specs.FrameRefusals.{RefusesFrame};
 ghost use Rattle.ep_defrag.specs.PayloadCuts.{IsCut};
 ghost use Rattle.ep_defrag.specs.Calls.{Call, Kept, table_after, accepted_at};
 ghost use Rattle.ep_defrag.specs.Pools.{limit_of, HoldsTable, IsDecidedBy};
-ghost use Rattle.ep_defrag.specs.FrameCalls.{ReadCall, calls_pool, IsReadAs, IsOnlyRead, AreReadAs, AreRead, pool_calls, read_answer_to, frame_answers_to, IfPoolHandsOut, FrameCallMayNeedMemory, read_answer, frame_answer_wants_memory, table_with_read, read_of};
+ghost use Rattle.ep_defrag.specs.FrameCalls.{ReadCall, calls_pool, IsReadAs, IsOnlyRead, AreReadAs, AreRead, pool_calls, read_answer_to, frame_answers_to, IfFramePayloadReturned, FrameCallMayNeedMemory, read_answer, frame_answer_is_allocation_failure, table_with_read, read_of};
 
 use crate::ip_defrag_payload_vec::IpDefragPayloadVec;
 use crate::ip_defrag_pool::IpDefragPool;
@@ -22,8 +22,8 @@ use ep_packet::{Entry, SlicedPacket};
 use std::alloc::{AllocError, Global};
 use std::hash::Hash;
 
-/// One call on a reassembly pool in a list that `run_frames` makes: a frame given as bytes, a drop of streams, or the
-/// return of a payload's memory.
+/// One call that `run_frames` performs on a reassembly pool: it processes a frame given as bytes, drops streams, or
+/// gives the memory of a payload back to the pool.
 #[derive(Debug, Drop)]
 pub enum FrameCall<'a, Timestamp, CustomChannelId, V> {
     /// A frame that is to be sliced, and whose fragment, if it carries one, is added to its stream in the reassembly
@@ -100,11 +100,12 @@ pub fn run_frames<
         slice_get reads at ≡ Some (calls_pool brought) → slice_get run.0.items at ≡ Some answer →
         (payload : List ℕ) → All (IsCut payload) (accepted_at
         (table_after 65535 CustomChannelId.eq decide (pool_calls (take at reads))) brought) →
-        IfPoolHandsOut (read_answer answer) (λ handed. handed.bytes ≡ payload)) }
+        IfFramePayloadReturned (read_answer answer) (λ returned. returned.bytes ≡ payload)) }
 
     // No answer is an allocation failure, and a run that stops after the first call stops at a frame whose fragment
     // fits and is not in place.
-    ensures no_memory { IfOk result (λ run. All (λ answer. IsFalse (frame_answer_wants_memory answer)) run.0.items) }
+    ensures no_memory { IfOk result (λ run. All (λ answer. IsFalse (frame_answer_is_allocation_failure answer))
+        run.0.items) }
     ensures within { IfErr result (λ stop. stop.at < length calls.entry.items) }
     ensures stopped { IfErr result (λ stop. 0 < stop.at →
         (reads : List (ReadCall Timestamp CustomChannelId V)) → AreReadAs (take stop.at calls.entry.items) reads →
@@ -149,7 +150,7 @@ fn answer_frame<
         HoldsTable CustomChannelId.eq pool.new
         (table_with_read (limit_of pool.old) CustomChannelId.eq decide table read)) }
     ensures limit { OnOk result (limit_of pool.new ≡ limit_of pool.old) }
-    ensures no_memory { IfOk result (λ answer. IsFalse (frame_answer_wants_memory answer)) }
+    ensures no_memory { IfOk result (λ answer. IsFalse (frame_answer_is_allocation_failure answer)) }
     ensures memory { OnErr result ((table : IpFragId CustomChannelId → Option (Kept Timestamp)) →
         HoldsTable CustomChannelId.eq pool.old table → FrameCallMayNeedMemory (limit_of pool.old) table call.entry) }
 {

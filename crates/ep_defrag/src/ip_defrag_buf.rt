@@ -10,7 +10,7 @@ ghost use Rattle.ep_defrag.specs.FragmentRefusals.{Fits, RefusesFragment, MayNee
 use crate::MAX_IP_DEFRAG_LEN_U16;
 use crate::ip_defrag_bytes::{reserve_to, write_fragment};
 use crate::ip_defrag_error::IpDefragError;
-use crate::ip_defrag_sections::{is_whole, join, neighbours};
+use crate::ip_defrag_sections::{is_payload_complete, join, neighbours};
 use crate::ip_frag_range::IpFragRange;
 use ep_base::{IpFragOffset, IpNumber};
 use std::alloc::AllocError;
@@ -32,7 +32,7 @@ pub struct IpDefragBuf {
 }
 
 impl IpDefragBuf {
-    ghost use Rattle.ep_defrag.specs.Buffers.{ip_number_of, data_of, sections_of, known_end_of, IsUnchanged, HoldsFragments, data_after, data_with, end_after, sections_after, is_whole};
+    ghost use Rattle.ep_defrag.specs.Buffers.{ip_number_of, data_of, sections_of, known_end_of, IsUnchanged, HoldsFragments, data_after, data_with, end_after, sections_after, is_gapless};
     ghost use Rattle.ep_defrag.specs.Capacities.{data_capacity_of, sections_capacity_of, KeepsCapacity, LacksCapacity};
 
     /// Returns an empty reassembly buffer for a payload of the protocol `ip_number`. It uses the memory of the two
@@ -47,8 +47,8 @@ impl IpDefragBuf {
         ensures data { data_of result ≡ [] }
         ensures sections { sections_of result ≡ [] }
         ensures end { known_end_of result ≡ None }
-        ensures data_room { data_capacity_of result ≡ vec_capacity bytes }
-        ensures sections_room { sections_capacity_of result ≡ vec_capacity sections }
+        ensures data_capacity { data_capacity_of result ≡ vec_capacity bytes }
+        ensures sections_capacity { sections_capacity_of result ≡ vec_capacity sections }
     {
         bytes.clear();
         sections.clear();
@@ -82,7 +82,7 @@ impl IpDefragBuf {
     #[inline]
     pub fn sections(&self) -> &Vec<IpFragRange>
         ensures shown { result.now.items ≡ sections_of self.now }
-        ensures apart { AreSeparate result.now.items }
+        ensures separate { AreSeparate result.now.items }
     {
         &self.sections
     }
@@ -100,9 +100,9 @@ impl IpDefragBuf {
     pub fn is_complete(&self) -> bool
         ensures complete { (accepted : List IpFragment) → HoldsFragments self.now accepted →
             IsTrue result ↔ IsComplete accepted }
-        ensures shown { result ≡ (is_some (known_end_of self.now) && is_whole (sections_of self.now)) }
+        ensures shown { result ≡ (is_some (known_end_of self.now) && is_gapless (sections_of self.now)) }
     {
-        is_whole(self.end, &self.sections)
+        is_payload_complete(self.end, &self.sections)
     }
 
     /// Returns the reassembled bytes and the list of the filled ranges, both as vectors with their capacity, and
@@ -110,8 +110,8 @@ impl IpDefragBuf {
     pub fn take_bufs(self) -> (Vec<u8>, Vec<IpFragRange>)
         ensures data { result.0.items ≡ data_of self }
         ensures sections { result.1.items ≡ sections_of self }
-        ensures data_room { vec_capacity result.0 ≡ data_capacity_of self }
-        ensures sections_room { vec_capacity result.1 ≡ sections_capacity_of self }
+        ensures data_capacity { vec_capacity result.0 ≡ data_capacity_of self }
+        ensures sections_capacity { vec_capacity result.1 ≡ sections_capacity_of self }
     {
         (self.bytes, self.sections)
     }
@@ -131,9 +131,9 @@ impl IpDefragBuf {
     }
 
     /// Adds a fragment, given by its offset, its more-fragments flag and its bytes. Where fragments overlap, the bytes
-    /// of the last one are kept. A final fragment (`more_fragments` is false) sets the end of the payload. This end is
-    /// never below the end of an accepted fragment, so no byte is discarded. Whatever fragments were accepted, one more
-    /// can complete the payload ([`one_fragment_completes`](crate::laws::one_fragment_completes)).
+    /// of the one added last are kept. A final fragment (`more_fragments` is false) sets the end of the payload. This
+    /// end is never below the end of an accepted fragment, so no byte is discarded. Whatever fragments were accepted,
+    /// one more can complete the payload ([`one_fragment_completes`](crate::laws::one_fragment_completes)).
     ///
     /// # Errors
     ///
@@ -190,8 +190,8 @@ impl IpDefragBuf {
         ensures ip_number { ip_number_of self.new ≡ ip_number_of self.old }
 
         // In all cases no capacity becomes smaller. An allocation fails only if the capacity is too small.
-        ensures room { KeepsCapacity self.old self.new }
-        ensures lacks_room { let fragment = fragment_with offset more_fragments payload.now in
+        ensures keeps_capacity { KeepsCapacity self.old self.new }
+        ensures lacks_capacity { let fragment = fragment_with offset more_fragments payload.now in
             IfErr result (λ error. IsTrue (is_allocation_failure error) → LacksCapacity self.old fragment) }
     {
         let range = checked_range(self.end, self.reach(), offset, more_fragments, payload)?;
@@ -228,10 +228,10 @@ impl IpDefragBuf {
             (known_end_of self.new ≡ (if more_fragments then known_end_of self.old else Some range.end)) }
         ensures ip_number { ip_number_of self.new ≡ ip_number_of self.old }
         ensures err { OnErr result (IsUnchanged self.old self.new) }
-        ensures room { KeepsCapacity self.old self.new }
+        ensures keeps_capacity { KeepsCapacity self.old self.new }
         ensures in_place { range.end ≤ length (data_of self.old) →
             IsTrue (list_any (merges range) (sections_of self.old)) → IsOk result }
-        ensures lacks_room { OnErr result ((data_capacity_of self.old < range.end)
+        ensures lacks_capacity { OnErr result ((data_capacity_of self.old < range.end)
             ⊎ ((sections_capacity_of self.old ≤ length (sections_of self.old))
             × IsFalse (list_any (merges range) (sections_of self.old)))) }
     {

@@ -11,32 +11,32 @@ use std::alloc::AllocError;
 #[inline]
 pub(crate) fn reserve_to(bytes: &mut Vec<u8>, end: u16) -> Result<(), AllocError>
     ensures items { bytes.new.items ≡ bytes.old.items }
-    ensures room { OnOk result (end ≤ vec_capacity bytes.new) }
+    ensures reserved { OnOk result (end ≤ vec_capacity bytes.new) }
     ensures in_place { end ≤ vec_capacity bytes.old → IsOk result }
     ensures full { OnErr result (vec_capacity bytes.old < end) }
     ensures capacity { vec_capacity bytes.old ≤ vec_capacity bytes.new }
     ensures most { vec_capacity bytes.new ≤ max (vec_capacity bytes.old) (2 * end) }
 {
-    let room = bytes.capacity();
+    let old_capacity = bytes.capacity();
     let end = usize::from(end);
-    if end <= room {
+    if end <= old_capacity {
         return Ok(());
     }
-    bytes.reserve_exact(end.max(2 * room) - bytes.len())
+    bytes.reserve_exact(end.max(2 * old_capacity) - bytes.len())
 }
 
 /// Writes the bytes of a fragment at their range of the payload, and fills a gap between the end of the bytes so far
 /// and the fragment with zeros. Each byte is written only once.
 pub(crate) fn write_fragment(bytes: &mut Vec<u8>, range: IpFragRange, payload: &[u8])
     requires len { range.end ≡ range.start + length payload.now }
-    requires room { range.end ≤ vec_capacity bytes.old }
+    requires capacity { range.end ≤ vec_capacity bytes.old }
     ensures items { bytes.new.items ≡ overwritten (extended bytes.old.items range.end) range.start payload.now }
     ensures capacity { vec_capacity bytes.old ≤ vec_capacity bytes.new }
 {
     let start = usize::from(range.start);
     fill_gap(bytes, start);
-    let (within, behind) = payload.split_at(payload.len().min(bytes.len() - start));
-    bytes.extend_from_slice(behind).unwrap();
+    let (within, after) = payload.split_at(payload.len().min(bytes.len() - start));
+    bytes.extend_from_slice(after).unwrap();
     overwrite(bytes, start, within);
 }
 

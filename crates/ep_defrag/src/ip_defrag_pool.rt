@@ -6,7 +6,7 @@ ghost use Rattle.std.specs.Option.{option_copied, option_map};
 ghost use Rattle.ep_defrag.specs.IpFragments.{fragment_end};
 ghost use Rattle.ep_defrag.specs.Streams.{same_stream, source_of};
 ghost use Rattle.ep_defrag.specs.Calls.{Kept, kept_by};
-ghost use Rattle.ep_defrag.specs.Pools.{limit_of, streams_of, stream_named, held_bytes_of, HoldsTable, LeavesAnswered, HoldsAnswered, IsAnsweredBy, TakesFragment, TakesFrame, fragment_in, plain_payload, payload_in, BufferTakes, BufferRefuses, IsWhole, ChangesStream};
+ghost use Rattle.ep_defrag.specs.Pools.{limit_of, streams_of, stream_named, held_bytes_of, HoldsTable, LeavesAnswered, HoldsAnswered, IsAnsweredBy, TakesFragment, TakesFrame, fragment_in, plain_payload, payload_in, BufferTakes, BufferRefuses, IsWhetherComplete, ChangesStream};
 
 use crate::MAX_IP_DEFRAG_LEN_U16;
 use crate::carried_fragment::carried_fragment;
@@ -113,11 +113,11 @@ impl<Timestamp: Drop, CustomChannelId: Eq + Hash + Drop> IpDefragPool<Timestamp,
     pub fn held_bytes(&self) -> usize
         ensures { result ≡ min (held_bytes_of self.now) usize.MAX }
     {
-        let mut held: usize = 0;
+        let mut total: usize = 0;
         for stream in self.streams.values() {
-            held = held.saturating_add(stream.buffer.data().len());
+            total = total.saturating_add(stream.buffer.data().len());
         }
-        held
+        total
     }
 
     /// Timestamp that came with the last accepted fragment of the stream `id`, or `None` if the pool holds no open
@@ -183,12 +183,12 @@ impl<Timestamp: Drop, CustomChannelId: Eq + Hash + Drop> IpDefragPool<Timestamp,
         let Some(stream) = self.streams.get_mut(&id) else {
             return self.begin_stream(id, fragment, timestamp);
         };
-        let is_whole = match add(self.limit, &mut stream.buffer, fragment) {
-            Ok(is_whole) => is_whole,
+        let payload_complete = match add(self.limit, &mut stream.buffer, fragment) {
+            Ok(payload_complete) => payload_complete,
             Err(error) => return Err(error),
         };
         stream.timestamp = timestamp;
-        if !is_whole {
+        if !payload_complete {
             return Ok(None);
         }
         Ok(self.complete_stream(&id))
@@ -208,8 +208,8 @@ impl<Timestamp: Drop, CustomChannelId: Eq + Hash + Drop> IpDefragPool<Timestamp,
         // Keys are equal exactly if they identify the same stream.
         names::<CustomChannelId>();
         let mut buffer = self.spare.take(id.payload_ip_number);
-        let is_whole = match add(self.limit, &mut buffer, fragment) {
-            Ok(is_whole) => is_whole,
+        let payload_complete = match add(self.limit, &mut buffer, fragment) {
+            Ok(payload_complete) => payload_complete,
             Err(error) => {
                 self.spare.keep(buffer);
                 return Err(error);
@@ -220,7 +220,7 @@ impl<Timestamp: Drop, CustomChannelId: Eq + Hash + Drop> IpDefragPool<Timestamp,
             self.spare.keep(buffer);
             return Err(IpDefragError::AllocationFailure { len });
         }
-        if is_whole {
+        if payload_complete {
             let (payload, sections) = buffer.take_bufs();
             self.spare.keep_sections(sections);
             return Ok(Some(payload_of(&id, payload)));
@@ -318,7 +318,7 @@ impl<Timestamp: Drop, CustomChannelId: Eq + Hash + Drop> IpDefragPool<Timestamp,
 /// `limit` bytes is rejected with `SegmentTooBig`.
 fn add(limit: u16, buffer: &mut IpDefragBuf, fragment: &Fragment) -> Result<bool, IpDefragError>
     ensures takes { OnOk result (BufferTakes limit buffer.old buffer.new fragment.now) }
-    ensures whole { IfOk result (IsWhole buffer.new) }
+    ensures complete { IfOk result (IsWhetherComplete buffer.new) }
     ensures refuses { IfErr result (BufferRefuses limit buffer.old buffer.new fragment.now) }
 {
     if is_too_long(limit, fragment) {

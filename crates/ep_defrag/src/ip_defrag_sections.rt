@@ -4,14 +4,14 @@ ghost use Rattle.std.specs.Prelude.{◌≡◌, ◌<◌, ◌≤◌, ◌&&◌, is_
 ghost use Rattle.std.specs.List.{AllWithin, HoldsAt, list_any, remove_range};
 ghost use Rattle.std.specs.List.Sorted.{IsPermutation};
 ghost use Rattle.ep_defrag.specs.Ranges.{merges, AreSeparate};
-ghost use Rattle.ep_defrag.specs.Buffers.{AreNeighbours, is_whole, sections_after};
+ghost use Rattle.ep_defrag.specs.Buffers.{AreNeighbours, is_gapless, sections_after};
 
 use crate::ip_frag_range::IpFragRange;
 use std::ops::Range;
 
 /// Returns whether a payload is complete: its end is known, and exactly one range is filled, which starts at 0.
-pub(crate) fn is_whole(end: Option<u16>, sections: &[IpFragRange]) -> bool
-    ensures { result ≡ (is_some end && is_whole sections.now) }
+pub(crate) fn is_payload_complete(end: Option<u16>, sections: &[IpFragRange]) -> bool
+    ensures { result ≡ (is_some end && is_gapless sections.now) }
 {
     end.is_some() && matches!(sections, [section] if section.start == 0)
 }
@@ -20,7 +20,7 @@ pub(crate) fn is_whole(end: Option<u16>, sections: &[IpFragRange]) -> bool
 /// none, both ends are the index at which the new range is to be inserted. It needs no search if the new range starts
 /// in the last filled range or after it, as for fragments in order.
 pub(crate) fn neighbours(sections: &[IpFragRange], range: IpFragRange) -> Range<usize>
-    requires apart { AreSeparate sections.now }
+    requires separate { AreSeparate sections.now }
     requires ordered { range.start ≤ range.end }
     ensures near { AreNeighbours range sections.now result.start result.end }
     ensures merging { IsTrue (list_any (merges range) sections.now) → result.start < result.end }
@@ -44,7 +44,7 @@ pub(crate) fn neighbours(sections: &[IpFragRange], range: IpFragRange) -> Range<
 /// Finds the index after the last filled range that overlaps or touches `range`; the first of them has the index
 /// `from`. Up to two of them, the usual case, are found without a search.
 fn find_end_of_neighbours(sections: &[IpFragRange], range: IpFragRange, from: usize) -> usize
-    requires apart { AreSeparate sections.now }
+    requires separate { AreSeparate sections.now }
     requires ordered { range.start ≤ range.end }
     requires within { from ≤ length sections.now }
     requires earlier { AllWithin (λ other. other.end < range.start) sections.now 0 from }
@@ -78,12 +78,12 @@ fn starts_after(sections: &[IpFragRange], range: IpFragRange, at: usize) -> bool
 /// Adds a range to the filled ranges. The filled ranges that overlap or touch it, with the indices `near`, are replaced
 /// by their union with it.
 pub(crate) fn join(sections: &mut Vec<IpFragRange>, range: IpFragRange, near: Range<usize>)
-    requires apart { AreSeparate sections.old.items }
+    requires separate { AreSeparate sections.old.items }
     requires ordered { range.start ≤ range.end }
     requires near { AreNeighbours range sections.old.items near.start near.end }
-    requires room { near.start ≡ near.end → vec_len sections.old < vec_capacity sections.old }
+    requires capacity { near.start ≡ near.end → vec_len sections.old < vec_capacity sections.old }
     ensures items { IsPermutation sections.new.items (sections_after range sections.old.items) }
-    ensures apart { AreSeparate sections.new.items }
+    ensures separate { AreSeparate sections.new.items }
     ensures capacity { vec_capacity sections.old ≤ vec_capacity sections.new }
 {
     if near.is_empty() {

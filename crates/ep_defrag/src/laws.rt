@@ -6,20 +6,20 @@ ghost use Rattle.std.specs.Hash.{HashWrites};
 ghost use Rattle.std.specs.List.{All, Any};
 ghost use Rattle.ep_defrag.specs.declared.TheConstants as constant;
 ghost use Rattle.ep_defrag.specs.Ranges.{touches, merge_of, SharePoint};
-ghost use Rattle.ep_defrag.specs.IpFragments.{IpFragment, fragment_with, is_final, IsCovered, reach_of, end_of, assembled, is_complete, IsComplete, FillAlike, TouchAlike};
+ghost use Rattle.ep_defrag.specs.IpFragments.{IpFragment, fragment_with, is_final, IsCovered, reach_of, end_of, assembled, is_complete, IsComplete, FillEqually, TouchSamePositions};
 ghost use Rattle.ep_defrag.specs.FragmentRefusals.{FitsWithin, FitInTurn, FitInTurnWithin};
 ghost use Rattle.ep_base.specs.Bytes.{AreBytes};
-ghost use Rattle.ep_defrag.specs.Completing.{FillBoth, front_fragment, back_fragment, is_part, CompleteInTurn, CarryingFrame, name_in, CarriesOf, FramesComplete};
+ghost use Rattle.ep_defrag.specs.Completing.{FillBoth, opening_fragment, final_fragment, is_part, CompleteInTurn, CarryingFrame, name_in, CarriesOf, FramesComplete};
 ghost use Rattle.ep_defrag.specs.PayloadCuts.{IsCut};
 ghost use Rattle.ep_defrag.specs.Buffers.{IsUnchanged, ip_number_of, data_of, sections_of, HoldsFragments};
 ghost use Rattle.ep_defrag.specs.DefragComparisons.{range_cmp, buffer_cmp, error_cmp};
 ghost use Rattle.ep_defrag.specs.Streams.{same_stream};
 ghost use Rattle.ep_defrag.specs.Calls.{Call, Kept, accepted_in, calls_of, answers_to, table_after, table_with};
 ghost use Rattle.ep_defrag.specs.NameHashes.{hash_of, given_for, std_hash};
-ghost use Rattle.ep_defrag.specs.Isolation.{answers_of, fragments_of, GivesCut, StaysOpen, KeepsOwn, HandsOut, HandsOutAtMost};
+ghost use Rattle.ep_defrag.specs.Isolation.{answers_of, fragments_of, GivesCut, StaysOpen, KeepsOwn, ReturnsPayload, ReturnsAtMost};
 ghost use Rattle.ep_defrag.specs.Pools.{limit_of, stream_named, HoldsTable, plain_payload, plain_answer};
 ghost use Rattle.ep_defrag.specs.BuiltCuts.{BuiltCut, IsBuiltCut, IsUnder, answers_to_frames, cut_answers};
-ghost use Rattle.ep_defrag.specs.BuiltCuts.{cut_call, cut_fragment, frames_to, whole_of};
+ghost use Rattle.ep_defrag.specs.BuiltCuts.{cut_call, cut_fragment, frames_to, complete_payload_of};
 ghost use Rattle.ep_defrag.specs.FrameCalls.{ReadCall, HasBytes, IsOnlyRead, pool_calls, frame_answers_to, pool_answers_in, read_answer};
 
 use crate::frame_run::{FrameAnswer, FrameCall};
@@ -33,12 +33,13 @@ use crate::pool_run::PoolAnswer;
 use crate::run::RunStop;
 use std::hash::Hash;
 
-/// The result of merging two byte ranges of a payload does not depend on their order.
+/// States that the result of merging two byte ranges of a payload does not depend on their order.
 pub fn merge_is_symmetric()
     ensures { (a b : IpFragRange) → merge_of a b ≡ merge_of b a }
 {}
 
-/// Two byte ranges (start <= end) merge exactly if they overlap or touch, and the merged range is their union.
+/// States that two byte ranges (start <= end) merge exactly if they overlap or touch, and the merged range is their
+/// union.
 pub fn merge_is_union()
     ensures some { (a b : IpFragRange) → a.start ≤ a.end → b.start ≤ b.end → IsSome (merge_of a b) ↔ SharePoint a b }
     ensures union { (a b : IpFragRange) → a.start ≤ a.end → b.start ≤ b.end →
@@ -46,17 +47,17 @@ pub fn merge_is_union()
         touches position range ≡ (touches position a || touches position b)) }
 {}
 
-/// A cut is a consecutive part of a payload, as a fragment carries it. If the payload is no longer than the limit of
-/// the buffer or pool (65535 for a buffer), a cut is never rejected after other cuts of this payload, provided that it
-/// is final or its length is a multiple of 8. A final cut ends at the end of the payload, so not below any earlier cut.
+/// States that a cut (a consecutive part of a payload, as a fragment carries it) is never rejected after other cuts of
+/// this payload, if the payload is no longer than the limit of the buffer or pool (65535 for a buffer), and the cut is
+/// final or its length is a multiple of 8. A final cut ends at the end of the payload, so not below any earlier cut.
 pub fn cut_fits()
     ensures { (limit : ℕ) (payload : List ℕ) (cuts : List IpFragment) (cut : IpFragment) → length payload ≤ limit
         → All (IsCut payload) cuts → IsCut payload cut
         → IsTrue (is_final cut) ⊎ (length cut.bytes % 8 ≡ 0) → FitsWithin limit cuts cut }
 {}
 
-/// If all fragments are consecutive parts of one payload, they are complete exactly if a final fragment is among them
-/// and they cover each position of the payload. The reassembled bytes are then this payload.
+/// States that if all fragments are consecutive parts of one payload, they are complete exactly if a final fragment is
+/// among them and they cover each position of the payload. The reassembled bytes are then this payload.
 pub fn complete_cuts_are_the_payload()
     ensures complete { (payload : List ℕ) (cuts : List IpFragment) → All (IsCut payload) cuts →
         IsComplete cuts ↔ (Any (λ cut. IsTrue (is_final cut)) cuts
@@ -65,19 +66,19 @@ pub fn complete_cuts_are_the_payload()
         IsComplete cuts → assembled cuts ≡ payload }
 {}
 
-/// Once a final fragment was accepted, its end is the greatest end of all accepted fragments. The reassembled bytes
-/// then reach to the greatest end, so no accepted byte is discarded. This holds for every buffer, since it rejects
-/// fragments that contradict earlier ones.
+/// States that once a final fragment was accepted, its end is the greatest end of all accepted fragments. The
+/// reassembled bytes then reach to the greatest end, so no accepted byte is discarded. This holds for every buffer,
+/// since it rejects fragments that contradict earlier ones.
 pub fn known_end_is_greatest()
     ensures end { (accepted : List IpFragment) (end : ℕ) → FitInTurn accepted → end_of accepted ≡ Some end →
         end ≡ reach_of accepted }
     ensures data { (accepted : List IpFragment) → FitInTurn accepted → length (assembled accepted) ≡ reach_of accepted }
-    ensures held { (buffer : IpDefragBuf) (accepted : List IpFragment) → HoldsFragments buffer accepted →
+    ensures data_len { (buffer : IpDefragBuf) (accepted : List IpFragment) → HoldsFragments buffer accepted →
         length (data_of buffer) ≡ reach_of accepted }
 {}
 
-/// No stream of a reassembly pool (the fragments of one IP datagram) holds more payload bytes than the limit of the
-/// pool, since a fragment that ends above the limit is rejected.
+/// States that no stream of a reassembly pool (the fragments of one IP datagram) holds more payload bytes than the
+/// limit of the pool, since a fragment that ends above the limit is rejected.
 pub fn data_within_limit<Timestamp, CustomChannelId: Eq + Hash>()
     ensures reach { (limit : ℕ) (accepted : List IpFragment) → FitInTurnWithin limit accepted →
         reach_of accepted ≤ limit }
@@ -88,9 +89,9 @@ pub fn data_within_limit<Timestamp, CustomChannelId: Eq + Hash>()
         (λ stream. length (data_of stream.buffer) ≤ limit_of pool) }
 {}
 
-/// The bytes of a payload that is reassembled within a limit form at most limit / 8 + 1 filled ranges, since each range
-/// begins where a fragment does, at a multiple of 8. This holds for each stream of a reassembly pool and the limit of
-/// the pool.
+/// States that the bytes of a payload that is reassembled within a limit form at most limit / 8 + 1 filled ranges,
+/// since each range begins where a fragment does, at a multiple of 8. This holds for each stream of a reassembly pool
+/// and the limit of the pool.
 pub fn sections_within_limit<Timestamp, CustomChannelId: Eq + Hash>()
     ensures buffer { (limit : ℕ) (buffer : IpDefragBuf) (accepted : List IpFragment) →
         HoldsFragments buffer accepted → FitInTurnWithin limit accepted →
@@ -102,8 +103,8 @@ pub fn sections_within_limit<Timestamp, CustomChannelId: Eq + Hash>()
         (λ stream. length (sections_of stream.buffer) ≤ limit_of pool / 8 + 1) }
 {}
 
-/// One more fragment completes any incomplete payload: a final fragment from offset 0 to the greatest end of the
-/// accepted fragments, whatever its bytes are. It is within the limit of the pool (65535 for a buffer).
+/// States that one more fragment completes any incomplete payload: a final fragment from offset 0 to the greatest end
+/// of the accepted fragments, whatever its bytes are. It is within the limit of the pool (65535 for a buffer).
 pub fn one_fragment_completes()
     ensures { (limit : ℕ) (accepted : List IpFragment) (bytes : List ℕ) → FitInTurnWithin limit accepted →
         length bytes ≡ reach_of accepted →
@@ -111,26 +112,27 @@ pub fn one_fragment_completes()
         FitsWithin limit accepted fragment × IsComplete (accepted ++ fragment ∷ []) }
 {}
 
-/// At most two fragments complete any incomplete payload, whatever their bytes are, if the limit of the buffer or pool
-/// is at least 8 bytes. Frames can carry them, since none of them is a final fragment at offset 0. If the limit is at
-/// most 65535, neither has more than 32768 bytes.
+/// States that at most two fragments complete any incomplete payload, whatever their bytes are, if the limit of the
+/// buffer or pool is at least 8 bytes. Frames can carry them, since none of them is a final fragment at offset 0. If
+/// the limit is at most 65535, neither has more than 32768 bytes.
 pub fn two_fragments_complete()
     ensures { (limit : ℕ) (accepted : List IpFragment) (front back : List ℕ) → 8 ≤ limit →
         FitInTurnWithin limit accepted → FillBoth accepted front back →
-        CompleteInTurn limit accepted (front_fragment front) (back_fragment accepted back) }
+        CompleteInTurn limit accepted (opening_fragment front) (final_fragment accepted back) }
 {}
 
-/// In a pool with a limit below 8 bytes no payload is ever completed by fragments that frames can carry. The final
-/// fragment would have to start at offset 0, and a packet with offset 0 and no more-fragments flag is not fragmented.
+/// States that in a pool with a limit below 8 bytes no payload is ever completed by fragments that frames can carry.
+/// The final fragment would have to start at offset 0, and a packet with offset 0 and no more-fragments flag is not
+/// fragmented.
 pub fn small_limits_complete_nothing()
     ensures { (limit : ℕ) (accepted : List IpFragment) → limit < 8 → FitInTurnWithin limit accepted →
         All (λ fragment. IsTrue (is_part fragment)) accepted → IsFalse (is_complete accepted) }
 {}
 
-/// No stream gets stuck in a reassembly pool whose limit is at least 8. If some frame can carry a fragment of the
-/// stream (the fragments of one IP datagram), at most two more frames complete its payload, whatever bytes they have.
-/// The payload returned is the accepted bytes, overwritten by the bytes of these two frames. This holds for the pool
-/// that `run_calls`, `run_calls_with_limit` and `run_frames` return, and for each call of `process_sliced_packet`,
+/// States that no stream gets stuck in a reassembly pool whose limit is at least 8. If some frame can carry a fragment
+/// of the stream (the fragments of one IP datagram), at most two more frames complete its payload, whatever bytes they
+/// have. The payload returned is the accepted bytes, overwritten by the bytes of these two frames. This holds for the
+/// pool that `run_calls`, `run_calls_with_limit` and `run_frames` return, and for each call of `process_sliced_packet`,
 /// since their contracts name the table that the pool holds.
 pub fn two_frames_complete<Timestamp, CustomChannelId: Eq + Hash>()
     // If some frame carries a fragment of a stream, frames can carry each of its fragments of at most 32768 bytes that
@@ -144,13 +146,13 @@ pub fn two_frames_complete<Timestamp, CustomChannelId: Eq + Hash>()
         HoldsTable CustomChannelId.eq pool table → 8 ≤ limit_of pool → AreBytes front → AreBytes back →
         let accepted = accepted_in (table (name_in seen channel)) in
         FillBoth accepted front back →
-        FramesComplete (limit_of pool) CustomChannelId.eq table seen channel timestamp accepted (front_fragment front)
-        (back_fragment accepted back) }
+        FramesComplete (limit_of pool) CustomChannelId.eq table seen channel timestamp accepted (opening_fragment front)
+        (final_fragment accepted back) }
 {}
 
-/// The results that a reassembly pool returns for a stream (the fragments of one IP datagram) don't depend on other
-/// streams. If two lists of calls on a new pool agree in the calls that concern the stream, its results are equal,
-/// whatever the limit.
+/// States that the results that a reassembly pool returns for a stream (the fragments of one IP datagram) don't depend
+/// on other streams. If two lists of calls on a new pool agree in the calls that concern the stream, its results are
+/// equal, whatever the limit.
 pub fn streams_are_alone<Timestamp, CustomChannelId: Eq, V>()
     ensures { (limit : ℕ) (keep : V → Timestamp → Bool) (name : IpFragId CustomChannelId)
         (a b : List (Call Timestamp CustomChannelId V)) →
@@ -159,8 +161,8 @@ pub fn streams_are_alone<Timestamp, CustomChannelId: Eq, V>()
         ≡ answers_of CustomChannelId.eq name b (answers_to limit CustomChannelId.eq keep b) }
 {}
 
-/// A call at the end of a list of calls on a reassembly pool changes each stream (the fragments of one IP datagram) as
-/// the call alone does. The contracts of single calls therefore determine the result of the whole list.
+/// States that a call at the end of a list of calls on a reassembly pool changes each stream (the fragments of one IP
+/// datagram) as the call alone does. The contracts of single calls therefore determine the result of the whole list.
 pub fn one_more_call<Timestamp, CustomChannelId: Eq, V>()
     ensures { (limit : ℕ) (keep : V → Timestamp → Bool) (calls : List (Call Timestamp CustomChannelId V))
         (call : Call Timestamp CustomChannelId V) (name : IpFragId CustomChannelId) →
@@ -168,17 +170,17 @@ pub fn one_more_call<Timestamp, CustomChannelId: Eq, V>()
         ≡ table_with limit CustomChannelId.eq keep (table_after limit CustomChannelId.eq keep calls) call name }
 {}
 
-/// If all fragments of a stream (the fragments of one IP datagram) are consecutive parts of one payload that is no
-/// longer than the limit of the pool, and each part is final or its length is a multiple of 8, none is rejected, and
-/// the pool returns no other payload for the stream. This holds in any order and with any repeats. The payload is
-/// returned if the fragments cover it and a final fragment is among them. No drop may remove the stream while it is
-/// incomplete; it is enough that each drop keeps the timestamps of the stream's own fragments.
+/// States that if all fragments of a stream (the fragments of one IP datagram) are consecutive parts of one payload
+/// that is no longer than the limit of the pool, and each part is final or its length is a multiple of 8, none is
+/// rejected, and the pool returns no other payload for the stream. This holds in any order and with any repeats. The
+/// payload is returned if the fragments cover it and a final fragment is among them. No drop may remove the stream
+/// while it is incomplete; it is enough that each drop keeps the timestamps of the stream's own fragments.
 pub fn cuts_are_reassembled<Timestamp, CustomChannelId: Eq, V>()
     ensures only { (limit : ℕ) (keep : V → Timestamp → Bool) (name : IpFragId CustomChannelId)
         (calls : List (Call Timestamp CustomChannelId V)) (payload : List ℕ) → length payload ≤ limit →
         StaysOpen limit CustomChannelId.eq keep name calls →
         All (GivesCut payload) (calls_of CustomChannelId.eq name calls) →
-        All (HandsOutAtMost payload)
+        All (ReturnsAtMost payload)
         (answers_of CustomChannelId.eq name calls (answers_to limit CustomChannelId.eq keep calls)) }
     ensures comes { (limit : ℕ) (keep : V → Timestamp → Bool) (name : IpFragId CustomChannelId)
         (calls : List (Call Timestamp CustomChannelId V)) (payload : List ℕ) → length payload ≤ limit →
@@ -187,15 +189,15 @@ pub fn cuts_are_reassembled<Timestamp, CustomChannelId: Eq, V>()
         let cuts = fragments_of (calls_of CustomChannelId.eq name calls) in
         Any (λ cut. IsTrue (is_final cut)) cuts →
         ((position : ℕ) → position < length payload → IsCovered cuts position) →
-        Any (HandsOut payload)
+        Any (ReturnsPayload payload)
         (answers_of CustomChannelId.eq name calls (answers_to limit CustomChannelId.eq keep calls)) }
     ensures kept { (limit : ℕ) (keep : V → Timestamp → Bool) (name : IpFragId CustomChannelId)
         (calls : List (Call Timestamp CustomChannelId V)) →
         KeepsOwn CustomChannelId.eq keep name calls → StaysOpen limit CustomChannelId.eq keep name calls }
 {}
 
-/// A call on a reassembly pool whose frame is given as bytes is read in exactly one way: as a call with a sliced
-/// packet, or as a slicing error. It follows from the law `frames` of `ep_packet`.
+/// States that a call on a reassembly pool whose frame is given as bytes is read in exactly one way: as a call with a
+/// sliced packet, or as a slicing error. It follows from the law `frames` of `ep_packet`.
 pub fn frame_calls<Timestamp, CustomChannelId, V>()
     ensures { (call : FrameCall Timestamp CustomChannelId V) → HasBytes call →
         (read : ReadCall Timestamp CustomChannelId V) × IsOnlyRead call read }
@@ -203,23 +205,23 @@ pub fn frame_calls<Timestamp, CustomChannelId, V>()
     ep_packet::laws::frames();
 }
 
-/// Frames that can't be sliced change nothing in a reassembly pool. The pool returns the same results for a list of
-/// calls with such frames as for the list without them, so the laws on lists of calls hold for both.
+/// States that frames that can't be sliced change nothing in a reassembly pool. The pool returns the same results for a
+/// list of calls with such frames as for the list without them, so the laws on lists of calls hold for both.
 pub fn refused_frames_change_nothing<Timestamp, CustomChannelId: Eq, V>()
     ensures { (limit : ℕ) (keep : V → Timestamp → Bool) (reads : List (ReadCall Timestamp CustomChannelId V)) →
         pool_answers_in (frame_answers_to limit CustomChannelId.eq keep reads)
         ≡ answers_to limit CustomChannelId.eq keep (pool_calls reads) }
 {}
 
-/// The constants `MAX_IP_DEFRAG_LEN_U16` and `MAX_IP_DEFRAG_LEN`, the greatest length of a reassembled payload, are
-/// both 65535, the greatest value of 16 bits.
+/// States that the constants `MAX_IP_DEFRAG_LEN_U16` and `MAX_IP_DEFRAG_LEN`, the greatest length of a reassembled
+/// payload, are both 65535, the greatest value of 16 bits.
 pub fn constants()
     ensures { (constant.MAX_IP_DEFRAG_LEN_U16 ≡ 65535) × (constant.MAX_IP_DEFRAG_LEN ≡ 65535) }
 {}
 
-/// Two byte ranges are equal if their starts and ends are equal. Two reassembly buffers are equal if their bytes,
-/// filled ranges, ends and protocol numbers are equal. Two errors (`IpDefragError` or `RunStop`) are equal if they are
-/// identical. The orders compare the fields as declared.
+/// States that two byte ranges are equal if their starts and ends are equal. Two reassembly buffers are equal if their
+/// bytes, filled ranges, ends and protocol numbers are equal. Two errors (`IpDefragError` or `RunStop`) are equal if
+/// they are identical. The orders compare the fields as declared.
 pub fn comparisons()
     ensures equal_ranges { (a b : IpFragRange) →
         IsTrue (⟦<IpFragRange as PartialEq>⟧.eq a b) ↔ ((a.start ≡ b.start) × (a.end ≡ b.end)) }
@@ -232,30 +234,32 @@ pub fn comparisons()
     ensures errors { (a b : IpDefragError) → ⟦<IpDefragError as Ord>⟧.cmp a b ≡ error_cmp a b }
 {}
 
-/// Two reassembly buffers of one protocol are equal exactly if their accepted fragments, in any order, fill the same
-/// positions with the same bytes, have the same known end, and touch the same positions (a fragment touches its bytes
-/// and the position after them). If no fragment is empty, the last condition follows from the others.
+/// States that two reassembly buffers of one protocol are equal exactly if their accepted fragments, in any order, fill
+/// the same positions with the same bytes, have the same known end, and touch the same positions (a fragment touches
+/// its bytes and the position after them). If no fragment is empty, the last condition follows from the others.
 pub fn equal_buffers()
-    ensures held { (a b : IpDefragBuf) (fragments others : List IpFragment) → ip_number_of a ≡ ip_number_of b →
+    ensures contents { (a b : IpDefragBuf) (fragments others : List IpFragment) → ip_number_of a ≡ ip_number_of b →
         HoldsFragments a fragments → HoldsFragments b others →
-        IsTrue (⟦<IpDefragBuf as PartialEq>⟧.eq a b) ↔ (FillAlike fragments others × TouchAlike fragments others) }
+        IsTrue (⟦<IpDefragBuf as PartialEq>⟧.eq a b) ↔
+        (FillEqually fragments others × TouchSamePositions fragments others) }
     ensures not_empty { (a b : IpDefragBuf) (fragments others : List IpFragment) → ip_number_of a ≡ ip_number_of b →
         HoldsFragments a fragments → HoldsFragments b others →
         All (λ fragment. 0 < length fragment.bytes) fragments → All (λ fragment. 0 < length fragment.bytes) others →
-        IsTrue (⟦<IpDefragBuf as PartialEq>⟧.eq a b) ↔ FillAlike fragments others }
+        IsTrue (⟦<IpDefragBuf as PartialEq>⟧.eq a b) ↔ FillEqually fragments others }
 {
     comparisons();
 }
 
-/// A clone of a byte range, of the IP part of a stream identifier, or of a reassembly error is equal to its source.
+/// States that a clone of a byte range, of the IP part of a stream identifier, or of a reassembly error is equal to its
+/// source.
 pub fn clones()
     ensures ranges { (a b : IpFragRange) → ⟦<IpFragRange as Clone>⟧.is_clone a b → b ≡ a }
     ensures versions { (a b : IpFragVersionSpecId) → ⟦<IpFragVersionSpecId as Clone>⟧.is_clone a b → b ≡ a }
     ensures errors { (a b : IpDefragError) → ⟦<IpDefragError as Clone>⟧.is_clone a b → b ≡ a }
 {}
 
-/// Cloning a byte range, the IP part of a stream identifier, or a reassembly error does not allocate, so it always
-/// succeeds.
+/// States that cloning a byte range, the IP part of a stream identifier, or a reassembly error does not allocate, so it
+/// always succeeds.
 pub fn clones_succeed()
     ensures ranges { (a : IpFragRange) → ⟦<IpFragRange as Clone>⟧.is_infallible a }
     ensures versions { (a : IpFragVersionSpecId) → ⟦<IpFragVersionSpecId as Clone>⟧.is_infallible a }
@@ -276,25 +280,26 @@ pub fn pool_comparisons()
     ep_packet::laws::comparisons();
 }
 
-/// Two `IpFragId` are equal exactly if they identify the same stream (the fragments of one IP datagram). Their
-/// channels, the caller's own values, are compared by the equality of their type.
+/// States that two `IpFragId` are equal exactly if they identify the same stream (the fragments of one IP datagram).
+/// Their channels, the caller's own values, are compared by the equality of their type.
 pub fn names<CustomChannelId: Eq>()
     ensures { (a b : IpFragId CustomChannelId) →
         ⟦<IpFragId<CustomChannelId> as PartialEq>⟧.eq a b ≡ same_stream CustomChannelId.eq a b }
 {}
 
-/// The hash of a stream identifier is the hash that std's `FoldHasher` computes for regrouped writes. Different writes
-/// are regrouped into different writes, so two identifiers collide only if `FoldHasher` computes equal hashes of two
-/// different regrouped lists.
+/// States that the hash of a stream identifier is the hash that std's `FoldHasher` computes for regrouped writes.
+/// Different writes are regrouped into different writes, so two identifiers collide only if `FoldHasher` computes equal
+/// hashes of two different regrouped lists.
 pub fn name_hashes()
     ensures std { (writes : HashWrites) → hash_of writes ≡ std_hash (given_for writes) }
-    ensures apart { (a b : HashWrites) → All AreBytes a → All AreBytes b → given_for a ≡ given_for b → a ≡ b }
+    ensures injective { (a b : HashWrites) → All AreBytes a → All AreBytes b → given_for a ≡ given_for b → a ≡ b }
 {}
 
-/// Frames that the builder made from consecutive parts (cuts) of one payload are reassembled to this payload, in any
-/// order and with any repeats. The payload must not be longer than the limit of the pool, each part must be final or
-/// have a length that is a multiple of 8, and all frames must have one stream identifier. The pool returns the payload
-/// exactly at the frames that complete the parts passed since it was last returned, and nothing at the others.
+/// States that frames that the builder made from consecutive parts (cuts) of one payload are reassembled to this
+/// payload, in any order and with any repeats. The payload must not be longer than the limit of the pool, each part
+/// must be final or have a length that is a multiple of 8, and all frames must have one stream identifier. The pool
+/// returns the payload exactly at the frames that complete the parts passed since it was last returned, and nothing at
+/// the others.
 ///
 /// Other calls may be made between them: frames without a fragment, frames of other streams, returned buffers and
 /// drops. No drop may remove the stream while it is incomplete; it is enough that each drop keeps the timestamps of the
@@ -307,19 +312,19 @@ pub fn built_cuts_are_reassembled<Timestamp, CustomChannelId: Eq, V>()
         (cuts : List (BuiltCut Timestamp CustomChannelId)) → length payload ≤ limit →
         All (IsBuiltCut payload) cuts → All (IsUnder CustomChannelId.eq name) cuts →
         answers_to limit CustomChannelId.eq keep (map cut_call cuts)
-        ≡ cut_answers (whole_of name payload) [] (map cut_fragment cuts) }
+        ≡ cut_answers (complete_payload_of name payload) [] (map cut_fragment cuts) }
     ensures among { (limit : ℕ) (keep : V → Timestamp → Bool) (name : IpFragId CustomChannelId) (payload : List ℕ)
         (cuts : List (BuiltCut Timestamp CustomChannelId)) (calls : List (Call Timestamp CustomChannelId V)) →
         length payload ≤ limit → All (IsBuiltCut payload) cuts → StaysOpen limit CustomChannelId.eq keep name calls →
         frames_to CustomChannelId.eq name calls ≡ map cut_call cuts →
         answers_to_frames CustomChannelId.eq name calls (answers_to limit CustomChannelId.eq keep calls)
-        ≡ cut_answers (whole_of name payload) [] (map cut_fragment cuts) }
+        ≡ cut_answers (complete_payload_of name payload) [] (map cut_fragment cuts) }
     ensures among_kept { (limit : ℕ) (keep : V → Timestamp → Bool) (name : IpFragId CustomChannelId) (payload : List ℕ)
         (cuts : List (BuiltCut Timestamp CustomChannelId)) (calls : List (Call Timestamp CustomChannelId V)) →
         length payload ≤ limit → All (IsBuiltCut payload) cuts → KeepsOwn CustomChannelId.eq keep name calls →
         frames_to CustomChannelId.eq name calls ≡ map cut_call cuts →
         answers_to_frames CustomChannelId.eq name calls (answers_to limit CustomChannelId.eq keep calls)
-        ≡ cut_answers (whole_of name payload) [] (map cut_fragment cuts) }
+        ≡ cut_answers (complete_payload_of name payload) [] (map cut_fragment cuts) }
     // For calls with frames as bytes, however they are read; rejected frames may be among them too.
     ensures read { (limit : ℕ) (keep : V → Timestamp → Bool) (name : IpFragId CustomChannelId) (payload : List ℕ)
         (cuts : List (BuiltCut Timestamp CustomChannelId)) (reads : List (ReadCall Timestamp CustomChannelId V)) →
@@ -328,7 +333,7 @@ pub fn built_cuts_are_reassembled<Timestamp, CustomChannelId: Eq, V>()
         frames_to CustomChannelId.eq name (pool_calls reads) ≡ map cut_call cuts →
         answers_to_frames CustomChannelId.eq name (pool_calls reads)
         (pool_answers_in (frame_answers_to limit CustomChannelId.eq keep reads))
-        ≡ cut_answers (whole_of name payload) [] (map cut_fragment cuts) }
+        ≡ cut_answers (complete_payload_of name payload) [] (map cut_fragment cuts) }
     ensures read_kept { (limit : ℕ) (keep : V → Timestamp → Bool) (name : IpFragId CustomChannelId) (payload : List ℕ)
         (cuts : List (BuiltCut Timestamp CustomChannelId)) (reads : List (ReadCall Timestamp CustomChannelId V)) →
         length payload ≤ limit → All (IsBuiltCut payload) cuts →
@@ -336,7 +341,7 @@ pub fn built_cuts_are_reassembled<Timestamp, CustomChannelId: Eq, V>()
         frames_to CustomChannelId.eq name (pool_calls reads) ≡ map cut_call cuts →
         answers_to_frames CustomChannelId.eq name (pool_calls reads)
         (pool_answers_in (frame_answers_to limit CustomChannelId.eq keep reads))
-        ≡ cut_answers (whole_of name payload) [] (map cut_fragment cuts) }
+        ≡ cut_answers (complete_payload_of name payload) [] (map cut_fragment cuts) }
 {
     ep_build::laws::built_fragments();
     ep_packet::laws::frames();

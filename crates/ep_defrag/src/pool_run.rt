@@ -3,7 +3,7 @@
 
 ghost use Rattle.std.specs.Prelude.{◌≡◌, Bool, Option, IsFalse, IfOk, OnOk, OnErr};
 ghost use Rattle.ep_defrag.specs.Calls.{Kept, table_with, answer_to, CallMayNeedMemory};
-ghost use Rattle.ep_defrag.specs.Pools.{limit_of, HoldsTable, IsDecidedBy, RunsCalls, plain_call, plain_answer, is_allocation_failure_in, answer_wants_memory};
+ghost use Rattle.ep_defrag.specs.Pools.{limit_of, HoldsTable, IsDecidedBy, RunsCalls, plain_call, plain_answer, is_allocation_failure_in, answer_is_allocation_failure};
 
 use crate::MAX_IP_DEFRAG_LEN_U16;
 use crate::ip_defrag_error::IpDefragError;
@@ -49,9 +49,10 @@ pub enum PoolAnswer {
     Returned,
 }
 
-/// Makes a list of calls one after the other on a new reassembly pool with a limit of 65535 bytes per payload. It
-/// returns the result of each call, in order, and the pool. A drop keeps the streams for which `keep`, called with the
-/// value of the drop and the timestamp of the stream, returns true. A stream is the fragments of one IP datagram.
+/// Performs a list of calls in order on a new reassembly pool with a limit of 65535 bytes per payload. Returns the
+/// result of each call, in order, and the pool. A call that drops streams carries a value: it removes each stream for
+/// which `keep`, called with this value and the timestamp of the stream, returns false. A stream is the fragments of
+/// one IP datagram.
 ///
 /// The results for a stream don't depend on other streams. Every open stream can still be completed
 /// ([`two_frames_complete`](crate::laws::two_frames_complete)).
@@ -125,7 +126,7 @@ pub(crate) fn answer_next<
         HoldsTable CustomChannelId.eq pool.new
         (table_with (limit_of pool.old) CustomChannelId.eq decide table (plain_call call.entry))) }
     ensures limit { OnOk result (limit_of pool.new ≡ limit_of pool.old) }
-    ensures no_memory { IfOk result (λ answer. IsFalse (answer_wants_memory answer)) }
+    ensures no_memory { IfOk result (λ answer. IsFalse (answer_is_allocation_failure answer)) }
     ensures memory { OnErr result ((table : IpFragId CustomChannelId → Option (Kept Timestamp)) →
         HoldsTable CustomChannelId.eq pool.old table →
         CallMayNeedMemory (limit_of pool.old) table (plain_call call.entry)) }
@@ -137,7 +138,7 @@ pub(crate) fn answer_next<
             channel_id,
         } => {
             let answer = pool.process_sliced_packet(&packet, timestamp, channel_id);
-            if is_out_of_memory(&answer) {
+            if failed_to_allocate(&answer) {
                 return Err(AllocError);
             }
             Ok(PoolAnswer::Frame(answer))
@@ -154,7 +155,7 @@ pub(crate) fn answer_next<
 }
 
 /// Returns whether the pool's result for a packet is the error that an allocation failed.
-fn is_out_of_memory(answer: &Result<Option<IpDefragPayloadVec>, IpDefragError>) -> bool
+fn failed_to_allocate(answer: &Result<Option<IpDefragPayloadVec>, IpDefragError>) -> bool
     ensures { result ≡ is_allocation_failure_in answer.now }
 {
     matches!(answer, Err(error) if error.is_allocation_failure())

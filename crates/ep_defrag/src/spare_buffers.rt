@@ -36,7 +36,7 @@ impl SpareBuffers {
     pub(crate) fn reserve(&mut self, count: usize) -> Result<(), AllocError>
         ensures bytes { self.new.bytes.items ≡ self.old.bytes.items }
         ensures sections { self.new.sections.items ≡ self.old.sections.items }
-        ensures room { OnOk result
+        ensures reserved { OnOk result
             ((count ≤ vec_capacity self.new.bytes) × (count ≤ vec_capacity self.new.sections)) }
         ensures full { OnErr result
             ((vec_capacity self.old.bytes < count) ⊎ (vec_capacity self.old.sections < count)) }
@@ -101,12 +101,12 @@ fn reserve_capacity<T: Drop>(
     count: usize,
 ) -> Result<(), AllocError>
     ensures items { list.new.items ≡ list.old.items }
-    ensures room { OnOk result (count ≤ vec_capacity list.new) }
+    ensures reserved { OnOk result (count ≤ vec_capacity list.new) }
     ensures full { OnErr result (vec_capacity list.old < count) }
 {
-    let room = list.capacity();
-    if room < count && list.is_empty() {
-        let places = count.max(room.saturating_mul(2)).max(FEWEST_PLACES);
+    let old_capacity = list.capacity();
+    if old_capacity < count && list.is_empty() {
+        let places = count.max(old_capacity.saturating_mul(2)).max(FEWEST_PLACES);
         *list = Vec::with_capacity(alloc, places)?;
         return Ok(());
     }

@@ -15,7 +15,7 @@ use Rattle.ep_base.specs.declared.err.ipv6_exts.HeaderSliceError.TheVariants as 
 use Rattle.ep_ext.specs.IpAuth.{RefusesIpAuth, ip_auth_rows}
 use Rattle.ep_ext.specs.ExtensionParts.{ExtensionPart, auth_refusal, part_next, part_len, part_fragments, IsExtensionPart, RefusesExtensionPart}
 use Rattle.ep_ext.specs.Chains.{IpVersion, ipv4, ipv6, ExtensionChain, chain_of, chain_fragments, takes, demand_of, is_first, is_ipv6_extension, IsChainAfter, RefusesChainAfter, with_offset_in}
-use Rattle.ep_ext.specs.FrontChains.{BeginWithParts, IsLaxChain}
+use Rattle.ep_ext.specs.ChainPrefixes.{BeginWithParts, IsLaxChain}
 use Rattle.ep_ext.specs.ShownChains.{shown_parts}
 use Rattle.ep_ext.proofs.ChainLemmas.{chain_decided, further_zero, taken_is_kind}
 use Rattle.ep_ext.proofs.HeaderLawLemmas.{header_laws}

@@ -58,7 +58,7 @@ part_misses number bytes error refused =
 further_misses : (offset limit : ℕ) (error : HeaderSliceError) → Misses limit error
     → Misses (offset + limit) (with_offset_in offset error)
 further_misses offset limit (header_error.Len error) short =
-    (record { there = omega (arith, short.0.there); needed = short.0.needed }, short.1)
+    (record { available = omega (arith, short.0.available); needed = short.0.needed }, short.1)
 further_misses offset limit (header_error.Content error) short = tt
 
 chain_behind_misses : (version : IpVersion) (reading : Reading) (taken : List ℕ) (offset number : ℕ) (bytes : List ℕ)

@@ -76,8 +76,8 @@ IsChainAfter version reading taken number bytes [] last rest =
     (demand_of version reading taken number ≡ ends) × (last ≡ number) × (rest ≡ bytes)
 IsChainAfter version reading taken number bytes (part ∷ parts) last rest =
     (demand_of version reading taken number ≡ takes)
-    × ((behind : List ℕ) × IsExtensionPart number bytes part behind
-    × IsChainAfter version reading (number ∷ taken) (part_next part) behind parts last rest)
+    × ((after : List ℕ) × IsExtensionPart number bytes part after
+    × IsChainAfter version reading (number ∷ taken) (part_next part) after parts last rest)
 
 -- The bytes are a chain that starts with the header of this IP number: the bytes of its headers, followed by the rest.
 -- Each header is of the kind that the number before it names; `last` is the IP number of the payload.
@@ -99,7 +99,7 @@ parts_bytes (part ∷ parts) = part_bytes part ++ parts_bytes parts
 abbrev pub EncodesParts : List ℕ → List ExtensionPart → Type 0
 EncodesParts bytes [] = bytes ≡ []
 EncodesParts bytes (part ∷ parts) =
-    (front behind : List ℕ) × EncodesPart front part × EncodesParts behind parts × (bytes ≡ front ++ behind)
+    (front after : List ℕ) × EncodesPart front part × EncodesParts after parts × (bytes ≡ front ++ after)
 
 -- Each field of the headers fits its width on the wire.
 abbrev pub FitParts : List ExtensionPart → Type 0
@@ -141,8 +141,8 @@ RefusesChainAfter version reading taken offset number bytes [] error =
     × ((refusal : HeaderSliceError) × RefusesExtensionPart number bytes refusal × (error ≡ with_offset_in offset refusal)))
 RefusesChainAfter version reading taken offset number bytes (part ∷ parts) error =
     (demand_of version reading taken number ≡ takes)
-    × ((behind : List ℕ) × IsExtensionPart number bytes part behind
-    × RefusesChainAfter version reading (number ∷ taken) (offset + part_len part) (part_next part) behind parts error)
+    × ((after : List ℕ) × IsExtensionPart number bytes part after
+    × RefusesChainAfter version reading (number ∷ taken) (offset + part_len part) (part_next part) after parts error)
 
 -- The bytes are not a chain that starts with the header of this IP number, for this reason: after some valid headers,
 -- the next one is rejected, with the length of the headers before it as its offset, or Hop-by-Hop options are not

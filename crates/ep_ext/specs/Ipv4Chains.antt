@@ -20,13 +20,13 @@ abbrev pub ipv4_slice_parts : Ipv4ExtensionsSlice → List ExtensionPart
 ipv4_slice_parts extensions = optional_part authentication (option_map ip_auth_slice_header extensions.auth)
 
 -- The bytes of an authentication header, empty if absent.
-abbrev pub auth_bytes_there : Option IpAuthHeaderSlice → List ℕ
-auth_bytes_there None = []
-auth_bytes_there (Some header) = ip_auth_slice_bytes header
+abbrev pub optional_auth_bytes : Option IpAuthHeaderSlice → List ℕ
+optional_auth_bytes None = []
+optional_auth_bytes (Some header) = ip_auth_slice_bytes header
 
 -- The bytes of the headers in slices.
 abbrev pub ipv4_slice_bytes : Ipv4ExtensionsSlice → List ℕ
-ipv4_slice_bytes extensions = auth_bytes_there extensions.auth
+ipv4_slice_bytes extensions = optional_auth_bytes extensions.auth
 
 -- ---- linking and walking
 

@@ -27,17 +27,17 @@ no_ipv6_extensions = record {
 
 -- The routing header.
 abbrev pub routing_header : Ipv6RoutingExtensions → Ipv6RawExtHeader
-routing_header behind = behind.routing
+routing_header exts = exts.routing
 
 -- Each field of a routing header, and of the destination options after it, fits its width on the wire.
 abbrev pub FitRouting : Ipv6RoutingExtensions → Type 0
-FitRouting behind = FitParts (routing behind.routing
-    ∷ optional_part destination_options behind.final_destination_options)
+FitRouting exts = FitParts (routing exts.routing
+    ∷ optional_part destination_options exts.final_destination_options)
 
 -- The destination options after a routing header, if present.
 abbrev pub final_by : Option Ipv6RoutingExtensions → Option Ipv6RawExtHeader
 final_by None = None
-final_by (Some behind) = behind.final_destination_options
+final_by (Some exts) = exts.final_destination_options
 
 -- All headers in the order in which they are linked (RFC 8200, 4.1).
 abbrev pub ipv6_parts : Ipv6Extensions → List ExtensionPart
@@ -52,8 +52,8 @@ ipv6_parts extensions =
 -- The headers with destination options added: after the routing header if there is one, else before it.
 abbrev pub with_destination : Ipv6Extensions → Ipv6RawExtHeader → Option Ipv6RoutingExtensions → Ipv6Extensions
 with_destination extensions header None = record extensions { destination_options = Some header }
-with_destination extensions header (Some behind) =
-    record extensions { routing = Some (record behind { final_destination_options = Some header }) }
+with_destination extensions header (Some exts) =
+    record extensions { routing = Some (record exts { final_destination_options = Some header }) }
 
 -- The headers with one header added.
 abbrev pub with_part : Ipv6Extensions → ExtensionPart → Ipv6Extensions
@@ -76,7 +76,7 @@ extensions_of parts = with_parts no_ipv6_extensions parts
 -- True if there are destination options: those after the routing header if there is one, else those before it.
 abbrev pub has_destination : Ipv6Extensions → Option Ipv6RoutingExtensions → Bool
 has_destination extensions None = is_some extensions.destination_options
-has_destination extensions (Some behind) = is_some behind.final_destination_options
+has_destination extensions (Some exts) = is_some exts.final_destination_options
 
 -- True if there is a header of the kind with this IP number.
 abbrev pub has_kind : Ipv6Extensions → ℕ → Bool
@@ -135,17 +135,17 @@ fragment_leading_to next header = record header { next_header = next }
 
 -- The routing headers with the next header field of the final destination options set to `last`.
 abbrev pub final_leading_to : IpNumber → Ipv6RoutingExtensions → Ipv6RoutingExtensions
-final_leading_to last behind =
-    record behind { final_destination_options = option_map (raw_leading_to last) behind.final_destination_options }
+final_leading_to last exts =
+    record exts { final_destination_options = option_map (raw_leading_to last) exts.final_destination_options }
 
 -- The routing headers with the next header field of the routing header set to `next`.
 abbrev pub routing_alone_leading_to : IpNumber → Ipv6RoutingExtensions → Ipv6RoutingExtensions
-routing_alone_leading_to next behind = record behind { routing = raw_leading_to next behind.routing }
+routing_alone_leading_to next exts = record exts { routing = raw_leading_to next exts.routing }
 
 -- The routing headers with the next header fields of the routing header set to `next` and of the final destination
 -- options set to `last`.
 abbrev pub routing_leading_to : IpNumber → IpNumber → Ipv6RoutingExtensions → Ipv6RoutingExtensions
-routing_leading_to next last behind = routing_alone_leading_to next (final_leading_to last behind)
+routing_leading_to next last exts = routing_alone_leading_to next (final_leading_to last exts)
 
 -- The headers with their next header fields set: each refers to the next header in order, and the last one to `last`.
 abbrev pub ipv6_linked : Ipv6Extensions → IpNumber → Ipv6Extensions

@@ -2,7 +2,7 @@ pub mod Chains
 pub mod ExtensionParts
 pub mod FragmentHeader
 pub mod FragmentHeaderSlices
-pub mod FrontChains
+pub mod ChainPrefixes
 pub mod IpAuth
 pub mod IpAuthSlices
 pub mod Ipv4Chains

@@ -10,11 +10,11 @@ use Rattle.ep_ext.specs.Ipv6Chains.{routing_header, final_by}
 
 -- The header of a reference.
 abbrev pub header_ref_part : HeaderRef → ExtensionPart
-header_ref_part (header.HopByHop there) = hop_by_hop there.now
-header_ref_part (header.DestinationOptions there) = destination_options there.now
-header_ref_part (header.Routing there) = routing there.now
-header_ref_part (header.Fragment there) = fragment there.now
-header_ref_part (header.Authentication there) = authentication there.now
+header_ref_part (header.HopByHop borrowed) = hop_by_hop borrowed.now
+header_ref_part (header.DestinationOptions borrowed) = destination_options borrowed.now
+header_ref_part (header.Routing borrowed) = routing borrowed.now
+header_ref_part (header.Fragment borrowed) = fragment borrowed.now
+header_ref_part (header.Authentication borrowed) = authentication borrowed.now
 
 -- The marks after a header is visited.
 abbrev pub marked : VisitedHeaders → ExtensionPart → VisitedHeaders

@@ -139,8 +139,8 @@ impl<'a> IpAuthHeaderSlice<'a> {
         ensures { place.new ≡ Some (ip_auth_slice_header self.now) }
     {
         *place = Some(IpAuthHeader::blank());
-        if let Some(room) = place {
-            room.fill(self);
+        if let Some(stored) = place {
+            stored.fill(self);
         }
     }
 }

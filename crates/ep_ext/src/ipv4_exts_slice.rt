@@ -18,7 +18,7 @@ impl<'a> Ipv4ExtensionsSlice<'a> {
     ghost use Rattle.ep_base.specs.Readings.{slices};
     ghost use Rattle.ep_ext.specs.ExtensionParts.{auth_refusal};
     ghost use Rattle.ep_ext.specs.Chains.{ipv4, ExtensionChain, IsExtensionChain, RefusesExtensionChain, chain_of};
-    ghost use Rattle.ep_ext.specs.FrontChains.{IsLaxChain};
+    ghost use Rattle.ep_ext.specs.ChainPrefixes.{IsLaxChain};
     ghost use Rattle.ep_ext.specs.Ipv4Chains.{ipv4_slice_parts, ipv4_slice_bytes};
 
     /// Parses the extension headers of IPv4 at the start of the slice: an authentication header if `number` (the

@@ -116,8 +116,8 @@ impl Ipv6Extensions {
         if let Some(header) = &source.destination_options {
             store_raw_copy(&mut self.destination_options, header);
         }
-        if let Some(behind) = &source.routing {
-            store_routing_copy(&mut self.routing, behind);
+        if let Some(exts) = &source.routing {
+            store_routing_copy(&mut self.routing, exts);
         }
         if let Some(header) = &source.fragment {
             self.fragment = Some(Ipv6FragmentHeader { ..*header });
@@ -173,9 +173,9 @@ impl Ipv6Extensions {
                 return Ok((next, rest));
             }
             match self.read_one(next, rest) {
-                Ok((follows, behind)) => {
-                    next = follows;
-                    rest = behind;
+                Ok((next_header, after)) => {
+                    next = next_header;
+                    rest = after;
                 }
                 Err(error) => return Err(with_offset(error, offset)),
             }
@@ -203,7 +203,7 @@ impl Ipv6Extensions {
         }
         if number == ip_number::IPV6_DESTINATION_OPTIONS {
             return match &self.routing {
-                Some(behind) => behind.final_destination_options.is_some(),
+                Some(exts) => exts.final_destination_options.is_some(),
                 None => self.destination_options.is_some(),
             };
         }
@@ -246,8 +246,8 @@ impl Ipv6Extensions {
                 self.fragment = Some(header.to_header());
             }
             Ipv6ExtensionSlice::DestinationOptions(header) => match &mut self.routing {
-                Some(behind) => {
-                    store_raw(&mut behind.final_destination_options, header);
+                Some(exts) => {
+                    store_raw(&mut exts.final_destination_options, header);
                 }
                 None => {
                     store_raw(&mut self.destination_options, header);
@@ -278,8 +278,8 @@ fn store_raw(place: &mut Option<Ipv6RawExtHeader>, header: &Ipv6RawExtHeaderSlic
     ensures { place.new ≡ Some (raw_extension_slice_header header.now) }
 {
     *place = Some(Ipv6RawExtHeader::blank());
-    if let Some(room) = place {
-        room.fill(header);
+    if let Some(stored) = place {
+        stored.fill(header);
     }
 }
 
@@ -295,8 +295,8 @@ fn store_routing(place: &mut Option<Ipv6RoutingExtensions>, header: &Ipv6RawExtH
         routing: Ipv6RawExtHeader::blank(),
         final_destination_options: None,
     });
-    if let Some(room) = place {
-        room.routing.fill(header);
+    if let Some(stored) = place {
+        stored.routing.fill(header);
     }
 }
 
@@ -306,8 +306,8 @@ fn store_raw_copy(place: &mut Option<Ipv6RawExtHeader>, header: &Ipv6RawExtHeade
     ensures { place.new ≡ Some header.now }
 {
     *place = Some(Ipv6RawExtHeader::blank());
-    if let Some(room) = place {
-        room.copy_from(header);
+    if let Some(stored) = place {
+        stored.copy_from(header);
     }
 }
 
@@ -320,10 +320,10 @@ fn store_routing_copy(place: &mut Option<Ipv6RoutingExtensions>, source: &Ipv6Ro
         routing: Ipv6RawExtHeader::blank(),
         final_destination_options: None,
     });
-    if let Some(room) = place {
-        room.routing.copy_from(&source.routing);
+    if let Some(stored) = place {
+        stored.routing.copy_from(&source.routing);
         if let Some(header) = &source.final_destination_options {
-            store_raw_copy(&mut room.final_destination_options, header);
+            store_raw_copy(&mut stored.final_destination_options, header);
         }
     }
 }
@@ -334,7 +334,7 @@ fn store_auth_copy(place: &mut Option<IpAuthHeader>, header: &IpAuthHeader)
     ensures { place.new ≡ Some header.now }
 {
     *place = Some(IpAuthHeader::blank());
-    if let Some(room) = place {
-        room.copy_from(header);
+    if let Some(stored) = place {
+        stored.copy_from(header);
     }
 }

@@ -67,13 +67,13 @@ fn raw_len(header: &Option<Ipv6RawExtHeader>) -> usize
 
 /// Returns the length in bytes of an IPv6 routing header together with the Destination Options header after it, or 0
 /// for `None`.
-fn routing_len(behind: &Option<Ipv6RoutingExtensions>) -> usize
-    ensures value { result ≡ option_map_or raw_extension_len (option_map routing_header behind.now) 0
-        + option_map_or raw_extension_len (final_by behind.now) 0 }
+fn routing_len(routing_exts: &Option<Ipv6RoutingExtensions>) -> usize
+    ensures value { result ≡ option_map_or raw_extension_len (option_map routing_header routing_exts.now) 0
+        + option_map_or raw_extension_len (final_by routing_exts.now) 0 }
     ensures bound { result ≤ 4096 }
 {
-    match behind {
-        Some(behind) => behind.routing.header_len() + raw_len(&behind.final_destination_options),
+    match routing_exts {
+        Some(exts) => exts.routing.header_len() + raw_len(&exts.final_destination_options),
         None => 0,
     }
 }
@@ -147,13 +147,13 @@ fn link_fragment(header: &mut Option<Ipv6FragmentHeader>, next: IpNumber) -> IpN
 
 /// Sets the next header field of the Destination Options header after an IPv6 routing header, if present, to `next`.
 /// Returns the next header value for the header before it: 60 (Destination Options), or `next` if it is absent.
-fn link_final(behind: &mut Option<Ipv6RoutingExtensions>, next: IpNumber) -> IpNumber
-    ensures linked { behind.new ≡ option_map (final_leading_to next) behind.old }
-    ensures first { result ≡ number_before (final_by behind.old) destination_options_number next }
+fn link_final(routing_exts: &mut Option<Ipv6RoutingExtensions>, next: IpNumber) -> IpNumber
+    ensures linked { routing_exts.new ≡ option_map (final_leading_to next) routing_exts.old }
+    ensures first { result ≡ number_before (final_by routing_exts.old) destination_options_number next }
 {
-    match behind {
-        Some(behind) => link_raw(
-            &mut behind.final_destination_options,
+    match routing_exts {
+        Some(exts) => link_raw(
+            &mut exts.final_destination_options,
             ip_number::IPV6_DESTINATION_OPTIONS,
             next,
         ),
@@ -163,13 +163,13 @@ fn link_final(behind: &mut Option<Ipv6RoutingExtensions>, next: IpNumber) -> IpN
 
 /// Sets the next header field of an IPv6 routing header, if present, to `next`. Returns the next header value for the
 /// header before it: 43 (routing header), or `next` if it is absent.
-fn link_routing(behind: &mut Option<Ipv6RoutingExtensions>, next: IpNumber) -> IpNumber
-    ensures linked { behind.new ≡ option_map (routing_alone_leading_to next) behind.old }
-    ensures first { result ≡ number_before behind.old routing_number next }
+fn link_routing(routing_exts: &mut Option<Ipv6RoutingExtensions>, next: IpNumber) -> IpNumber
+    ensures linked { routing_exts.new ≡ option_map (routing_alone_leading_to next) routing_exts.old }
+    ensures first { result ≡ number_before routing_exts.old routing_number next }
 {
-    match behind {
-        Some(behind) => {
-            behind.routing.next_header = next;
+    match routing_exts {
+        Some(exts) => {
+            exts.routing.next_header = next;
             ip_number::IPV6_ROUTE_HEADER
         }
         None => next,

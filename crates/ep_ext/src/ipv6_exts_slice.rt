@@ -2,7 +2,7 @@
 
 ghost use Rattle.std.specs.Prelude.{◌≡◌};
 ghost use Rattle.ep_ext.specs.Chains.{chain_fragments};
-ghost use Rattle.ep_ext.specs.FrontChains.{chain_stop};
+ghost use Rattle.ep_ext.specs.ChainPrefixes.{chain_stop};
 ghost use Rattle.ep_ext.specs.ShownChains.{shown_parts};
 
 use crate::ipv6_ext_slice::{Ipv6ExtensionSlice, is_extension, with_offset};
@@ -34,7 +34,7 @@ impl<'a> Ipv6ExtensionsSlice<'a> {
     ghost use Rattle.ep_base.specs.declared.err.ipv6_exts.HeaderSliceError.{HeaderSliceError};
     ghost use Rattle.ep_base.specs.Readings.{slices};
     ghost use Rattle.ep_ext.specs.Chains.{ipv6, ExtensionChain, IsExtensionChain, RefusesExtensionChain, chain_of, chain_fragments};
-    ghost use Rattle.ep_ext.specs.FrontChains.{IsLaxChain, chain_stop};
+    ghost use Rattle.ep_ext.specs.ChainPrefixes.{IsLaxChain, chain_stop};
     ghost use Rattle.ep_ext.specs.Ipv6ExtensionSlices.{ipv6_slice_parts, ipv6_slice_bytes, ipv6_slice_number};
     ghost use Rattle.ep_ext.specs.ShownChains.{shown_parts};
 
@@ -113,11 +113,11 @@ impl<'a> Ipv6ExtensionsSlice<'a> {
             let part = match Ipv6ExtensionSlice::read(next, rest) {
                 Ok(part) => part,
                 Err(error) => {
-                    let front = Ipv6ExtensionsSlice::headers_before(
+                    let before_error = Ipv6ExtensionsSlice::headers_before(
                         number, slice, rest, fragmented,
                     );
                     return (
-                        front,
+                        before_error,
                         next,
                         rest,
                         Some(error_with_layer(with_offset(error, offset))),

@@ -173,7 +173,7 @@ impl Ipv6Extensions {
         }
         if number == ip_number::IPV6_ROUTE_HEADER {
             return match &self.routing {
-                Some(behind) if !marks.routing => Some(HeaderRef::Routing(&behind.routing)),
+                Some(exts) if !marks.routing => Some(HeaderRef::Routing(&exts.routing)),
                 _ => None,
             };
         }
@@ -210,7 +210,7 @@ impl Ipv6Extensions {
             };
         }
         match &self.routing {
-            Some(behind) => match &behind.final_destination_options {
+            Some(exts) => match &exts.final_destination_options {
                 Some(header) if !marks.final_destination_options => {
                     Some(HeaderRef::DestinationOptions(header))
                 }
@@ -241,9 +241,10 @@ impl Ipv6Extensions {
             return Some(ip_number::AUTHENTICATION_HEADER);
         }
         match &self.routing {
-            Some(behind)
-                if behind.final_destination_options.is_some() && !marks.final_destination_options =>
-                { Some(ip_number::IPV6_DESTINATION_OPTIONS) }
+            Some(exts)
+                if exts.final_destination_options.is_some() && !marks.final_destination_options => {
+                Some(ip_number::IPV6_DESTINATION_OPTIONS)
+            }
             _ => None,
         }
     }

@@ -29,8 +29,8 @@ use Rattle.ep_ip.specs.declared.ipv4_header.Ipv4Header.{Ipv4Header}
 use Rattle.ep_ip.specs.declared.ipv6_header.Ipv6Header.{Ipv6Header}
 use Rattle.ep_ip.specs.Ip.{version_of}
 use Rattle.ep_ip.specs.Ipv4.{IsIpv4Header, IsIpv4Packet, RefusesIpv4Header, RefusesIpv4Packet, ihl_of, ipv4_header_rows, ipv4_packet_rows}
-use Rattle.ep_ip.specs.Ipv6.{IsIpv6Header, IsIpv6Packet, RefusesIpv6Header, RefusesIpv6Packet, ipv6_bytes, ipv6_cut_limit, ipv6_header_rows, ipv6_packet_rows, ipv6_payload_source}
-use Rattle.ep_ip.specs.IpPackets.{IpPacket, IsIp, IsIpv4, IsIpv6, RefusesIp, RefusesIpv4, RefusesIpv6, ip_cut_limit, ip_version_rows, ipv4_part, ipv6_chain_refusal, ipv6_part, of_ipv4_error, of_ipv6_error}
+use Rattle.ep_ip.specs.Ipv6.{IsIpv6Header, IsIpv6Packet, RefusesIpv6Header, RefusesIpv6Packet, ipv6_bytes, ipv6_truncation_limit, ipv6_header_rows, ipv6_packet_rows, ipv6_payload_source}
+use Rattle.ep_ip.specs.IpPackets.{IpPacket, IsIp, IsIpv4, IsIpv6, RefusesIp, RefusesIpv4, RefusesIpv6, ip_truncation_limit, ip_version_rows, ipv4_part, ipv6_chain_refusal, ipv6_part, of_ipv4_error, of_ipv6_error}
 use Rattle.ep_ip.proofs.Ipv4Lemmas.{ipv4_header_is_read, ipv4_packet_is_read}
 use Rattle.ep_ip.proofs.Ipv6Lemmas.{ipv6_header_is_read, ipv6_packet_is_read}
 use Rattle.ep_ip.proofs.IpBytesLemmas.{ipv6_len}
@@ -103,12 +103,13 @@ ipv4_cut reading front back fits packet is error (inr (cut, cut_is, why)) =
 -- ---- IPv6
 
 abbrev Ipv6Cut : Ipv6Header → List ℕ → List ℕ → Ipv6SliceError → Type 0
-Ipv6Cut header front back = IsTruncationError ipv6_error.Len (ipv6_cut_limit 0 header) (length front)
+Ipv6Cut header front back = IsTruncationError ipv6_error.Len (ipv6_truncation_limit 0 header) (length front)
     (length (front ++ back))
 
-pub ipv6_packet_cut : ReportsTruncation IsIpv6Packet RefusesIpv6Packet ipv6_error.Len (λ packet. ipv6_cut_limit 0 packet.header)
+pub ipv6_packet_cut : ReportsTruncation IsIpv6Packet RefusesIpv6Packet ipv6_error.Len
+    (λ packet. ipv6_truncation_limit 0 packet.header)
 ipv6_packet_cut front back fits packet is error refused =
-    let limit = ipv6_cut_limit 0 packet.header in
+    let limit = ipv6_truncation_limit 0 packet.header in
     refused_beside (Ipv6Cut packet.header front back) (ipv6_packet_rows front) (ipv6_packet_rows (front ++ back))
     (cut_first ipv6_error.Len limit front back 40 layer.Ipv6Header refl (λ there.
     let first = byte_beside front back 0 (omega (arith, there)) in
@@ -147,7 +148,8 @@ longer_open bytes more packet is zero_length = record {
   cut = inr (zero_length.0, refl);
 }
 
--- If the payload length is 0 and an error counts the bytes up to the end, its limit is the one in `ipv6_cut_limit`.
+-- If the payload length is 0 and an error counts the bytes up to the end, its limit is the one in
+-- `ipv6_truncation_limit`.
 pub open_limit : (start offset len there field : ℕ) → offset + len ≡ there → field ≡ 0
     → (if (field == 0) && nat_lt 0 there then source.Slice else source.Ipv6HeaderPayloadLen)
     ≡ (if (offset + (start + 40) == start + 40) && ((len == 0) && (field == 0))
@@ -174,8 +176,9 @@ open_cut front back header cut is same none nothing refusal known =
     let whole : 40 + length (cut.payload ++ back) ≡ length (front ++ back) =
     omega (arith, here, length-append cut.payload back, length-append front back) in
     let moved = record missing { layer_start_offset = missing.layer_start_offset + 40; len_source = limit } in
-    let limits : ipv6_payload_source cut.header cut.payload ≡ ipv6_cut_limit 0 cut.header moved =
-    open_limit 0 missing.layer_start_offset missing.len (length cut.payload) cut.header.payload_length known.short.there
+    let limits : ipv6_payload_source cut.header cut.payload ≡ ipv6_truncation_limit 0 cut.header moved =
+    open_limit 0 missing.layer_start_offset missing.len (length cut.payload) cut.header.payload_length
+    known.short.available
     none in
     record {
       missing = moved;
@@ -187,11 +190,12 @@ open_cut front back header cut is same none nothing refusal known =
       short = subst (λ (n : ℕ). IsTruncationLenError n (length (front ++ back)) moved) here
           (subst (λ (n : ℕ). IsTruncationLenError (40 + length cut.payload) n moved) whole
           (further_short 40 (length cut.payload) (length (cut.payload ++ back)) limit missing known.short));
-      source = limits ∙ ap (λ (h : Ipv6Header). ipv6_cut_limit 0 h moved) (sym same);
+      source = limits ∙ ap (λ (h : Ipv6Header). ipv6_truncation_limit 0 h moved) (sym same);
     }
 
 pub ipv6_cut : (reading : Reading)
-    → ReportsTruncation (IsIpv6 reading) (RefusesIpv6 reading) ipv6_error.Len (λ packet. ipv6_cut_limit 0 packet.header)
+    → ReportsTruncation (IsIpv6 reading) (RefusesIpv6 reading) ipv6_error.Len
+    (λ packet. ipv6_truncation_limit 0 packet.header)
 ipv6_cut reading front back fits packet is error (inl refused) =
     ipv6_packet_cut front back fits (parts_of packet.header is.content packet.left) is.cut error refused
 ipv6_cut reading front back fits packet is error (inr (cut, cut_is, why)) =
@@ -274,7 +278,7 @@ no_byte limit front back by some none = record {
   missing = len_error 1 0 source.Slice layer.IpHeader;
   is = refl;
   short = record {
-    there = grind (arith, common_steps);
+    available = grind (arith, common_steps);
     needed = omega arith;
     within = grind (arith, common_steps);
   };
@@ -301,12 +305,13 @@ same_version : (front back : List ℕ) → (version_of front ≡ 0 → ⊥) → 
 same_version [] back some = absurd (some refl)
 same_version (byte ∷ front) back some = refl
 
-pub ip_cut : (reading : Reading) → ReportsTruncation (IsIp reading) (RefusesIp reading) ip_error.Len (ip_cut_limit 0)
+pub ip_cut : (reading : Reading) → ReportsTruncation (IsIp reading) (RefusesIp reading) ip_error.Len
+    (ip_truncation_limit 0)
 ip_cut reading front back fits (ipv4_part packet) is error (inl refused) =
     version_cut slice_end front back refl
     (version_rows_none (front ++ back) (inl (ipv4_version reading (front ++ back) packet is))) error refused
 ip_cut reading front back fits (ipv6_part packet) is error (inl refused) =
-    version_cut (ipv6_cut_limit 0 packet.header) front back refl
+    version_cut (ipv6_truncation_limit 0 packet.header) front back refl
     (version_rows_none (front ++ back) (inr (ipv6_version reading (front ++ back) packet is))) error refused
 ip_cut reading front back fits (ipv4_part packet) is error (inr (inl refused)) =
     renamed_cut of_ipv4_error ipv4_error.Len slice_end (length front) (length (front ++ back)) refused.1.0 error
@@ -318,5 +323,6 @@ ip_cut reading front back fits (ipv4_part packet) is error (inr (inr refused)) =
     let same = same_version front back (λ none. omega (arith, refused.0, none)) in
     absurd (omega (arith, refused.0, same, ipv4_version reading (front ++ back) packet is))
 ip_cut reading front back fits (ipv6_part packet) is error (inr (inr refused)) =
-    renamed_cut of_ipv6_error ipv6_error.Len (ipv6_cut_limit 0 packet.header) (length front) (length (front ++ back))
+    renamed_cut of_ipv6_error ipv6_error.Len (ipv6_truncation_limit 0 packet.header) (length front)
+    (length (front ++ back))
     refused.1.0 error (ipv6_cut reading front back fits packet is refused.1.0 refused.1.1) refused.1.2

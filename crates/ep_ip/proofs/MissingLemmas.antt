@@ -4,7 +4,7 @@ use Rattle.std.specs.Prelude.{⊤, ◌&&◌, nat_lt}
 use Rattle.std.proofs.lemmas.Grind.{common_steps}
 use Rattle.ep_base.specs.Bytes.{word_at}
 use Rattle.ep_base.specs.Readings.{Reading, limited_by, len_error}
-use Rattle.ep_base.specs.Missing.{CountsMissing, IsOfBytesAtHand, ReportsMissing}
+use Rattle.ep_base.specs.Missing.{CountsMissing, IsOfAvailableBytes, ReportsMissing}
 use Rattle.ep_base.proofs.MissingLemmas.{counted, not_counted, not_payload, not_total, refusal_where, tells_missing}
 use Rattle.ep_base.specs.declared.err.layer.Layer.TheVariants as layer
 use Rattle.ep_base.specs.declared.len_source.LenSource.{LenSource}
@@ -85,7 +85,7 @@ ipv4_chain_counts : (limit content : ℕ) (header : Ipv4Header) (error : AuthSli
     → Misses content (auth_refusal error) → Ipv4Counts limit (ipv4_chain_refusal header error)
 ipv4_chain_counts limit content header (auth_error.Len error) misses =
     λ at_hand inexact.
-    absurd (not_total (subst (λ (s : LenSource). IsOfBytesAtHand (limited_by source.Ipv4HeaderTotalLen s)) misses.1
+    absurd (not_total (subst (λ (s : LenSource). IsOfAvailableBytes (limited_by source.Ipv4HeaderTotalLen s)) misses.1
     at_hand))
 ipv4_chain_counts limit content header (auth_error.Content error) misses = tt
 
@@ -130,7 +130,7 @@ ipv6_packet_tells = tells_missing (λ bytes error. RefusesIpv6Packet bytes (ipv6
     (λ bytes error refused. ipv6_packet_counts bytes (ipv6_error.Len error) refused)
 
 source_zero : (zero some : Bool)
-    → IsOfBytesAtHand (if zero && some then source.Slice else source.Ipv6HeaderPayloadLen) → zero ≡ true
+    → IsOfAvailableBytes (if zero && some then source.Slice else source.Ipv6HeaderPayloadLen) → zero ≡ true
 source_zero true some at_hand = refl
 source_zero false some at_hand = absurd (not_payload at_hand)
 
@@ -139,7 +139,7 @@ is_zero n test = grind (arith, common_steps)
 
 -- If the end of the slice is the limit of the content, there are no trailing bytes.
 left_nothing : (bytes : List ℕ) (cut : Parts Ipv6Header) → IsIpv6Packet bytes cut
-    → IsOfBytesAtHand (ipv6_payload_source cut.header cut.payload) → cut.left ≡ []
+    → IsOfAvailableBytes (ipv6_payload_source cut.header cut.payload) → cut.left ≡ []
 left_nothing bytes cut is at_hand =
     let zero = is_zero cut.header.payload_length
     (source_zero (cut.header.payload_length == 0) (nat_lt 0 (length cut.payload)) at_hand) in
@@ -155,11 +155,11 @@ ipv6_chain_counts bytes cut is (exts_error.Len error) misses =
     λ at_hand inexact.
     let limit = ipv6_payload_source cut.header cut.payload in
     let whole = left_nothing bytes cut is
-    (subst (λ (s : LenSource). IsOfBytesAtHand (limited_by limit s)) misses.1 at_hand) in
+    (subst (λ (s : LenSource). IsOfAvailableBytes (limited_by limit s)) misses.1 at_hand) in
     record {
-      there = omega (
+      available = omega (
         arith,
-        misses.0.there,
+        misses.0.available,
         ap length is.parts,
         ap length whole,
         length-append (ipv6_bytes cut.header ++ cut.payload) cut.left,
@@ -184,9 +184,10 @@ ipv6_tells reading = tells_missing (λ bytes error. RefusesIpv6 reading bytes (i
 
 -- If the end of the slice is the limit of the payload, there are no trailing bytes.
 pub open_payload : (reading : Reading) (bytes : List ℕ) (packet : IpPacket Ipv6Header) → IsIpv6 reading bytes packet
-    → IsOfBytesAtHand packet.payload.source → packet.left ≡ []
+    → IsOfAvailableBytes packet.payload.source → packet.left ≡ []
 open_payload reading bytes packet is at_hand =
-    left_nothing bytes (parts_of packet.header is.content packet.left) is.cut (subst IsOfBytesAtHand is.source at_hand)
+    left_nothing bytes (parts_of packet.header is.content packet.left) is.cut
+    (subst IsOfAvailableBytes is.source at_hand)
 
 -- ---- either version
 
@@ -198,7 +199,7 @@ no_bytes : (bytes : List ℕ) → (length bytes == 0) ≡ true
     → CountsMissing (length bytes) (len_error 1 0 source.Slice layer.IpHeader)
 no_bytes bytes none at_hand inexact =
     let empty = is_zero (length bytes) none in
-    record { there = omega (arith, empty); needed = omega arith }
+    record { available = omega (arith, empty); needed = omega arith }
 
 of_ipv4 : (limit : ℕ) (error : Ipv4SliceError) → Ipv4Counts limit error → IpCounts limit (of_ipv4_error error)
 of_ipv4 limit (ipv4_error.Len error) counts = counts

@@ -11,12 +11,12 @@ use Rattle.ep_ip.specs.IpPackets.{IpPacket}
 -- The bytes are an IPv4 header and its extension headers. Reserved bits may have any value.
 abbrev pub EncodesIpv4Headers : List ℕ → Ipv4Header → List ExtensionPart → Type 0
 EncodesIpv4Headers bytes header extensions =
-    (front behind : List ℕ) × EncodesIpv4 front header × EncodesParts behind extensions × (bytes ≡ front ++ behind)
+    (front after : List ℕ) × EncodesIpv4 front header × EncodesParts after extensions × (bytes ≡ front ++ after)
 
 -- The bytes are an IPv6 header and its extension headers. Reserved bits of the extension headers may have any value.
 abbrev pub EncodesIpv6Headers : List ℕ → Ipv6Header → List ExtensionPart → Type 0
 EncodesIpv6Headers bytes header extensions =
-    FitsIpv6 header × ((behind : List ℕ) × EncodesParts behind extensions × (bytes ≡ ipv6_bytes header ++ behind))
+    FitsIpv6 header × ((after : List ℕ) × EncodesParts after extensions × (bytes ≡ ipv6_bytes header ++ after))
 
 -- the length of an IPv4 header and its extension headers in bytes
 abbrev pub ipv4_headers_len : Ipv4Header → List ExtensionPart → ℕ

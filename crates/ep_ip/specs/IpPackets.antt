@@ -28,7 +28,7 @@ use Rattle.ep_ip.specs.declared.ipv4_header.Ipv4Header.{Ipv4Header}
 use Rattle.ep_ip.specs.declared.ipv6_header.Ipv6Header.{Ipv6Header}
 use Rattle.ep_ip.specs.Ip.{version_of}
 use Rattle.ep_ip.specs.Ipv4.{IsIpv4Packet, RefusesIpv4Packet, ipv4_header_len, is_ipv4_fragment}
-use Rattle.ep_ip.specs.Ipv6.{IsIpv6Packet, RefusesIpv6Packet, ipv6_cut_limit, ipv6_payload_source}
+use Rattle.ep_ip.specs.Ipv6.{IsIpv6Packet, RefusesIpv6Packet, ipv6_truncation_limit, ipv6_payload_source}
 
 -- an IP packet: header, extension headers, payload, and the trailing bytes after the end set by the length field
 pub record IpPacket (Header : Type 0) : Type 0 where
@@ -117,9 +117,9 @@ IsIp reading bytes (ipv4_part packet) = IsIpv4 reading bytes packet
 IsIp reading bytes (ipv6_part packet) = IsIpv6 reading bytes packet
 
 -- the limit that the error reports if a packet that starts at byte `start` is truncated
-abbrev pub ip_cut_limit : ℕ → IpPart → LenError → LenSource
-ip_cut_limit start (ipv4_part packet) error = source.Slice
-ip_cut_limit start (ipv6_part packet) error = ipv6_cut_limit start packet.header error
+abbrev pub ip_truncation_limit : ℕ → IpPart → LenError → LenSource
+ip_truncation_limit start (ipv4_part packet) error = source.Slice
+ip_truncation_limit start (ipv6_part packet) error = ipv6_truncation_limit start packet.header error
 
 -- the errors for bytes without an IP version that is supported, in the order of the checks
 abbrev pub ip_version_rows : List ℕ → List (Bool × SliceError)

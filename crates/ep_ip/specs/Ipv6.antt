@@ -105,8 +105,8 @@ ipv6_payload_source header payload =
 
 -- the limit that the error reports if a packet that starts at byte `start` is truncated: the end of the slice, or the
 -- payload length if it is 0 and the bytes end with the header
-abbrev pub ipv6_cut_limit : ℕ → Ipv6Header → LenError → LenSource
-ipv6_cut_limit start header error =
+abbrev pub ipv6_truncation_limit : ℕ → Ipv6Header → LenError → LenSource
+ipv6_truncation_limit start header error =
     if (error.layer_start_offset == start + 40) && ((error.len == 0) && (header.payload_length == 0))
     then source.Ipv6HeaderPayloadLen else source.Slice
 

@@ -4,7 +4,7 @@
 ghost use Rattle.std.specs.Prelude.{◌≡◌, ◌≤◌, ◌↔◌, length, ℕ, true, false, List, [], ◌∷◌, replicate};
 ghost use Rattle.ep_base.specs.Bytes.{AreBytes};
 ghost use Rattle.ep_base.specs.Readings.{Reading};
-ghost use Rattle.ep_base.specs.Missing.{IsOfBytesAtHand, ReportsTruncation, ReportsMissing, slice_end};
+ghost use Rattle.ep_base.specs.Missing.{IsOfAvailableBytes, ReportsTruncation, ReportsMissing, slice_end};
 ghost use Rattle.ep_base.specs.Tables.{IsDecided};
 ghost use Rattle.ep_base.specs.declared.err.ip.SliceError.TheVariants as ip_error;
 ghost use Rattle.ep_base.specs.declared.err.ipv4.HeaderSliceError.TheVariants as ipv4_header_error;
@@ -14,10 +14,10 @@ ghost use Rattle.ep_base.specs.declared.err.ipv4.SliceError.TheVariants as ipv4_
 ghost use Rattle.ep_base.specs.declared.err.ipv6.SliceError.TheVariants as ipv6_error;
 ghost use Rattle.ep_ip.specs.Ip.{version_of};
 ghost use Rattle.ep_ip.specs.Ipv4.{IsIpv4Header, RefusesIpv4Header, IsIpv4Packet, RefusesIpv4Packet};
-ghost use Rattle.ep_ip.specs.Ipv6.{IsIpv6Header, RefusesIpv6Header, IsIpv6Packet, RefusesIpv6Packet, ipv6_cut_limit};
+ghost use Rattle.ep_ip.specs.Ipv6.{IsIpv6Header, RefusesIpv6Header, IsIpv6Packet, RefusesIpv6Packet, ipv6_truncation_limit};
 ghost use Rattle.ep_ip.specs.IpBytes.{AreIpv4Bytes, AreIpv6Bytes};
 ghost use Rattle.ep_ip.specs.IpPackets.{IpPart, IpPacket, ipv4_part, ipv6_part};
-ghost use Rattle.ep_ip.specs.IpPackets.{IsIpv4, RefusesIpv4, IsIpv6, RefusesIpv6, IsIp, RefusesIp, ip_cut_limit};
+ghost use Rattle.ep_ip.specs.IpPackets.{IsIpv4, RefusesIpv4, IsIpv6, RefusesIpv6, IsIp, RefusesIp, ip_truncation_limit};
 ghost use Rattle.ep_ip.specs.declared.ipv4_header.Ipv4Header.{Ipv4Header};
 ghost use Rattle.ep_ip.specs.declared.ipv6_header.Ipv6Header.{Ipv6Header};
 
@@ -25,54 +25,54 @@ pub mod comparisons;
 
 use crate::{Ipv4Header, Ipv4Options, Ipv6Header};
 
-/// Law: any bytes either parse as exactly one IPv4 header and exactly one remainder, or are rejected with exactly one
-/// error.
+/// States that any bytes either parse as exactly one IPv4 header and exactly one remainder, or are rejected with
+/// exactly one error.
 pub fn ipv4_header()
     ensures { (bytes : List ℕ) → AreBytes bytes → IsDecided (IsIpv4Header bytes) (RefusesIpv4Header bytes) }
 {}
 
-/// Law: any bytes either parse as exactly one IPv4 packet (header, the bytes after it up to the end that the total
-/// length sets, and trailing bytes), or are rejected with exactly one error. Extension headers are not parsed.
+/// States that any bytes either parse as exactly one IPv4 packet (header, the bytes after it up to the end that the
+/// total length sets, and trailing bytes), or are rejected with exactly one error. Extension headers are not parsed.
 pub fn ipv4_packet()
     ensures { (bytes : List ℕ) → AreBytes bytes → IsDecided (IsIpv4Packet bytes) (RefusesIpv4Packet bytes) }
 {}
 
-/// Law: any bytes either parse as exactly one IPv6 header and exactly one remainder, or are rejected with exactly one
-/// error.
+/// States that any bytes either parse as exactly one IPv6 header and exactly one remainder, or are rejected with
+/// exactly one error.
 pub fn ipv6_header()
     ensures { (bytes : List ℕ) → AreBytes bytes → IsDecided (IsIpv6Header bytes) (RefusesIpv6Header bytes) }
 {}
 
-/// Law: any bytes either parse as exactly one IPv6 packet (header, the bytes after it up to the end that the payload
-/// length sets, or all if it is 0, and trailing bytes), or are rejected with exactly one error. Extension headers are
-/// not parsed.
+/// States that any bytes either parse as exactly one IPv6 packet (header, the bytes after it up to the end that the
+/// payload length sets, or all if it is 0, and trailing bytes), or are rejected with exactly one error. Extension
+/// headers are not parsed.
 pub fn ipv6_packet()
     ensures { (bytes : List ℕ) → AreBytes bytes → IsDecided (IsIpv6Packet bytes) (RefusesIpv6Packet bytes) }
 {}
 
-/// Law: any bytes either parse as exactly one IPv4 packet (header, extension headers, payload and trailing bytes), or
-/// are rejected with exactly one error. It holds for the slicing parser and for the header-decoding parser.
+/// States that any bytes either parse as exactly one IPv4 packet (header, extension headers, payload and trailing
+/// bytes), or are rejected with exactly one error. It holds for the slicing parser and for the header-decoding parser.
 pub fn ipv4()
     ensures { (reading : Reading) (bytes : List ℕ) → AreBytes bytes
         → IsDecided (IsIpv4 reading bytes) (RefusesIpv4 reading bytes) }
 {}
 
-/// Law: any bytes either parse as exactly one IPv6 packet (header, extension headers, payload and trailing bytes), or
-/// are rejected with exactly one error. It holds for the slicing parser and for the header-decoding parser.
+/// States that any bytes either parse as exactly one IPv6 packet (header, extension headers, payload and trailing
+/// bytes), or are rejected with exactly one error. It holds for the slicing parser and for the header-decoding parser.
 pub fn ipv6()
     ensures { (reading : Reading) (bytes : List ℕ) → AreBytes bytes
         → IsDecided (IsIpv6 reading bytes) (RefusesIpv6 reading bytes) }
 {}
 
-/// Law: any bytes either parse as exactly one IP packet of version 4 or 6, or are rejected with exactly one error. It
-/// holds for the slicing parser and for the header-decoding parser.
+/// States that any bytes either parse as exactly one IP packet of version 4 or 6, or are rejected with exactly one
+/// error. It holds for the slicing parser and for the header-decoding parser.
 pub fn ip()
     ensures { (reading : Reading) (bytes : List ℕ) → AreBytes bytes
         → IsDecided (IsIp reading bytes) (RefusesIp reading bytes) }
 {}
 
-/// Law: the bytes of a parsed IP packet are its header, its extension headers, its payload, and the trailing bytes
-/// after the end that its length field sets, in this order and nothing else.
+/// States that the bytes of a parsed IP packet are its header, its extension headers, its payload, and the trailing
+/// bytes after the end that its length field sets, in this order and nothing else.
 pub fn ip_bytes()
     ensures ipv4 { (reading : Reading) (bytes : List ℕ) (packet : IpPacket Ipv4Header) → IsIpv4 reading bytes packet
         → AreIpv4Bytes bytes packet }
@@ -80,17 +80,17 @@ pub fn ip_bytes()
         → AreIpv6Bytes bytes packet }
 {}
 
-/// Law: in a length error for an IPv4 or IPv6 packet, `layer_start_offset` is at most the number of input bytes.
-pub fn refusal_places()
+/// States that in a length error for an IPv4 or IPv6 packet, `layer_start_offset` is at most the number of input bytes.
+pub fn error_offsets()
     ensures ipv4 { (reading : Reading) (bytes : List ℕ) (error : LenError)
         → RefusesIpv4 reading bytes (ipv4_error.Len error) → error.layer_start_offset ≤ length bytes }
     ensures ipv6 { (reading : Reading) (bytes : List ℕ) (error : LenError)
         → RefusesIpv6 reading bytes (ipv6_error.Len error) → error.layer_start_offset ≤ length bytes }
 {}
 
-/// Law: in a length error for an IP header or packet whose `len_source` is the slice, `layer_start_offset + len` is the
-/// number of input bytes, and `required_len` is above `len`. If `required_len - len` or more bytes are appended, the
-/// check that failed passes. An IPv6 payload whose length source is the slice has no trailing bytes.
+/// States that in a length error for an IP header or packet whose `len_source` is the slice, `layer_start_offset + len`
+/// is the number of input bytes, and `required_len` is above `len`. If `required_len - len` or more bytes are appended,
+/// the check that failed passes. An IPv6 payload whose length source is the slice has no trailing bytes.
 pub fn missing_bytes()
     ensures ipv4_header { ReportsMissing (λ bytes error. RefusesIpv4Header bytes (ipv4_header_error.Len error)) }
     ensures ipv4_packet { ReportsMissing (λ bytes error. RefusesIpv4Packet bytes (ipv4_error.Len error)) }
@@ -102,11 +102,11 @@ pub fn missing_bytes()
         → ReportsMissing (λ bytes error. RefusesIpv6 reading bytes (ipv6_error.Len error)) }
     ensures ip { (reading : Reading) → ReportsMissing (λ bytes error. RefusesIp reading bytes (ip_error.Len error)) }
     ensures payload { (reading : Reading) (bytes : List ℕ) (packet : IpPacket Ipv6Header) → IsIpv6 reading bytes packet
-        → IsOfBytesAtHand packet.payload.source → packet.left ≡ [] }
+        → IsOfAvailableBytes packet.payload.source → packet.left ≡ [] }
 {}
 
-/// Law: if an IP header or packet is truncated and then rejected, the error is a length error for the missing bytes.
-/// `layer_start_offset + len` is the truncated length, `required_len` is above `len`, and `layer_start_offset +
+/// States that if an IP header or packet is truncated and then rejected, the error is a length error for the missing
+/// bytes. `layer_start_offset + len` is the truncated length, `required_len` is above `len`, and `layer_start_offset +
 /// required_len` is at most the original length. Its `len_source` is the slice, with one exception: for an IPv6 packet
 /// with the payload length 0 that is truncated right after its IPv6 header, it is the payload length.
 pub fn truncation()
@@ -114,16 +114,18 @@ pub fn truncation()
     ensures ipv6_header { ReportsTruncation IsIpv6Header RefusesIpv6Header ipv6_header_error.Len (λ read. slice_end) }
     ensures ipv4_packet { ReportsTruncation IsIpv4Packet RefusesIpv4Packet ipv4_error.Len (λ packet. slice_end) }
     ensures ipv6_packet { ReportsTruncation IsIpv6Packet RefusesIpv6Packet ipv6_error.Len
-        (λ packet. ipv6_cut_limit 0 packet.header) }
+        (λ packet. ipv6_truncation_limit 0 packet.header) }
     ensures ipv4 { (reading : Reading)
         → ReportsTruncation (IsIpv4 reading) (RefusesIpv4 reading) ipv4_error.Len (λ packet. slice_end) }
     ensures ipv6 { (reading : Reading)
-        → ReportsTruncation (IsIpv6 reading) (RefusesIpv6 reading) ipv6_error.Len (λ packet. ipv6_cut_limit 0 packet.header) }
-    ensures ip { (reading : Reading) → ReportsTruncation (IsIp reading) (RefusesIp reading) ip_error.Len (ip_cut_limit 0) }
+        → ReportsTruncation (IsIpv6 reading) (RefusesIpv6 reading) ipv6_error.Len
+        (λ packet. ipv6_truncation_limit 0 packet.header) }
+    ensures ip { (reading : Reading)
+        → ReportsTruncation (IsIp reading) (RefusesIp reading) ip_error.Len (ip_truncation_limit 0) }
 {}
 
-/// Law: for bytes that begin with version 4 (or 6), the parser for both IP versions and the parser for IPv4 (or IPv6)
-/// accept the same packets, with equal parts.
+/// States that for bytes that begin with version 4 (or 6), the parser for both IP versions and the parser for IPv4 (or
+/// IPv6) accept the same packets, with equal parts.
 pub fn open_version()
     ensures ipv4 { (reading : Reading) (bytes : List ℕ) → version_of bytes ≡ 4 → (part : IpPart)
         → IsIp reading bytes part ↔ ((packet : IpPacket Ipv4Header) × IsIpv4 reading bytes packet
@@ -133,7 +135,7 @@ pub fn open_version()
         × (part ≡ ipv6_part packet)) }
 {}
 
-/// Law: an IPv4 header has 20 to 60 bytes, its options have at most 40, and an IPv6 header has 40.
+/// States that an IPv4 header has 20 to 60 bytes, its options have at most 40, and an IPv6 header has 40.
 pub fn constants()
     ensures ipv4_header { (Ipv4Header.MIN_LEN ≡ 20) × (Ipv4Header.MAX_LEN ≡ 60) }
     ensures ipv4_options { Ipv4Options.MAX_LEN ≡ 40 }

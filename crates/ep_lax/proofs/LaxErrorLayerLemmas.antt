@@ -21,7 +21,7 @@ use Rattle.ep_base.proofs.TableLemmas.{AllErrors, refusal_is}
 use Rattle.ep_ext.specs.Chains.{IpVersion, ipv4, ipv6, ExtensionChain, RefusesChainAfter, with_offset_in}
 use Rattle.ep_ext.specs.ExtensionParts.{ExtensionPart, RefusesExtensionPart, auth_refusal, extension_part_rows, part_len, part_next}
 use Rattle.ep_ext.specs.FragmentHeader.{fragment_header_rows}
-use Rattle.ep_ext.specs.FrontChains.{IsLaxChain}
+use Rattle.ep_ext.specs.ChainPrefixes.{IsLaxChain}
 use Rattle.ep_ext.specs.IpAuth.{ip_auth_rows}
 use Rattle.ep_ext.specs.RawExtension.{raw_extension_rows}
 use Rattle.ep_ip.specs.declared.ipv4_header.Ipv4Header.{Ipv4Header}
@@ -216,7 +216,7 @@ ipv4_other offset outer bytes lax is =
     subst (IsOtherIp ipv4 offset) (sym behind.is) (
       cut_end n header.total_len (n + length is.0.1) source.Ipv4HeaderTotalLen behind.cut refl behind.cuts.source,
       front_other ipv4 offset n header.protocol.0 behind.cut.payload behind.cut.source behind.chain behind.refused
-          behind.front,
+          behind.is_chain,
     )
 
 ipv6_other : (offset : ℕ) (outer : Bool) (bytes : List ℕ) (lax : LaxIp Ipv6Header) → IsLaxIpv6 outer bytes lax
@@ -230,7 +230,8 @@ ipv6_other offset outer bytes lax is =
     subst (IsOtherIp ipv6 offset) (sym behind.is) (
       either_end (header.payload_length == 0) (ipv6_payload_source header behind.cut.payload) behind.cut.source
           (either_end _ source.Slice source.Ipv6HeaderPayloadLen refl refl) known,
-      front_other ipv6 offset 40 header.next_header.0 behind.cut.payload end behind.chain behind.refused behind.front,
+      front_other ipv6 offset 40 header.next_header.0 behind.cut.payload end behind.chain behind.refused
+          behind.is_chain,
     )
 
 inside_told : (version : IpVersion) (offset len : ℕ) (incomplete : Bool) (payload : IpPayload)

@@ -19,7 +19,7 @@ use Rattle.ep_base.proofs.DecidedLemmas.{IsBoth, one_as, one_then}
 use Rattle.ep_base.proofs.LaxCutLemmas.{lax_cut_is_one}
 use Rattle.ep_base.proofs.TableLemmas.{one_value, refused_is_not}
 use Rattle.ep_ext.specs.Chains.{IpVersion, ipv4, ipv6, ExtensionChain, chain_fragments, offset_of}
-use Rattle.ep_ext.specs.FrontChains.{IsLaxChain, chain_stop, chain_stop_layer}
+use Rattle.ep_ext.specs.ChainPrefixes.{IsLaxChain, chain_stop, chain_stop_layer}
 use Rattle.ep_ext.proofs.FrontLemmas.{Front, HasFront, front_is_one}
 use Rattle.ep_ip.specs.declared.ipv4_header.Ipv4Header.{Ipv4Header}
 use Rattle.ep_ip.specs.declared.ipv6_header.Ipv6Header.{Ipv6Header}
@@ -59,10 +59,10 @@ ipv4_behind_is_one outer read fits =
         chain = value.1.0;
         refused = value.1.1;
         cuts = is.0;
-        front = is.1;
+        is_chain = is.1;
         is = refl;
       };
-      back = λ lax is. ((is.cut, (is.chain, is.refused)), (is.cuts, is.front), is.is);
+      back = λ lax is. ((is.cut, (is.chain, is.refused)), (is.cuts, is.is_chain), is.is);
     })
 
 -- The result after an IPv6 header is unique.
@@ -85,10 +85,10 @@ ipv6_behind_is_one outer read fits =
         chain = value.1.0;
         refused = value.1.1;
         cuts = is.0;
-        front = is.1;
+        is_chain = is.1;
         is = refl;
       };
-      back = λ lax is. ((is.cut, (is.chain, is.refused)), (is.cuts, is.front), is.is);
+      back = λ lax is. ((is.cut, (is.chain, is.refused)), (is.cuts, is.is_chain), is.is);
     })
 
 -- The bytes after a header are bytes.
@@ -191,7 +191,7 @@ ipv4_put_together outer bytes front rest header parts stands n len header_len st
         refused = refused;
         cuts = subst (λ (k : ℕ). IsLaxCut k header.total_len source.Ipv4HeaderTotalLen outer k rest cut) header_len
             cuts_total;
-        front = subst (λ (k : ℕ). IsLaxChain ipv4 k cut.payload chain refused) number_is chain_is;
+        is_chain = subst (λ (k : ℕ). IsLaxChain ipv4 k cut.payload chain refused) number_is chain_is;
         is = λ i. record (lax_ip_of header (header_len i) (fragmented_is i) cut.source cut chain refused) {
           stop = (stop_is ∙ ap (λ (k : ℕ). option_map (stop_after k cut.source) refused) header_len) i;
         };
@@ -220,7 +220,7 @@ ipv6_put_together outer bytes front rest header parts stands len stated says_is 
         chain = chain;
         refused = refused;
         cuts = subst (λ (s : ℕ). IsLaxCut 41 s source.Ipv6HeaderPayloadLen outer 40 rest cut) says_is cuts_behind;
-        front = subst (λ (k : ℕ). IsLaxChain ipv6 k cut.payload chain refused) number_is chain_is;
+        is_chain = subst (λ (k : ℕ). IsLaxChain ipv6 k cut.payload chain refused) number_is chain_is;
         is = λ i. lax_ip_of header 40 (fragmented_is i) (end_is i) cut chain refused;
       },
     )

@@ -15,7 +15,7 @@ use Rattle.ep_base.proofs.LaxCutLemmas.{lax_cut_is_one}
 use Rattle.ep_base.proofs.TableLemmas.{decided}
 use Rattle.ep_ext.specs.Chains.{IpVersion, ipv4, ipv6, ExtensionChain, IsChainAfter}
 use Rattle.ep_ext.specs.ExtensionParts.{ExtensionPart, part_next}
-use Rattle.ep_ext.specs.FrontChains.{BeginWithParts, IsLaxChain}
+use Rattle.ep_ext.specs.ChainPrefixes.{BeginWithParts, IsLaxChain}
 use Rattle.ep_ext.proofs.PartLemmas.{part_behind_fits}
 use Rattle.ep_ip.specs.declared.ipv4_header.Ipv4Header.{Ipv4Header}
 use Rattle.ep_ip.specs.declared.ipv6_header.Ipv6Header.{Ipv6Header}
@@ -129,7 +129,7 @@ lax_ipv4_fits outer bytes lax fits is =
     let content = cut_fits len read.0.total_len source.Ipv4HeaderTotalLen outer len read.1 behind.cut
     (behind_ipv4_fits bytes read fits is.1) behind.cuts in
     subst (λ (l : LaxIp Ipv4Header). AreBytes l.packet.payload.bytes) (sym behind.is)
-    (rest_fits ipv4 read.0.protocol.0 behind.cut.payload behind.chain behind.refused content behind.front)
+    (rest_fits ipv4 read.0.protocol.0 behind.cut.payload behind.chain behind.refused content behind.is_chain)
 
 pub lax_ipv6_fits : (outer : Bool) (bytes : List ℕ) (lax : LaxIp Ipv6Header) → AreBytes bytes
     → IsLaxIpv6 outer bytes lax → AreBytes lax.packet.payload.bytes
@@ -139,7 +139,7 @@ lax_ipv6_fits outer bytes lax fits is =
     let content = cut_fits 41 (40 + read.0.payload_length) source.Ipv6HeaderPayloadLen outer 40 read.1 behind.cut
     (behind_ipv6_fits bytes read fits is.1) behind.cuts in
     subst (λ (l : LaxIp Ipv6Header). AreBytes l.packet.payload.bytes) (sym behind.is)
-    (rest_fits ipv6 read.0.next_header.0 behind.cut.payload behind.chain behind.refused content behind.front)
+    (rest_fits ipv6 read.0.next_header.0 behind.cut.payload behind.chain behind.refused content behind.is_chain)
 
 -- Bytes either begin with an IPv4 packet, or their header is rejected.
 pub lax_ipv4_decided : (outer : Bool) (bytes : List ℕ) → AreBytes bytes
@@ -272,7 +272,7 @@ lax_macsec_decided outer bytes fits =
             let tag = found.0.0 in
             let len = macsec_header_len tag in
             let one = lax_cut_is_one len (macsec_stated_len tag) source.MacsecShortLength outer len found.0.1 (omega arith) in
-            inl ((tag, one.value), record { behind = found.0.1; stands = found.1; cut = one.is })
+            inl ((tag, one.value), record { after_tag = found.0.1; header = found.1; cut = one.is })
         | inr refused ↦ inr refused
       ];
       one_value = one_lax_macsec outer bytes;
@@ -337,9 +337,10 @@ lax_extension_fits outer type bytes (vlan tag payload, incomplete) fits is =
 lax_extension_fits outer type bytes (macsec tag payload, incomplete) fits is =
     let cut = is.1.0 in
     let read = is.1.1 in
-    let behind = AreBytes-back read.stands.encoded read.behind (subst AreBytes read.stands.parts fits) in
+    let behind = AreBytes-back read.header.encoded read.after_tag (subst AreBytes read.header.parts fits) in
     let len = macsec_header_len tag in
-    let content = cut_fits len (macsec_stated_len tag) source.MacsecShortLength outer len read.behind cut behind read.cut in
+    let content = cut_fits len (macsec_stated_len tag) source.MacsecShortLength outer len read.after_tag cut
+    behind read.cut in
     subst AreBytes (sym (ap macsec_payload_bytes is.1.2 ∙ payload_by_is tag.ptype cut.source cut.payload)) content
 
 -- ---- layers in bytes of an ether type

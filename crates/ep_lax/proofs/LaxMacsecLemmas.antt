@@ -18,18 +18,18 @@ use Rattle.ep_lax.specs.LaxMacsec.{IsLaxMacsec, macsec_stated_len}
 pub one_lax_macsec : (outer : Bool) (bytes : List ℕ) (read other : MacsecHeader × LaxCut) → IsLaxMacsec outer bytes read
     → IsLaxMacsec outer bytes other → read ≡ other
 one_lax_macsec outer bytes read other a b =
-    let same = one_value macsec_header_is_read bytes (read.0, a.behind) (other.0, b.behind) a.stands b.stands in
+    let same = one_value macsec_header_is_read bytes (read.0, a.after_tag) (other.0, b.after_tag) a.header b.header in
     let moved = subst (λ (h : MacsecHeader × List ℕ). IsLaxCut (macsec_header_len h.0) (macsec_stated_len h.0)
     source.MacsecShortLength outer (macsec_header_len h.0) h.1 read.1) same a.cut in
     let cut = one_lax_cut (macsec_header_len other.0) (macsec_stated_len other.0) source.MacsecShortLength outer
-    (macsec_header_len other.0) b.behind read.1 other.1 moved b.cut in
+    (macsec_header_len other.0) b.after_tag read.1 other.1 moved b.cut in
     λ i. ((same i).0, cut i)
 
 -- Bytes with a rejected tag are not a MACsec packet.
 pub refused_no_lax_macsec : (outer : Bool) (bytes : List ℕ) (error : HeaderSliceError)
     → RefusesMacsecHeader bytes error → (read : MacsecHeader × LaxCut) → IsLaxMacsec outer bytes read → ⊥
 refused_no_lax_macsec outer bytes error refused read is =
-    refused_is_not macsec_header_is_read bytes (read.0, is.behind) error refused is.stands
+    refused_is_not macsec_header_is_read bytes (read.0, is.after_tag) error refused is.header
 
 -- A payload, modified or not, has the bytes that it is built from.
 pub payload_by_is : (p : MacsecPType) (end : LenSource) (bytes : List ℕ)
@@ -64,8 +64,8 @@ macsec_put_together outer bytes tag rest header parts stands n len header_len st
           ∙ ap (λ (s : List ℕ). s ++ cut.left) (sym shown))
           ∙ sym (append_assoc tag (macsec_payload_bytes payload) cut.left);
       is = record {
-        behind = rest;
-        stands = stands;
+        after_tag = rest;
+        header = stands;
         cut = subst (λ (k : ℕ). IsLaxCut k (macsec_stated_len header) source.MacsecShortLength outer k rest cut) header_len
             cuts_says;
       };

@@ -12,7 +12,7 @@ use Rattle.ep_base.specs.declared.err.layer.Layer.{Layer}
 use Rattle.ep_base.specs.Readings.{slices}
 use Rattle.ep_ext.specs.ExtensionParts.{ExtensionPart, hop_by_hop, destination_options, routing, fragment, authentication, auth_refusal, part_bytes, part_len, part_next}
 use Rattle.ep_ext.specs.Chains.{IpVersion, ipv4, ipv6, ExtensionChain, offset_of, parts_bytes}
-use Rattle.ep_ext.specs.FrontChains.{BeginWithParts, IsLaxChain}
+use Rattle.ep_ext.specs.ChainPrefixes.{BeginWithParts, IsLaxChain}
 use Rattle.ep_ext.proofs.ChainBytesLemmas.{chain_len}
 use Rattle.ep_ext.proofs.PartLemmas.{auth_len, part_lens}
 use Rattle.ep_ip.specs.declared.ipv4_header.Ipv4Header.{Ipv4Header}
@@ -85,7 +85,7 @@ lax_ipv4_lens outer bytes lax is =
       encoded_len stands.encoded header stands.encodes,
       ap length behind.cuts.parts,
       length-append cut.payload cut.left,
-      front_chain_len ipv4 header.protocol.0 cut.payload behind.chain behind.refused behind.front,
+      front_chain_len ipv4 header.protocol.0 cut.payload behind.chain behind.refused behind.is_chain,
     ))
 
 -- The length of the bytes is the sum of the headers, payload and trailing bytes of an IPv6 packet.
@@ -107,7 +107,7 @@ lax_ipv6_lens outer bytes lax is =
       ipv6_len header stands.fits,
       ap length behind.cuts.parts,
       length-append cut.payload cut.left,
-      front_chain_len ipv6 header.next_header.0 cut.payload behind.chain behind.refused behind.front,
+      front_chain_len ipv6 header.next_header.0 cut.payload behind.chain behind.refused behind.is_chain,
     ))
 
 -- ---- start of a rejected extension header
@@ -143,7 +143,7 @@ ipv4_stop_within outer bytes lax is error same =
     omega (
       arith,
       behind_within (ipv4_header_len header) cut.source ipv4 header.protocol.0 cut.payload behind.chain behind.refused
-          behind.front error error_with_layer,
+          behind.is_chain error error_with_layer,
       ap length stands.parts,
       length-append stands.encoded is.0.1,
       encoded_len stands.encoded header stands.encodes,
@@ -162,7 +162,7 @@ ipv6_stop_within outer bytes lax is error same =
     omega (
       arith,
       behind_within 40 lax.packet.payload.source ipv6 header.next_header.0 cut.payload behind.chain behind.refused
-          behind.front error
+          behind.is_chain error
           (ap (λ (e : LenSource). option_map (stop_after 40 e) behind.refused)
           (ap (λ (l : LaxIp Ipv6Header). l.packet.payload.source) behind.is) ∙ error_with_layer),
       ap length stands.parts,

@@ -8,7 +8,7 @@ use Rattle.ep_base.specs.declared.len_source.LenSource.TheVariants as source
 use Rattle.ep_base.specs.declared.err.ipv6_exts.HeaderSliceError.{HeaderSliceError}
 use Rattle.ep_ext.specs.Chains.{IpVersion, ipv4, ipv6, ExtensionChain, EncodesParts}
 use Rattle.ep_ext.specs.ExtensionParts.{ExtensionPart, hop_by_hop, destination_options, routing, fragment, authentication, part_next, EncodesPart, IsExtensionPart}
-use Rattle.ep_ext.specs.FrontChains.{BeginWithParts, IsLaxChain}
+use Rattle.ep_ext.specs.ChainPrefixes.{BeginWithParts, IsLaxChain}
 use Rattle.ep_ext.specs.RawExtension.{raw_extension_bytes}
 use Rattle.ep_ext.proofs.ChainBytesLemmas.{chain_encoded}
 use Rattle.ep_ip.specs.declared.ipv4_header.Ipv4Header.{Ipv4Header}
@@ -91,7 +91,7 @@ regroup bytes header rest content inner payload left parts rest_is content_is =
 ipv4_net_bytes : (outer : Bool) (bytes : List ℕ) (lax : LaxIp Ipv4Header) → IsLaxIpv4 outer bytes lax
     → NetBytes bytes (ipv4_layer lax.packet)
 ipv4_net_bytes outer bytes lax (read, stands, is) =
-    let chain = chain_bytes_are ipv4 read.0.protocol.0 is.cut.payload is.chain is.refused is.front in
+    let chain = chain_bytes_are ipv4 read.0.protocol.0 is.cut.payload is.chain is.refused is.is_chain in
     subst (λ (l : LaxIp Ipv4Header). NetBytes bytes (ipv4_layer l.packet)) (sym is.is) (record {
       header = stands.encoded ++ chain.0;
       left = is.cut.left;
@@ -103,7 +103,7 @@ ipv4_net_bytes outer bytes lax (read, stands, is) =
 ipv6_net_bytes : (outer : Bool) (bytes : List ℕ) (lax : LaxIp Ipv6Header) → IsLaxIpv6 outer bytes lax
     → NetBytes bytes (ipv6_layer lax.packet)
 ipv6_net_bytes outer bytes lax (read, stands, is) =
-    let chain = chain_bytes_are ipv6 read.0.next_header.0 is.cut.payload is.chain is.refused is.front in
+    let chain = chain_bytes_are ipv6 read.0.next_header.0 is.cut.payload is.chain is.refused is.is_chain in
     subst (λ (l : LaxIp Ipv6Header). NetBytes bytes (ipv6_layer l.packet)) (sym is.is) (record {
       header = ipv6_bytes read.0 ++ chain.0;
       left = is.cut.left;
@@ -222,13 +222,13 @@ tag_bytes outer type bytes (vlan tag payload, incomplete) is = record {
   parts = is.1.parts;
 }
 tag_bytes outer type bytes (macsec tag payload, incomplete) (of_type, (cut, is, payload_is, missing)) = record {
-  tag = is.stands.encoded;
+  tag = is.header.encoded;
   left = cut.left;
-  encodes = is.stands.encodes;
-  parts = is.stands.parts ∙ ap (λ (x : List ℕ). is.stands.encoded ++ x) (is.cut.parts
+  encodes = is.header.encodes;
+  parts = is.header.parts ∙ ap (λ (x : List ℕ). is.header.encoded ++ x) (is.cut.parts
       ∙ ap (λ (x : List ℕ). x ++ cut.left)
       (sym (ap macsec_payload_bytes payload_is ∙ payload_by_is tag.ptype cut.source cut.payload)))
-      ∙ sym (append_assoc is.stands.encoded (macsec_payload_bytes payload) cut.left);
+      ∙ sym (append_assoc is.header.encoded (macsec_payload_bytes payload) cut.left);
 }
 
 extensions_in_order : (room offset : ℕ) (outer : Bool) (type : Option EtherType) (bytes : List ℕ)

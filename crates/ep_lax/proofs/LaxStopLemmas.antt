@@ -27,7 +27,7 @@ use Rattle.ep_base.proofs.MissingLemmas.{first_row-either}
 use Rattle.ep_base.proofs.TableLemmas.{refusal_is}
 use Rattle.ep_ext.specs.Chains.{IpVersion, ipv4, ipv6, ExtensionChain, RefusesExtensionChain, chain_fragments}
 use Rattle.ep_ext.specs.ExtensionParts.{auth_refusal}
-use Rattle.ep_ext.specs.FrontChains.{IsLaxChain}
+use Rattle.ep_ext.specs.ChainPrefixes.{IsLaxChain}
 use Rattle.ep_ext.proofs.ChainLemmas.{chain_decided, refused_no_chain}
 use Rattle.ep_ext.proofs.FrontLemmas.{front_is_one}
 use Rattle.ep_ext.proofs.HeaderLawLemmas.{header_laws}
@@ -183,7 +183,7 @@ ipv4_chain_stops offset bytes fits cut is error refused =
             chain = front.0;
             refused = Some why;
             cuts = read.1;
-            front = front.1;
+            is_chain = front.1;
             is = refl;
           },
         ),
@@ -217,7 +217,7 @@ ipv6_chain_stops offset bytes fits cut is error refused =
             chain = front.0;
             refused = Some why;
             cuts = read.1.1;
-            front = front.1;
+            is_chain = front.1;
             is = refl;
           },
         ),

@@ -79,15 +79,15 @@ pub udp_read_laxly : (number : ℕ) (fragmented : Bool) (bytes : List ℕ) (oute
     → IsReadLaxly number fragmented bytes outer (Some (slice.Udp datagram))
 udp_read_laxly number fragmented bytes outer datagram cut whole is_udp is payload_is =
     let udp = udp_slice_header datagram in
-    let there = 8 + length is.behind in
+    let there = 8 + length is.rest in
     let missing = is_missing 8 udp.length outer there in
     let in_outer : LaxCut = record cut { incomplete = missing } in
-    let cuts_so : IsLaxCut 8 udp.length source.UdpHeaderLen outer 8 is.behind in_outer =
+    let cuts_so : IsLaxCut 8 udp.length source.UdpHeaderLen outer 8 is.rest in_outer =
     record { parts = is.cut.parts; ends = is.cut.ends; source = is.cut.source; incomplete = refl } in
     let same : is_missing 8 udp.length outer (8 + length (udp_slice_payload datagram)) ≡ missing =
     ap (λ (p : List ℕ). is_missing 8 udp.length outer (8 + length p)) payload_is
     ∙ missing_shown 8 udp.length outer there (8 + length cut.payload) is.cut.ends in (
-      Some (transport_layer (header.Udp udp) is.behind),
-      (whole, (is_udp, is.stands)),
+      Some (transport_layer (header.Udp udp) is.rest),
+      (whole, (is_udp, is.header)),
       (in_outer, cuts_so, λ i. layer_cut (header.Udp udp) (payload_is i) (same i)),
     )

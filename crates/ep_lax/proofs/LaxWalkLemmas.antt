@@ -75,9 +75,9 @@ lax_extension_len outer type bytes (macsec tag payload, incomplete) is =
     ap macsec_payload_bytes is.1.2 ∙ payload_by_is tag.ptype cut.source cut.payload in
     omega (
       arith,
-      ap length packet.stands.parts,
-      length-append packet.stands.encoded packet.behind,
-      macsec_encoded_len packet.stands.encoded tag packet.stands.encodes,
+      ap length packet.header.parts,
+      length-append packet.header.encoded packet.after_tag,
+      macsec_encoded_len packet.header.encoded tag packet.header.encodes,
       ap length packet.cut.parts,
       length-append cut.payload cut.left,
       ap length shown,

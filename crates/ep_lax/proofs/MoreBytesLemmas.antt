@@ -145,14 +145,15 @@ extension_more outer inner type bytes more (macsec tag payload, incomplete) is =
     let cut = is.1.0 in
     let packet = is.1.1 in
     let len = macsec_header_len tag in
-    let stands : IsMacsecHeader (bytes ++ more) (tag, packet.behind ++ more) = record {
-      encoded = packet.stands.encoded;
-      encodes = packet.stands.encodes;
-      parts = parts_more bytes packet.stands.encoded packet.behind more packet.stands.parts;
+    let header_is : IsMacsecHeader (bytes ++ more) (tag, packet.after_tag ++ more) = record {
+      encoded = packet.header.encoded;
+      encodes = packet.header.encodes;
+      parts = parts_more bytes packet.header.encoded packet.after_tag more packet.header.parts;
     } in
-    let longer = lax_cut_is_one len (macsec_stated_len tag) source.MacsecShortLength inner len (packet.behind ++ more)
+    let longer = lax_cut_is_one len (macsec_stated_len tag) source.MacsecShortLength inner len
+    (packet.after_tag ++ more)
     (omega arith) in
-    let rest = cut_more len (macsec_stated_len tag) source.MacsecShortLength outer inner len packet.behind more cut
+    let rest = cut_more len (macsec_stated_len tag) source.MacsecShortLength outer inner len packet.after_tag more cut
     longer.value packet.cut longer.is in
     let shown = ap macsec_payload_bytes is.1.2 ∙ payload_by_is tag.ptype cut.source cut.payload in
     let read = lax_macsec_payload tag longer.value in
@@ -162,7 +163,7 @@ extension_more outer inner type bytes more (macsec tag payload, incomplete) is =
         is.0,
         (
           longer.value,
-          record { behind = packet.behind ++ more; stands = stands; cut = longer.is },
+          record { after_tag = packet.after_tag ++ more; header = header_is; cut = longer.is },
           refl,
           refl,
         ),

@@ -14,7 +14,7 @@ use Rattle.ep_base.specs.declared.len_source.LenSource.TheVariants as source
 use Rattle.ep_base.proofs.LaxCutLemmas.{cuts_not, cuts_there, lax_cut_is_one}
 use Rattle.ep_ext.specs.Chains.{IpVersion, ipv4, ipv6, ExtensionChain, chain_of, chain_fragments, demand_of, takes, IsChainAfter, RefusesChainAfter}
 use Rattle.ep_ext.specs.ExtensionParts.{ExtensionPart, hop_by_hop, destination_options, routing, fragment, authentication, part_len, part_next, IsExtensionPart}
-use Rattle.ep_ext.specs.FrontChains.{BeginWithParts, IsLaxChain}
+use Rattle.ep_ext.specs.ChainPrefixes.{BeginWithParts, IsLaxChain}
 use Rattle.ep_ext.specs.RawExtension.{raw_extension_bytes}
 use Rattle.ep_ext.proofs.ChainLemmas.{behind_decided}
 use Rattle.ep_ext.proofs.HeaderLawLemmas.{header_laws}
@@ -384,7 +384,7 @@ ipv4_behind : (outer : Bool) (read : Ipv4Header × List ℕ) (cut : LaxCut) (cha
     → IsLaxIpv4After outer read
     (lax_ip_of read.0 (ipv4_header_len read.0) (is_ipv4_fragment read.0) cut.source cut chain refused)
 ipv4_behind outer read cut chain refused cuts front =
-    record { cut = cut; chain = chain; refused = refused; cuts = cuts; front = front; is = refl }
+    record { cut = cut; chain = chain; refused = refused; cuts = cuts; is_chain = front; is = refl }
 
 pub ipv4_more : (offset place : ℕ) (outer inner : Bool) (bytes more : List ℕ) (net : LaxNet)
     → AreBytes (bytes ++ more) → IsIpv4Net offset outer bytes net → MoreNet (IsIpv4Net place inner (bytes ++ more)) net
@@ -406,7 +406,7 @@ ipv4_more offset place outer inner bytes more net fits is =
     let layer = subst (λ (lax : LaxIp Ipv4Header). IsIpLayer ipv4 ipv4_layer offset lax net) behind.is is.2 in
     let found = packet_more ipv4 ipv4_layer ipv4_heads offset place header len header.protocol.0
     (λ (parts : List ExtensionPart). is_ipv4_fragment header) behind.cut.source cut.value.source behind.cut cut.value
-    rest.0 rest.1 payload behind.chain behind.refused behind.front net layer in
+    rest.0 rest.1 payload behind.chain behind.refused behind.is_chain net layer in
     record {
       read = found.more.read;
       is = (
@@ -425,7 +425,7 @@ ipv6_behind : (outer : Bool) (read : Ipv6Header × List ℕ) (cut : LaxCut) (cha
     → IsLaxIpv6After outer read
     (lax_ip_of read.0 40 (chain_fragments chain.parts) (lax_ipv6_source read.0 cut) cut chain refused)
 ipv6_behind outer read cut chain refused cuts front =
-    record { cut = cut; chain = chain; refused = refused; cuts = cuts; front = front; is = refl }
+    record { cut = cut; chain = chain; refused = refused; cuts = cuts; is_chain = front; is = refl }
 
 pub ipv6_more : (offset place : ℕ) (outer inner : Bool) (bytes more : List ℕ) (net : LaxNet)
     → AreBytes (bytes ++ more) → IsIpv6Net offset outer bytes net → MoreNet (IsIpv6Net place inner (bytes ++ more)) net
@@ -446,7 +446,7 @@ ipv6_more offset place outer inner bytes more net fits is =
     let layer = subst (λ (lax : LaxIp Ipv6Header). IsIpLayer ipv6 ipv6_layer offset lax net) behind.is is.2 in
     let found = packet_more ipv6 ipv6_layer ipv6_heads offset place header 40 header.next_header.0 chain_fragments
     (lax_ipv6_source header behind.cut) (lax_ipv6_source header cut.value) behind.cut cut.value rest.0 rest.1 payload
-    behind.chain behind.refused behind.front net layer in
+    behind.chain behind.refused behind.is_chain net layer in
     record {
       read = found.more.read;
       is = (

@@ -139,7 +139,7 @@ ipv4_is_whole bytes packet is =
         chain = chain_of packet.extensions packet.payload.number packet.payload.bytes;
         refused = None;
         cuts = read.1;
-        front = is.chain;
+        is_chain = is.chain;
         is = λ i. record {
           packet = record packet {
             payload = record packet.payload { fragmented = is.fragmented i; source = is.source i };
@@ -224,7 +224,7 @@ ipv6_is_whole bytes packet is =
         chain = chain_of packet.extensions packet.payload.number packet.payload.bytes;
         refused = None;
         cuts = read.1.1;
-        front = is.chain;
+        is_chain = is.chain;
         is = λ i. record {
           packet = record packet {
             payload = record packet.payload { fragmented = is.fragmented i; source = end i };
@@ -371,8 +371,8 @@ extension_is_whole type bytes (macsec tag payload) left is =
             (
               cut,
               record {
-                behind = inside ++ left;
-                stands = stands;
+                after_tag = inside ++ left;
+                header = stands;
                 cut = cut_there n (macsec_stated_len tag) source.MacsecShortLength false n inside left
                     (omega (arith, stated, some.1)) (omega (arith, stated, some.1, length-append inside left))
                     (omega (arith, stated, some.1));
@@ -392,8 +392,8 @@ extension_is_whole type bytes (macsec tag payload) left is =
             (
               cut,
               record {
-                behind = inside ++ left;
-                stands = stands;
+                after_tag = inside ++ left;
+                header = stands;
                 cut = cut_nowhere n (macsec_stated_len tag) source.MacsecShortLength false n inside left
                     (inl (omega (arith, stated))) (ap length none.1);
               },

@@ -145,15 +145,15 @@ RefusesLaxExtension offset type bytes error =
 -- The layers in bytes with this ether type: a limited number of link extensions, up to the first invalid one, and the
 -- network layer after them with the layers in it.
 abbrev pub IsLaxInside : ℕ → ℕ → Bool → Option EtherType → List ℕ → List (LinkExtension × Bool) → LaxNet → Type 0
-IsLaxInside room offset outer None bytes extensions net = (extensions ≡ []) × (net ≡ no_net outer None)
+IsLaxInside exts_left offset outer None bytes extensions net = (extensions ≡ []) × (net ≡ no_net outer None)
 IsLaxInside zero offset outer (Some type) bytes [] net = IsLaxNet offset outer (net_kind type) bytes net
-IsLaxInside (suc room) offset outer (Some type) bytes [] net =
+IsLaxInside (suc exts_left) offset outer (Some type) bytes [] net =
     ((¬ BeginsLinkExtension type) × IsLaxNet offset outer (net_kind type) bytes net)
     ⊎ ((error : SliceError) × RefusesLaxExtension offset type bytes error × IsNoNet outer net error)
 IsLaxInside zero offset outer (Some type) bytes (extension ∷ others) net = ⊥
-IsLaxInside (suc room) offset outer (Some type) bytes (extension ∷ others) net =
+IsLaxInside (suc exts_left) offset outer (Some type) bytes (extension ∷ others) net =
     IsLaxExtension outer type bytes extension
-    × IsLaxInside room (offset + link_ext_header_len (extension_header extension.0)) extension.1
+    × IsLaxInside exts_left (offset + link_ext_header_len (extension_header extension.0)) extension.1
     (extension_type extension.0) (extension_payload extension.0) others net
 
 -- ---- complete packets

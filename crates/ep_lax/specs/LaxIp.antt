@@ -10,7 +10,7 @@ use Rattle.ep_base.specs.declared.len_source.LenSource.TheVariants as source
 use Rattle.ep_base.specs.declared.err.ipv6_exts.HeaderSliceError.{HeaderSliceError}
 use Rattle.ep_base.specs.declared.err.ipv6_exts.HeaderSliceError.TheVariants as header_error
 use Rattle.ep_ext.specs.Chains.{ipv4, ipv6, ExtensionChain, chain_fragments}
-use Rattle.ep_ext.specs.FrontChains.{IsLaxChain}
+use Rattle.ep_ext.specs.ChainPrefixes.{IsLaxChain}
 use Rattle.ep_ip.specs.declared.ipv4_header.Ipv4Header.{Ipv4Header}
 use Rattle.ep_ip.specs.declared.ipv6_header.Ipv6Header.{Ipv6Header}
 use Rattle.ep_ip.specs.IpPackets.{IpPacket}
@@ -50,7 +50,7 @@ pub record IsLaxIpv4After (outer : Bool) (read : Ipv4Header × List ℕ) (lax : 
   pub refused : Option HeaderSliceError
   pub cuts : IsLaxCut (ipv4_header_len read.0) read.0.total_len source.Ipv4HeaderTotalLen outer
       (ipv4_header_len read.0) read.1 cut
-  pub front : IsLaxChain ipv4 read.0.protocol.0 cut.payload chain refused
+  pub is_chain : IsLaxChain ipv4 read.0.protocol.0 cut.payload chain refused
   pub is : lax
       ≡ lax_ip_of read.0 (ipv4_header_len read.0) (is_ipv4_fragment read.0) cut.source cut chain refused
 
@@ -70,7 +70,7 @@ pub record IsLaxIpv6After (outer : Bool) (read : Ipv6Header × List ℕ) (lax : 
   pub chain : ExtensionChain
   pub refused : Option HeaderSliceError
   pub cuts : IsLaxCut 41 (40 + read.0.payload_length) source.Ipv6HeaderPayloadLen outer 40 read.1 cut
-  pub front : IsLaxChain ipv6 read.0.next_header.0 cut.payload chain refused
+  pub is_chain : IsLaxChain ipv6 read.0.next_header.0 cut.payload chain refused
   pub is : lax ≡ lax_ip_of read.0 40 (chain_fragments chain.parts) (lax_ipv6_source read.0 cut) cut chain refused
 
 -- The bytes begin with an IPv6 header and are this packet.

@@ -13,10 +13,10 @@ macsec_stated_len tag = if tag.short_len == 0 then 0 else 6 + sci_len tag.sci + 
 -- The bytes begin with a tag, followed by a payload, limited by the short length if the field applies, and trailing
 -- bytes. `outer` is true if the enclosing layer is incomplete.
 pub record IsLaxMacsec (outer : Bool) (bytes : List ℕ) (read : MacsecHeader × LaxCut) : Type 0 where
-  pub behind : List ℕ
-  pub stands : IsMacsecHeader bytes (read.0, behind)
+  pub after_tag : List ℕ
+  pub header : IsMacsecHeader bytes (read.0, after_tag)
   pub cut : IsLaxCut (macsec_header_len read.0) (macsec_stated_len read.0) source.MacsecShortLength outer
-      (macsec_header_len read.0) behind read.1
+      (macsec_header_len read.0) after_tag read.1
 
 -- The payload of a tag, limited like this.
 abbrev pub lax_macsec_payload : MacsecHeader → LaxCut → MacsecPayload

@@ -33,8 +33,8 @@ lax_ether_payload_of slice = record {
 }
 
 -- The payload of a link layer; no field states that bytes of it are missing.
-abbrev pub whole_payload : EtherPayload → LaxEtherPayload
-whole_payload payload = record {
+abbrev pub complete_payload : EtherPayload → LaxEtherPayload
+complete_payload payload = record {
   ether_type = payload.ether_type;
   len_source = payload.len_source;
   bytes = payload.bytes;
@@ -73,7 +73,7 @@ payload_of_tagged end tagged = option_map (typed_payload end tagged) (extension_
 -- The payload of the last extension, or else of the link layer, if its ether type is known. With extensions, the source
 -- of the length is the short length of a MACsec tag that limits them, or else the end of the slice.
 abbrev pub lax_ether_payload_after : Option LinkLayer → List (LinkExtension × Bool) → Option LaxEtherPayload
-lax_ether_payload_after link [] = option_map whole_payload (option_and_then link_ether_payload link)
+lax_ether_payload_after link [] = option_map complete_payload (option_and_then link_ether_payload link)
 lax_ether_payload_after link (first ∷ others) =
     payload_of_tagged (source_after source.Slice (map extension_in (first ∷ others))) (last_after first others)
 

@@ -50,17 +50,17 @@ pub fn strict_frames()
 /// headers. One exception: an ICMPv4 timestamp message must have 20 bytes; if it is truncated to 20 but longer in the
 /// full packet, slicing of the full packet stops there.
 pub fn more_bytes()
-    ensures { (entry : Entry) (front back : List ℕ) (read : LaxLayers) → AreBytes (front ++ back)
-        → IsLax entry front read
-        → (longer : LaxLayers) × IsLax entry (front ++ back) longer
+    ensures { (entry : Entry) (prefix rest : List ℕ) (read : LaxLayers) → AreBytes (prefix ++ rest)
+        → IsLax entry prefix read
+        → (longer : LaxLayers) × IsLax entry (prefix ++ rest) longer
         × ShowsPrefix (shown_headers read) read.net.inside.stop (shown_headers longer) longer.net.inside.stop }
 {}
 
 /// States that if a packet that strict slicing accepts is truncated, and lax slicing accepts the truncated packet, it
 /// finds the first headers of the full packet. It finds all of them unless it stops at an error.
 pub fn prefix_shows_headers()
-    ensures { (entry : Entry) (front back : List ℕ) (layers : Layers) (read : LaxLayers) → AreBytes (front ++ back)
-        → IsFrame entry (front ++ back) layers → IsLax entry front read
+    ensures { (entry : Entry) (prefix rest : List ℕ) (layers : Layers) (read : LaxLayers) → AreBytes (prefix ++ rest)
+        → IsFrame entry (prefix ++ rest) layers → IsLax entry prefix read
         → AreFirst (shown_headers read) read.net.inside.stop (frame_headers layers) }
 {}
 
@@ -82,7 +82,7 @@ pub fn stops()
         → RefusesLax entry bytes error ⊎ StopsFor entry bytes error }
     ensures first { (entry : Entry) (bytes : List ℕ) (error : SliceError) → RefusesLax entry bytes error
         → RefusesFrame entry bytes error × (is_by_length error ≡ false) }
-    ensures behind { (entry : Entry) (bytes : List ℕ) → AreBytes bytes → (read : LaxLayers) → IsLax entry bytes read
+    ensures stop { (entry : Entry) (bytes : List ℕ) → AreBytes bytes → (read : LaxLayers) → IsLax entry bytes read
         → (stop : SliceError × Layer) → read.net.inside.stop ≡ Some stop → IsStrictStop entry bytes stop }
 {}
 

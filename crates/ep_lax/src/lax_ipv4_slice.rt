@@ -79,7 +79,7 @@ impl<'a> LaxIpv4Slice<'a> {
             header.protocol(),
             content.payload,
         );
-        let stop = after_header(refused, header_len, content.len_source);
+        let stop = error_in_packet(refused, header_len, content.len_source);
         let payload = LaxIpPayloadSlice {
             incomplete: content.incomplete,
             ip_number,
@@ -167,7 +167,7 @@ impl<'a> LaxIpv4Slice<'a> {
 /// Converts the error of an authentication header, if any, into an error of its IPv4 packet. In a length error, the
 /// length of the IPv4 header is added to the offset, and `len_source` replaces the end of the slice as the limit.
 #[inline]
-fn after_header(
+fn error_in_packet(
     refused: Option<ip_auth::HeaderSliceError>,
     header_len: usize,
     len_source: LenSource,

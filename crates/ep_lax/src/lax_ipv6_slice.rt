@@ -57,7 +57,7 @@ impl<'a> LaxIpv6Slice<'a> {
     ghost use Rattle.ep_base.specs.declared.err.ipv6_exts.HeaderSliceError.{HeaderSliceError};
     ghost use Rattle.ep_base.specs.LaxCut.{LaxCut};
     ghost use Rattle.ep_ext.specs.Chains.{offset_of};
-    ghost use Rattle.ep_ext.specs.FrontChains.{chain_stop};
+    ghost use Rattle.ep_ext.specs.ChainPrefixes.{chain_stop};
     ghost use Rattle.ep_ext.specs.Ipv6ExtensionSlices.{ipv6_slice_parts as extension_parts, ipv6_slice_bytes as extension_bytes};
     ghost use Rattle.ep_ip.specs.declared.ipv6_header.Ipv6Header.{Ipv6Header};
     ghost use Rattle.ep_ip.specs.Ipv6.{RefusesIpv6Header};
@@ -111,7 +111,7 @@ impl<'a> LaxIpv6Slice<'a> {
             header.next_header(),
             content.payload,
         );
-        let stop = LaxIpv6Slice::after_header(refused, Ipv6Header::LEN, len_source);
+        let stop = LaxIpv6Slice::error_in_packet(refused, Ipv6Header::LEN, len_source);
         let payload = LaxIpPayloadSlice {
             incomplete: content.incomplete,
             ip_number,
@@ -212,7 +212,7 @@ impl<'a> LaxIpv6Slice<'a> {
     /// In a length error, the length of the IPv6 header is added to the offset, and `len_source` replaces the end of
     /// the slice as the limit.
     #[inline]
-    fn after_header(
+    fn error_in_packet(
         refused: Option<(ipv6_exts::HeaderSliceError, Layer)>,
         header_len: usize,
         len_source: LenSource,

@@ -66,7 +66,7 @@ impl<'a> LaxMacsecSlice<'a> {
         Ok(LaxMacsecSlice { header, payload })
     }
 
-    /// Length of the MACsec tag in bytes, with the ether type after it, if the payload is unmodified.
+    /// Length of the MACsec tag in bytes, including the ether type if the payload is unmodified.
     #[inline]
     pub fn header_len(&self) -> usize
         ensures { result ≡ macsec_header_len (lax_macsec_slice_header self.now) }

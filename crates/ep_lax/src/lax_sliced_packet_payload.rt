@@ -186,8 +186,8 @@ impl<'a> LaxSlicedPacket<'a> {
         };
         match &self.transport {
             Some(TransportSlice::Udp(datagram)) => {
-                let there = datagram.header_len() + datagram.payload().len();
-                is_missing(datagram.length() as usize, there, outer)
+                let available = datagram.header_len() + datagram.payload().len();
+                is_missing(datagram.length() as usize, available, outer)
             }
             _ => outer,
         }
@@ -264,13 +264,13 @@ fn transport_len(transport: &Option<TransportSlice<'_>>) -> usize
     }
 }
 
-/// Returns true if bytes of a UDP payload are missing. `stated` is the UDP length field, `there` the number of available
-/// bytes with the UDP header, and `outer` is true if bytes of the IP payload are missing.
-fn is_missing(stated: usize, there: usize, outer: bool) -> bool
-    ensures { result ≡ is_missing 8 stated outer there }
+/// Returns true if bytes of a UDP payload are missing. `stated` is the UDP length field, `available` the number of
+/// available bytes with the UDP header, and `outer` is true if bytes of the IP payload are missing.
+fn is_missing(stated: usize, available: usize, outer: bool) -> bool
+    ensures { result ≡ is_missing 8 stated outer available }
 {
-    if 8 <= stated && stated <= there {
+    if 8 <= stated && stated <= available {
         return false;
     }
-    outer || there < stated
+    outer || available < stated
 }

@@ -10,7 +10,7 @@ ghost use Rattle.ep_base.specs.declared.err.ip.LaxHeaderSliceError.TheVariants a
 ghost use Rattle.ep_base.specs.declared.err.ipv6_exts.HeaderSliceError.{HeaderSliceError};
 ghost use Rattle.ep_ext.specs.Chains.{offset_of};
 ghost use Rattle.ep_ext.specs.ExtensionParts.{auth_refusal};
-ghost use Rattle.ep_ext.specs.FrontChains.{chain_stop};
+ghost use Rattle.ep_ext.specs.ChainPrefixes.{chain_stop};
 ghost use Rattle.ep_packet.specs.Frame.{only_ipv4, only_ipv6, only_arp, any_ip};
 ghost use Rattle.ep_packet.specs.Walk.{net_kind_in};
 ghost use Rattle.ep_lax.specs.Lax.{IsIpv4Net, IsIpv6Net};

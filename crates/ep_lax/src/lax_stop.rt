@@ -5,7 +5,7 @@ ghost use Rattle.std.specs.Option.{ForSome, option_map};
 ghost use Rattle.ep_base.specs.declared.err.ipv6_exts.HeaderSliceError.{HeaderSliceError};
 ghost use Rattle.ep_ext.specs.Chains.{ipv4, ipv6, offset_of};
 ghost use Rattle.ep_ext.specs.ExtensionParts.{auth_refusal};
-ghost use Rattle.ep_ext.specs.FrontChains.{chain_stop};
+ghost use Rattle.ep_ext.specs.ChainPrefixes.{chain_stop};
 ghost use Rattle.ep_packet.specs.FrameRefusals.{extension_refusal};
 ghost use Rattle.ep_lax.specs.Lax.{chain_refusal};
 ghost use Rattle.ep_lax.specs.LaxLayers.{stop_layer, error_with_layer};

@@ -16,7 +16,7 @@ use Rattle.ep_base.specs.declared.err.linux_sll.HeaderSliceError.TheVariants as 
 use Rattle.ep_base.specs.declared.err.macsec.HeaderSliceError.{HeaderSliceError as MacsecError}
 use Rattle.ep_base.specs.declared.err.macsec.HeaderSliceError.TheVariants as macsec_error
 use Rattle.ep_link.specs.declared.link_ext.single_vlan_header.SingleVlanHeader.{SingleVlanHeader}
-use Rattle.ep_link.specs.Arp.{IsArp, RefusesArp, arp_cut_limit, arp_len_of, arp_rows}
+use Rattle.ep_link.specs.Arp.{IsArp, RefusesArp, arp_truncation_limit, arp_len_of, arp_rows}
 use Rattle.ep_link.specs.Ethernet2.{IsEthernet2, RefusesEthernet2, ethernet2_rows}
 use Rattle.ep_link.specs.LinkExtensions.{IsLinkExtension, RefusesLinkExtension, macsec, vlan}
 use Rattle.ep_link.specs.LinuxSll.{IsLinuxSll, RefusesLinuxSll, knows_hardware, linux_sll_rows}
@@ -75,7 +75,8 @@ behind_lengths : (n : ℕ) → nat_lt n 8 ≡ false
 behind_lengths n there = grind (arith, common_steps)
 
 abbrev ArpCut : List ℕ → List ℕ → LenError → Type 0
-ArpCut front back = IsTruncationError (λ (e : LenError). e) (arp_cut_limit 0) (length front) (length (front ++ back))
+ArpCut front back =
+    IsTruncationError (λ (e : LenError). e) (arp_truncation_limit 0) (length front) (length (front ++ back))
 
 arp_len_beside : (front back : List ℕ) → nat_lt (length front) 8 ≡ false → arp_len_of front ≡ arp_len_of (front ++ back)
 arp_len_beside front back long =
@@ -84,16 +85,17 @@ arp_len_beside front back long =
     let protocol = byte_beside front back 5 (omega (arith, there)) in
     omega (arith, hw, protocol)
 
-pub arp_cut : ReportsTruncation IsArp RefusesArp (λ (error : LenError). error) (λ read. arp_cut_limit 0)
+pub arp_cut : ReportsTruncation IsArp RefusesArp (λ (error : LenError). error) (λ read. arp_truncation_limit 0)
 arp_cut front back fits read is error refused =
     refused_beside (ArpCut front back) (arp_rows front) (arp_rows (front ++ back))
     (λ long. (
       λ short.
-          cut_row (λ (e : LenError). e) (arp_cut_limit 0) front back 8 8 source.Slice layer.Arp
+          cut_row (λ (e : LenError). e) (arp_truncation_limit 0) front back 8 8 source.Slice layer.Arp
           (before_lengths (length front) short) refl long short,
       λ there.
           λ whole. (
-            cut_row (λ (e : LenError). e) (arp_cut_limit 0) front back (arp_len_of front) (arp_len_of (front ++ back))
+            cut_row (λ (e : LenError). e) (arp_truncation_limit 0) front back (arp_len_of front)
+                (arp_len_of (front ++ back))
                 source.ArpAddrLengths layer.Arp (behind_lengths (length front) there) (arp_len_beside front back there)
                 whole,
             λ last. tt,

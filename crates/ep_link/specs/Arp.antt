@@ -82,8 +82,8 @@ RefusesArp bytes = Refuses (arp_rows bytes)
 
 -- The length source of an error for truncated bytes: the address lengths if the error is of the ARP packet at offset
 -- `start` and at least 8 bytes of the packet are available, and the end of the slice otherwise.
-abbrev pub arp_cut_limit : ℕ → LenError → LenSource
-arp_cut_limit start error =
+abbrev pub arp_truncation_limit : ℕ → LenError → LenSource
+arp_truncation_limit start error =
     if (error.layer_start_offset == start) && nat_le 8 error.len then source.ArpAddrLengths else source.Slice
 
 -- The packet at the start of the bytes.

@@ -11,7 +11,7 @@ ghost use Rattle.ep_base.specs.declared.err.macsec.HeaderSliceError.TheVariants 
 ghost use Rattle.ep_base.specs.Tables.{IsDecided};
 ghost use Rattle.ep_base.specs.declared.ether_type.EtherType.{EtherType};
 ghost use Rattle.ep_base.specs.declared.err.macsec.HeaderSliceError.{HeaderSliceError};
-ghost use Rattle.ep_link.specs.Arp.{IsArp, RefusesArp, arp_cut_limit};
+ghost use Rattle.ep_link.specs.Arp.{IsArp, RefusesArp, arp_truncation_limit};
 ghost use Rattle.ep_link.specs.Ethernet2.{IsEthernet2, RefusesEthernet2};
 ghost use Rattle.ep_link.specs.LinuxSll.{IsLinuxSll, RefusesLinuxSll};
 ghost use Rattle.ep_link.specs.LinkExtensions.{BeginsLinkExtension, EncodesTag, IsLinkExtension, LinkExtension};
@@ -136,7 +136,7 @@ pub fn truncation()
     ensures vlan { ReportsTruncation IsVlan RefusesVlan (λ (error : LenError). error) (λ tagged. slice_end) }
     ensures macsec_header { ReportsTruncation IsMacsecHeader RefusesMacsecHeader macsec_error.Len (λ read. slice_end) }
     ensures macsec { ReportsTruncation IsMacsec RefusesMacsec macsec_error.Len (λ packet. slice_end) }
-    ensures arp { ReportsTruncation IsArp RefusesArp (λ (error : LenError). error) (λ read. arp_cut_limit 0) }
+    ensures arp { ReportsTruncation IsArp RefusesArp (λ (error : LenError). error) (λ read. arp_truncation_limit 0) }
     ensures link_extension { (type : EtherType)
         → ReportsTruncation (IsLinkExtension type) (RefusesLinkExtension type) macsec_error.Len (λ part. slice_end) }
 {}

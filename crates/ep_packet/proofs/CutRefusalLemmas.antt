@@ -22,7 +22,7 @@ use Rattle.ep_base.specs.declared.err.macsec.HeaderSliceError.TheVariants as ext
 use Rattle.ep_link.specs.declared.link.ethernet2_header.Ethernet2Header.{Ethernet2Header}
 use Rattle.ep_link.specs.declared.link.linux_sll_header.LinuxSllHeader.{LinuxSllHeader}
 use Rattle.ep_link.specs.declared.link_ext.link_ext_header.LinkExtHeader.{LinkExtHeader}
-use Rattle.ep_link.specs.Arp.{arp_cut_limit}
+use Rattle.ep_link.specs.Arp.{arp_truncation_limit}
 use Rattle.ep_link.specs.Ethernet2.{ethernet2_bytes, ethernet2_header_len}
 use Rattle.ep_link.specs.LinuxSll.{linux_sll_bytes, linux_sll_header_len, protocol_ether_type}
 use Rattle.ep_link.specs.LinkExtensions.{IsLinkExtension, LinkExtension, extension_header, extension_payload, extension_type, link_ext_header_len, macsec, vlan}
@@ -32,8 +32,8 @@ use Rattle.ep_link.proofs.LinkExtensionLemmas.{extension_len}
 use Rattle.ep_ip.specs.declared.ipv4_header.Ipv4Header.{Ipv4Header}
 use Rattle.ep_ip.specs.declared.ipv6_header.Ipv6Header.{Ipv6Header}
 use Rattle.ep_ip.specs.IpBytes.{ipv4_headers_len, ipv6_headers_len}
-use Rattle.ep_ip.specs.Ipv6.{ipv6_bytes, ipv6_cut_limit}
-use Rattle.ep_ip.specs.IpPackets.{IpPacket, IpPart, IsIpv6, ip_cut_limit, ipv4_part, ipv6_part}
+use Rattle.ep_ip.specs.Ipv6.{ipv6_bytes, ipv6_truncation_limit}
+use Rattle.ep_ip.specs.IpPackets.{IpPacket, IpPart, IsIpv6, ip_truncation_limit, ipv4_part, ipv6_part}
 use Rattle.ep_ip.proofs.CutRefusalLemmas.{ip_cut, ipv4_cut, ipv6_cut, longer_ipv4, longer_ipv6, open_limit, with_left, with_more}
 use Rattle.ep_ip.proofs.IpBytesLemmas.{ipv6_len, ipv6_packet_bytes}
 use Rattle.ep_transport.specs.TransportParts.{TransportLayer}
@@ -43,7 +43,7 @@ use Rattle.ep_packet.specs.declared.entry.Entry.{Entry}
 use Rattle.ep_packet.specs.declared.entry.Entry.TheVariants.{Ethernet as ethernet, LinuxSll as linux_sll, EtherType as ether_type, Ip as ip}
 use Rattle.ep_packet.specs.declared.err.slice_error.SliceError.{SliceError}
 use Rattle.ep_packet.specs.declared.err.slice_error.SliceError.TheVariants as slice_error
-use Rattle.ep_packet.specs.FrameCuts.{frame_cut_limit, net_cut_limit, net_start}
+use Rattle.ep_packet.specs.FrameCuts.{frame_truncation_limit, net_truncation_limit, net_start}
 use Rattle.ep_packet.specs.Layers.{NetLayer, arp, ip_layer, ipv4, ipv4_layer, ipv6, ipv6_layer, net_payload}
 use Rattle.ep_packet.specs.Frame.{IsFrameIn, IsInside, IsNetLayer, IsNetPart, IsTransportAfterNet, NetKind, any_ip, most_link_exts, net_kind, only_arp, only_ipv4, only_ipv6}
 use Rattle.ep_packet.specs.FrameRefusals.{RefusesExtensionAt, RefusesFrameIn, RefusesInside, RefusesNetLayer, RefusesNetPart, RefusesTransportIn, extension_refusal, with_further_offset, ip_refusal, ipv4_refusal, ipv6_refusal, len_refusal, linux_sll_refusal, transport_refusal}
@@ -61,7 +61,7 @@ IsCut = IsTruncationError slice_error.Len
 -- The error of a truncated frame with this network layer at `start`, for a layer at `offset` with the bytes `front`.
 abbrev NetCut : Option NetLayer → ℕ → ℕ → List ℕ → List ℕ → SliceError → Type 0
 NetCut net start offset front back =
-    IsCut (net_cut_limit net start) (offset + length front) (offset + length (front ++ back))
+    IsCut (net_truncation_limit net start) (offset + length front) (offset + length (front ++ back))
 
 -- The error of a truncated layer, moved to its offset, is that of the truncated frame.
 placed : {E : Type 0} (named : LenError → E) (place : E → SliceError) (offset : ℕ)
@@ -80,14 +80,14 @@ placed named place offset limit in_frame places cut whole refusal is limits erro
 -- ---- network layer
 
 moved_ipv6 : (start : ℕ) (header : Ipv6Header) (missing : LenError)
-    → ipv6_cut_limit 0 header missing ≡ ipv6_cut_limit start header (with_further_offset start missing)
+    → ipv6_truncation_limit 0 header missing ≡ ipv6_truncation_limit start header (with_further_offset start missing)
 moved_ipv6 start header missing =
     let test : (missing.layer_start_offset == 40) ≡ (missing.layer_start_offset + start == start + 40) =
     grind (arith, common_steps) in
     ap (λ (b : Bool). if b && ((missing.len == 0) && (header.payload_length == 0)) then source.Ipv6HeaderPayloadLen
     else source.Slice) test
 
-moved_arp : (start : ℕ) (missing : LenError) → arp_cut_limit 0 missing ≡ arp_cut_limit start
+moved_arp : (start : ℕ) (missing : LenError) → arp_truncation_limit 0 missing ≡ arp_truncation_limit start
     (with_further_offset start missing)
 moved_arp start missing =
     let test : (missing.layer_start_offset == 0) ≡ (missing.layer_start_offset + start == start) =
@@ -95,7 +95,8 @@ moved_arp start missing =
     ap (λ (b : Bool). if b && nat_le 8 missing.len then source.ArpAddrLengths else source.Slice) test
 
 moved_ip : (start : ℕ) (part : IpPart) (missing : LenError)
-    → ip_cut_limit 0 part missing ≡ net_cut_limit (Some (ip_layer part)) start (with_further_offset start missing)
+    → ip_truncation_limit 0 part missing
+    ≡ net_truncation_limit (Some (ip_layer part)) start (with_further_offset start missing)
 moved_ip start (ipv4_part packet) missing = refl
 moved_ip start (ipv6_part packet) missing = moved_ipv6 start packet.header missing
 
@@ -105,25 +106,28 @@ layer_cut : (reading : Reading) (kind : NetKind) (start : ℕ) (front back : Lis
 layer_cut reading only_ipv4 start front back fits layer is error refused =
     let known = ipv4_cut reading front back fits is.0 is.1 refused.0 refused.1 in
     subst (λ (l : NetLayer). NetCut (Some l) start start front back error) (sym is.2)
-    (placed ipv4_error.Len (ipv4_refusal start) start slice_end (net_cut_limit (Some (ipv4_layer is.0)) start)
+    (placed ipv4_error.Len (ipv4_refusal start) start slice_end (net_truncation_limit (Some (ipv4_layer is.0)) start)
     (λ missing. refl) (length front) (length (front ++ back)) refused.0 known refl error refused.2)
 layer_cut reading only_ipv6 start front back fits layer is error refused =
     let known = ipv6_cut reading front back fits is.0 is.1 refused.0 refused.1 in
     subst (λ (l : NetLayer). NetCut (Some l) start start front back error) (sym is.2)
-    (placed ipv6_error.Len (ipv6_refusal start) start (ipv6_cut_limit 0 is.0.header)
-    (net_cut_limit (Some (ipv6_layer is.0)) start) (λ missing. refl) (length front) (length (front ++ back)) refused.0
+    (placed ipv6_error.Len (ipv6_refusal start) start (ipv6_truncation_limit 0 is.0.header)
+    (net_truncation_limit (Some (ipv6_layer is.0)) start) (λ missing. refl) (length front) (length (front ++ back))
+    refused.0
     known
     (moved_ipv6 start is.0.header known.missing) error refused.2)
 layer_cut reading only_arp start front back fits layer is error refused =
     let known = arp_cut front back fits is.0 is.1 refused.0 refused.1 in
     subst (λ (l : NetLayer). NetCut (Some l) start start front back error) (sym is.2)
-    (placed (λ (e : LenError). e) (len_refusal start) start (arp_cut_limit 0) (net_cut_limit (Some (arp is.0.0)) start)
+    (placed (λ (e : LenError). e) (len_refusal start) start (arp_truncation_limit 0)
+    (net_truncation_limit (Some (arp is.0.0)) start)
     (λ missing. refl) (length front) (length (front ++ back)) refused.0 known (moved_arp start known.missing) error
     refused.2)
 layer_cut reading any_ip start front back fits layer is error refused =
     let known = ip_cut reading front back fits is.0 is.1 refused.0 refused.1 in
     subst (λ (l : NetLayer). NetCut (Some l) start start front back error) (sym is.2)
-    (placed ip_error.Len (ip_refusal start) start (ip_cut_limit 0 is.0) (net_cut_limit (Some (ip_layer is.0)) start)
+    (placed ip_error.Len (ip_refusal start) start (ip_truncation_limit 0 is.0)
+    (net_truncation_limit (Some (ip_layer is.0)) start)
     (λ missing. refl) (length front) (length (front ++ back)) refused.0 known (moved_ip start is.0 known.missing) error
     refused.2)
 
@@ -205,7 +209,7 @@ open_after reading start front back fits transport packet is none nothing longer
     omega (arith, lens.by_payload, length-append payload back, length-append front back) in
     let extensions = headers - 40 in
     let behind : missing.layer_start_offset + extensions + missing.len ≡ length is.content =
-    omega (arith, known.short.there, lens.by_payload, lens.by_content) in
+    omega (arith, known.short.available, lens.by_payload, lens.by_content) in
     let place : missing.layer_start_offset + extensions + (start + 40) ≡ missing.layer_start_offset + offset =
     omega arith in
     record {
@@ -299,7 +303,7 @@ net_cut reading start (Some kind) front back fits net transport (layer, layer_is
 
 -- The limit of a layer before the network layer is the end of the slice.
 near_limit : (net : Option NetLayer) (start : ℕ) (missing : LenError) → missing.layer_start_offset < start
-    → source.Slice ≡ net_cut_limit net start missing
+    → source.Slice ≡ net_truncation_limit net start missing
 near_limit None start missing before = refl
 near_limit (Some (ipv4 header extensions payload)) start missing before = refl
 near_limit (Some (ipv6 header extensions payload)) start missing before =
@@ -323,7 +327,8 @@ tag_cut offset type front back fits part is net start before error refused =
     let known = extension_cut type front back fits part is refused.0 refused.1 in
     let at_start : known.missing.layer_start_offset ≡ 0 =
     subst ExtensionStart known.is (extension_at_start type front refused.0 refused.1) in
-    placed extension_error.Len (extension_refusal offset) offset slice_end (net_cut_limit net start) (λ missing. refl)
+    placed extension_error.Len (extension_refusal offset) offset slice_end (net_truncation_limit net start)
+    (λ missing. refl)
     (length front) (length (front ++ back)) refused.0 known
     (near_limit net start (with_further_offset offset known.missing) (omega (arith, at_start, before))) error refused.2
 
@@ -414,10 +419,10 @@ inside_cut reading (suc room) offset (Some type) front back fits (extension ∷ 
           let behind = inside_cut reading room (offset + header) (extension_type here) payload back payload_fits others
           net
           transport inside error refused in
-          let at_start = subst (λ (h : LinkExtHeader). IsCut (net_cut_limit net (net_start
+          let at_start = subst (λ (h : LinkExtHeader). IsCut (net_truncation_limit net (net_start
           (offset + link_ext_header_len h) others)) (offset + header + length payload)
           (offset + header + length (payload ++ back)) error) same_header behind in
-          let limit = net_cut_limit net (net_start offset (extension ∷ others)) in
+          let limit = net_truncation_limit net (net_start offset (extension ∷ others)) in
           subst (λ (n : ℕ). IsCut limit n (offset + length (front ++ back)) error) cut
           (subst (λ (n : ℕ). IsCut limit (offset + header + length payload) n error) whole at_start)
     ]
@@ -430,7 +435,7 @@ at_front : {E : Type 0} (named : LenError → E) (place : E → SliceError) (fro
     → (is : IsTruncationError named slice_end (length front) (length (front ++ back)) refusal)
     → is.missing.layer_start_offset ≡ 0 → (net : Option NetLayer) (start : ℕ) → 0 < start
     → (error : SliceError) → error ≡ place refusal
-    → IsCut (net_cut_limit net start) (length front) (length (front ++ back)) error
+    → IsCut (net_truncation_limit net start) (length front) (length (front ++ back)) error
 at_front named place front back refusal places is at_start net start behind error same = record {
   missing = is.missing;
   is = same ∙ ap place is.is ∙ places is.missing;
@@ -450,7 +455,8 @@ from_start limit header front payload back error len is =
     (subst (λ (n : ℕ). IsCut limit (header + length payload) n error) whole is)
 
 pub frame_cut : (reading : Reading) (entry : Entry)
-    → ReportsTruncation (IsFrameIn reading entry) (RefusesFrameIn reading entry) slice_error.Len (frame_cut_limit entry)
+    → ReportsTruncation (IsFrameIn reading entry) (RefusesFrameIn reading entry) slice_error.Len
+    (frame_truncation_limit entry)
 frame_cut reading ethernet front back fits layers is error (inl refused) =
     let known = ethernet2_cut front back fits is.0 is.1 refused.0 refused.1 in
     let at_start = ap (λ (e : LenError). e.layer_start_offset) (sym known.is) ∙ ethernet2_start front refused.0
@@ -468,7 +474,7 @@ frame_cut reading ethernet front back fits layers is error (inr (frame, frame_is
     let payload_fits = AreBytes-payload (front ++ back) (ethernet2_bytes frame.header) (frame.payload ++ back) [] fits
     stands.parts in
     let len = whole_len front (ethernet2_bytes frame.header) frame.payload frame.left frame_is.parts frame_is.cut in
-    from_start (frame_cut_limit ethernet layers) ethernet2_header_len front frame.payload back error
+    from_start (frame_truncation_limit ethernet layers) ethernet2_header_len front frame.payload back error
     (omega (arith, len, ethernet2_len frame.header frame_is.fits))
     (inside_cut reading most_link_exts ethernet2_header_len (Some frame.header.ether_type) frame.payload back
     payload_fits
@@ -489,17 +495,17 @@ frame_cut reading linux_sll front back fits layers is error (inr (frame, frame_i
     let payload_fits = AreBytes-payload (front ++ back) (linux_sll_bytes frame.header) (frame.payload ++ back) [] fits
     stands.parts in
     let len = whole_len front (linux_sll_bytes frame.header) frame.payload frame.left frame_is.parts frame_is.cut in
-    from_start (frame_cut_limit linux_sll layers) linux_sll_header_len front frame.payload back error
+    from_start (frame_truncation_limit linux_sll layers) linux_sll_header_len front frame.payload back error
     (omega (arith, len, linux_sll_len frame.header frame_is.fits))
     (inside_cut reading most_link_exts linux_sll_header_len (protocol_ether_type frame.header.protocol_type)
     frame.payload
     back payload_fits layers.link_exts layers.net layers.transport inside error refused)
 frame_cut reading (ether_type type) front back fits layers is error refused =
-    from_start (frame_cut_limit (ether_type type) layers) 0 front front back error (omega arith)
+    from_start (frame_truncation_limit (ether_type type) layers) 0 front front back error (omega arith)
     (inside_cut reading most_link_exts 0 (Some type) front back fits layers.link_exts layers.net layers.transport is.1
     error refused)
 frame_cut reading ip front back fits layers is error refused =
-    subst (λ (l : List LinkExtension). IsCut (net_cut_limit layers.net (net_start 0 l)) (length front)
+    subst (λ (l : List LinkExtension). IsCut (net_truncation_limit layers.net (net_start 0 l)) (length front)
     (length (front ++ back)) error) (sym is.1)
-    (from_start (net_cut_limit layers.net 0) 0 front front back error (omega arith)
+    (from_start (net_truncation_limit layers.net 0) 0 front front back error (omega arith)
     (net_cut reading 0 (Some any_ip) front back fits layers.net layers.transport is.2 error refused))

@@ -34,7 +34,7 @@ use Rattle.ep_packet.specs.Layers.{Layers, NetLayer, ipv4, ipv6, arp}
 use Rattle.ep_packet.specs.Frame.{any_ip, IsFrameIn, IsInside, most_link_exts}
 use Rattle.ep_packet.specs.FrameBytes.{inner_payload, last_payload, link_payload, payload_after_exts}
 use Rattle.ep_packet.specs.PacketHeaders.{Headers, IsSubsliceOf, headers_in, headers_of, net_header_in, transport_header_in}
-use Rattle.ep_packet.specs.PayloadParts.{PayloadPart, empty, macsec_modified, after_header, innermost_part, open_part, open_part_in, payload_part_bytes, payload_part_in, payload_part_of}
+use Rattle.ep_packet.specs.PayloadParts.{PayloadPart, empty, macsec_modified, transport_payload_part, innermost_part, open_part, open_part_in, payload_part_bytes, payload_part_in, payload_part_of}
 use Rattle.ep_packet.specs.Payloads.{ether_payload_after, ether_payload_of_parts, extensions_len_source}
 use Rattle.ep_packet.specs.FrameRefusals.{RefusesFrameIn, RefusesInside}
 use Rattle.ep_packet.specs.HeadersWalk.{FillsInside, FillsNet, begun, open_after, with_net}
@@ -107,7 +107,8 @@ parts_bytes_are layer (extension ∷ others) =
     others (extension_bytes_are extension))
 
 -- The payload of a transport header has the given bytes.
-header_bytes_are : (read : TransportHeader) (bytes : List ℕ) → payload_part_bytes (after_header read bytes) ≡ bytes
+header_bytes_are : (read : TransportHeader) (bytes : List ℕ)
+    → payload_part_bytes (transport_payload_part read bytes) ≡ bytes
 header_bytes_are (header.Udp datagram) bytes = refl
 header_bytes_are (header.Tcp segment) bytes = refl
 header_bytes_are (header.Icmpv4 message) bytes = refl

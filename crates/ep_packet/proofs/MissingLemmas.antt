@@ -5,7 +5,7 @@ use Rattle.std.specs.Int.{w16, to_be_bytes}
 use Rattle.ep_base.specs.Bytes.{AreBytes}
 use Rattle.ep_base.specs.IpPayload.{IpPayload}
 use Rattle.ep_base.specs.Readings.{Reading, limited_by}
-use Rattle.ep_base.specs.Missing.{CountsMissing, HasExactLength, IsOfBytesAtHand, that_row}
+use Rattle.ep_base.specs.Missing.{CountsMissing, HasExactLength, IsOfAvailableBytes, that_row}
 use Rattle.ep_base.specs.Tables.{Parts, parts_of, rows_as}
 use Rattle.ep_base.proofs.BytesLemmas.{AreBytes-payload}
 use Rattle.ep_base.proofs.CutRefusalLemmas.{longer_payload}
@@ -89,7 +89,7 @@ further : (offset limit : ℕ) (error : LenError) → CountsMissing limit error
     → CountsMissing (offset + limit) (with_further_offset offset error)
 further offset limit error counts at_hand inexact =
     let short = counts at_hand inexact in
-    record { there = omega (arith, short.there); needed = short.needed }
+    record { available = omega (arith, short.available); needed = short.needed }
 
 -- ---- network layer
 
@@ -130,15 +130,15 @@ layer_counts reading any_ip offset bytes error refused =
 
 -- The limit of a layer within another is the end of the slice only if both limits are.
 both_at_hand : (outer inner : LenSource) → (inner ≡ source.Slice) ⊎ (inner ≡ source.UdpHeaderLen)
-    → IsOfBytesAtHand (limited_by outer inner) → (inner ≡ source.Slice) × IsOfBytesAtHand outer
+    → IsOfAvailableBytes (limited_by outer inner) → (inner ≡ source.Slice) × IsOfAvailableBytes outer
 both_at_hand outer inner (inl same) at_hand =
-    (same, subst (λ (s : LenSource). IsOfBytesAtHand (limited_by outer s)) same at_hand)
+    (same, subst (λ (s : LenSource). IsOfAvailableBytes (limited_by outer s)) same at_hand)
 both_at_hand outer inner (inr field) at_hand =
-    absurd (not_udp (subst (λ (s : LenSource). IsOfBytesAtHand (limited_by outer s)) field at_hand))
+    absurd (not_udp (subst (λ (s : LenSource). IsOfAvailableBytes (limited_by outer s)) field at_hand))
 
 -- A payload that ends at the end of the slice is the bytes after the headers.
 abbrev EndsWith : ℕ → ℕ → IpPayload → Type 0
-EndsWith total headers payload = IsOfBytesAtHand payload.source → total ≡ headers + length payload.bytes
+EndsWith total headers payload = IsOfAvailableBytes payload.source → total ≡ headers + length payload.bytes
 
 transport_at : (reading : Reading) (offset headers total : ℕ) (payload : IpPayload) → EndsWith total headers payload
     → (refusal : TransportError) → RefusesTransportPart reading payload.number payload.fragmented payload.bytes refusal
@@ -150,7 +150,7 @@ transport_at reading offset headers total payload ends (transport_error.Len erro
     let both = both_at_hand payload.source error.len_source known.1 at_hand in
     let short = known.0 (inl both.0) inexact in
     let whole = ends both.1 in
-    record { there = omega (arith, short.there, whole); needed = short.needed }
+    record { available = omega (arith, short.available, whole); needed = short.needed }
 transport_at reading offset headers total payload ends (transport_error.Content error) refused = tt
 
 transport_in : (reading : Reading) (offset headers total : ℕ) (payload : IpPayload) → EndsWith total headers payload
@@ -162,7 +162,7 @@ transport_in reading offset headers total payload ends error refused =
 
 ipv4_ends : (reading : Reading) (bytes : List ℕ) (packet : IpPacket Ipv4Header) → IsIpv4 reading bytes packet
     → EndsWith (length bytes) (ipv4_headers_len packet.header packet.extensions) packet.payload
-ipv4_ends reading bytes packet is at_hand = absurd (not_total (subst IsOfBytesAtHand is.source at_hand))
+ipv4_ends reading bytes packet is at_hand = absurd (not_total (subst IsOfAvailableBytes is.source at_hand))
 
 ipv6_ends : (reading : Reading) (bytes : List ℕ) (packet : IpPacket Ipv6Header) → IsIpv6 reading bytes packet
     → EndsWith (length bytes) (ipv6_headers_len packet.extensions) packet.payload
@@ -664,7 +664,7 @@ again_frame reading ip bytes more fits error len refused uncut again =
 -- With at least the missing number of bytes appended, the check does not fail again.
 pub frame_not_again : (reading : Reading) (entry : Entry) (bytes more : List ℕ) → AreBytes (bytes ++ more)
     → (error : LenError) (len : ℕ) → RefusesFrameIn reading entry bytes (slice_error.Len error)
-    → HasNoShortLength entry bytes → IsOfBytesAtHand error.len_source → (¬ HasExactLength error.layer)
+    → HasNoShortLength entry bytes → IsOfAvailableBytes error.len_source → (¬ HasExactLength error.layer)
     → error.required_len ≤ error.len + length more
     → RefusesFrameIn reading entry (bytes ++ more) (Again error len) → ⊥
 frame_not_again reading entry bytes more fits error len refused uncut at_hand inexact enough again =

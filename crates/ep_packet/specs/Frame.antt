@@ -71,14 +71,14 @@ IsNetPart reading (Some kind) bytes net transport =
 -- have no layers.
 abbrev pub IsInside : Reading → ℕ → Option EtherType → List ℕ
     → List LinkExtension → Option NetLayer → Option TransportLayer → Type 0
-IsInside reading room None bytes extensions net transport = (extensions ≡ []) × (net ≡ None) × (transport ≡ None)
+IsInside reading exts_left None bytes extensions net transport = (extensions ≡ []) × (net ≡ None) × (transport ≡ None)
 IsInside reading zero (Some type) bytes [] net transport = IsNetPart reading (net_kind type) bytes net transport
-IsInside reading (suc room) (Some type) bytes [] net transport =
+IsInside reading (suc exts_left) (Some type) bytes [] net transport =
     (¬ BeginsLinkExtension type) × IsNetPart reading (net_kind type) bytes net transport
 IsInside reading zero (Some type) bytes (extension ∷ others) net transport = ⊥
-IsInside reading (suc room) (Some type) bytes (extension ∷ others) net transport =
+IsInside reading (suc exts_left) (Some type) bytes (extension ∷ others) net transport =
     ((left : List ℕ) × IsLinkExtension type bytes (extension, left))
-    × IsInside reading room (extension_type extension) (extension_payload extension) others net transport
+    × IsInside reading exts_left (extension_type extension) (extension_payload extension) others net transport
 
 -- Greatest number of link extensions that are read.
 abbrev pub most_link_exts : ℕ

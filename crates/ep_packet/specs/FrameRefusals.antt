@@ -123,13 +123,13 @@ RefusesExtensionAt offset type bytes = RefusesAs (extension_refusal offset) (Ref
 -- The errors of bytes of an ether type in which at most the given number of link extensions is read. The trailing bytes
 -- that a MACsec tag excludes don't count to the offset of a layer in its payload.
 abbrev pub RefusesInside : Reading → ℕ → ℕ → Option EtherType → List ℕ → SliceError → Type 0
-RefusesInside reading room offset None bytes error = ⊥
+RefusesInside reading exts_left offset None bytes error = ⊥
 RefusesInside reading zero offset (Some type) bytes error = RefusesNetPart reading offset (net_kind type) bytes error
-RefusesInside reading (suc room) offset (Some type) bytes error =
+RefusesInside reading (suc exts_left) offset (Some type) bytes error =
     ((¬ BeginsLinkExtension type) × RefusesNetPart reading offset (net_kind type) bytes error)
     ⊎ RefusesExtensionAt offset type bytes error
     ⊎ ((extension : LinkExtension) × (left : List ℕ) × IsLinkExtension type bytes (extension, left)
-    × RefusesInside reading room (offset + link_ext_header_len (extension_header extension)) (extension_type extension)
+    × RefusesInside reading exts_left (offset + link_ext_header_len (extension_header extension)) (extension_type extension)
     (extension_payload extension) error)
 
 -- The errors of bytes that are no frame, in the given reading.

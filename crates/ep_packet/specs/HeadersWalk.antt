@@ -74,11 +74,11 @@ pub record FillsNet (kind : Option NetKind) (bytes : List ℕ) (unread : Payload
   pub filled : new ≡ with_net old unread net transport
 
 -- The layers of a payload were decoded, with at most the given number of link extensions.
-pub record FillsInside (room : ℕ) (payload : EtherPayload) (old new : Headers) : Type 0 where
+pub record FillsInside (exts_left : ℕ) (payload : EtherPayload) (old new : Headers) : Type 0 where
   pub extensions : List LinkExtension
   pub net : Option NetLayer
   pub transport : Option TransportLayer
-  pub inside : IsInside headers room (Some payload.ether_type) payload.bytes extensions net transport
+  pub inside : IsInside headers exts_left (Some payload.ether_type) payload.bytes extensions net transport
   pub filled : new ≡ with_net
       (record old { link_exts = old.link_exts ++ map extension_header extensions })
       (open_after payload extensions) net transport

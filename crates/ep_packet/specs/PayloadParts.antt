@@ -48,11 +48,11 @@ payload_part_bytes (icmpv6 bytes) = bytes
 -- ---- payload after the layers of a frame
 
 -- The bytes as the payload of a transport header.
-abbrev pub after_header : TransportHeader → List ℕ → PayloadPart
-after_header (header.Udp datagram) bytes = udp bytes
-after_header (header.Tcp segment) bytes = tcp bytes
-after_header (header.Icmpv4 message) bytes = icmpv4 bytes
-after_header (header.Icmpv6 message) bytes = icmpv6 bytes
+abbrev pub transport_payload_part : TransportHeader → List ℕ → PayloadPart
+transport_payload_part (header.Udp datagram) bytes = udp bytes
+transport_payload_part (header.Tcp segment) bytes = tcp bytes
+transport_payload_part (header.Icmpv4 message) bytes = icmpv4 bytes
+transport_payload_part (header.Icmpv6 message) bytes = icmpv6 bytes
 
 -- The payload of a network layer without a transport layer.
 abbrev pub net_payload_part : NetLayer → PayloadPart
@@ -62,7 +62,7 @@ net_payload_part (arp packet) = empty
 
 -- The payload of the last layer. Without network and transport layer it is `unread`.
 abbrev pub innermost_part : PayloadPart → Option NetLayer → Option TransportLayer → PayloadPart
-innermost_part unread net (Some transport) = after_header transport.header transport.payload
+innermost_part unread net (Some transport) = transport_payload_part transport.header transport.payload
 innermost_part unread (Some net) None = net_payload_part net
 innermost_part unread None None = unread
 

@@ -19,11 +19,11 @@ CutsNothing (macsec tag payload) = tag.short_len ≡ 0
 -- In bytes of an ether type, none of the consecutive link extensions, up to the given number, has a short length above
 -- 0. If the bytes are rejected, these are the extensions before the rejected layer.
 abbrev pub AreUncut : ℕ → Option EtherType → List ℕ → Type 0
-AreUncut room None bytes = ⊤
+AreUncut exts_left None bytes = ⊤
 AreUncut zero (Some type) bytes = ⊤
-AreUncut (suc room) (Some type) bytes =
+AreUncut (suc exts_left) (Some type) bytes =
     (extension : LinkExtension) (left : List ℕ) → IsLinkExtension type bytes (extension, left)
-    → CutsNothing extension × AreUncut room (extension_type extension) (extension_payload extension)
+    → CutsNothing extension × AreUncut exts_left (extension_type extension) (extension_payload extension)
 
 -- No link extension of the frame has a short length above 0.
 abbrev pub HasNoShortLength : Entry → List ℕ → Type 0

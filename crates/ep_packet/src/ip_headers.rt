@@ -37,8 +37,8 @@ impl Clone for IpHeaders {
     #[inline(never)]
     fn clone(&self) -> Result<IpHeaders, AllocError> {
         let mut result = Ok(IpHeaders::blank());
-        if let Ok(room) = &mut result {
-            room.copy_from(self);
+        if let Ok(stored) = &mut result {
+            stored.copy_from(self);
         }
         result
     }
@@ -78,17 +78,17 @@ impl IpHeaders {
     {
         match source {
             IpHeaders::Ipv4(header, extensions) => {
-                if let IpHeaders::Ipv4(room, behind) = self {
-                    *room = header.clone().unwrap();
+                if let IpHeaders::Ipv4(stored, stored_extensions) = self {
+                    *stored = header.clone().unwrap();
                     if extensions.auth.is_some() {
-                        *behind = extensions.clone().unwrap();
+                        *stored_extensions = extensions.clone().unwrap();
                     }
                 }
             }
             IpHeaders::Ipv6(header, extensions) => {
                 *self = IpHeaders::Ipv6(header.clone().unwrap(), no_extensions());
-                if let IpHeaders::Ipv6(_, behind) = self {
-                    behind.copy_from(extensions);
+                if let IpHeaders::Ipv6(_, stored_extensions) = self {
+                    stored_extensions.copy_from(extensions);
                 }
             }
         }
@@ -337,8 +337,8 @@ fn ipv6_len(header: &Ipv6Header) -> usize
     header.header_len()
 }
 
-/// Converts the error of next header values that do not lead to all extension headers into an error of writing IP
-/// headers.
+/// Converts an error of the chain of next header values (some extension header is not reached by it) into an error of
+/// writing IP headers.
 fn of_walk_error(error: ExtsWalkError) -> HeadersWriteError
     ensures { result ≡ of_walk_error error }
 {

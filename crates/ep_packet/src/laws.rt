@@ -4,12 +4,12 @@
 ghost use Rattle.std.specs.Prelude.{◌≡◌, ◌↔◌, ◌+◌, ◌≤◌, ◌++◌, ℕ, List, Option, IsTrue, length};
 ghost use Rattle.ep_base.specs.Bytes.{AreBytes};
 ghost use Rattle.ep_base.specs.Readings.{Reading};
-ghost use Rattle.ep_base.specs.Missing.{CountsMissing, HasExactLength, IsOfBytesAtHand, ReportsTruncation, that_row};
+ghost use Rattle.ep_base.specs.Missing.{CountsMissing, HasExactLength, IsOfAvailableBytes, ReportsTruncation, that_row};
 ghost use Rattle.ep_base.specs.Tables.{IsDecided};
 ghost use Rattle.ep_base.specs.declared.err.len_error.LenError.{LenError};
 ghost use Rattle.ep_link.specs.LinkExtensions.{EncodesTag, LinkExtension};
 ghost use Rattle.ep_link.specs.LinkSlices.{LinkLayer};
-ghost use Rattle.ep_packet.specs.FrameCuts.{frame_cut_limit};
+ghost use Rattle.ep_packet.specs.FrameCuts.{frame_truncation_limit};
 ghost use Rattle.ep_packet.specs.Layers.{Layers, NetLayer};
 ghost use Rattle.ep_packet.specs.Offsets.{link_len, net_len, tag_len, tags_len, transport_len};
 ghost use Rattle.ep_transport.specs.TransportParts.{EncodesTransport, TransportLayer};
@@ -73,7 +73,7 @@ pub fn missing_bytes()
         → CountsMissing (length bytes) error }
     ensures not_again { (reading : Reading) (entry : Entry) (bytes more : List ℕ) → AreBytes (bytes ++ more)
         → (error : LenError) (len : ℕ) → RefusesFrameIn reading entry bytes (slice_error.Len error)
-        → HasNoShortLength entry bytes → IsOfBytesAtHand error.len_source → (¬ HasExactLength error.layer)
+        → HasNoShortLength entry bytes → IsOfAvailableBytes error.len_source → (¬ HasExactLength error.layer)
         → error.required_len ≤ error.len + length more
         → ¬ RefusesFrameIn reading entry (bytes ++ more) (slice_error.Len (that_row error len)) }
 {}
@@ -85,7 +85,8 @@ pub fn missing_bytes()
 /// IPv6 header with a payload length of 0, if the bytes end with that header.
 pub fn truncation()
     ensures { (reading : Reading) (entry : Entry)
-        → ReportsTruncation (IsFrameIn reading entry) (RefusesFrameIn reading entry) slice_error.Len (frame_cut_limit entry) }
+        → ReportsTruncation (IsFrameIn reading entry) (RefusesFrameIn reading entry) slice_error.Len
+        (frame_truncation_limit entry) }
 {}
 
 /// States that `SlicedPacket::LINK_EXTS_CAP` is 3, and equals the greatest number of link extensions in the

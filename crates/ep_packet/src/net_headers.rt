@@ -35,8 +35,8 @@ impl Clone for NetHeaders {
     #[inline(never)]
     fn clone(&self) -> Result<NetHeaders, AllocError> {
         let mut result = Ok(NetHeaders::blank());
-        if let Ok(room) = &mut result {
-            room.copy_from(self);
+        if let Ok(stored) = &mut result {
+            stored.copy_from(self);
         }
         result
     }
@@ -68,17 +68,17 @@ impl NetHeaders {
     {
         match source {
             NetHeaders::Ipv4(header, extensions) => {
-                if let NetHeaders::Ipv4(room, behind) = self {
-                    *room = header.clone().unwrap();
+                if let NetHeaders::Ipv4(stored, stored_extensions) = self {
+                    *stored = header.clone().unwrap();
                     if extensions.auth.is_some() {
-                        *behind = extensions.clone().unwrap();
+                        *stored_extensions = extensions.clone().unwrap();
                     }
                 }
             }
             NetHeaders::Ipv6(header, extensions) => {
                 *self = NetHeaders::Ipv6(header.clone().unwrap(), no_extensions());
-                if let NetHeaders::Ipv6(_, behind) = self {
-                    behind.copy_from(extensions);
+                if let NetHeaders::Ipv6(_, stored_extensions) = self {
+                    stored_extensions.copy_from(extensions);
                 }
             }
             NetHeaders::Arp(packet) => *self = NetHeaders::Arp(packet.clone().unwrap()),

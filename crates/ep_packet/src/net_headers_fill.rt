@@ -72,7 +72,7 @@ pub(crate) fn fill_ipv4<'a>(
 {
     match Ipv4Slice::from_slice(slice) {
         Ok(packet) => {
-            write_ipv4(net, &packet);
+            store_ipv4(net, &packet);
             let payload = payload_of_ipv4(&packet);
             let content_end = packet.header().total_len() as usize;
             let offset = content_end - payload.payload.len();
@@ -84,17 +84,17 @@ pub(crate) fn fill_ipv4<'a>(
 
 /// Copies the headers of a sliced IPv4 packet into `net`. A packet with an authentication header is left to a function
 /// that is not inlined: otherwise the space of that header would be zeroed for each packet.
-fn write_ipv4(net: &mut Option<NetHeaders>, packet: &Ipv4Slice<'_>)
+fn store_ipv4(net: &mut Option<NetHeaders>, packet: &Ipv4Slice<'_>)
     ensures { (left : List ℕ)
         → net.new ≡ Some (net_headers_of (ip_headers_of (ipv4_part (ipv4_slice_packet packet.now left)))) }
 {
     if let Some(auth) = packet.extensions().auth {
-        write_authenticated(net, packet, &auth);
+        store_authenticated(net, packet, &auth);
         return;
     }
     if let Some(headers) = net {
-        if let NetHeaders::Ipv4(room, extensions) = headers {
-            packet.header().header_into(room);
+        if let NetHeaders::Ipv4(stored, extensions) = headers {
+            packet.header().header_into(stored);
             if extensions.auth.is_some() {
                 extensions.auth = None;
             }
@@ -106,7 +106,7 @@ fn write_ipv4(net: &mut Option<NetHeaders>, packet: &Ipv4Slice<'_>)
 
 /// Copies the IPv4 header of a sliced packet, and the authentication header after it, into `net`.
 #[inline(never)]
-fn write_authenticated(
+fn store_authenticated(
     net: &mut Option<NetHeaders>,
     packet: &Ipv4Slice<'_>,
     auth: &IpAuthHeaderSlice<'_>,
@@ -116,8 +116,8 @@ fn write_authenticated(
     })) }
 {
     if let Some(headers) = net {
-        if let NetHeaders::Ipv4(room, extensions) = headers {
-            packet.header().header_into(room);
+        if let NetHeaders::Ipv4(stored, extensions) = headers {
+            packet.header().header_into(stored);
             auth.header_into(&mut extensions.auth);
             return;
         }
@@ -160,7 +160,7 @@ pub(crate) fn fill_ipv6<'a>(
         len_source,
         payload: content,
     };
-    write_ipv6(net, header);
+    store_ipv6(net, header);
     Ok((payload, Ipv6Header::LEN))
 }
 
@@ -180,7 +180,7 @@ fn fill_ipv6_extensions<'a>(
         Ok(cut) => cut,
         Err(error) => return Err(error),
     };
-    match write_ipv6_extensions(net, header, content) {
+    match store_ipv6_extensions(net, header, content) {
         Ok((ip_number, fragmented, payload)) => {
             let offset = Ipv6Header::LEN + (content.len() - payload.len());
             let payload = IpPayloadSlice {
@@ -201,7 +201,7 @@ fn fill_ipv6_extensions<'a>(
 /// Copies an IPv6 header into `net`, and decodes the extension headers at the start of `content` into it. Returns the
 /// protocol number of the payload, whether the packet is a fragment, and the bytes of the payload.
 #[inline]
-fn write_ipv6_extensions<'a>(
+fn store_ipv6_extensions<'a>(
     net: &mut Option<NetHeaders>,
     header: Ipv6Header,
     content: &'a [u8],
@@ -213,7 +213,7 @@ fn write_ipv6_extensions<'a>(
     ensures err { IfErr result (RefusesExtensionChain ipv6 headers header.next_header.0 content.now) }
 {
     let number = header.next_header;
-    write_ipv6(net, header);
+    store_ipv6(net, header);
     if let Some(headers) = net {
         if let NetHeaders::Ipv6(_, extensions) = headers {
             return match extensions.read_into(number, content) {
@@ -227,12 +227,12 @@ fn write_ipv6_extensions<'a>(
 
 /// Sets `net` to an IPv6 header without extension headers. If it already contains IPv6 headers, only the header and the
 /// extension headers that were present are overwritten.
-fn write_ipv6(net: &mut Option<NetHeaders>, header: Ipv6Header)
+fn store_ipv6(net: &mut Option<NetHeaders>, header: Ipv6Header)
     ensures { net.new ≡ Some (variant.Ipv6 header no_ipv6_extensions) }
 {
     if let Some(headers) = net {
-        if let NetHeaders::Ipv6(room, extensions) = headers {
-            *room = header;
+        if let NetHeaders::Ipv6(stored, extensions) = headers {
+            *stored = header;
             extensions.clear();
             return;
         }

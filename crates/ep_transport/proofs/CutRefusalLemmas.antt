@@ -72,7 +72,7 @@ exact_row named front back place exact other =
     record {
       missing = len_error 20 (length front) source.Slice place;
       is = refl;
-      short = record { there = omega arith; needed = below; within = omega (arith, whole) };
+      short = record { available = omega arith; needed = below; within = omega (arith, whole) };
       source = refl;
     }
 

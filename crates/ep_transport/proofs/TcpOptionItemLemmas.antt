@@ -10,7 +10,7 @@ use Rattle.ep_base.proofs.TableLemmas.{decided, one_value, refused_is_not}
 use Rattle.ep_transport.specs.declared.tcp_option_element.TcpOptionElement.{TcpOptionElement}
 use Rattle.ep_transport.specs.declared.tcp_option_element.TcpOptionElement.TheVariants.{Noop, MaximumSegmentSize, WindowScale, SelectiveAcknowledgementPermitted, SelectiveAcknowledgement, Timestamp}
 use Rattle.ep_transport.specs.declared.tcp_option_element.TcpOptionReadError.{TcpOptionReadError}
-use Rattle.ep_transport.specs.TcpOptionBytes.{Block, FitsBlocks, FitsOption, present, in_front, as_read, in_words, option_bytes, options_bytes, block_bytes, blocks_bytes, EndsOptions, IsOption, RefusesOption, AreItems}
+use Rattle.ep_transport.specs.TcpOptionBytes.{Block, FitsBlocks, FitsOption, present, present_first, as_read, in_words, option_bytes, options_bytes, block_bytes, blocks_bytes, EndsOptions, IsOption, RefusesOption, AreItems}
 use Rattle.ep_transport.proofs.TcpOptionReadLemmas.{option_is_read}
 
 abbrev Item : Type 0
@@ -95,7 +95,7 @@ present_front [] zero = refl
 present_front [] (suc n) = present_front [] n
 present_front (block ∷ blocks) n = ap (λ (others : List Block). block ∷ others) (present_front blocks n)
 
-present_in_front : (blocks : List (Option Block)) → present (in_front blocks) ≡ present blocks
+present_in_front : (blocks : List (Option Block)) → present (present_first blocks) ≡ present blocks
 present_in_front blocks = present_front (present blocks) (length blocks - length (present blocks))
 
 present_len : (blocks : List (Option Block)) → length (present blocks) ≤ length blocks
@@ -103,7 +103,7 @@ present_len [] = omega arith
 present_len (None ∷ others) = omega (arith, present_len others)
 present_len (Some block ∷ others) = omega (arith, present_len others)
 
-in_front_len : (blocks : List (Option Block)) → length (in_front blocks) ≡ length blocks
+in_front_len : (blocks : List (Option Block)) → length (present_first blocks) ≡ length blocks
 in_front_len blocks =
     let none : List (Option Block) = replicate (length blocks - length (present blocks)) None in
     let place : Option Block = None in
@@ -116,7 +116,7 @@ in_front_len blocks =
       present_len blocks,
     )
 
-in_front_twice : (blocks : List (Option Block)) → in_front (in_front blocks) ≡ in_front blocks
+in_front_twice : (blocks : List (Option Block)) → present_first (present_first blocks) ≡ present_first blocks
 in_front_twice blocks =
     let same = present_in_front blocks in
     let len = in_front_len blocks in

@@ -136,8 +136,8 @@ lax_udp_cut outer bytes end fits stated enough within =
       cut = record { payload = drop 8 seen; left = drop end bytes; source = source.UdpHeaderLen; incomplete = false };
       parts = sym (take-append-drop end bytes);
       is = record {
-        behind = drop 8 seen ++ drop end bytes;
-        stands = front_stands bytes end fits enough within;
+        rest = drop 8 seen ++ drop end bytes;
+        header = front_stands bytes end fits enough within;
         cut = cut_there 8 (word_at seen 4) source.UdpHeaderLen outer 8 (drop 8 seen) (drop end bytes)
             (omega arith) (omega arith) (omega arith);
       };
@@ -160,8 +160,8 @@ lax_udp_whole outer bytes fits enough why =
       };
       parts = sym (append-nil bytes);
       is = record {
-        behind = drop 8 bytes ++ [];
-        stands = record {
+        rest = drop 8 bytes ++ [];
+        header = record {
           fits = udp_fits bytes fits;
           parts = front ∙ ap (λ (s : List ℕ). udp_bytes (udp_header_of bytes) ++ s) (sym none);
         };
@@ -175,8 +175,8 @@ lax_udp_whole outer bytes fits enough why =
 pub one_lax_udp : (outer : Bool) (bytes : List ℕ) (read other : UdpHeader × LaxCut) → IsLaxUdp outer bytes read
     → IsLaxUdp outer bytes other → read ≡ other
 one_lax_udp outer bytes read other a b =
-    let same = one_value udp_header_is_read bytes (read.0, a.behind) (other.0, b.behind) a.stands b.stands in
+    let same = one_value udp_header_is_read bytes (read.0, a.rest) (other.0, b.rest) a.header b.header in
     let moved = subst (λ (h : UdpHeader × List ℕ). IsLaxCut 8 h.0.length source.UdpHeaderLen outer 8 h.1 read.1) same
     a.cut in
-    let cut = one_lax_cut 8 other.0.length source.UdpHeaderLen outer 8 b.behind read.1 other.1 moved b.cut in
+    let cut = one_lax_cut 8 other.0.length source.UdpHeaderLen outer 8 b.rest read.1 other.1 moved b.cut in
     λ i. ((same i).0, cut i)

@@ -101,8 +101,8 @@ FitsOption (SelectiveAcknowledgement first others) = FitsBlock first × (length 
 FitsOption (Timestamp time echo) = (time < 2 ^ 32) × (echo < 2 ^ 32)
 
 -- the blocks with present ones moved before absent ones
-abbrev pub in_front : List (Option Block) → List (Option Block)
-in_front blocks = map Some (present blocks) ++ replicate (length blocks - length (present blocks)) None
+abbrev pub present_first : List (Option Block) → List (Option Block)
+present_first blocks = map Some (present blocks) ++ replicate (length blocks - length (present blocks)) None
 
 -- the option read back from its bytes
 abbrev pub as_read : TcpOptionElement → TcpOptionElement
@@ -110,7 +110,7 @@ as_read Noop = Noop
 as_read (MaximumSegmentSize size) = MaximumSegmentSize size
 as_read (WindowScale shift) = WindowScale shift
 as_read SelectiveAcknowledgementPermitted = SelectiveAcknowledgementPermitted
-as_read (SelectiveAcknowledgement first others) = SelectiveAcknowledgement first (in_front others)
+as_read (SelectiveAcknowledgement first others) = SelectiveAcknowledgement first (present_first others)
 as_read (Timestamp time echo) = Timestamp time echo
 
 -- The bytes begin with this option, followed by the rest.

@@ -61,8 +61,8 @@ pub record IsUdp (bytes : List ℕ) (datagram : Parts UdpHeader) : Type 0 where
 abbrev pub udp_rows : List ℕ → List (Bool × LenError)
 udp_rows bytes =
     let field = word_at bytes 4 in
-    (nat_lt (length bytes) 8, len_error 8 (length bytes) source.Slice layer.UdpHeader)
-    ∷ (nat_lt 0 field && nat_lt field 8, len_error 8 field source.UdpHeaderLen layer.UdpHeader)
+    udp_header_rows bytes
+    ++ (nat_lt 0 field && nat_lt field 8, len_error 8 field source.UdpHeaderLen layer.UdpHeader)
     ∷ (nat_lt (length bytes) field, len_error field (length bytes) source.Slice layer.UdpPayload)
     ∷ []
 
@@ -83,6 +83,6 @@ IsOfUdpLength error = (error.len_source ≡ source.UdpHeaderLen) ⊎ (error.laye
 -- The bytes are a header, a payload that the length field limits if its value allows, and trailing bytes. `outer`
 -- states whether the bytes are already known to be incomplete.
 pub record IsLaxUdp (outer : Bool) (bytes : List ℕ) (read : UdpHeader × LaxCut) : Type 0 where
-  pub behind : List ℕ
-  pub stands : IsUdpHeader bytes (read.0, behind)
-  pub cut : IsLaxCut 8 read.0.length source.UdpHeaderLen outer 8 behind read.1
+  pub rest : List ℕ
+  pub header : IsUdpHeader bytes (read.0, rest)
+  pub cut : IsLaxCut 8 read.0.length source.UdpHeaderLen outer 8 rest read.1

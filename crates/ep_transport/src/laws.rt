@@ -42,31 +42,32 @@ use crate::{
     UdpHeader, UdpSlice,
 };
 
-/// Law: any bytes either parse as exactly one UDP datagram (header, payload, and trailing bytes after the end that the
-/// length field sets), or are rejected with exactly one error.
+/// States that any bytes either parse as exactly one UDP datagram (header, payload, and trailing bytes after the end
+/// that the length field sets), or are rejected with exactly one error.
 pub fn udp()
     ensures { (bytes : List ℕ) → AreBytes bytes → IsDecided (IsUdp bytes) (RefusesUdp bytes) }
 {}
 
-/// Law: any bytes either parse as exactly one UDP header and exactly one remainder, or are rejected with exactly one
-/// error. The length field is not checked.
+/// States that any bytes either parse as exactly one UDP header and exactly one remainder, or are rejected with exactly
+/// one error. The length field is not checked.
 pub fn udp_header()
     ensures { (bytes : List ℕ) → AreBytes bytes → IsDecided (IsUdpHeader bytes) (RefusesUdpHeader bytes) }
 {}
 
-/// Law: any bytes either parse as exactly one TCP segment (header and payload), or are rejected with exactly one error.
+/// States that any bytes either parse as exactly one TCP segment (header and payload), or are rejected with exactly one
+/// error.
 pub fn tcp()
     ensures { (bytes : List ℕ) → AreBytes bytes → IsDecided (IsTcp bytes) (RefusesTcp bytes) }
 {}
 
-/// Law: any bytes of a TCP option list either parse as exactly one option and exactly one remainder, or are at the end
-/// of the list (no bytes left, or kind 0), or are rejected with exactly one error.
+/// States that any bytes of a TCP option list either parse as exactly one option and exactly one remainder, or are at
+/// the end of the list (no bytes left, or kind 0), or are rejected with exactly one error.
 pub fn tcp_option()
     ensures { (bytes : List ℕ) → AreBytes bytes → IsDecided (IsNextOption bytes) (RefusesOption bytes) }
 {}
 
-/// Law: iterating over bytes as TCP options gives exactly one sequence of results (options, and perhaps an error as the
-/// last result), with at most one result per byte.
+/// States that iterating over bytes as TCP options gives exactly one sequence of results (options, and perhaps an error
+/// as the last result), with at most one result per byte.
 pub fn tcp_option_items()
     ensures some { (bytes : List ℕ) → AreBytes bytes → (items : List (Result TcpOptionElement TcpOptionReadError))
         × AreItems bytes items × (length items ≤ length bytes) }
@@ -74,22 +75,22 @@ pub fn tcp_option_items()
         → AreItems bytes items → AreItems bytes others → items ≡ others }
 {}
 
-/// Law: in a length error for the transport layer of an IP payload, `layer_start_offset` is 0, the start of that
+/// States that in a length error for the transport layer of an IP payload, `layer_start_offset` is 0, the start of that
 /// payload.
-pub fn transport_places()
+pub fn error_offsets()
     ensures { (reading : Reading) (number : ℕ) (fragmented : Bool) (bytes : List ℕ) (error : LenError)
         → RefusesTransportPart reading number fragmented bytes (header_error.Len error) → error.layer_start_offset ≡ 0 }
 {}
 
-/// Law: TCP options that are encoded and padded to a multiple of 4 bytes are read back unchanged, with one exception:
-/// in a selective acknowledgment, present blocks are moved before absent ones (`None`).
+/// States that TCP options that are encoded and padded to a multiple of 4 bytes are read back unchanged, with one
+/// exception: in a selective acknowledgment, present blocks are moved before absent ones (`None`).
 pub fn tcp_options_read_back()
     ensures { (options : List TcpOptionElement) → All FitsOption options
         → AreItems (in_words (options_bytes options)) (map (λ option. Ok (as_read option)) options) }
 {}
 
-/// Law: any IP payload either has exactly one transport layer, or none (a fragment, or a protocol other than UDP, TCP,
-/// ICMPv4 and ICMPv6), or is rejected with exactly one error. It holds for the slicing parser and for the
+/// States that any IP payload either has exactly one transport layer, or none (a fragment, or a protocol other than
+/// UDP, TCP, ICMPv4 and ICMPv6), or is rejected with exactly one error. It holds for the slicing parser and for the
 /// header-decoding parser.
 pub fn transport()
     ensures { (reading : Reading) (number : ℕ) (fragmented : Bool) (bytes : List ℕ) → AreBytes bytes
@@ -97,18 +98,18 @@ pub fn transport()
         (RefusesTransportPart reading number fragmented bytes) }
 {}
 
-/// Law: any IP payload either has exactly one transport layer or none, with exactly one sequence of trailing bytes
-/// (after the end that the UDP length field sets), or is rejected with exactly one error. It holds for the slicing
-/// parser and for the header-decoding parser.
+/// States that any IP payload either has exactly one transport layer or none, with exactly one sequence of trailing
+/// bytes (after the end that the UDP length field sets), or is rejected with exactly one error. It holds for the
+/// slicing parser and for the header-decoding parser.
 pub fn transport_with_trailing_bytes()
     ensures { (reading : Reading) (number : ℕ) (fragmented : Bool) (bytes : List ℕ) → AreBytes bytes
         → IsDecided (IsTransportWithTrailingBytes reading number fragmented bytes)
         (RefusesTransportPart reading number fragmented bytes) }
 {}
 
-/// Law: a transport layer that the header-decoding parser rejects is rejected by the slicing parser with the same
-/// error. The slicing parser rejects an invalid UDP length field in addition, and nothing else. An IP protocol other
-/// than UDP, TCP, ICMPv4 and ICMPv6 is never rejected.
+/// States that a transport layer that the header-decoding parser rejects is rejected by the slicing parser with the
+/// same error. The slicing parser rejects an invalid UDP length field in addition, and nothing else. An IP protocol
+/// other than UDP, TCP, ICMPv4 and ICMPv6 is never rejected.
 pub fn transport_of_headers()
     ensures refused { (number : ℕ) (fragmented : Bool) (bytes : List ℕ) (error : HeaderSliceError)
         → RefusesTransportPart headers number fragmented bytes error
@@ -120,10 +121,10 @@ pub fn transport_of_headers()
         → HasNoHeader number → ¬ RefusesTransportPart reading number fragmented bytes error }
 {}
 
-/// Law: in a length error for a transport layer whose `len_source` is the slice, `layer_start_offset + len` is the
-/// number of input bytes, and `required_len` is above `len`. If `required_len - len` or more bytes are appended, the
-/// check that failed passes. ICMPv4 timestamp messages are excepted, because they must have exactly 20 bytes. The only
-/// other `len_source` is the UDP length field.
+/// States that in a length error for a transport layer whose `len_source` is the slice, `layer_start_offset + len` is
+/// the number of input bytes, and `required_len` is above `len`. If `required_len - len` or more bytes are appended,
+/// the check that failed passes. ICMPv4 timestamp messages are excepted, because they must have exactly 20 bytes. The
+/// only other `len_source` is the UDP length field.
 pub fn missing_bytes()
     ensures udp_header { ReportsMissing RefusesUdpHeader }
     ensures udp { ReportsMissing RefusesUdp }
@@ -137,7 +138,7 @@ pub fn missing_bytes()
         → (error.len_source ≡ source.Slice) ⊎ (error.len_source ≡ source.UdpHeaderLen) }
 {}
 
-/// Law: if a transport layer is truncated and then rejected, the error is a length error for the missing bytes.
+/// States that if a transport layer is truncated and then rejected, the error is a length error for the missing bytes.
 /// `layer_start_offset + len` is the truncated length, `required_len` is above `len`, and `layer_start_offset +
 /// required_len` is at most the original length. Its `len_source` is the slice. ICMPv4 timestamp messages, which must
 /// have exactly 20 bytes, are included.
@@ -152,38 +153,40 @@ pub fn truncation()
         header_error.Len (λ part. slice_end) }
 {}
 
-/// Law: the bytes of an IP payload are the transport header, the payload of the transport layer, and the trailing bytes
-/// after the end that the UDP length field sets, in this order. Without a transport layer, they are payload alone.
+/// States that the bytes of an IP payload are the transport header, the payload of the transport layer, and the
+/// trailing bytes after the end that the UDP length field sets, in this order. Without a transport layer, they are
+/// payload alone.
 pub fn transport_bytes()
     ensures { (reading : Reading) (number : ℕ) (fragmented : Bool) (bytes : List ℕ) (part : Option TransportLayer)
         → IsTransportPart reading number fragmented bytes part → AreTransport bytes part }
 {}
 
-/// Law: a UDP datagram or TCP segment with its computed checksum has the one's complement sum 65535 together with its
-/// pseudo header, as a receiver verifies. It holds for any even number of bytes in place of the pseudo header, and for
-/// the bytes of a received TCP segment with its reserved bits. Pseudo headers have an even length.
+/// States that a UDP datagram or TCP segment with its computed checksum has the one's complement sum 65535 together
+/// with its pseudo header, as a receiver verifies. It holds for any even number of bytes in place of the pseudo header,
+/// and for the bytes of a received TCP segment with its reserved bits. Pseudo headers have an even length.
 pub fn checksums()
-    ensures udp { (front : List ℕ) (header : UdpHeader) (payload : List ℕ) → length front % 2 ≡ 0
-        → ones_sum (front ++ (udp_bytes
-        (record header { checksum = no_zero (checksum_of (front ++ udp_message header payload)) })
+    ensures udp { (pseudo : List ℕ) (header : UdpHeader) (payload : List ℕ) → length pseudo % 2 ≡ 0
+        → ones_sum (pseudo ++ (udp_bytes
+        (record header { checksum = no_zero (checksum_of (pseudo ++ udp_message header payload)) })
         ++ payload)) ≡ 65535 }
-    ensures tcp { (front : List ℕ) (header : TcpHeader) (payload : List ℕ) → length front % 2 ≡ 0
-        → ones_sum (front ++ (tcp_bytes
-        (record header { checksum = checksum_of (front ++ tcp_message header payload) })
+    ensures tcp { (pseudo : List ℕ) (header : TcpHeader) (payload : List ℕ) → length pseudo % 2 ≡ 0
+        → ones_sum (pseudo ++ (tcp_bytes
+        (record header { checksum = checksum_of (pseudo ++ tcp_message header payload) })
         ++ payload)) ≡ 65535 }
     ensures segment { (header : TcpHeader) (payload : List ℕ)
         → tcp_bytes_without_checksum (tcp_bytes header ++ payload) ≡ tcp_message header payload }
-    ensures segment_bytes { (front bytes : List ℕ) → length front % 2 ≡ 0 → 16 ≤ length bytes
-        → ones_sum (front ++ (take 16 bytes
-        ++ (to_be_bytes w16 (checksum_of (front ++ tcp_bytes_without_checksum bytes)) ++ drop 18 bytes))) ≡ 65535 }
+    ensures segment_bytes { (pseudo bytes : List ℕ) → length pseudo % 2 ≡ 0 → 16 ≤ length bytes
+        → ones_sum (pseudo ++ (take 16 bytes
+        ++ (to_be_bytes w16 (checksum_of (pseudo ++ tcp_bytes_without_checksum bytes)) ++ drop 18 bytes))) ≡ 65535 }
     ensures pseudo_ipv4 { (source destination : List ℕ) (number len : ℕ) → length source ≡ 4 → length destination ≡ 4
         → length (pseudo_header_ipv4 source destination number len) % 2 ≡ 0 }
     ensures pseudo_ipv6 { (source destination : List ℕ) (number len : ℕ) → length source ≡ 16
         → length destination ≡ 16 → length (pseudo_header_ipv6 source destination number len) % 2 ≡ 0 }
 {}
 
-/// Returns the default UDP header and the default TCP header, whose fields are 0, false or empty. Its contract also
-/// states the lengths in bytes: UDP header 8, TCP header 20 to 60, TCP options at most 40 (RFC 768; RFC 9293, 3.1).
+/// Returns the default UDP header and the default TCP header, whose fields are 0, false or empty. The contract also
+/// states the values of the length constants, in bytes: UDP header 8; TCP header at least 20 and at most 60, TCP
+/// options at most 40 (RFC 768; RFC 9293, 3.1).
 pub fn constants() -> (UdpHeader, TcpHeader)
     ensures udp_len { UdpHeader.LEN ≡ 8 }
     ensures udp_default { result.0 ≡ record { source_port = 0; destination_port = 0; length = 0; checksum = 0 } }
@@ -195,9 +198,9 @@ pub fn constants() -> (UdpHeader, TcpHeader)
     (UdpHeader::default(), TcpHeader::default())
 }
 
-/// Law: transport headers are equal (`==`) if and only if all fields are equal; TCP options are compared by their
-/// bytes. Slices are equal if and only if protocol and bytes are equal, iterators over TCP options if the unread bytes
-/// are equal, and errors if all their fields are equal.
+/// States that transport headers are equal (`==`) if and only if all fields are equal; TCP options are compared by
+/// their bytes. Slices are equal if and only if protocol and bytes are equal, iterators over TCP options if the unread
+/// bytes are equal, and errors if all their fields are equal.
 pub fn comparisons()
     ensures udp { (a b : UdpHeader) → IsTrue (⟦<UdpHeader as PartialEq>⟧.eq a b) ↔ (a ≡ b) }
     ensures udp_slices { (a b : UdpSlice) →
@@ -225,7 +228,7 @@ pub fn comparisons()
     ep_base::laws::equalities();
 }
 
-/// Law: a clone of a transport header, slice, TCP option, iterator or error of this crate equals its source.
+/// States that a clone of a transport header, slice, TCP option, iterator or error of this crate equals its source.
 pub fn clones()
     ensures udp { (a b : UdpHeader) → ⟦<UdpHeader as Clone>⟧.is_clone a b → b ≡ a }
     ensures udp_slices { (a b : UdpSlice) → ⟦<UdpSlice<'static> as Clone>⟧.is_clone a b → b ≡ a }
@@ -244,8 +247,8 @@ pub fn clones()
     icmp::clones();
 }
 
-/// Law: cloning a transport header, slice, TCP option, iterator or error of this crate does not allocate, and never
-/// fails.
+/// States that cloning a transport header, slice, TCP option, iterator or error of this crate does not allocate, and
+/// never fails.
 pub fn clones_succeed()
     ensures udp { (a : UdpHeader) → ⟦<UdpHeader as Clone>⟧.is_infallible a }
     ensures udp_slices { (a : UdpSlice) → ⟦<UdpSlice<'static> as Clone>⟧.is_infallible a }

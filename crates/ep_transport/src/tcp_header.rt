@@ -261,8 +261,8 @@ impl TcpHeader {
 
     /// Computes the checksum of the TCP segment (this header and `payload`), given the sum of its pseudo header.
     fn checksum_with_pseudo_header(&self, pseudo_header: &Sum16BitWords, payload: &[u8]) -> u16
-        ensures { (front : List ℕ) → length front % 2 ≡ 0 → pseudo_header.now ≡ ones_sum front
-            → result ≡ checksum_of (front ++ tcp_message self.now payload.now) }
+        ensures { (pseudo : List ℕ) → length pseudo % 2 ≡ 0 → pseudo_header.now ≡ ones_sum pseudo
+            → result ≡ checksum_of (pseudo ++ tcp_message self.now payload.now) }
     {
         pseudo_header
             .add_slice(&self.fixed_bytes(0))

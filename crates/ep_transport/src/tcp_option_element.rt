@@ -61,9 +61,9 @@ impl TcpOptionElement {
     pub(crate) fn append_if_fits(&self, bytes: &mut ArrayVec<u8, 40>) -> usize
         ensures len { result ≡ length (option_bytes self.now) }
         ensures fits { FitsOption self.now }
-        ensures room { length bytes.old.items + length (option_bytes self.now) ≤ 40
+        ensures appended { length bytes.old.items + length (option_bytes self.now) ≤ 40
             → bytes.new.items ≡ bytes.old.items ++ option_bytes self.now }
-        ensures no_room { 40 < length bytes.old.items + length (option_bytes self.now) → bytes.new ≡ bytes.old }
+        ensures unchanged { 40 < length bytes.old.items + length (option_bytes self.now) → bytes.new ≡ bytes.old }
     {
         match self {
             TcpOptionElement::Noop => append_bytes_if_fit(bytes, &[1]),
@@ -99,9 +99,9 @@ impl TcpOptionElement {
 #[inline(always)]
 fn append_bytes_if_fit(bytes: &mut ArrayVec<u8, 40>, option: &[u8]) -> usize
     ensures len { result ≡ length option.now }
-    ensures room { length bytes.old.items + length option.now ≤ 40
+    ensures appended { length bytes.old.items + length option.now ≤ 40
         → bytes.new.items ≡ bytes.old.items ++ option.now }
-    ensures no_room { 40 < length bytes.old.items + length option.now → bytes.new ≡ bytes.old }
+    ensures unchanged { 40 < length bytes.old.items + length option.now → bytes.new ≡ bytes.old }
 {
     if option.len() <= bytes.remaining_capacity() {
         bytes.try_extend_from_slice(option).unwrap();

@@ -357,8 +357,8 @@ impl<'a> TcpSlice<'a> {
     /// Computes the checksum of the TCP segment, given the sum of its pseudo header; the checksum in the segment is
     /// ignored.
     fn checksum_with_pseudo_header(&self, pseudo_header: &Sum16BitWords) -> u16
-        ensures { (front : List ℕ) → length front % 2 ≡ 0 → pseudo_header.now ≡ ones_sum front
-            → result ≡ checksum_of (front ++ tcp_bytes_without_checksum (tcp_slice_bytes self.now)) }
+        ensures { (pseudo : List ℕ) → length pseudo % 2 ≡ 0 → pseudo_header.now ≡ ones_sum pseudo
+            → result ≡ checksum_of (pseudo ++ tcp_bytes_without_checksum (tcp_slice_bytes self.now)) }
     {
         pseudo_header
             .add_slice(&self.bytes.slice[..16])

@@ -115,7 +115,7 @@ impl TransportHeader {
             (option_map (λ header. transport_layer header rest.now) place.new)) }
         ensures only { (part : Option TransportLayer) → IsTransportPart headers number.0 fragmented slice.now part
             → IsOkAnd result (λ rest. option_map (λ header. transport_layer header rest.now) place.new ≡ part) }
-        ensures whole { IfOk result (λ rest. place.new ≡ None → rest.now ≡ slice.now) }
+        ensures no_layer { IfOk result (λ rest. place.new ≡ None → rest.now ≡ slice.now) }
         ensures err { IfErr result (RefusesTransportPart headers number.0 fragmented slice.now) }
         ensures kept { OnErr result (place.new ≡ place.old) }
     {
@@ -133,7 +133,7 @@ impl TransportHeader {
     ) -> Result<&'a [u8], tcp::HeaderSliceError>
         ensures ok { IfOk result (λ rest. IsTransportPart headers number.0 fragmented slice.now
             (option_map (λ header. transport_layer header rest.now) place.new)) }
-        ensures whole { IfOk result (λ rest. place.new ≡ None → rest.now ≡ slice.now) }
+        ensures no_layer { IfOk result (λ rest. place.new ≡ None → rest.now ≡ slice.now) }
         ensures err { IfErr result (RefusesTransportPart headers number.0 fragmented slice.now) }
         ensures kept { OnErr result (place.new ≡ place.old) }
     {
@@ -144,7 +144,7 @@ impl TransportHeader {
         if number == IpNumber::TCP {
             return match TcpSlice::from_slice(slice) {
                 Ok(segment) => {
-                    write_tcp(place, &segment);
+                    store_tcp(place, &segment);
                     Ok(segment.payload())
                 }
                 Err(error) => Err(error),
@@ -165,7 +165,7 @@ impl TransportHeader {
         requires { number.0 ≢ tcp_number }
         ensures ok { IfOk result (λ rest. IsTransportPart headers number.0 false slice.now
             (option_map (λ header. transport_layer header rest.now) place.new)) }
-        ensures whole { IfOk result (λ rest. place.new ≡ None → rest.now ≡ slice.now) }
+        ensures no_layer { IfOk result (λ rest. place.new ≡ None → rest.now ≡ slice.now) }
         ensures err { IfErr result (RefusesTransportPart headers number.0 false slice.now) }
         ensures kept { OnErr result (place.new ≡ place.old) }
     {
@@ -381,7 +381,7 @@ impl TransportHeader {
 
 /// Decodes the header of a TCP segment into `place`. If `place` contains a TCP header, its fields are overwritten one
 /// by one, so no header is moved.
-fn write_tcp(place: &mut Option<TransportHeader>, segment: &TcpSlice<'_>)
+fn store_tcp(place: &mut Option<TransportHeader>, segment: &TcpSlice<'_>)
     ensures { place.new ≡ Some (Tcp (tcp_slice_header segment.now)) }
 {
     if let Some(TransportHeader::Tcp(header)) = place {

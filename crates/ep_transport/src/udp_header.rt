@@ -7,9 +7,10 @@ ghost use Rattle.ep_transport.specs.PseudoHeaders.{udp_message, udp_checksum_ipv
 ghost use Rattle.ep_transport.specs.Udp.{udp_bytes, IsUdpHeader, RefusesUdpHeader};
 
 use crate::pseudo_header;
+use crate::udp_slice::UdpSlice;
+use ep_base::IpNumber;
 use ep_base::checksum::Sum16BitWords;
-use ep_base::err::{Layer, LenError, ValueTooBigError, ValueType};
-use ep_base::{IpNumber, LenSource};
+use ep_base::err::{LenError, ValueTooBigError, ValueType};
 use ep_ip::{Ipv4Header, Ipv6Header};
 use std::alloc::AllocError;
 
@@ -40,21 +41,8 @@ impl UdpHeader {
             → IsOkAnd result (λ read. (read.0 ≡ header) × (read.1.now ≡ rest)) }
         ensures err { IfErr result (RefusesUdpHeader slice.now) }
     {
-        if slice.len() < UdpHeader::LEN {
-            return Err(LenError::at_start(
-                UdpHeader::LEN,
-                slice.len(),
-                LenSource::Slice,
-                Layer::UdpHeader,
-            ));
-        }
-        let header = UdpHeader {
-            source_port: u16::from_be_bytes([slice[0], slice[1]]),
-            destination_port: u16::from_be_bytes([slice[2], slice[3]]),
-            length: u16::from_be_bytes([slice[4], slice[5]]),
-            checksum: u16::from_be_bytes([slice[6], slice[7]]),
-        };
-        Ok((header, &slice[UdpHeader::LEN..]))
+        let udp = UdpSlice::from_slice_lax(slice)?;
+        Ok((udp.to_header(), &slice[UdpHeader::LEN..]))
     }
 
     /// Length of the UDP header in bytes; always 8.
@@ -170,8 +158,8 @@ impl UdpHeader {
     /// Computes the checksum of the UDP datagram (this header and `payload`), given the sum of its pseudo header. A
     /// checksum of 0 is returned as 65535.
     fn checksum_with_pseudo_header(&self, pseudo_header: &Sum16BitWords, payload: &[u8]) -> u16
-        ensures { (front : List ℕ) → length front % 2 ≡ 0 → pseudo_header.now ≡ ones_sum front
-            → result ≡ no_zero (checksum_of (front ++ udp_message self.now payload.now)) }
+        ensures { (pseudo : List ℕ) → length pseudo % 2 ≡ 0 → pseudo_header.now ≡ ones_sum pseudo
+            → result ≡ no_zero (checksum_of (pseudo ++ udp_message self.now payload.now)) }
     {
         pseudo_header
             .add_2bytes(self.source_port.to_be_bytes())

@@ -91,7 +91,7 @@ pub use Rattle.ep_packet.specs.VlanTags
 pub use Rattle.ep_packet.specs.Walk
 -- lax parsing of truncated packets
 pub use Rattle.ep_base.specs.LaxCut
-pub use Rattle.ep_ext.specs.FrontChains
+pub use Rattle.ep_ext.specs.ChainPrefixes
 pub use Rattle.ep_lax.specs.LaxIp
 pub use Rattle.ep_lax.specs.LaxMacsec
 pub use Rattle.ep_lax.specs.LaxSlices

@@ -8,28 +8,29 @@ use Rattle.etherparse_c.specs.declared.pool.Pool.{Pool}
 use Rattle.etherparse_c.specs.declared.state.State.{State}
 use Rattle.etherparse_c.specs.LaxAnswers.{DescribesLax, IsLaxAnswer}
 use Rattle.etherparse_c.specs.Places.{Describes}
-use Rattle.etherparse_c.specs.PoolAnswers.{Changes, Tells}
+use Rattle.etherparse_c.specs.PoolAnswers.{Changes, ReturnsNumber}
 use Rattle.etherparse_c.specs.SliceAnswers.{IsSliceAnswer}
 
 -- A described frame is an answer of `etherparse_1_slice` with status 0.
-pub sliced : (given : Option Entry) (entry : Entry) (bytes : List ℕ) (layers : Layers) (packet : Packet)
-    → given ≡ Some entry → Describes entry bytes layers packet → IsSliceAnswer given bytes 0 packet
-sliced given entry bytes layers packet is says =
-    subst (λ (e : Option Entry). IsSliceAnswer e bytes 0 packet) (sym is) (inl (refl, (layers, says)))
+pub sliced : (first : Option Entry) (entry : Entry) (bytes : List ℕ) (layers : Layers) (packet : Packet)
+    → first ≡ Some entry → Describes entry bytes layers packet → IsSliceAnswer first bytes 0 packet
+sliced first entry bytes layers packet is describes =
+    subst (λ (e : Option Entry). IsSliceAnswer e bytes 0 packet) (sym is) (inl (refl, (layers, describes)))
 
 -- A described lax packet is an answer of `etherparse_1_slice_lax` with status 0.
-pub read_laxly : (given : Option Entry) (entry : Entry) (bytes : List ℕ) (read : LaxLayers) (packet : Packet)
-    → given ≡ Some entry → DescribesLax entry bytes read packet → IsLaxAnswer given bytes 0 packet
-read_laxly given entry bytes read packet is says =
-    subst (λ (e : Option Entry). IsLaxAnswer e bytes 0 packet) (sym is) (inl (refl, (read, says)))
+pub read_laxly : (first : Option Entry) (entry : Entry) (bytes : List ℕ) (read : LaxLayers) (packet : Packet)
+    → first ≡ Some entry → DescribesLax entry bytes read packet → IsLaxAnswer first bytes 0 packet
+read_laxly first entry bytes read packet is describes =
+    subst (λ (e : Option Entry). IsLaxAnswer e bytes 0 packet) (sym is) (inl (refl, (read, describes)))
 
--- A call that returns a number of an unchanged pool meets `Changes` with `Tells`.
-pub told_of : {old new : Pool} {tell : State → ℕ} {number : ℕ} (state : State) → Some state ≡ old.held.state
-    → new.held.state ≡ Some state → number ≡ tell state → Changes old new (Tells tell number)
-told_of state was is described = record {
+-- A call that returns a number of an unchanged pool meets `Changes` with `ReturnsNumber`.
+pub returns_number : {old new : Pool} {number_of : State → ℕ} {number : ℕ} (state : State)
+    → Some state ≡ old.pointer.state → new.pointer.state ≡ Some state → number ≡ number_of state
+    → Changes old new (ReturnsNumber number_of number)
+returns_number state was is returned = record {
   before = state;
   after = state;
   was = sym was;
   is = is;
-  step = record { same = refl; described = described };
+  step = record { same = refl; returned = returned };
 }

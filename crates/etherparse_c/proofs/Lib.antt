@@ -1,5 +1,5 @@
 pub mod AnswerLemmas
-pub mod HeldStepLemmas
+pub mod PointerStepLemmas
 pub mod LaxLemmas
 pub mod ManyLemmas
 pub mod SentLemmas

@@ -18,7 +18,7 @@ use Rattle.etherparse.specs.Types.IpDefragError.{IpDefragError}
 use Rattle.etherparse.specs.Types.IpDefragPayloadVec.{IpDefragPayloadVec}
 use Rattle.etherparse.specs.Types.IpDefragPool.{IpDefragPool}
 use Rattle.etherparse.specs.Types.IpFragId.{IpFragId}
-use Rattle.etherparse_c.specs.PoolAnswers.{IsPushAnswer, IsPushAnswerWith, IsPushed, IsTold, Table}
+use Rattle.etherparse_c.specs.PoolAnswers.{IsPoolResultAnswer, IsPushAnswer, IsPushAnswerWith, IsPushed, Table}
 use Rattle.etherparse_c.specs.declared.pool_answer.PoolAnswer.{PoolAnswer}
 use Rattle.etherparse_c.specs.declared.state.State.{State}
 
@@ -78,41 +78,42 @@ payload_within law old new (Some carried) timestamp channel payload table held t
 
 -- ---- after a push
 
-none_told : (result : Result (Option IpDefragPayloadVec) IpDefragError) (waiting : Option IpDefragPayloadVec)
-    (before behind : List ℕ) (described : PoolAnswer) (status : ℕ)
-    → ((payload : IpDefragPayloadVec) → result ≡ Ok (Some payload) → length payload.payload.items ≤ length before)
-    → IsTold result waiting before behind described status → waiting ≡ None
-none_told (Ok None) waiting before behind described status room answered = answered.1
-none_told (Ok (Some payload)) waiting before behind described status room answered =
+none_in_answer : (result : Result (Option IpDefragPayloadVec) IpDefragError) (waiting : Option IpDefragPayloadVec)
+    (old_buffer new_buffer : List ℕ) (answer : PoolAnswer) (status : ℕ)
+    → ((payload : IpDefragPayloadVec) → result ≡ Ok (Some payload) → length payload.payload.items ≤ length old_buffer)
+    → IsPoolResultAnswer result waiting old_buffer new_buffer answer status → waiting ≡ None
+none_in_answer (Ok None) waiting old_buffer new_buffer answer status fits answered = answered.1
+none_in_answer (Ok (Some payload)) waiting old_buffer new_buffer answer status fits answered =
     elim answered.1 [
       | inl complete ↦ complete.1
-      | inr longer ↦ absurd (omega (arith, room payload refl, longer.2))
+      | inr longer ↦ absurd (omega (arith, fits payload refl, longer.2))
     ]
-none_told (Err error) waiting before behind described status room answered = answered.1
+none_in_answer (Err error) waiting old_buffer new_buffer answer status fits answered = answered.1
 
 none_pushed : DataWithinLimit → (entry : Entry) (bytes : List ℕ) (timestamp channel : ℕ) (old new : State)
-    (before behind : List ℕ) (described : PoolAnswer) (status : ℕ) (table : Table) → HoldsTable nat_eq old.pool table
-    → old.waiting ≡ None → limit_of old.pool ≤ length before
-    → IsPushed entry bytes timestamp channel old new before behind described status → new.waiting ≡ None
-none_pushed law entry bytes timestamp channel old new before behind described status table held empty room pushed =
+    (old_buffer new_buffer : List ℕ) (answer : PoolAnswer) (status : ℕ) (table : Table)
+    → HoldsTable nat_eq old.pool table → old.waiting ≡ None → limit_of old.pool ≤ length old_buffer
+    → IsPushed entry bytes timestamp channel old new old_buffer new_buffer answer status → new.waiting ≡ None
+none_pushed law entry bytes timestamp channel old new old_buffer new_buffer answer status table held empty fits pushed =
     elim pushed [
       | inl refused ↦ ap (λ (state : State). state.waiting) refused.1 ∙ empty
       | inr taken ↦
           let carried = option_map packet_fragment (fragment_of taken.0) in
-          none_told taken.2.0 new.waiting before behind described status
+          none_in_answer taken.2.0 new.waiting old_buffer new_buffer answer status
           (λ payload is.
           let takes = subst (TakesFrame nat_eq old.pool new.pool carried timestamp channel) is taken.2.1 in
           let short = payload_within law old.pool new.pool carried timestamp channel payload table held takes in
-          omega (arith, room, short)) taken.2.2
+          omega (arith, fits, short)) taken.2.2
     ]
 
 pub none_waits : DataWithinLimit → (entry : Option Entry) (bytes : List ℕ) (timestamp channel : ℕ) (old new : State)
-    (before behind : List ℕ) (described : PoolAnswer) (status : ℕ) (table : Table) → HoldsTable nat_eq old.pool table
-    → old.waiting ≡ None → limit_of old.pool ≤ length before
-    → IsPushAnswer entry bytes timestamp channel old new before behind described status → new.waiting ≡ None
-none_waits law None bytes timestamp channel old new before behind described status table held empty room pushed =
+    (old_buffer new_buffer : List ℕ) (answer : PoolAnswer) (status : ℕ) (table : Table)
+    → HoldsTable nat_eq old.pool table → old.waiting ≡ None → limit_of old.pool ≤ length old_buffer
+    → IsPushAnswer entry bytes timestamp channel old new old_buffer new_buffer answer status → new.waiting ≡ None
+none_waits law None bytes timestamp channel old new old_buffer new_buffer answer status table held empty fits pushed =
     ap (λ (state : State). state.waiting) pushed.1 ∙ empty
-none_waits law (Some entry) bytes timestamp channel old new before behind described status table held empty room pushed =
-    none_pushed law entry bytes timestamp channel old new before behind described status table held empty room
-    (subst (λ waiting. IsPushAnswerWith (Some entry) waiting bytes timestamp channel old new before behind described status)
-    empty pushed)
+none_waits law (Some entry) bytes timestamp channel old new old_buffer new_buffer answer status table held empty fits
+    pushed =
+    none_pushed law entry bytes timestamp channel old new old_buffer new_buffer answer status table held empty fits
+    (subst (λ waiting. IsPushAnswerWith (Some entry) waiting bytes timestamp channel old new old_buffer new_buffer
+    answer status) empty pushed)

@@ -12,26 +12,26 @@ use Rattle.etherparse_c.specs.ManyAnswers.{AreSliced, IsSlicedAt, frame_start, f
 use Rattle.etherparse_c.specs.declared.packet.Packet.{Packet}
 
 -- Loop invariant: the frames before an index are sliced, and the frame at the index starts at `start`.
-pub record Slicing (entry : Option Entry) (bytes ends : List ℕ) (old new : List Packet) (start place sliced : ℕ)
+pub record Slicing (entry : Option Entry) (bytes ends : List ℕ) (old new : List Packet) (start index sliced : ℕ)
     : Type 0 where
-  pub are : AreSliced entry bytes ends old new place
-  pub begun : start ≡ frame_start ends place
-  pub described : sliced ≡ place
+  pub are : AreSliced entry bytes ends old new index
+  pub begun : start ≡ frame_start ends index
+  pub described : sliced ≡ index
 
 -- Writing the packet at an index does not change a packet before it.
-kept : (entry : Option Entry) (bytes ends : List ℕ) (packets : List Packet) (packet : Packet) (place before : ℕ)
-    → before < place → place < length packets → IsSlicedAt entry bytes ends packets before
-    → IsSlicedAt entry bytes ends (slice_set packets place packet) before
-kept entry bytes ends packets packet place before above within is =
-    let other : before ≢ place = λ same. omega arith in
+kept : (entry : Option Entry) (bytes ends : List ℕ) (packets : List Packet) (packet : Packet) (index before : ℕ)
+    → before < index → index < length packets → IsSlicedAt entry bytes ends packets before
+    → IsSlicedAt entry bytes ends (slice_set packets index packet) before
+kept entry bytes ends packets packet index before above within is =
+    let other : before ≢ index = λ same. omega arith in
     let here : before < length packets = omega arith in
-    let read = get_or_from_slice_get packets before is.packet is.packet is.stands in
+    let read = get_or_from_slice_get packets before is.packet is.packet is.stored in
     record {
       packet = is.packet;
       status = is.status;
-      stands = slice_get_read (slice_set packets place packet) (length packets) before is.packet
-          (sym (length-set packets place packet)) here
-          (sym (get_or-set_other packets place before packet is.packet other ∙ read));
+      stored = slice_get_read (slice_set packets index packet) (length packets) before is.packet
+          (sym (length-set packets index packet)) here
+          (sym (get_or-set_other packets index before packet is.packet other ∙ read));
       ascends = is.ascends;
       within = is.within;
       answer = is.answer;
@@ -39,17 +39,17 @@ kept entry bytes ends packets packet place before above within is =
 
 -- Slicing one more frame preserves the loop invariant.
 pub one_more : (entry : Option Entry) (bytes ends : List ℕ) (old new : List Packet) (packet : Packet)
-    (start place sliced status : ℕ) → Slicing entry bytes ends old new start place sliced → place < length ends
-    → place < length new → start ≤ frame_end ends place → frame_end ends place ≤ length bytes
-    → IsSliceAnswer entry (slice_range bytes start (frame_end ends place)) status packet
-    → Slicing entry bytes ends old (slice_set new place packet) (frame_end ends place) (place + 1) (place + 1)
-one_more entry bytes ends old new packet start place sliced status before more room ascends within answer =
-    let now = slice_set new place packet in
-    let here : IsSlicedAt entry bytes ends now place = record {
+    (start index sliced status : ℕ) → Slicing entry bytes ends old new start index sliced → index < length ends
+    → index < length new → start ≤ frame_end ends index → frame_end ends index ≤ length bytes
+    → IsSliceAnswer entry (slice_range bytes start (frame_end ends index)) status packet
+    → Slicing entry bytes ends old (slice_set new index packet) (frame_end ends index) (index + 1) (index + 1)
+one_more entry bytes ends old new packet start index sliced status before more in_packets ascends within answer =
+    let now = slice_set new index packet in
+    let here : IsSlicedAt entry bytes ends now index = record {
       packet = packet;
       status = status;
-      stands = slice_get_read now (length new) place packet (sym (length-set new place packet)) room
-          (sym (get_or-set_same new place packet packet room));
+      stored = slice_get_read now (length new) index packet (sym (length-set new index packet)) in_packets
+          (sym (get_or-set_same new index packet packet in_packets));
       ascends = rw (← before.begun) ascends;
       within = within;
       answer = rw (← before.begun) answer;
@@ -57,11 +57,12 @@ one_more entry bytes ends old new packet start place sliced status before more r
     record {
       are = record {
         most = omega arith;
-        each = below_more (IsSlicedAt entry bytes ends now) place
-            (λ earlier above. kept entry bytes ends new packet place earlier above room (before.are.each earlier above))
+        each = below_more (IsSlicedAt entry bytes ends now) index
+            (λ earlier above. kept entry bytes ends new packet index earlier above in_packets
+            (before.are.each earlier above))
             here;
-        others = drop-set-lt (place + 1) new place packet (omega arith)
-            ∙ sym (drop-drop 1 place new) ∙ ap (drop 1) before.are.others ∙ drop-drop 1 place old;
+        others = drop-set-lt (index + 1) new index packet (omega arith)
+            ∙ sym (drop-drop 1 index new) ∙ ap (drop 1) before.are.others ∙ drop-drop 1 index old;
       };
       begun = rw add-one refl;
       described = refl;

@@ -18,31 +18,31 @@ use Rattle.etherparse_c.specs.LaxAnswers.{DescribesLax, lax_description}
 use Rattle.etherparse_c.specs.Places.{AreAt, AreTagsAt, Describes, HeaderLens, bytes_at}
 
 -- The bytes after `offset` other bytes are the bytes at that offset.
-bytes_behind : (bytes front part behind : List ℕ) (offset len : ℕ) → bytes ≡ front ++ (part ++ behind)
-    → length front ≡ offset → length part ≡ len → bytes_at bytes offset len ≡ part
-bytes_behind bytes front part behind offset len same front_len part_len =
-    let cut : (offset + len) - offset ≡ length part = omega (arith, part_len) in
-    let there : drop offset bytes ≡ part ++ behind =
+bytes_after : (bytes before part after : List ℕ) (offset len : ℕ) → bytes ≡ before ++ (part ++ after)
+    → length before ≡ offset → length part ≡ len → bytes_at bytes offset len ≡ part
+bytes_after bytes before part after offset len same before_len part_len =
+    let part_length : (offset + len) - offset ≡ length part = omega (arith, part_len) in
+    let rest : drop offset bytes ≡ part ++ after =
     ap (λ (b : List ℕ). drop offset b) same
-    ∙ ap (λ (n : ℕ). drop n (front ++ (part ++ behind))) (sym front_len) ∙ drop-append_seam front (part ++ behind) in
-    ap (λ (n : ℕ). take n (drop offset bytes)) cut ∙ ap (λ (b : List ℕ). take (length part) b) there
-    ∙ take-append_seam part behind
+    ∙ ap (λ (n : ℕ). drop n (before ++ (part ++ after))) (sym before_len) ∙ drop-append_seam before (part ++ after) in
+    ap (λ (n : ℕ). take n (drop offset bytes)) part_length ∙ ap (λ (b : List ℕ). take (length part) b) rest
+    ∙ take-append_seam part after
 
 -- Encoded tags after other bytes are the tags at that offset.
-tags_behind : HeaderLens → (bytes front tags behind : List ℕ) (offset : ℕ) (extensions : List LinkExtension)
-    → bytes ≡ front ++ (tags ++ behind) → length front ≡ offset → EncodesTags extensions tags
+tags_after : HeaderLens → (bytes before tags after : List ℕ) (offset : ℕ) (extensions : List LinkExtension)
+    → bytes ≡ before ++ (tags ++ after) → length before ≡ offset → EncodesTags extensions tags
     → AreTagsAt bytes offset extensions
-tags_behind laws bytes front tags behind offset [] same front_len encodes = tt
-tags_behind laws bytes front tags behind offset (extension ∷ others) same front_len (tag, rest, first, more, parts) =
-    let here : bytes ≡ front ++ (tag ++ (rest ++ behind)) =
-    same ∙ ap (λ (x : List ℕ). front ++ (x ++ behind)) parts
-    ∙ ap (λ (x : List ℕ). front ++ x) (append_assoc tag rest behind) in
+tags_after laws bytes before tags after offset [] same before_len encodes = tt
+tags_after laws bytes before tags after offset (extension ∷ others) same before_len (tag, rest, first, more, parts) =
+    let split : bytes ≡ before ++ (tag ++ (rest ++ after)) =
+    same ∙ ap (λ (x : List ℕ). before ++ (x ++ after)) parts
+    ∙ ap (λ (x : List ℕ). before ++ x) (append_assoc tag rest after) in
     let len = laws.tag extension tag first in (
       subst (EncodesTag extension)
-          (sym (bytes_behind bytes front tag (rest ++ behind) offset (tag_len extension) here front_len len)) first,
-      tags_behind laws bytes (front ++ tag) rest behind (offset + tag_len extension) others
-          (here ∙ sym (append_assoc front tag (rest ++ behind)))
-          (length-append front tag ∙ omega (arith, front_len, len)) more,
+          (sym (bytes_after bytes before tag (rest ++ after) offset (tag_len extension) split before_len len)) first,
+      tags_after laws bytes (before ++ tag) rest after (offset + tag_len extension) others
+          (split ∙ sym (append_assoc before tag (rest ++ after)))
+          (length-append before tag ∙ omega (arith, before_len, len)) more,
     )
 
 -- The lengths of the headers of a frame, added up from the first header on, are the offsets of its layers.
@@ -105,20 +105,20 @@ are_at laws bytes layers order =
     let group = grouped bytes layers order in
     record {
       link = subst (EncodesLink layers.link)
-          (sym (bytes_behind bytes [] order.link _ 0 (link_len layers.link) order.parts refl len.link))
+          (sym (bytes_after bytes [] order.link _ 0 (link_len layers.link) order.parts refl len.link))
           order.link_header;
-      tags = tags_behind laws bytes order.link order.tags _ (link_len layers.link) layers.link_exts order.parts len.link
+      tags = tags_after laws bytes order.link order.tags _ (link_len layers.link) layers.link_exts order.parts len.link
           order.tag_headers;
       net = subst (EncodesNet layers.net)
-          (sym (bytes_behind bytes (order.link ++ order.tags) order.net _ (net_offset layers) (net_len layers.net)
+          (sym (bytes_after bytes (order.link ++ order.tags) order.net _ (net_offset layers) (net_len layers.net)
           group.net len.tags (laws.net layers.net order.net order.net_header)))
           order.net_header;
       transport = subst (EncodesTransport layers.transport)
-          (sym (bytes_behind bytes ((order.link ++ order.tags) ++ order.net) order.transport _
+          (sym (bytes_after bytes ((order.link ++ order.tags) ++ order.net) order.transport _
           (transport_offset layers) (transport_len layers.transport) group.transport len.net
           (laws.transport layers.transport order.transport order.transport_header)))
           order.transport_header;
-      payload = sym (bytes_behind bytes (((order.link ++ order.tags) ++ order.net) ++ order.transport)
+      payload = sym (bytes_after bytes (((order.link ++ order.tags) ++ order.net) ++ order.transport)
           (last_payload layers) _ (payload_offset layers) (length (last_payload layers)) group.payload len.transport
           refl);
     }
@@ -135,10 +135,10 @@ places laws entry bytes layers packet frame order same =
     })
 
 -- A packet that is equal to the description of a lax packet describes it.
-pub lax_places : HeaderLens → (entry : Entry) (bytes : List ℕ) (read : LaxLayers) (packet : Packet)
+pub lax_offsets : HeaderLens → (entry : Entry) (bytes : List ℕ) (read : LaxLayers) (packet : Packet)
     → IsLax entry bytes read → AreInOrder bytes (layers_in read) → packet ≡ lax_description read
     → DescribesLax entry bytes read packet
-lax_places laws entry bytes read packet is order same =
+lax_offsets laws entry bytes read packet is order same =
     let at = are_at laws bytes (layers_in read) order in
     subst (DescribesLax entry bytes read) (sym same) (record {
       is = is;

@@ -36,55 +36,56 @@ use Rattle.etherparse_c.specs.declared.packet.Ip.{Ip}
 use Rattle.etherparse_c.specs.declared.packet.Packet.{Packet}
 use Rattle.etherparse_c.specs.declared.packet.Part.{Part}
 use Rattle.etherparse_c.specs.declared.plain.PlainIp.{PlainIp}
-use Rattle.etherparse_c.specs.declared.vlans.Behind.{Behind}
+use Rattle.etherparse_c.specs.declared.vlans.PayloadAfterVlans.{PayloadAfterVlans}
 use Rattle.etherparse_c.specs.Description.{description, ip_in, link_len, link_part, net_end, net_kind as kind_number, net_len, no_refusal, part, tag_slots, tags_len}
 use Rattle.etherparse_c.specs.Plain.{HasPlainIp, HasVlans, IsPlainIp, IsPlainNet, net_description, plain_ip, plain_payload, plain_description, transport_description}
 
 -- ---- tags
 
 -- A VLAN tag before other layers.
-vlan_before : (type : EtherType) (bytes left : List ℕ) (tag : SingleVlanSlice) (room : ℕ) (others : List LinkExtension)
+vlan_before : (type : EtherType) (bytes left : List ℕ) (tag : SingleVlanSlice) (most : ℕ) (others : List LinkExtension)
     (net : Option NetLayer) (transport : Option TransportLayer) → IsVlanType type
     → IsVlan bytes (vlan_slice_parts tag left)
-    → IsInside slices room (Some (vlan_slice_header tag).ether_type) (vlan_slice_payload tag) others net transport
-    → IsInside slices (suc room) (Some type) bytes (vlan (vlan_slice_header tag) (vlan_slice_payload tag) ∷ others) net
+    → IsInside slices most (Some (vlan_slice_header tag).ether_type) (vlan_slice_payload tag) others net transport
+    → IsInside slices (suc most) (Some type) bytes (vlan (vlan_slice_header tag) (vlan_slice_payload tag) ∷ others) net
     transport
-vlan_before type bytes left tag room others net transport of_type is inside = ((left, (of_type, is)), inside)
+vlan_before type bytes left tag most others net transport of_type is inside = ((left, (of_type, is)), inside)
 
 -- One VLAN tag meets `HasVlans`.
-pub one_vlan : (type : EtherType) (bytes left : List ℕ) (tag : SingleVlanSlice) (behind : Behind) → IsVlanType type
-    → IsVlan bytes (vlan_slice_parts tag left) → behind.offset ≡ 18
-    → behind.ether_type ≡ (vlan_slice_header tag).ether_type → behind.slice.now ≡ vlan_slice_payload tag
-    → HasVlans type bytes (vlan (vlan_slice_header tag) (vlan_slice_payload tag) ∷ []) behind
-one_vlan type bytes left tag behind of_type is place same_type same = record {
-  place = place;
-  few = omega (arith, place);
-  uncut = refl;
+pub one_vlan : (type : EtherType) (bytes left : List ℕ) (tag : SingleVlanSlice) (untagged : PayloadAfterVlans)
+    → IsVlanType type → IsVlan bytes (vlan_slice_parts tag left) → untagged.offset ≡ 18
+    → untagged.ether_type ≡ (vlan_slice_header tag).ether_type → untagged.slice.now ≡ vlan_slice_payload tag
+    → HasVlans type bytes (vlan (vlan_slice_header tag) (vlan_slice_payload tag) ∷ []) untagged
+one_vlan type bytes left tag untagged of_type is place same_type same = record {
+  offset = place;
+  bound = omega (arith, place);
+  unlimited = refl;
   holds = λ none net transport part. vlan_before type bytes left tag 2 [] net transport of_type is (
     subst (λ (t : EtherType). ¬ BeginsLinkExtension t) same_type none,
     subst (λ (t : EtherType). IsNetPart slices (net_kind t) (vlan_slice_payload tag) net transport) same_type
-        (subst (λ (b : List ℕ). IsNetPart slices (net_kind behind.ether_type) b net transport) same part),
+        (subst (λ (b : List ℕ). IsNetPart slices (net_kind untagged.ether_type) b net transport) same part),
   );
 }
 
 -- Two VLAN tags meet `HasVlans`.
-pub two_vlans : (type : EtherType) (bytes left rest : List ℕ) (outer inner : SingleVlanSlice) (behind : Behind)
-    → IsVlanType type → IsVlan bytes (vlan_slice_parts outer left) → IsVlanType (vlan_slice_header outer).ether_type
-    → IsVlan (vlan_slice_payload outer) (vlan_slice_parts inner rest) → behind.offset ≡ 22
-    → behind.ether_type ≡ (vlan_slice_header inner).ether_type → behind.slice.now ≡ vlan_slice_payload inner
+pub two_vlans : (type : EtherType) (bytes left rest : List ℕ) (outer inner : SingleVlanSlice)
+    (untagged : PayloadAfterVlans) → IsVlanType type → IsVlan bytes (vlan_slice_parts outer left)
+    → IsVlanType (vlan_slice_header outer).ether_type
+    → IsVlan (vlan_slice_payload outer) (vlan_slice_parts inner rest) → untagged.offset ≡ 22
+    → untagged.ether_type ≡ (vlan_slice_header inner).ether_type → untagged.slice.now ≡ vlan_slice_payload inner
     → HasVlans type bytes (vlan (vlan_slice_header outer) (vlan_slice_payload outer)
-    ∷ vlan (vlan_slice_header inner) (vlan_slice_payload inner) ∷ []) behind
-two_vlans type bytes left rest outer inner behind of_type is of_inner_type is_inner place same_type same = record {
-  place = place;
-  few = omega (arith, place);
-  uncut = refl;
+    ∷ vlan (vlan_slice_header inner) (vlan_slice_payload inner) ∷ []) untagged
+two_vlans type bytes left rest outer inner untagged of_type is of_inner_type is_inner place same_type same = record {
+  offset = place;
+  bound = omega (arith, place);
+  unlimited = refl;
   holds = λ none net transport part. vlan_before type bytes left outer 2
       (vlan (vlan_slice_header inner) (vlan_slice_payload inner) ∷ []) net transport of_type is
       (vlan_before (vlan_slice_header outer).ether_type (vlan_slice_payload outer) rest inner 1 [] net transport
       of_inner_type is_inner (
         subst (λ (t : EtherType). ¬ BeginsLinkExtension t) same_type none,
         subst (λ (t : EtherType). IsNetPart slices (net_kind t) (vlan_slice_payload inner) net transport) same_type
-            (subst (λ (b : List ℕ). IsNetPart slices (net_kind behind.ether_type) b net transport) same part),
+            (subst (λ (b : List ℕ). IsNetPart slices (net_kind untagged.ether_type) b net transport) same part),
       ));
 }
 
@@ -102,35 +103,35 @@ ipv6_chain_ends number (inr (inl is)) = ap (λ (n : ℕ). demand_of ipv6_chain s
 ipv6_chain_ends number (inr (inr is)) = ap (λ (n : ℕ). demand_of ipv6_chain slices [] n) is
 
 -- Bytes are a header of n bytes, a payload up to byte t, and the bytes after it.
-cut_bytes : (bytes header rest : List ℕ) (n t : ℕ) → bytes ≡ header ++ rest → length header ≡ n → n ≤ t
+split_bytes : (bytes header rest : List ℕ) (n t : ℕ) → bytes ≡ header ++ rest → length header ≡ n → n ≤ t
     → bytes ≡ (header ++ take (t - n) (drop n bytes)) ++ drop t bytes
-cut_bytes bytes header rest n t parts len enough =
+split_bytes bytes header rest n t parts len enough =
     let payload = take (t - n) (drop n bytes) in
     let left : drop t bytes ≡ drop (t - n) (drop n bytes) =
     ap (λ (k : ℕ). drop k bytes) (omega arith) ∙ sym (drop-drop (t - n) n bytes) in
-    let behind : payload ++ drop t bytes ≡ rest =
+    let payload_and_left : payload ++ drop t bytes ≡ rest =
     ap (λ (s : List ℕ). payload ++ s) left ∙ take-append-drop (t - n) (drop n bytes)
     ∙ ap (λ (s : List ℕ). drop n s) parts ∙ drop_at header rest n len in
-    parts ∙ ap (λ (s : List ℕ). header ++ s) (sym behind) ∙ sym (append_assoc header payload (drop t bytes))
+    parts ∙ ap (λ (s : List ℕ). header ++ s) (sym payload_and_left) ∙ sym (append_assoc header payload (drop t bytes))
 
 -- Bytes that start with an IPv4 header and reach to its total length are an IPv4 packet.
-pub cut_packet : (bytes rest : List ℕ) (header : Ipv4Header) (n t : ℕ) → IsIpv4Header bytes (header, rest)
+pub limited_packet : (bytes rest : List ℕ) (header : Ipv4Header) (n t : ℕ) → IsIpv4Header bytes (header, rest)
     → n ≡ ipv4_header_len header → n + length rest ≡ length bytes → t ≡ header.total_len → n ≤ t → t ≤ length bytes
     → IsIpv4Packet bytes (parts_of header (take (t - n) (drop n bytes)) (drop t bytes))
-cut_packet bytes rest header n t is of_header len same enough most =
-    let there : n ≡ length is.encoded =
+limited_packet bytes rest header n t is of_header len same enough most =
+    let encoded_len : n ≡ length is.encoded =
     omega (arith, ap length is.parts, length-append is.encoded rest, len) in
     record {
       encoded = is.encoded;
       encodes = is.encodes;
-      parts = cut_bytes bytes is.encoded rest n t is.parts (sym there) enough;
-      cut = omega (arith, same, there, enough, most, length-take (t - n) (drop n bytes), length-drop n bytes);
+      parts = split_bytes bytes is.encoded rest n t is.parts (sym encoded_len) enough;
+      cut = omega (arith, same, encoded_len, enough, most, length-take (t - n) (drop n bytes), length-drop n bytes);
     }
 
 -- An IPv4 header that is not of a fragment has offset 0 and no more fragments.
-pub whole_header : (header : Ipv4Header) → is_ipv4_fragment header ≡ false
+pub unfragmented_header : (header : Ipv4Header) → is_ipv4_fragment header ≡ false
     → (header.more_fragments ≡ false) × (header.fragment_offset ≡ 0)
-whole_header header whole = grind (arith, whole)
+unfragmented_header header unfragmented = grind (arith, unfragmented)
 
 -- An unfragmented IPv4 packet without an authentication header is a plain IP packet.
 pub has_ipv4 : (bytes left : List ℕ) (header : Ipv4Header) (ip : PlainIp)
@@ -138,7 +139,7 @@ pub has_ipv4 : (bytes left : List ℕ) (header : Ipv4Header) (ip : PlainIp)
     → is_ipv4_fragment header ≡ false → ip.version ≡ 4 → ip.len ≡ ipv4_header_len header
     → ip.identification ≡ header.identification → ip.number ≡ header.protocol → ip.end ≡ source.Ipv4HeaderTotalLen
     → HasPlainIp (Some only_ipv4) bytes ip
-has_ipv4 bytes left header ip cut other whole version len identification number end =
+has_ipv4 bytes left header ip cut other unfragmented version len identification number end =
     let payload : IpPayload = record {
       number = header.protocol.0;
       fragmented = is_ipv4_fragment header;
@@ -154,27 +155,27 @@ has_ipv4 bytes left header ip cut other whole version len identification number 
       fragmented = refl;
       source = refl;
     } in
-    let says = whole_header header whole in
+    let no_fragment = unfragmented_header header unfragmented in
     record {
       layer = ipv4 header [] payload;
       is = (packet, is, refl);
-      shown = record {
+      fields = record {
         kind = sym version;
         len = omega (arith, len);
         most = omega (arith, len, cut.encodes.fits.options_len);
-        says = λ i. record {
+        ip_fields = λ i. record {
           version = sym version i;
           number = (sym number i).0;
-          fragmented = bit (whole i);
-          more_fragments = bit (says.0 i);
-          fragment_offset = 8 * says.1 i;
+          fragmented = bit (unfragmented i);
+          more_fragments = bit (no_fragment.0 i);
+          fragment_offset = 8 * no_fragment.1 i;
           identification = sym identification i;
           header_len = sym len i;
         };
         end = sym end;
         payload = λ i. Some (record {
           number = (sym number i).0;
-          fragmented = whole i;
+          fragmented = unfragmented i;
           source = sym end i;
           bytes = ip.payload.now;
         });
@@ -206,11 +207,11 @@ has_ipv6 bytes left header ip cut known version len identification number end =
     record {
       layer = ipv6 header [] payload;
       is = (packet, is, refl);
-      shown = record {
+      fields = record {
         kind = sym version;
         len = sym len;
         most = omega (arith, len);
-        says = λ i. record {
+        ip_fields = λ i. record {
           version = sym version i;
           number = (sym number i).0;
           fragmented = 0;
@@ -299,24 +300,24 @@ has_none (ipv6 header extensions inside) is = absurd (none-some inside (sym is))
 has_none (arp packet) is = (refl, refl)
 
 -- The descriptions of a network header and of the transport layer are the description of the network layer.
-pub net_is_told : (offset : ℕ) (net : NetLayer) (transport : Option TransportLayer) (end : LenSource)
+pub net_is_described : (offset : ℕ) (net : NetLayer) (transport : Option TransportLayer) (end : LenSource)
     (bytes : List ℕ) (header : Part) (ip : Ip) (old new : Packet)
     → (net_end (Some net) ≡ end) × (after_net [] (Some net) ≡ bytes)
     → header ≡ part (kind_number (Some net)) offset (net_len (Some net)) → ip ≡ ip_in (Some net)
     → new ≡ transport_description (offset + header.len) end bytes transport (record old { net = header; ip = ip })
     → new ≡ net_description offset net transport old
-net_is_told offset net transport end bytes header ip old new behind header_is ip_is same =
-    same ∙ (λ i. transport_description (offset + (header_is i).len) (sym behind.0 i) (sym behind.1 i) transport
+net_is_described offset net transport end bytes header ip old new payload_is header_is ip_is same =
+    same ∙ (λ i. transport_description (offset + (header_is i).len) (sym payload_is.0 i) (sym payload_is.1 i) transport
     (record old { net = header_is i; ip = ip_is i }))
 
 -- The description of a plain IP packet is the description of its network layer.
-pub plain_is_told : (offset : ℕ) (net : NetLayer) (transport : Option TransportLayer) (ip : PlainIp)
+pub plain_is_described : (offset : ℕ) (net : NetLayer) (transport : Option TransportLayer) (ip : PlainIp)
     (old new : Packet) → IsPlainIp net ip → new ≡ plain_description offset ip transport old
     → new ≡ net_description offset net transport old
-plain_is_told offset net transport ip old new shown same =
-    net_is_told offset net transport ip.end ip.payload.now (part ip.version offset ip.len) (plain_ip ip) old new
-    (has_payload net (plain_payload ip) shown.payload)
-    (λ i. record { kind = sym shown.kind i; offset = offset; len = sym shown.len i }) (sym shown.says) same
+plain_is_described offset net transport ip old new fields same =
+    net_is_described offset net transport ip.end ip.payload.now (part ip.version offset ip.len) (plain_ip ip) old new
+    (has_payload net (plain_payload ip) fields.payload)
+    (λ i. record { kind = sym fields.kind i; offset = offset; len = sym fields.len i }) (sym fields.ip_fields) same
 
 -- ---- the whole frame
 
@@ -326,19 +327,19 @@ plain_layers link tags net transport =
     record { link = link; link_exts = tags; net = Some net; transport = transport }
 
 -- An outer layer that limits nothing leaves the limit of the inner layer.
-cut_alone : (end : LenSource) → limited_by source.Slice end ≡ end
-cut_alone source.Slice = refl
-cut_alone source.MacsecShortLength = refl
-cut_alone source.Ipv4HeaderTotalLen = refl
-cut_alone source.Ipv6HeaderPayloadLen = refl
-cut_alone source.UdpHeaderLen = refl
-cut_alone source.ArpAddrLengths = refl
+limited_by_slice : (end : LenSource) → limited_by source.Slice end ≡ end
+limited_by_slice source.Slice = refl
+limited_by_slice source.MacsecShortLength = refl
+limited_by_slice source.Ipv4HeaderTotalLen = refl
+limited_by_slice source.Ipv6HeaderPayloadLen = refl
+limited_by_slice source.UdpHeaderLen = refl
+limited_by_slice source.ArpAddrLengths = refl
 
 -- The bytes after a network layer do not depend on the bytes that contain the layer.
-behind_any : (bytes : List ℕ) (net : NetLayer) → after_net [] (Some net) ≡ after_net bytes (Some net)
-behind_any bytes (ipv4 header extensions payload) = refl
-behind_any bytes (ipv6 header extensions payload) = refl
-behind_any bytes (arp packet) = refl
+after_net_any : (bytes : List ℕ) (net : NetLayer) → after_net [] (Some net) ≡ after_net bytes (Some net)
+after_net_any bytes (ipv4 header extensions payload) = refl
+after_net_any bytes (ipv6 header extensions payload) = refl
+after_net_any bytes (arp packet) = refl
 
 -- Link header, tags and the description of the network layer are the description of all layers.
 pub plain_described : (link : Option LinkLayer) (tags : List LinkExtension) (net : NetLayer)
@@ -347,13 +348,14 @@ pub plain_described : (link : Option LinkLayer) (tags : List LinkExtension) (net
     → old.link_exts ≡ tag_slots (link_len link) tags → old.link_ext_count ≡ length tags
     → old.refusal ≡ no_refusal → new ≡ net_description offset net transport old
     → new ≡ description (plain_layers link tags net transport)
-plain_described link tags net transport offset old new uncut place link_told tags_told count refused same =
+plain_described link tags net transport offset old new unlimited place link_is tags_are count refused same =
     let end : net_end (Some net) ≡ limited_by (extensions_len_source tags) (net_end (Some net)) =
-    sym (cut_alone (net_end (Some net))) ∙ ap (λ (e : LenSource). limited_by e (net_end (Some net))) (sym uncut) in
-    let behind = behind_any (payload_after_exts (link_payload link) tags) net in
-    same ∙ (λ i. transport_description (place i + net_len (Some net)) (end i) (behind i) transport (record old {
-      link = link_told i;
-      link_exts = tags_told i;
+    sym (limited_by_slice (net_end (Some net)))
+    ∙ ap (λ (e : LenSource). limited_by e (net_end (Some net))) (sym unlimited) in
+    let payload_is = after_net_any (payload_after_exts (link_payload link) tags) net in
+    same ∙ (λ i. transport_description (place i + net_len (Some net)) (end i) (payload_is i) transport (record old {
+      link = link_is i;
+      link_exts = tags_are i;
       link_ext_count = count i;
       net = part (kind_number (Some net)) (place i) (net_len (Some net));
       ip = ip_in (Some net);

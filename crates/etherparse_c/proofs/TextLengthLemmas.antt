@@ -89,23 +89,23 @@ either Holds true one other of_one of_other = of_one
 either Holds false one other of_one of_other = of_other
 
 -- The text of an error with this field value has at most 141 bytes.
-abbrev HasRoom : ℕ → SliceError → Type 0
-HasRoom number error = length (reason_text_with error number) ≤ 141
+abbrev TextFits : ℕ → SliceError → Type 0
+TextFits number error = length (reason_text_with error number) ≤ 141
 
-len_told_fits : (refusal : Refusal) (layer : Option Layer) (end : Option LenSource)
+len_text_fits : (refusal : Refusal) (layer : Option Layer) (end : Option LenSource)
     → refusal.required_len < 2 ^ 64 → refusal.len < 2 ^ 64 → refusal.layer_start_offset < 2 ^ 64
-    → IfSome (len_error_of refusal layer end) (HasRoom refusal.number)
-len_told_fits refusal None end required len offset = tt
-len_told_fits refusal (Some layer) None required len offset = tt
-len_told_fits refusal (Some layer) (Some end) required len offset = len_error_fits _ required len offset
+    → IfSome (len_error_of refusal layer end) (TextFits refusal.number)
+len_text_fits refusal None end required len offset = tt
+len_text_fits refusal (Some layer) None required len offset = tt
+len_text_fits refusal (Some layer) (Some end) required len offset = len_error_fits _ required len offset
 
-content_told_fits : (kind number : ℕ) → number < 2 ^ 64 → IfSome (content_error_of kind) (HasRoom number)
-content_told_fits kind number small =
+content_text_fits : (kind number : ℕ) → number < 2 ^ 64 → IfSome (content_error_of kind) (TextFits number)
+content_text_fits kind number small =
     let numbered : (name : List ℕ) → length name ≤ 34 → length (name ++ decimal number) ≤ 141 =
     λ name fits. numbered_fits name number fits small in
-    let at : (n : ℕ) (one other : Option SliceError) → IfSome one (HasRoom number) → IfSome other (HasRoom number)
-    → IfSome (if kind == n then one else other) (HasRoom number) =
-    λ n one other. either (HasRoom number) (kind == n) one other in
+    let at : (n : ℕ) (one other : Option SliceError) → IfSome one (TextFits number) → IfSome other (TextFits number)
+    → IfSome (if kind == n then one else other) (TextFits number) =
+    λ n one other. either (TextFits number) (kind == n) one other in
     at 2 _ _ (numbered (codes "UnsupportedPacketTypeField ") (omega arith))
     (at 3 _ _ (numbered (codes "UnsupportedArpHardwareId ") (omega arith))
     (at 4 _ _ (omega arith) (at 5 _ _ (omega arith)
@@ -118,16 +118,16 @@ content_told_fits kind number small =
     (at 14 _ _ (numbered (codes "DataOffsetTooSmall ") (omega arith)) tt))))))))))))
 
 -- If the error's text fits, so does the text of the numbers.
-text_fits : (described : Option SliceError) (number : ℕ) → IfSome described (HasRoom number)
-    → IfSome (option_map (λ error. reason_text_with error number) described) (λ text. length text ≤ 141)
+text_fits : (converted : Option SliceError) (number : ℕ) → IfSome converted (TextFits number)
+    → IfSome (option_map (λ error. reason_text_with error number) converted) (λ text. length text ≤ 141)
 text_fits None number fits = tt
 text_fits (Some error) number fits = fits
 
-pub text_told_fits : (refusal : Refusal) (text : List ℕ) → refusal.number < 2 ^ 32
+pub texts_fit : (refusal : Refusal) (text : List ℕ) → refusal.number < 2 ^ 32
     → refusal.required_len < 2 ^ 64 → refusal.len < 2 ^ 64 → refusal.layer_start_offset < 2 ^ 64
     → text_of_number refusal ≡ Some text → length text ≤ 141
-text_told_fits refusal text number required len offset described =
-    MatchOption-at_some ⊤ (λ text. length text ≤ 141) text described (text_fits (error_of_numbers refusal) refusal.number
-    (either (HasRoom refusal.number) (refusal.kind == 1) _ _
-    (len_told_fits refusal (layer_of_number refusal.layer) (source_of_number refusal.len_source) required len offset)
-    (content_told_fits refusal.kind refusal.number (omega arith))))
+texts_fit refusal text number required len offset is_text =
+    MatchOption-at_some ⊤ (λ text. length text ≤ 141) text is_text (text_fits (error_of_numbers refusal) refusal.number
+    (either (TextFits refusal.number) (refusal.kind == 1) _ _
+    (len_text_fits refusal (layer_of_number refusal.layer) (source_of_number refusal.len_source) required len offset)
+    (content_text_fits refusal.kind refusal.number (omega arith))))

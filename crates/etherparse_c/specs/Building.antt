@@ -1,6 +1,6 @@
 -- Answers of the calls that build a frame.
 use Rattle.std.specs.Prelude.{◌≡◌, ◌==◌, ◌<◌, ◌≤◌, not, Bool, if◌then◌else◌, ℕ, List, ◌++◌, length, drop, bit_and, ◌⊎◌, Option, Some, None}
-use Rattle.etherparse.specs.BuiltFrames.{Held, built_frame, held_transport}
+use Rattle.etherparse.specs.BuiltFrames.{FrameHeaders, built_frame, transport_frame_headers}
 use Rattle.etherparse.specs.BuildErrors.{IsBuildable, RefusesBuild}
 use Rattle.etherparse.specs.Steps.{ipv4_headers_between, ipv6_headers_between, no_type}
 use Rattle.etherparse.specs.Types.LinkPart.{LinkPart}
@@ -42,26 +42,26 @@ udp_between source_port destination_port = transport.Udp
 -- of the buffer; 3, and the buffer is too small for it; 4, and the payload is too long for the headers' length fields;
 -- or 5, and an allocation failed for a frame that no row rejects. The buffer is changed at 0 only; the length of the
 -- frame is stored at 0 and 3.
-abbrev pub IsBuilt : Held → List ℕ → List ℕ → List ℕ → ℕ → ℕ → Type 0
-IsBuilt held payload old new written status =
-    let frame = built_frame held payload in
-    ((status ≡ 0) × IsBuildable held (length payload) × (length frame ≤ length old)
-    × (new ≡ frame ++ drop (length frame) old) × (written ≡ length frame))
-    ⊎ ((status ≡ 3) × IsBuildable held (length payload) × (length old < length frame)
-    × (new ≡ old) × (written ≡ length frame))
-    ⊎ ((status ≡ 4) × ((error : BuildWriteError) × RefusesBuild held (length payload) error)
+abbrev pub IsBuilt : FrameHeaders → List ℕ → List ℕ → List ℕ → ℕ → ℕ → Type 0
+IsBuilt frame payload old new written status =
+    let built = built_frame frame payload in
+    ((status ≡ 0) × IsBuildable frame (length payload) × (length built ≤ length old)
+    × (new ≡ built ++ drop (length built) old) × (written ≡ length built))
+    ⊎ ((status ≡ 3) × IsBuildable frame (length payload) × (length old < length built)
+    × (new ≡ old) × (written ≡ length built))
+    ⊎ ((status ≡ 4) × ((error : BuildWriteError) × RefusesBuild frame (length payload) error)
     × (new ≡ old) × (written ≡ 0))
-    ⊎ ((status ≡ 5) × IsBuildable held (length payload) × (new ≡ old) × (written ≡ 0))
+    ⊎ ((status ≡ 5) × IsBuildable frame (length payload) × (new ≡ old) × (written ≡ 0))
 
 -- Answer of a call that builds the frame of a link header, IP headers and a transport header. If the version of the
 -- route is neither 4 nor 6, the status is 2, and the buffer is unchanged.
 abbrev pub IsBuildAnswerBy : LinkPart → TransportHeader → Option IpHeaders → List ℕ → List ℕ → List ℕ → ℕ → ℕ → Type 0
-IsBuildAnswerBy link behind None payload old new written status = (status ≡ 2) × (new ≡ old) × (written ≡ 0)
-IsBuildAnswerBy link behind (Some headers) payload old new written status =
-    IsBuilt (held_transport link headers behind) payload old new written status
+IsBuildAnswerBy link header None payload old new written status = (status ≡ 2) × (new ≡ old) × (written ≡ 0)
+IsBuildAnswerBy link header (Some headers) payload old new written status =
+    IsBuilt (transport_frame_headers link headers header) payload old new written status
 
 abbrev pub IsBuildAnswer : Route → TransportHeader → List ℕ → List ℕ → List ℕ → ℕ → ℕ → Type 0
-IsBuildAnswer route behind = IsBuildAnswerBy (route_link route) behind (route_headers route)
+IsBuildAnswer route header = IsBuildAnswerBy (route_link route) header (route_headers route)
 
 -- whether a flag is set in a number
 abbrev pub has_flag : ℕ → ℕ → Bool

@@ -41,21 +41,22 @@ tags_end outer [] = outer
 tags_end outer (extension ∷ others) = tags_end (tag_end outer extension) others
 
 -- the limit of a transport header's payload: the length of UDP, if it counts exactly the header and this payload
-abbrev pub cut_end : TransportHeader → List ℕ → LenSource
-cut_end (transport.Udp header) payload =
+abbrev pub lax_header_end : TransportHeader → List ℕ → LenSource
+lax_header_end (transport.Udp header) payload =
     if header.length == 8 + length payload then source.UdpHeaderLen else source.Slice
-cut_end (transport.Tcp header) payload = source.Slice
-cut_end (transport.Icmpv4 header) payload = source.Slice
-cut_end (transport.Icmpv6 header) payload = source.Slice
+lax_header_end (transport.Tcp header) payload = source.Slice
+lax_header_end (transport.Icmpv4 header) payload = source.Slice
+lax_header_end (transport.Icmpv6 header) payload = source.Slice
 
-abbrev pub transport_cut_end : Option TransportLayer → LenSource
-transport_cut_end None = source.Slice
-transport_cut_end (Some layer) = cut_end layer.header layer.payload
+abbrev pub lax_transport_end : Option TransportLayer → LenSource
+lax_transport_end None = source.Slice
+lax_transport_end (Some layer) = lax_header_end layer.header layer.payload
 
 -- the limit of the last layer's payload: the innermost length field in effect, or else the input
 abbrev pub lax_end : Layers → LenSource
 lax_end layers =
-    limited_by (limited_by (tags_end source.Slice layers.link_exts) (net_end layers.net)) (transport_cut_end layers.transport)
+    limited_by (limited_by (tags_end source.Slice layers.link_exts) (net_end layers.net))
+    (lax_transport_end layers.transport)
 
 -- ---- the whole packet
 

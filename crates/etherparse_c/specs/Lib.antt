@@ -6,9 +6,9 @@ pub mod LaxAnswers
 pub mod ManyAnswers
 pub mod Building
 pub mod TaggedBuilding
-pub mod Holding
+pub mod StateOwnership
 pub mod Placing
 pub mod Plain
-pub mod Pointing
+pub mod PoolOwnership
 pub mod PoolAnswers
 pub mod RefusalTexts

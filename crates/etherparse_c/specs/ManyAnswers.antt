@@ -7,24 +7,24 @@ use Rattle.etherparse_c.specs.declared.packet.Packet.{Packet}
 
 -- the start of the frame at an index, which is the end of the frame before it, or 0; and its end
 abbrev pub frame_start : List ℕ → ℕ → ℕ
-frame_start ends place = slice_index (0 ∷ ends) place
+frame_start ends index = slice_index (0 ∷ ends) index
 
 abbrev pub frame_end : List ℕ → ℕ → ℕ
-frame_end ends place = slice_index ends place
+frame_end ends index = slice_index ends index
 
 -- The packet at an index is filled as `etherparse_1_slice` does for the frame at this index.
-pub record IsSlicedAt (entry : Option Entry) (bytes ends : List ℕ) (packets : List Packet) (place : ℕ) : Type 0 where
+pub record IsSlicedAt (entry : Option Entry) (bytes ends : List ℕ) (packets : List Packet) (index : ℕ) : Type 0 where
   pub packet : Packet
   pub status : ℕ
-  pub stands : slice_get packets place ≡ Some packet
-  pub ascends : frame_start ends place ≤ frame_end ends place
-  pub within : frame_end ends place ≤ length bytes
-  pub answer : IsSliceAnswer entry (slice_range bytes (frame_start ends place) (frame_end ends place)) status packet
+  pub stored : slice_get packets index ≡ Some packet
+  pub ascends : frame_start ends index ≤ frame_end ends index
+  pub within : frame_end ends index ≤ length bytes
+  pub answer : IsSliceAnswer entry (slice_range bytes (frame_start ends index) (frame_end ends index)) status packet
 
 -- The first `sliced` frames are sliced; the other packets are unchanged.
 pub record AreSliced (entry : Option Entry) (bytes ends : List ℕ) (old new : List Packet) (sliced : ℕ) : Type 0 where
   pub most : sliced ≤ length ends
-  pub each : (place : ℕ) → place < sliced → IsSlicedAt entry bytes ends new place
+  pub each : (index : ℕ) → index < sliced → IsSlicedAt entry bytes ends new index
   pub others : drop sliced new ≡ drop sliced old
 
 -- The status is 0, and all frames are sliced; or it is 2, and only the frames are sliced that come before a frame that

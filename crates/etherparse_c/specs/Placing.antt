@@ -11,6 +11,6 @@ IsPlaced bytes old new written status = (written ≡ length bytes)
     ⊎ ((status ≡ 3) × (length old < length bytes) × (new ≡ old)))
 
 -- Status and stored length for a frame that was not built: its length if the buffer is too small, or else 0.
-abbrev pub IsTold : BuildSliceWriteError → ℕ → ℕ → Type 0
-IsTold (error.Space needed) written status = (status ≡ 3) × (written ≡ needed)
-IsTold (error.Build refusal) written status = (status ≡ 4) × (written ≡ 0)
+abbrev pub IsBuildErrorAnswer : BuildSliceWriteError → ℕ → ℕ → Type 0
+IsBuildErrorAnswer (error.Space needed) written status = (status ≡ 3) × (written ≡ needed)
+IsBuildErrorAnswer (error.Build refusal) written status = (status ≡ 4) × (written ≡ 0)

@@ -14,7 +14,7 @@ use Rattle.etherparse.specs.TransportParts.{TransportLayer, payload_in}
 use Rattle.etherparse_c.specs.declared.packet.Ip.{Ip}
 use Rattle.etherparse_c.specs.declared.packet.Packet.{Packet}
 use Rattle.etherparse_c.specs.declared.plain.PlainIp.{PlainIp}
-use Rattle.etherparse_c.specs.declared.vlans.Behind.{Behind}
+use Rattle.etherparse_c.specs.declared.vlans.PayloadAfterVlans.{PayloadAfterVlans}
 use Rattle.etherparse_c.specs.Description.{destination_port_in, ip_in, net_end, net_kind as kind_number, net_len, part, source_number, source_port_in, tags_len, transport_end, transport_kind, transport_len}
 
 -- ---- tags
@@ -22,13 +22,14 @@ use Rattle.etherparse_c.specs.Description.{destination_port_in, ip_in, net_end, 
 -- An Ethernet II payload of this type starts with these VLAN tags, which do not limit their payload. If the bytes after
 -- them are a network layer with the layers in it, the payload consists of the tags and these layers, unless the type
 -- after the tags starts another tag.
-pub record HasVlans (type : EtherType) (bytes : List ℕ) (tags : List LinkExtension) (behind : Behind) : Type 0 where
-  pub place : behind.offset ≡ 14 + tags_len tags
-  pub few : behind.offset ≤ 64
-  pub uncut : extensions_len_source tags ≡ source.Slice
-  pub holds : ¬ BeginsLinkExtension behind.ether_type
+pub record HasVlans (type : EtherType) (bytes : List ℕ) (tags : List LinkExtension) (untagged : PayloadAfterVlans)
+    : Type 0 where
+  pub offset : untagged.offset ≡ 14 + tags_len tags
+  pub bound : untagged.offset ≤ 64
+  pub unlimited : extensions_len_source tags ≡ source.Slice
+  pub holds : ¬ BeginsLinkExtension untagged.ether_type
       → (net : Option NetLayer) (transport : Option TransportLayer)
-      → IsNetPart slices (net_kind behind.ether_type) behind.slice.now net transport
+      → IsNetPart slices (net_kind untagged.ether_type) untagged.slice.now net transport
       → IsInside slices most_link_exts (Some type) bytes tags net transport
 
 -- ---- IP
@@ -59,7 +60,7 @@ pub record IsPlainIp (layer : NetLayer) (ip : PlainIp) : Type 0 where
   pub kind : kind_number (Some layer) ≡ ip.version
   pub len : net_len (Some layer) ≡ ip.len
   pub most : ip.len ≤ 64
-  pub says : ip_in (Some layer) ≡ plain_ip ip
+  pub ip_fields : ip_in (Some layer) ≡ plain_ip ip
   pub end : net_end (Some layer) ≡ ip.end
   pub payload : net_payload layer ≡ Some (plain_payload ip)
 
@@ -71,7 +72,7 @@ IsPlainNet (Some kind) bytes layer = IsNetLayer slices kind bytes layer
 pub record HasPlainIp (kind : Option NetKind) (bytes : List ℕ) (ip : PlainIp) : Type 0 where
   pub layer : NetLayer
   pub is : IsPlainNet kind bytes layer
-  pub shown : IsPlainIp layer ip
+  pub fields : IsPlainIp layer ip
 
 -- ---- descriptions
 

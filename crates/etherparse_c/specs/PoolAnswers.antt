@@ -33,7 +33,7 @@ abbrev pub waiting_in : State → Option IpDefragPayloadVec
 waiting_in state = state.waiting
 
 -- An empty pool of this limit, in which no payload waits.
-pub record IsFresh (most : ℕ) (state : State) : Type 0 where
+pub record IsEmptyState (most : ℕ) (state : State) : Type 0 where
   pub holds : HoldsTable nat_eq state.pool (λ name. None)
   pub streams : streams_of state.pool ≡ []
   pub limit : limit_of state.pool ≡ most
@@ -44,15 +44,15 @@ pub record IsFresh (most : ℕ) (state : State) : Type 0 where
 abbrev pub IsNewPool : ℕ → Handle → Handle → ℕ → Type 0
 IsNewPool limit old new status =
     ((status ≡ 0) × ((pool : Pool) × (new.pool ≡ Some pool)
-    × ((state : State) × (pool.held.state ≡ Some state) × IsFresh limit state)))
+    × ((state : State) × (pool.pointer.state ≡ Some state) × IsEmptyState limit state)))
     ⊎ ((status ≡ 5) × (new ≡ old))
 
 -- A call changes the state of the pool by this step.
 pub record Changes (old new : Pool) (Step : State → State → Type 0) : Type 0 where
   pub before : State
   pub after : State
-  pub was : old.held.state ≡ Some before
-  pub is : new.held.state ≡ Some after
+  pub was : old.pointer.state ≡ Some before
+  pub is : new.pointer.state ≡ Some after
   pub step : Step before after
 
 -- ---- drops
@@ -96,15 +96,15 @@ refused_status (ConflictingEnd previous_end conflicting_end) = 7
 refused_status (AllocationFailure len) = 5
 
 -- the answer for a rejected fragment
-abbrev pub error_description : IpDefragError → PoolAnswer
-error_description error = record empty_answer { fragment_refusal = fragment_refusal_number error }
+abbrev pub error_answer : IpDefragError → PoolAnswer
+error_answer error = record empty_answer { fragment_refusal = fragment_refusal_number error }
 
 -- ---- frames
 
 -- A complete payload is returned. The status is 6, the payload is at the start of the buffer, whose other bytes are
 -- unchanged, and none waits; or it is 3, the buffer, which is too small, is unchanged, and the payload waits.
-abbrev pub IsHandedOut : IpDefragPayloadVec → Option IpDefragPayloadVec → List ℕ → List ℕ → PoolAnswer → ℕ → Type 0
-IsHandedOut payload waiting old new answer status =
+abbrev pub ReturnsPayload : IpDefragPayloadVec → Option IpDefragPayloadVec → List ℕ → List ℕ → PoolAnswer → ℕ → Type 0
+ReturnsPayload payload waiting old new answer status =
     let bytes = payload.payload.items in
     (answer ≡ payload_answer payload)
     × (((status ≡ 6) × (waiting ≡ None) × (length bytes ≤ length old) × (new ≡ bytes ++ drop (length bytes) old))
@@ -112,35 +112,36 @@ IsHandedOut payload waiting old new answer status =
 
 -- Answer for the result of a pool in which no payload waited: the status is 0 if no payload is complete, 7 if the
 -- fragment is rejected, and 5 if an allocation failed; otherwise the payload is returned.
-abbrev pub IsTold : Result (Option IpDefragPayloadVec) IpDefragError → Option IpDefragPayloadVec → List ℕ → List ℕ
-    → PoolAnswer → ℕ → Type 0
-IsTold (Ok None) waiting old new answer status =
+abbrev pub IsPoolResultAnswer : Result (Option IpDefragPayloadVec) IpDefragError → Option IpDefragPayloadVec → List ℕ
+    → List ℕ → PoolAnswer → ℕ → Type 0
+IsPoolResultAnswer (Ok None) waiting old new answer status =
     (status ≡ 0) × (waiting ≡ None) × (new ≡ old) × (answer ≡ empty_answer)
-IsTold (Ok (Some payload)) waiting old new answer status = IsHandedOut payload waiting old new answer status
-IsTold (Err error) waiting old new answer status =
-    (status ≡ refused_status error) × (waiting ≡ None) × (new ≡ old) × (answer ≡ error_description error)
+IsPoolResultAnswer (Ok (Some payload)) waiting old new answer status =
+    ReturnsPayload payload waiting old new answer status
+IsPoolResultAnswer (Err error) waiting old new answer status =
+    (status ≡ refused_status error) × (waiting ≡ None) × (new ≡ old) × (answer ≡ error_answer error)
 
 -- A frame is passed to a pool in which no payload waits: either the bytes are not a frame, and the status is 1, or the
 -- pool takes the frame, and its result is the answer.
 abbrev pub IsPushed : Entry → List ℕ → ℕ → ℕ → State → State → List ℕ → List ℕ → PoolAnswer → ℕ → Type 0
-IsPushed entry bytes timestamp channel old new before behind answer status =
-    ((status ≡ 1) × (new ≡ old) × (behind ≡ before)
+IsPushed entry bytes timestamp channel old new old_buffer new_buffer answer status =
+    ((status ≡ 1) × (new ≡ old) × (new_buffer ≡ old_buffer)
     × ((error : SliceError) × RefusesFrame entry bytes error
     × (answer ≡ record empty_answer { refusal = refusal_part error })))
     ⊎ ((layers : Layers) × IsFrame entry bytes layers
     × ((result : Result (Option IpDefragPayloadVec) IpDefragError)
     × TakesFrame nat_eq old.pool new.pool (option_map packet_fragment (fragment_of layers)) timestamp channel result
-    × IsTold result new.waiting before behind answer status))
+    × IsPoolResultAnswer result new.waiting old_buffer new_buffer answer status))
 
 -- If the entry is unknown, the status is 2; otherwise, if a payload waits, it is 8. In both cases nothing is changed.
 abbrev pub IsPushAnswerWith : Option Entry → Option IpDefragPayloadVec → List ℕ → ℕ → ℕ → State → State → List ℕ
     → List ℕ → PoolAnswer → ℕ → Type 0
-IsPushAnswerWith None waiting bytes timestamp channel old new before behind answer status =
-    (status ≡ 2) × (new ≡ old) × (behind ≡ before) × (answer ≡ empty_answer)
-IsPushAnswerWith (Some entry) (Some payload) bytes timestamp channel old new before behind answer status =
-    (status ≡ 8) × (new ≡ old) × (behind ≡ before) × (answer ≡ payload_answer payload)
-IsPushAnswerWith (Some entry) None bytes timestamp channel old new before behind answer status =
-    IsPushed entry bytes timestamp channel old new before behind answer status
+IsPushAnswerWith None waiting bytes timestamp channel old new old_buffer new_buffer answer status =
+    (status ≡ 2) × (new ≡ old) × (new_buffer ≡ old_buffer) × (answer ≡ empty_answer)
+IsPushAnswerWith (Some entry) (Some payload) bytes timestamp channel old new old_buffer new_buffer answer status =
+    (status ≡ 8) × (new ≡ old) × (new_buffer ≡ old_buffer) × (answer ≡ payload_answer payload)
+IsPushAnswerWith (Some entry) None bytes timestamp channel old new old_buffer new_buffer answer status =
+    IsPushed entry bytes timestamp channel old new old_buffer new_buffer answer status
 
 abbrev pub IsPushAnswer : Option Entry → List ℕ → ℕ → ℕ → State → State → List ℕ → List ℕ → PoolAnswer → ℕ → Type 0
 IsPushAnswer entry bytes timestamp channel old = IsPushAnswerWith entry old.waiting bytes timestamp channel old
@@ -149,14 +150,15 @@ IsPushAnswer entry bytes timestamp channel old = IsPushAnswerWith entry old.wait
 
 -- The waiting payload is returned; if none waits, the status is 0, and nothing is changed.
 abbrev pub IsTakenWith : Option IpDefragPayloadVec → State → List ℕ → List ℕ → PoolAnswer → ℕ → Type 0
-IsTakenWith None new before behind answer status =
-    (status ≡ 0) × (new.waiting ≡ None) × (behind ≡ before) × (answer ≡ empty_answer)
-IsTakenWith (Some payload) new before behind answer status = IsHandedOut payload new.waiting before behind answer status
+IsTakenWith None new old_buffer new_buffer answer status =
+    (status ≡ 0) × (new.waiting ≡ None) × (new_buffer ≡ old_buffer) × (answer ≡ empty_answer)
+IsTakenWith (Some payload) new old_buffer new_buffer answer status =
+    ReturnsPayload payload new.waiting old_buffer new_buffer answer status
 
 -- Answer of a call that takes the waiting payload; the streams are unchanged.
 abbrev pub IsTakeAnswer : State → State → List ℕ → List ℕ → PoolAnswer → ℕ → Type 0
-IsTakeAnswer old new before behind answer status =
-    (new.pool ≡ old.pool) × IsTakenWith old.waiting new before behind answer status
+IsTakeAnswer old new old_buffer new_buffer answer status =
+    (new.pool ≡ old.pool) × IsTakenWith old.waiting new old_buffer new_buffer answer status
 
 -- The waiting payload, if any, is discarded; the streams are unchanged.
 pub record Discards (old new : State) : Type 0 where
@@ -166,9 +168,9 @@ pub record Discards (old new : State) : Type 0 where
 -- ---- sizes of a pool
 
 -- A call returns a number of a pool, which is unchanged.
-pub record Tells (tell : State → ℕ) (number : ℕ) (old new : State) : Type 0 where
+pub record ReturnsNumber (number_of : State → ℕ) (number : ℕ) (old new : State) : Type 0 where
   pub same : new ≡ old
-  pub described : number ≡ tell old
+  pub returned : number ≡ number_of old
 
 -- the number of streams
 abbrev pub streams_in : State → ℕ

@@ -1,7 +1,7 @@
 -- Answers of the calls that build frames with VLAN tags, TCP options or a fragment.
 use Rattle.std.specs.Prelude.{◌≡◌, ◌<◌, ◌≤◌, ◌⊎◌, ◌==◌, ◌%◌, ◌/◌, ◌&&◌, not, if◌then◌else◌, nat_le, false, ℕ, List, length, Option, Some, None, slice_index}
 use Rattle.std.specs.Option.{option_map}
-use Rattle.etherparse.specs.BuiltFrames.{Held, held_ip, held_transport}
+use Rattle.etherparse.specs.BuiltFrames.{FrameHeaders, ip_frame_headers, transport_frame_headers}
 use Rattle.etherparse.specs.Ipv4.{default_ipv4_header}
 use Rattle.etherparse.specs.Ipv6.{default_ipv6_header}
 use Rattle.etherparse.specs.Ipv6Chains.{no_ipv6_extensions}
@@ -55,33 +55,34 @@ tagged_link tagged =
 -- ---- frames
 
 -- the content of a frame with this link part and these headers, if both are known
-abbrev pub both_held : Option LinkPart → Option IpHeaders → (LinkPart → IpHeaders → Held) → Option Held
-both_held None headers hold = None
-both_held (Some part) None hold = None
-both_held (Some part) (Some headers) hold = Some (hold part headers)
+abbrev pub content_if_valid : Option LinkPart → Option IpHeaders → (LinkPart → IpHeaders → FrameHeaders) → Option FrameHeaders
+content_if_valid None headers content_of = None
+content_if_valid (Some part) None content_of = None
+content_if_valid (Some part) (Some headers) content_of = Some (content_of part headers)
 
 -- The frame is built (`IsBuilt`). If a number is not valid for its field, the status is 2, and the buffer is unchanged.
-abbrev pub IsHeldAnswer : Option Held → List ℕ → List ℕ → List ℕ → ℕ → ℕ → Type 0
-IsHeldAnswer None payload old new written status = (status ≡ 2) × (new ≡ old) × (written ≡ 0)
-IsHeldAnswer (Some held) payload old new written status = IsBuilt held payload old new written status
+abbrev pub IsBuiltIfValid : Option FrameHeaders → List ℕ → List ℕ → List ℕ → ℕ → ℕ → Type 0
+IsBuiltIfValid None payload old new written status = (status ≡ 2) × (new ≡ old) × (written ≡ 0)
+IsBuiltIfValid (Some frame) payload old new written status = IsBuilt frame payload old new written status
 
 -- Answer of a call that builds the frame of a route with tags and a transport header.
 abbrev pub IsTaggedAnswer : TaggedRoute → TransportHeader → List ℕ → List ℕ → List ℕ → ℕ → ℕ → Type 0
-IsTaggedAnswer tagged behind = IsHeldAnswer
-    (both_held (tagged_link tagged) (route_headers tagged.route) (λ part headers. held_transport part headers behind))
+IsTaggedAnswer tagged header = IsBuiltIfValid
+    (content_if_valid (tagged_link tagged) (route_headers tagged.route)
+    (λ part headers. transport_frame_headers part headers header))
 
 -- ---- TCP options
 
 -- a TCP header with these options, padded with zero bytes to a multiple of 4
 abbrev pub with_options : List ℕ → TransportHeader → TransportHeader
 with_options options (transport.Tcp header) = transport.Tcp (record header { options = in_words options })
-with_options options behind = behind
+with_options options header = header
 
 -- Answer of a call that builds a TCP segment with options. If they have more than 40 bytes, the status is 4, and the
 -- buffer is unchanged.
 abbrev pub IsOptionsAnswer : TaggedRoute → TransportHeader → List ℕ → List ℕ → List ℕ → List ℕ → ℕ → ℕ → Type 0
-IsOptionsAnswer tagged behind options payload old new written status =
-    ((length options ≤ 40) × IsTaggedAnswer tagged (with_options options behind) payload old new written status)
+IsOptionsAnswer tagged header options payload old new written status =
+    ((length options ≤ 40) × IsTaggedAnswer tagged (with_options options header) payload old new written status)
     ⊎ ((40 < length options) × (status ≡ 4) × (new ≡ old) × (written ≡ 0))
 
 -- ---- fragments
@@ -125,6 +126,6 @@ fragment_headers route fields =
 
 -- Answer of a call that builds a fragment.
 abbrev pub IsFragmentAnswer : TaggedRoute → FragmentFields → List ℕ → List ℕ → List ℕ → ℕ → ℕ → Type 0
-IsFragmentAnswer tagged fields = IsHeldAnswer
-    (both_held (tagged_link tagged) (fragment_headers tagged.route fields)
-    (λ part headers. held_ip part headers (record { 0 = fields.ip_number })))
+IsFragmentAnswer tagged fields = IsBuiltIfValid
+    (content_if_valid (tagged_link tagged) (fragment_headers tagged.route fields)
+    (λ part headers. ip_frame_headers part headers (record { 0 = fields.ip_number })))

@@ -2,12 +2,12 @@
 
 ghost use Rattle.std.specs.Prelude.{◌≡◌, MatchResult};
 ghost use Rattle.etherparse.specs.Placing.{FillsStart};
-ghost use Rattle.etherparse.specs.Steps.{held_after};
+ghost use Rattle.etherparse.specs.Steps.{frame_after};
 ghost use Rattle.etherparse.specs.Types.TransportHeader.{TransportHeader};
 ghost use Rattle.etherparse.specs.Types.TransportHeader.TheVariants as transport;
 ghost use Rattle.etherparse_c.specs.Building.{IsBuildAnswer, IsBuilt, echo_header, echo_of, icmpv4_echo, icmpv6_echo};
 ghost use Rattle.etherparse_c.specs.Building.{tcp_of, udp_between};
-ghost use Rattle.etherparse_c.specs.Placing.{IsTold};
+ghost use Rattle.etherparse_c.specs.Placing.{IsBuildErrorAnswer};
 
 use crate::numbers;
 use crate::route::{Route, TcpFields};
@@ -106,7 +106,7 @@ pub(crate) trait TransportPart: Drop {
     /// Writes a frame to the start of the buffer: the link and IP headers of the builder `step`, this transport header,
     /// and the payload.
     fn fill(self, step: IpStep, payload: &[u8], buffer: &mut [u8]) -> Filled
-        ensures { FillsStart (held_after step (header self)) payload.now buffer.old buffer.new result };
+        ensures { FillsStart (frame_after step (header self)) payload.now buffer.old buffer.new result };
 }
 
 /// Source and destination port of a UDP datagram to build.
@@ -163,14 +163,14 @@ impl TransportPart for Echo {
 /// header, and the payload. Returns the status for C (0 if the frame is written). Each branch is one inlined chain of
 /// builder calls, so that no builder state is copied.
 #[inline(always)]
-pub(crate) fn build<Behind: TransportPart>(
+pub(crate) fn build<Transport: TransportPart>(
     route: &Route,
-    behind: Behind,
+    transport_part: Transport,
     payload: &[u8],
     buffer: &mut [u8],
     written: &mut usize,
 ) -> u32
-    ensures { IsBuildAnswer route.now (Behind.header behind) payload.now
+    ensures { IsBuildAnswer route.now (Transport.header transport_part) payload.now
         buffer.old buffer.new written.new result }
 {
     let route = *route;
@@ -179,19 +179,19 @@ pub(crate) fn build<Behind: TransportPart>(
         let (from, to) = (route.ipv4_source, route.ipv4_destination);
         if route.with_ethernet == 0 {
             let step = PacketBuilder::ipv4(from, to, route.hop_limit);
-            return write_transport(step, behind, payload, buffer, written);
+            return write_transport(step, transport_part, payload, buffer, written);
         }
         let step = PacketBuilder::ethernet2(source, destination).ipv4(from, to, route.hop_limit);
-        return write_transport(step, behind, payload, buffer, written);
+        return write_transport(step, transport_part, payload, buffer, written);
     }
     if route.version == 6 {
         let (from, to) = (route.ipv6_source, route.ipv6_destination);
         if route.with_ethernet == 0 {
             let step = PacketBuilder::ipv6(from, to, route.hop_limit);
-            return write_transport(step, behind, payload, buffer, written);
+            return write_transport(step, transport_part, payload, buffer, written);
         }
         let step = PacketBuilder::ethernet2(source, destination).ipv6(from, to, route.hop_limit);
-        return write_transport(step, behind, payload, buffer, written);
+        return write_transport(step, transport_part, payload, buffer, written);
     }
     *written = 0;
     numbers::UNKNOWN_CHOICE
@@ -200,17 +200,17 @@ pub(crate) fn build<Behind: TransportPart>(
 /// Writes a frame to the start of the caller's buffer: the link and IP headers of a packet builder, a transport header,
 /// and the payload. Returns the status for C (0 if the frame is written).
 #[inline(always)]
-pub(crate) fn write_transport<Behind: TransportPart>(
+pub(crate) fn write_transport<Transport: TransportPart>(
     step: IpStep,
-    behind: Behind,
+    transport_part: Transport,
     payload: &[u8],
     buffer: &mut [u8],
     written: &mut usize,
 ) -> u32
-    ensures { IsBuilt (held_after step (Behind.header behind)) payload.now
+    ensures { IsBuilt (frame_after step (Transport.header transport_part)) payload.now
         buffer.old buffer.new written.new result }
 {
-    store_written(behind.fill(step, payload, buffer), written)
+    store_written(transport_part.fill(step, payload, buffer), written)
 }
 
 /// Converts the TCP fields that C passes to a TCP header without options.
@@ -269,7 +269,7 @@ fn icmpv6_echo(is_reply: u8, id: u16, seq: u16) -> Icmpv6Type
 pub(crate) fn store_written(filled: Filled, written: &mut usize) -> u32
     ensures { MatchResult filled
         (λ len. (result ≡ 0) × (written.new ≡ len))
-        (λ error. IsTold error written.new result) }
+        (λ error. IsBuildErrorAnswer error written.new result) }
 {
     let (len, status) = match filled {
         Ok(len) => (len, numbers::OK),

@@ -1,7 +1,7 @@
 //! Calls for C that build a frame with VLAN tags, TCP options or a fragment into the caller's buffer.
 
 ghost use Rattle.std.specs.Prelude.{◌≡◌};
-ghost use Rattle.etherparse.specs.Steps.{ip_held, tag_of};
+ghost use Rattle.etherparse.specs.Steps.{ip_step_frame, tag_of};
 ghost use Rattle.etherparse_c.specs.Building.{IsBuilt, echo_of, tcp_of, udp_between};
 ghost use Rattle.etherparse_c.specs.TaggedBuilding.{IsFragmentAnswer, IsOptionsAnswer, IsTaggedAnswer};
 ghost use Rattle.etherparse_c.specs.TaggedBuilding.{fragment_headers, route_tags};
@@ -146,18 +146,18 @@ pub extern "C" fn etherparse_1_build_fragment(
 /// Writes a frame to the start of the caller's buffer: an Ethernet II header with up to two VLAN tags, if wanted, an IP
 /// header, a transport header, and the payload. Returns the status for C (0 if the frame is written).
 #[inline(always)]
-fn build_tagged<Behind: TransportPart>(
+fn build_tagged<Transport: TransportPart>(
     tagged: &TaggedRoute,
-    behind: Behind,
+    transport_part: Transport,
     payload: &[u8],
     buffer: &mut [u8],
     written: &mut usize,
 ) -> u32
-    ensures { IsTaggedAnswer tagged.now (Behind.header behind) payload.now
+    ensures { IsTaggedAnswer tagged.now (Transport.header transport_part) payload.now
         buffer.old buffer.new written.new result }
 {
     if tagged.tag_count == 0 {
-        return build(&tagged.route, behind, payload, buffer, written);
+        return build(&tagged.route, transport_part, payload, buffer, written);
     }
     let route = tagged.route;
     if route.with_ethernet != 0 {
@@ -166,12 +166,12 @@ fn build_tagged<Behind: TransportPart>(
             if route.version == 4 {
                 let (from, to) = (route.ipv4_source, route.ipv4_destination);
                 let step = start.vlan(tags).ipv4(from, to, route.hop_limit);
-                return write_transport(step, behind, payload, buffer, written);
+                return write_transport(step, transport_part, payload, buffer, written);
             }
             if route.version == 6 {
                 let (from, to) = (route.ipv6_source, route.ipv6_destination);
                 let step = start.vlan(tags).ipv6(from, to, route.hop_limit);
-                return write_transport(step, behind, payload, buffer, written);
+                return write_transport(step, transport_part, payload, buffer, written);
             }
         }
     }
@@ -182,7 +182,7 @@ fn build_tagged<Behind: TransportPart>(
 /// Writes a frame to the start of the buffer: the link and IP headers of the builder `step`, and a payload whose IP
 /// protocol is `number`. Returns the status for C (0 if the frame is written).
 fn write_ip(step: IpStep, number: u8, payload: &[u8], buffer: &mut [u8], written: &mut usize) -> u32
-    ensures { IsBuilt (ip_held step (record { 0 = number })) payload.now buffer.old buffer.new written.new result }
+    ensures { IsBuilt (ip_step_frame step (record { 0 = number })) payload.now buffer.old buffer.new written.new result }
 {
     store_written(
         step.write_to_slice(buffer, IpNumber(number), payload),

@@ -13,7 +13,7 @@ ghost use Rattle.etherparse_c.specs.Description.{transport_end, transport_kind, 
 use crate::net_part::{ip_part, net_part};
 use crate::numbers;
 use crate::packet::{Ip, LinkExt, Packet, Part, Payload, Refusal};
-use crate::tags::placed_tags;
+use crate::tags::describe_tags;
 use etherparse::{LenSource, LinkSlice, NetSlice, SlicedPacket, TransportSlice};
 
 /// Writes the description of a strictly sliced packet (kind, offset and length of each header) to the struct that C
@@ -24,7 +24,7 @@ pub(crate) fn describe(described: &mut Packet, packet: &SlicedPacket<'_>)
     ensures { described.new ≡ description (layers_of packet.now) }
 {
     let link = link_part(&packet.link);
-    let tags = placed_tags(packet.link_exts.as_slice(), link.len);
+    let tags = describe_tags(packet.link_exts.as_slice(), link.len);
     let count = packet.link_exts.len() as u32;
     let net = net_part(&packet.net, tags.end);
     let ip = ip_part(&packet.net);

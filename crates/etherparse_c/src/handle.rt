@@ -2,7 +2,7 @@
 
 ghost use Rattle.std.specs.Prelude.{◌≡◌, Option, Some, is_some, true};
 ghost use Rattle.etherparse_c.specs.declared.pool.Pool.{Pool};
-ghost use Rattle.etherparse_c.specs.Pointing.{points_to};
+ghost use Rattle.etherparse_c.specs.PoolOwnership.{owns_pool};
 
 use crate::pool::Pool;
 use crate::raw_box::RawBox;
@@ -19,7 +19,7 @@ pub struct Handle {
 }
 
 impl Model for Handle {
-    ghost also_owns = { λ it. points_to it.pool it.alloc it.at };
+    ghost also_owns = { λ it. owns_pool it.pool it.alloc it.at };
 }
 
 /// The address of a pool may go to another thread between two calls, together with the pool's memory.

@@ -23,7 +23,7 @@ use etherparse::Entry;
 
 /// States that the described offsets of a valid frame are right: at each offset that C gets are the bytes of that
 /// header, and the last payload ends within the frame.
-pub fn frame_places()
+pub fn frame_offsets()
     ensures places { (entry : Entry) (bytes : List ℕ) (layers : Layers) (packet : Packet)
         → IsFrame entry bytes layers → packet ≡ description layers → Describes entry bytes layers packet }
     ensures within { (entry : Entry) (bytes : List ℕ) (layers : Layers) → IsFrame entry bytes layers
@@ -35,7 +35,7 @@ pub fn frame_places()
 
 /// States that the described offsets of a laxly sliced packet are right: at each offset that C gets are the bytes of
 /// that header, and the last payload ends within the packet's bytes.
-pub fn lax_places()
+pub fn lax_offsets()
     ensures places { (entry : Entry) (bytes : List ℕ) (read : LaxLayers) (packet : Packet)
         → IsLax entry bytes read → packet ≡ lax_description read → DescribesLax entry bytes read packet }
     ensures within { (entry : Entry) (bytes : List ℕ) (read : LaxLayers) → IsLax entry bytes read
@@ -77,9 +77,10 @@ pub fn text_lengths()
 /// push with such a buffer, no complete payload is left in the pool if none was before.
 pub fn limit_fits_payloads()
     ensures { (entry : Option Entry) (bytes : List ℕ) (timestamp channel : ℕ) (old new : State)
-        (before behind : List ℕ) (answer : PoolAnswer) (status : ℕ) (table : Table)
-        → HoldsTable nat_eq (pool_of old) table → waiting_in old ≡ None → limit_of (pool_of old) ≤ length before
-        → IsPushAnswer entry bytes timestamp channel old new before behind answer status → waiting_in new ≡ None }
+        (old_buffer new_buffer : List ℕ) (answer : PoolAnswer) (status : ℕ) (table : Table)
+        → HoldsTable nat_eq (pool_of old) table → waiting_in old ≡ None → limit_of (pool_of old) ≤ length old_buffer
+        → IsPushAnswer entry bytes timestamp channel old new old_buffer new_buffer answer status
+        → waiting_in new ≡ None }
 {
     etherparse::laws::defrag::data_within_limit::<u64, u64>();
 }

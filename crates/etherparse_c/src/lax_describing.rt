@@ -11,13 +11,14 @@ ghost use Rattle.etherparse.specs.StrictFrames.{layers_in};
 ghost use Rattle.etherparse.specs.TransportParts.{transport_layer_of};
 ghost use Rattle.etherparse.specs.Types.LenSource.TheVariants as source;
 ghost use Rattle.etherparse_c.specs.Description.{net_end, payload_offset, tag_slots, tags_len};
-ghost use Rattle.etherparse_c.specs.LaxAnswers.{lax_description, lax_end, stop_part, tag_end, tags_end, transport_cut_end};
+ghost use Rattle.etherparse_c.specs.LaxAnswers.{lax_description, lax_end, lax_transport_end, stop_part, tag_end};
+ghost use Rattle.etherparse_c.specs.LaxAnswers.{tags_end};
 
 use crate::describing::{describe_headers, link_part, no_refusal, source_number};
 use crate::net_part::{flag, lax_ip_part, lax_net_part};
 use crate::packet::{Packet, Payload, Refusal};
 use crate::refusing::refusal_part;
-use crate::tags::{Tags, placed_tags};
+use crate::tags::{Tags, describe_tags};
 use etherparse::err::Layer;
 use etherparse::err::packet::SliceError;
 use etherparse::{
@@ -63,7 +64,7 @@ fn tags(packet: &LaxSlicedPacket<'_>, offset: usize) -> Tags
     ensures slots { result.slots ≡ tag_slots offset (layers_in (lax_layers_of packet.now)).link_exts }
     ensures end { result.end ≡ offset + tags_len (layers_in (lax_layers_of packet.now)).link_exts }
 {
-    placed_tags(packet.link_exts.as_slice(), offset)
+    describe_tags(packet.link_exts.as_slice(), offset)
 }
 
 /// Returns the number of VLAN and MACsec tags of a lax packet.
@@ -91,7 +92,7 @@ fn lax_end(packet: &LaxSlicedPacket<'_>) -> LenSource
     ensures { result ≡ lax_end (layers_in (lax_layers_of packet.now)) }
 {
     let outer = tags_end(packet);
-    transport_cut_end(&packet.transport).limited_by(net_end(&packet.net).limited_by(outer))
+    lax_transport_end(&packet.transport).limited_by(net_end(&packet.net).limited_by(outer))
 }
 
 /// Returns what limits the bytes after the VLAN and MACsec tags of a lax packet: the short length of the innermost
@@ -149,8 +150,8 @@ fn net_end(net: &Option<LaxNetSlice<'_>>) -> LenSource
 
 /// Returns `UdpHeaderLen` if the length field of UDP equals the length of the sliced datagram and so limits its
 /// payload, or else `Slice`.
-fn transport_cut_end(transport: &Option<TransportSlice<'_>>) -> LenSource
-    ensures { result ≡ transport_cut_end (option_map transport_layer_of transport.now) }
+fn lax_transport_end(transport: &Option<TransportSlice<'_>>) -> LenSource
+    ensures { result ≡ lax_transport_end (option_map transport_layer_of transport.now) }
 {
     let Some(TransportSlice::Udp(datagram)) = transport else {
         return LenSource::Slice;

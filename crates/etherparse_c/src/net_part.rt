@@ -187,7 +187,7 @@ fn ipv6_part(extensions: Ipv6ExtensionsSlice<'_>, number: IpNumber, fragmented: 
     ensures { (payload : IpPayload) → payload.number ≡ number.0 → payload.fragmented ≡ fragmented
         → result ≡ ipv6_part (first_fragment (ipv6_slice_parts extensions.entry)) payload }
 {
-    let whole = Ip {
+    let base = Ip {
         version: 6,
         number: number.0,
         fragmented: flag(fragmented),
@@ -202,11 +202,11 @@ fn ipv6_part(extensions: Ipv6ExtensionsSlice<'_>, number: IpNumber, fragmented: 
                 more_fragments: flag(header.more_fragments()),
                 fragment_offset: header.fragment_offset().byte_offset(),
                 identification: header.identification(),
-                ..whole
+                ..base
             };
         }
     }
-    whole
+    base
 }
 
 /// Converts a flag to the number that C gets: 1 for true, 0 for false.

@@ -9,5 +9,5 @@ use crate::handle::Handle;
 #[derive(Drop)]
 pub struct OwnedPool {
     pub(crate) handle: Handle,
-    ghost is_there: { is_some handle.pool ≡ true },
+    ghost has_pool: { is_some handle.pool ≡ true },
 }

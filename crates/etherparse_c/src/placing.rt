@@ -6,7 +6,7 @@ use crate::numbers;
 
 /// Copies bytes to the start of the caller's buffer and stores their number in `written`. Returns status 0, or 3 if the
 /// buffer is too small; then it is unchanged, and `written` is the needed length.
-pub(crate) fn placed(bytes: &[u8], buffer: &mut [u8], written: &mut usize) -> u32
+pub(crate) fn copy_bytes(bytes: &[u8], buffer: &mut [u8], written: &mut usize) -> u32
     ensures { IsPlaced bytes.now buffer.old buffer.new written.new result }
 {
     *written = bytes.len();

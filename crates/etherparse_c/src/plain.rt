@@ -24,7 +24,7 @@ use crate::numbers;
 use crate::packet::{Packet, Part, Payload};
 use crate::sliced_net::{describe_sliced, describe_unfragmented};
 use crate::tags::no_tag;
-use crate::vlans::place_vlans;
+use crate::vlans::describe_vlans;
 use etherparse::{
     EtherType, Ethernet2Header, Ethernet2Slice, IpNumber, Ipv4HeaderSlice, Ipv6Header,
     Ipv6HeaderSlice, LenSource, TcpHeader, TcpSlice, UdpHeader, UdpSlice, ether_type, ip_number,
@@ -54,7 +54,7 @@ pub(crate) fn describe_plain(described: &mut Packet, bytes: &[u8]) -> bool
     let Ok(frame) = Ethernet2Slice::from_slice_without_fcs(bytes) else {
         return false;
     };
-    let Some(behind) = place_vlans(
+    let Some(untagged) = describe_vlans(
         &mut described.link_exts,
         &mut described.link_ext_count,
         frame.ether_type(),
@@ -68,7 +68,12 @@ pub(crate) fn describe_plain(described: &mut Packet, bytes: &[u8]) -> bool
         len: Ethernet2Header::LEN,
     };
     described.refusal = no_refusal();
-    describe_net(described, behind.offset, behind.ether_type, behind.slice)
+    describe_net(
+        described,
+        untagged.offset,
+        untagged.ether_type,
+        untagged.slice,
+    )
 }
 
 /// Describes a packet that starts with an IP header in the struct that C reads. Returns false if it is invalid; the

@@ -2,12 +2,12 @@
 
 ghost use Rattle.std.specs.Prelude.{◌≡◌, is_some, true};
 
-use crate::held::Held;
+use crate::state_pointer::StatePointer;
 
 /// Reassembly pool of IP fragments; C holds its address and never reads its fields.
 #[repr(C)]
 #[derive(Drop)]
 pub struct Pool {
-    pub(crate) held: Held,
-    ghost is_there: { is_some held.state ≡ true },
+    pub(crate) pointer: StatePointer,
+    ghost has_state: { is_some pointer.state ≡ true },
 }

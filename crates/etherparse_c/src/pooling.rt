@@ -2,23 +2,23 @@
 
 ghost use Rattle.std.specs.Prelude.{◌≡◌, None, Ok, Some, is_some, nat_le, true};
 ghost use Rattle.etherparse_c.specs.SliceAnswers.{entry_of};
-ghost use Rattle.etherparse_c.specs.PoolAnswers.{Changes, Discards, DropsOlder, IsFresh, IsHandedOut, IsNewPool};
-ghost use Rattle.etherparse_c.specs.PoolAnswers.{IsPushAnswer, IsPushed, IsTakeAnswer, IsTakenWith, Tells};
-ghost use Rattle.etherparse_c.specs.PoolAnswers.{bytes_in, empty_answer, payload_answer, error_description, refused_status};
+ghost use Rattle.etherparse_c.specs.PoolAnswers.{Changes, Discards, DropsOlder, IsEmptyState, IsNewPool, IsPushAnswer};
+ghost use Rattle.etherparse_c.specs.PoolAnswers.{IsPushed, IsTakeAnswer, IsTakenWith, ReturnsNumber, ReturnsPayload};
+ghost use Rattle.etherparse_c.specs.PoolAnswers.{bytes_in, empty_answer, payload_answer, error_answer, refused_status};
 ghost use Rattle.etherparse_c.specs.PoolAnswers.{streams_in};
 
 use crate::describing::{no_refusal, source_number};
 use crate::handle::Handle;
-use crate::held::Held;
 use crate::numbers;
 use crate::owned_pool::OwnedPool;
-use crate::placing::placed;
+use crate::placing::copy_bytes;
 use crate::pool::Pool;
 use crate::pool_answer::PoolAnswer;
 use crate::raw_box::RawBox;
 use crate::refusing::refusal_part;
 use crate::slicing::entry_of;
 use crate::state::State;
+use crate::state_pointer::StatePointer;
 use etherparse::defrag::{IpDefragError, IpDefragPayloadVec, IpDefragPool};
 use etherparse::{Entry, SlicedPacket};
 use std::alloc::Global;
@@ -46,8 +46,8 @@ pub extern "C" fn etherparse_1_pool_with_limit(alloc: Global, limit: u16, pool: 
 #[unsafe(no_mangle)]
 pub extern "C" fn etherparse_1_pool_free(pool: OwnedPool) {
     let OwnedPool { handle } = pool;
-    let Pool { held } = Box::into_inner(handle.into_raw_box().into_box());
-    let _ = held.into_raw_box().into_box();
+    let Pool { pointer } = Box::into_inner(handle.into_raw_box().into_box());
+    let _ = pointer.into_raw_box().into_box();
 }
 
 /// Passes a frame, which may carry an IP fragment, to a reassembly pool. `timestamp` and `channel` are numbers of the
@@ -75,14 +75,14 @@ pub extern "C" fn etherparse_1_pool_push(
     ensures { Changes pool.old pool.new (λ old new. IsPushAnswer (entry_of entry ether_type) bytes.now timestamp
         channel old new buffer.old buffer.new answer.new result) }
 {
-    let mut state = taken(alloc, &mut pool.held);
+    let mut state = take_state(alloc, &mut pool.pointer);
     let frame = TimedFrame {
         bytes,
         timestamp,
         channel,
     };
-    let status = pushed(&mut state, entry, ether_type, frame, buffer, answer);
-    pool.held = holding(state);
+    let status = push(&mut state, entry, ether_type, frame, buffer, answer);
+    pool.pointer = pointer_to(state);
     status
 }
 
@@ -98,9 +98,9 @@ pub extern "C" fn etherparse_1_pool_take(
 ) -> u32
     ensures { Changes pool.old pool.new (λ old new. IsTakeAnswer old new buffer.old buffer.new answer.new result) }
 {
-    let mut state = taken(alloc, &mut pool.held);
+    let mut state = take_state(alloc, &mut pool.pointer);
     let status = copy_waiting_payload(&mut state, buffer, answer);
-    pool.held = holding(state);
+    pool.pointer = pointer_to(state);
     status
 }
 
@@ -110,9 +110,9 @@ pub extern "C" fn etherparse_1_pool_take(
 pub extern "C" fn etherparse_1_pool_discard(alloc: Global, pool: &mut Pool)
     ensures { Changes pool.old pool.new Discards }
 {
-    let mut state = taken(alloc, &mut pool.held);
+    let mut state = take_state(alloc, &mut pool.pointer);
     state.waiting = None;
-    pool.held = holding(state);
+    pool.pointer = pointer_to(state);
 }
 
 /// Drops from a reassembly pool each incomplete IP datagram whose last accepted fragment has a timestamp below
@@ -121,20 +121,20 @@ pub extern "C" fn etherparse_1_pool_discard(alloc: Global, pool: &mut Pool)
 pub extern "C" fn etherparse_1_pool_drop_older(alloc: Global, pool: &mut Pool, timestamp: u64)
     ensures { Changes pool.old pool.new (DropsOlder timestamp) }
 {
-    let mut state = taken(alloc, &mut pool.held);
+    let mut state = take_state(alloc, &mut pool.pointer);
     drop_older(&mut state, timestamp);
-    pool.held = holding(state);
+    pool.pointer = pointer_to(state);
 }
 
 /// Returns the number of streams in a reassembly pool: IP datagrams that are incomplete, since only some of their
 /// fragments were accepted.
 #[unsafe(no_mangle)]
 pub extern "C" fn etherparse_1_pool_streams(alloc: Global, pool: &mut Pool) -> usize
-    ensures { Changes pool.old pool.new (Tells streams_in result) }
+    ensures { Changes pool.old pool.new (ReturnsNumber streams_in result) }
 {
-    let state = taken(alloc, &mut pool.held);
+    let state = take_state(alloc, &mut pool.pointer);
     let count = stream_count(&state);
-    pool.held = holding(state);
+    pool.pointer = pointer_to(state);
     count
 }
 
@@ -142,12 +142,12 @@ pub extern "C" fn etherparse_1_pool_streams(alloc: Global, pool: &mut Pool) -> u
 /// fragments, and a complete payload that is not yet taken. Takes time linear in the number of datagrams.
 #[unsafe(no_mangle)]
 pub extern "C" fn etherparse_1_pool_bytes(alloc: Global, pool: &mut Pool) -> usize
-    ensures { Changes pool.old pool.new (Tells bytes_in result) }
+    ensures { Changes pool.old pool.new (ReturnsNumber bytes_in result) }
 {
-    let state = taken(alloc, &mut pool.held);
-    let held = held_bytes(&state);
-    pool.held = holding(state);
-    held
+    let state = take_state(alloc, &mut pool.pointer);
+    let count = held_bytes(&state);
+    pool.pointer = pointer_to(state);
+    count
 }
 
 /// Creates a reassembly pool for payloads of at most `limit` bytes and stores its address in `pool`. Returns status 0,
@@ -155,17 +155,17 @@ pub extern "C" fn etherparse_1_pool_bytes(alloc: Global, pool: &mut Pool) -> usi
 fn new_pool(alloc: Global, limit: u16, pool: &mut Handle) -> u32
     ensures { IsNewPool limit pool.old pool.new result }
 {
-    let Ok(state) = Box::new(alloc, fresh(alloc, limit)) else {
+    let Ok(state) = Box::new(alloc, empty_state(alloc, limit)) else {
         return numbers::OUT_OF_MEMORY;
     };
     let fresh = Pool {
-        held: holding(state),
+        pointer: pointer_to(state),
     };
     let made = match Box::new(alloc, fresh) {
         Ok(made) => made,
         Err(failed) => {
-            let Pool { held } = failed.value;
-            let _ = held.into_raw_box().into_box();
+            let Pool { pointer } = failed.value;
+            let _ = pointer.into_raw_box().into_box();
             return numbers::OUT_OF_MEMORY;
         }
     };
@@ -174,8 +174,8 @@ fn new_pool(alloc: Global, limit: u16, pool: &mut Handle) -> u32
 }
 
 /// Returns the state of an empty reassembly pool for payloads of at most `limit` bytes.
-fn fresh(alloc: Global, limit: u16) -> State
-    ensures { IsFresh limit result }
+fn empty_state(alloc: Global, limit: u16) -> State
+    ensures { IsEmptyState limit result }
 {
     State {
         pool: IpDefragPool::with_limit(alloc, limit),
@@ -183,19 +183,21 @@ fn fresh(alloc: Global, limit: u16) -> State
     }
 }
 
-/// Returns the boxed state of a reassembly pool and leaves a null pointer in `held`, its pointer to the state.
-fn taken(alloc: Global, held: &mut Held) -> Box<State>
-    requires { is_some held.old.state ≡ true }
-    ensures { Some result.value ≡ held.old.state }
+/// Returns the boxed state of a reassembly pool and leaves a null pointer in the pool.
+fn take_state(alloc: Global, pointer: &mut StatePointer) -> Box<State>
+    requires { is_some pointer.old.state ≡ true }
+    ensures { Some result.value ≡ pointer.old.state }
 {
-    replace(held, Held::none(alloc)).into_raw_box().into_box()
+    replace(pointer, StatePointer::none(alloc))
+        .into_raw_box()
+        .into_box()
 }
 
 /// Converts the boxed state of a reassembly pool to the pointer that the pool stores.
-fn holding(state: Box<State>) -> Held
+fn pointer_to(state: Box<State>) -> StatePointer
     ensures { result.state ≡ Some state.value }
 {
-    Held::of(RawBox::of(state))
+    StatePointer::of(RawBox::of(state))
 }
 
 /// Frame that C passes to a reassembly pool, with its timestamp and channel (numbers of the caller's own).
@@ -208,7 +210,7 @@ struct TimedFrame<'a> {
 
 /// Passes a frame to a reassembly pool and returns the status for C. It is 2 if C's number of the frame's first header
 /// is above 3; otherwise it is 8, and the frame is not processed, if the pool still keeps a complete payload.
-fn pushed(
+fn push(
     state: &mut State,
     entry: u32,
     ether_type: u16,
@@ -257,7 +259,7 @@ fn push_frame(
     {
         Ok(None) => numbers::OK,
         Ok(Some(payload)) => copy_payload(payload, &mut state.waiting, buffer, answer),
-        Err(error) => refused(&error, answer),
+        Err(error) => store_fragment_refusal(&error, answer),
     }
 }
 
@@ -283,11 +285,11 @@ fn copy_payload(
     answer: &mut PoolAnswer,
 ) -> u32
     requires { waiting.old ≡ None }
-    ensures { IsHandedOut payload waiting.new buffer.old buffer.new answer.new result }
+    ensures { ReturnsPayload payload waiting.new buffer.old buffer.new answer.new result }
 {
     *answer = payload_answer(&payload);
     let mut len = 0;
-    if placed(payload.payload.as_slice(), buffer, &mut len) == numbers::OK {
+    if copy_bytes(payload.payload.as_slice(), buffer, &mut len) == numbers::OK {
         return numbers::COMPLETE;
     }
     *waiting = Some(payload);
@@ -323,9 +325,9 @@ fn payload_answer(payload: &IpDefragPayloadVec) -> PoolAnswer
 
 /// Stores the number (1 to 3) of the reason why the reassembly pool rejects a fragment, and returns status 7; stores 0
 /// and returns 5 if an allocation failed.
-fn refused(error: &IpDefragError, answer: &mut PoolAnswer) -> u32
+fn store_fragment_refusal(error: &IpDefragError, answer: &mut PoolAnswer) -> u32
     requires { answer.old ≡ empty_answer }
-    ensures answer { answer.new ≡ error_description error.now }
+    ensures answer { answer.new ≡ error_answer error.now }
     ensures status { result ≡ refused_status error.now }
 {
     let (number, status) = match error {

@@ -96,21 +96,27 @@ fn describe_layer(described: &mut Packet, offset: usize, net: &NetSlice<'_>) -> 
         × (described.new ≡ net_description offset (net_layer_of net.now) transport described.old)) }
 {
     let header = net_layer_part(net, offset);
-    let behind = offset + header.len;
+    let transport_offset = offset + header.len;
     described.net = header;
     described.ip = ip_layer_part(net);
     match net.ip_payload_ref() {
-        Some(payload) => describe_transport(described, behind, payload),
+        Some(payload) => describe_transport(described, transport_offset, payload),
         None => {
-            describe_transport_layer(described, behind, &None, LenSource::ArpAddrLengths, &[]);
+            describe_transport_layer(
+                described,
+                transport_offset,
+                &None,
+                LenSource::ArpAddrLengths,
+                &[],
+            );
             true
         }
     }
 }
 
-/// Describes the transport layer, if any, in an unfragmented IP payload, and the payload after it, in the struct that C
-/// reads. Returns false if the transport layer is invalid. Not inlined, since UDP and TCP, which are more frequent, do
-/// not need it.
+/// Fills the transport and payload fields of the struct for C from an unfragmented IP payload. Returns false if the
+/// transport layer is invalid. Not inlined, since the caller handles UDP and TCP, which are more frequent, without this
+/// call.
 #[inline(never)]
 pub(crate) fn describe_unfragmented(
     described: &mut Packet,

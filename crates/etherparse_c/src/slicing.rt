@@ -27,23 +27,23 @@ pub extern "C" fn etherparse_1_slice(
     ensures { IsSliceAnswer (entry_of entry ether_type) bytes.now result packet.new }
 {
     // Used by the proof only: the layers are at the described offsets.
-    laws::frame_places();
+    laws::frame_offsets();
     if entry == 0 && describe_plain(packet, bytes) {
         return numbers::OK;
     }
     if entry == 3 && describe_plain_ip(packet, bytes) {
         return numbers::OK;
     }
-    slice_any(entry, ether_type, bytes, packet)
+    slice_from_entry(entry, ether_type, bytes, packet)
 }
 
 /// Slices any frame strictly and describes it in `packet`. Used for the frames that the faster function for common
 /// frames (Ethernet II or IP, at most two VLAN tags) does not handle.
 #[inline(never)]
-fn slice_any(entry: u32, ether_type: u16, bytes: &[u8], packet: &mut Packet) -> u32
+fn slice_from_entry(entry: u32, ether_type: u16, bytes: &[u8], packet: &mut Packet) -> u32
     ensures { IsSliceAnswer (entry_of entry ether_type) bytes.now result packet.new }
 {
-    laws::frame_places();
+    laws::frame_offsets();
     let Some(entry) = entry_of(entry, ether_type) else {
         describe_no_layers(packet);
         return numbers::UNKNOWN_CHOICE;

@@ -34,14 +34,14 @@ pub extern "C" fn etherparse_1_slice_many(
         return numbers::UNKNOWN_CHOICE;
     }
     let mut start = 0;
-    'frames: for (place, end) in ends.iter().enumerate() {
+    'frames: for (index, end) in ends.iter().enumerate() {
         let end = *end;
         if end < start || bytes.len() < end {
             return numbers::UNKNOWN_CHOICE;
         }
         // The packet itself states whether its frame is rejected.
-        let _ = etherparse_1_slice(entry, ether_type, &bytes[start..end], &mut packets[place]);
-        *sliced = place + 1;
+        let _ = etherparse_1_slice(entry, ether_type, &bytes[start..end], &mut packets[index]);
+        *sliced = index + 1;
         start = end;
     }
     numbers::OK

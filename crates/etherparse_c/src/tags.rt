@@ -59,7 +59,7 @@ pub(crate) struct Tags {
 /// Returns the descriptions of up to three consecutive VLAN or MACsec tags for C, and the offset after them; the first
 /// tag is at `offset` in the frame.
 #[inline(always)]
-pub(crate) fn placed_tags<Slice: TagSlice>(extensions: &[Slice], offset: usize) -> Tags
+pub(crate) fn describe_tags<Slice: TagSlice>(extensions: &[Slice], offset: usize) -> Tags
     requires most { length extensions.now ≤ 3 }
     requires place { offset + tags_len (map Slice.extension extensions.now) < 2 ^ 64 }
     ensures slots { result.slots ≡ tag_slots offset (map Slice.extension extensions.now) }
@@ -72,23 +72,23 @@ pub(crate) fn placed_tags<Slice: TagSlice>(extensions: &[Slice], offset: usize) 
         };
     };
     let outer = first.tag_part(offset);
-    let behind_outer = offset + outer.len;
+    let outer_end = offset + outer.len;
     let Some((second, others)) = others.split_first() else {
         return Tags {
             slots: [outer, no_tag(), no_tag()],
-            end: behind_outer,
+            end: outer_end,
         };
     };
-    let middle = second.tag_part(behind_outer);
-    let behind_middle = behind_outer + middle.len;
+    let middle = second.tag_part(outer_end);
+    let middle_end = outer_end + middle.len;
     let Some((third, _)) = others.split_first() else {
         return Tags {
             slots: [outer, middle, no_tag()],
-            end: behind_middle,
+            end: middle_end,
         };
     };
-    let inner = third.tag_part(behind_middle);
-    let end = behind_middle + inner.len;
+    let inner = third.tag_part(middle_end);
+    let end = middle_end + inner.len;
     Tags {
         slots: [outer, middle, inner],
         end,

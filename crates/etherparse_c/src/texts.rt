@@ -7,7 +7,7 @@ ghost use Rattle.etherparse_c.specs.RefusalTexts.{source_of_number, text_of_numb
 
 use crate::numbers;
 use crate::packet::Refusal;
-use crate::placing::placed;
+use crate::placing::copy_bytes;
 use etherparse::LenSource;
 use etherparse::err::packet::SliceError;
 use etherparse::err::{
@@ -35,15 +35,15 @@ pub extern "C" fn etherparse_1_refusal_text(
     let Some(error) = error_of_numbers(refusal) else {
         return numbers::UNKNOWN_CHOICE;
     };
-    match ended_text(alloc, &error, refusal.number) {
-        Ok(text) => placed(text.as_slice(), buffer, written),
+    match terminated_text(alloc, &error, refusal.number) {
+        Ok(text) => copy_bytes(text.as_slice(), buffer, written),
         Err(_) => numbers::OUT_OF_MEMORY,
     }
 }
 
 /// Returns the text of a slicing error with a terminating zero byte. `number` is the invalid field's value, and is
 /// printed in place of the error's own.
-fn ended_text(alloc: Global, error: &SliceError, number: u32) -> Result<Vec<u8>, AllocError>
+fn terminated_text(alloc: Global, error: &SliceError, number: u32) -> Result<Vec<u8>, AllocError>
     ensures { IfOk result (λ text. text.items ≡ reason_text_with error.now number ++ 0 ∷ []) }
 {
     let mut text = Vec::new(alloc);

@@ -11,7 +11,7 @@ use etherparse::{EtherType, Ethernet2Header, SingleVlanHeader, SingleVlanSlice, 
 
 /// Bytes after the Ethernet II header and VLAN tags of a frame, with their ether type.
 #[derive(Drop)]
-pub(crate) struct Behind<'a> {
+pub(crate) struct PayloadAfterVlans<'a> {
     /// Offset of the bytes after the VLAN tags from the start of the frame.
     pub(crate) offset: usize,
     /// Ether type of the bytes after the VLAN tags, such as IPv4.
@@ -23,19 +23,19 @@ pub(crate) struct Behind<'a> {
 /// Describes the VLAN tags (at most two) at the start of an Ethernet II payload for C, and stores their number. Returns
 /// the bytes after them, or `None` if a tag is truncated.
 #[inline(always)]
-pub(crate) fn place_vlans<'a>(
+pub(crate) fn describe_vlans<'a>(
     slots: &mut [LinkExt; 3],
     count: &mut u32,
     ether_type: EtherType,
     slice: &'a [u8],
-) -> Option<Behind<'a>>
-    ensures { IfSome result (λ behind. (tags : List LinkExtension) × HasVlans ether_type slice.now tags behind
+) -> Option<PayloadAfterVlans<'a>>
+    ensures { IfSome result (λ untagged. (tags : List LinkExtension) × HasVlans ether_type slice.now tags untagged
         × (slots.new ≡ tag_slots 14 tags) × (count.new ≡ length tags)) }
 {
     if !is_vlan(ether_type) {
         *slots = [no_tag(), no_tag(), no_tag()];
         *count = 0;
-        return Some(Behind {
+        return Some(PayloadAfterVlans {
             offset: Ethernet2Header::LEN,
             ether_type,
             slice,
@@ -48,7 +48,7 @@ pub(crate) fn place_vlans<'a>(
     if !is_vlan(outer.ether_type()) {
         *slots = [first, no_tag(), no_tag()];
         *count = 1;
-        return Some(Behind {
+        return Some(PayloadAfterVlans {
             offset: Ethernet2Header::LEN + SingleVlanHeader::LEN,
             ether_type: outer.ether_type(),
             slice: outer.payload_slice(),
@@ -60,7 +60,7 @@ pub(crate) fn place_vlans<'a>(
     let second = vlan_part(&inner, Ethernet2Header::LEN + SingleVlanHeader::LEN);
     *slots = [first, second, no_tag()];
     *count = 2;
-    Some(Behind {
+    Some(PayloadAfterVlans {
         offset: Ethernet2Header::LEN + 2 * SingleVlanHeader::LEN,
         ether_type: inner.ether_type(),
         slice: inner.payload_slice(),

@@ -30,16 +30,16 @@ counted E cmp found old new segment source destination flow source_port destinat
     (flow, rw (flow_is, sym source_port_is, sym destination_port_is) its, rw (sym seen_is) updates)
 
 -- If the allocation for a new flow fails, the map is unchanged.
-pub lacked : (E : Type 0) (result : Result (Unit {0}) E)
+pub not_counted : (E : Type 0) (result : Result (Unit {0}) E)
     (cmp : SocketAddr × SocketAddr → SocketAddr × SocketAddr → Ordering) (found : Option Segment)
     (old new : BTreeMap (SocketAddr × SocketAddr) Count) (segment : Segment) (source destination : SocketAddr)
     (flow : SocketAddr × SocketAddr) (source_port destination_port : ℕ) → IsErr result
     → IsFlow segment.addresses source_port destination_port (source, destination) → flow ≡ (source, destination)
     → source_port ≡ segment.tcp.source_port → destination_port ≡ segment.tcp.destination_port → found ≡ Some segment
     → get cmp old flow ≡ None → IsUnchanged old new → CountsSegment cmp found old new result
-lacked E (Ok done) cmp found old new segment source destination flow source_port destination_port fails its flow_is
-    source_port_is destination_port_is found_is absent unchanged = absurd (false≢true fails)
-lacked E (Err error) cmp found old new segment source destination flow source_port destination_port fails its flow_is
-    source_port_is destination_port_is found_is absent unchanged = rw
+not_counted E (Ok done) cmp found old new segment source destination flow source_port destination_port fails its
+    flow_is source_port_is destination_port_is found_is absent unchanged = absurd (false≢true fails)
+not_counted E (Err error) cmp found old new segment source destination flow source_port destination_port fails its
+    flow_is source_port_is destination_port_is found_is absent unchanged = rw
     found_is
     (flow, rw (flow_is, sym source_port_is, sym destination_port_is) its, absent, unchanged)

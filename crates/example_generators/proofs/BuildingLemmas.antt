@@ -4,7 +4,7 @@ use Rattle.std.proofs.Common.{subst, ◌∙◌}
 use Rattle.std.specs.Prelude.{Vec, MatchResult, OnOk, OnErr, IfErr, vec_len, vec_capacity}
 use Rattle.etherparse.specs.AppendedFrames.{AppendsFrame}
 use Rattle.etherparse.specs.BuildErrors.{IsBuildable, IsBuildError}
-use Rattle.etherparse.specs.BuiltFrames.{Held, Inside, built_frame, built_size, held_transport, transport_packet}
+use Rattle.etherparse.specs.BuiltFrames.{FrameHeaders, Inside, built_frame, built_size, transport_frame_headers, transport_packet}
 use Rattle.etherparse.specs.Types.BuildWriteError.{BuildWriteError}
 use Rattle.etherparse.specs.Types.BuildWriteError.TheVariants.{OutOfMemory}
 use Rattle.etherparse.specs.Types.IpHeaders.{IpHeaders}
@@ -12,37 +12,37 @@ use Rattle.etherparse.specs.Types.LinkPart.{LinkPart}
 use Rattle.etherparse.specs.Types.TcpHeader.{TcpHeader}
 use Rattle.etherparse.specs.Types.TransportHeader.{TransportHeader}
 use Rattle.etherparse.specs.Types.TransportHeader.TheVariants as header
-use Rattle.example_generators.specs.Requests.{AppendsWhere}
+use Rattle.example_generators.specs.Requests.{AppendsIfSome}
 
 -- Frames with equal link and IP headers and one transport header have equal headers.
-pub same_transport : (link known_link : LinkPart) (headers known_headers : IpHeaders) (behind : TransportHeader)
-    → link ≡ known_link → headers ≡ known_headers
-    → held_transport link headers behind ≡ held_transport known_link known_headers behind
-same_transport link known_link headers known_headers behind link_is headers_are =
-    ap (λ (part : LinkPart). held_transport part headers behind) link_is
-    ∙ ap (λ (ip : IpHeaders). held_transport known_link ip behind) headers_are
+pub same_transport : (link known_link : LinkPart) (headers known_headers : IpHeaders)
+    (transport_header : TransportHeader) → link ≡ known_link → headers ≡ known_headers
+    → transport_frame_headers link headers transport_header ≡ transport_frame_headers known_link known_headers transport_header
+same_transport link known_link headers known_headers transport_header link_is headers_are =
+    ap (λ (part : LinkPart). transport_frame_headers part headers transport_header) link_is
+    ∙ ap (λ (ip : IpHeaders). transport_frame_headers known_link ip transport_header) headers_are
 
 -- Writing a step appends the frame with the headers that the step is known to have.
-pub appends_known : {Z : Type 0} (held known : Held) (payload : List ℕ) (old new : Vec ℕ Z)
+pub appends_known : {Z : Type 0} (held known : FrameHeaders) (payload : List ℕ) (old new : Vec ℕ Z)
     (result : Result (Unit {0}) BuildWriteError) → held ≡ known
     → OnOk result (IsBuildable held (length payload) × (new.items ≡ old.items ++ built_frame held payload))
     → OnErr result (new.items ≡ old.items) → IfErr result (IsBuildError held (length payload))
     → (result ≡ Err OutOfMemory → vec_capacity old < vec_len old + built_size held (length payload))
     → AppendsFrame known payload old new result
 appends_known held known payload old new result same ok err refused full =
-    subst (λ (h : Held). AppendsFrame h payload old new result) same
+    subst (λ (h : FrameHeaders). AppendsFrame h payload old new result) same
     (record { ok = ok; err = err; refused = refused; full = full })
 
 -- If there are headers, the frame with them is appended.
-pub appends_some : {Z : Type 0} (found : Option Held) (held : Held) (payload : List ℕ) (old new : Vec ℕ Z)
+pub appends_some : {Z : Type 0} (found : Option FrameHeaders) (held : FrameHeaders) (payload : List ℕ) (old new : Vec ℕ Z)
     (result : Result (Unit {0}) BuildWriteError) → found ≡ Some held → AppendsFrame held payload old new result
-    → AppendsWhere found payload old new (Some result)
+    → AppendsIfSome found payload old new (Some result)
 appends_some found held payload old new result found_is appends = rw found_is appends
 
 -- If there are no headers, nothing is appended.
-pub appends_none : {Z : Type 0} (found : Option Held) (payload : List ℕ) (buf : Vec ℕ Z)
+pub appends_none : {Z : Type 0} (found : Option FrameHeaders) (payload : List ℕ) (buf : Vec ℕ Z)
     (result : Option (Result (Unit {0}) BuildWriteError)) → found ≡ None → result ≡ None
-    → AppendsWhere found payload buf buf result
+    → AppendsIfSome found payload buf buf result
 appends_none found payload buf result found_is result_is = rw (found_is, result_is) refl
 
 -- the headers with a changed TCP header
@@ -50,7 +50,7 @@ abbrev pub with_tcp : (TcpHeader → TcpHeader) → Inside → Inside
 with_tcp change (transport_packet headers (header.Tcp tcp)) = transport_packet headers (header.Tcp (change tcp))
 with_tcp change inside = inside
 
-abbrev pub held_with_tcp : (TcpHeader → TcpHeader) → Held → Held
+abbrev pub held_with_tcp : (TcpHeader → TcpHeader) → FrameHeaders → FrameHeaders
 held_with_tcp change held = record { link = held.link; inside = with_tcp change held.inside }
 
 -- A property of all `Ok` values of a result holds of the unwrapped value.

@@ -1,6 +1,6 @@
 -- The headers of a UDP datagram over IPv6.
 use Rattle.std.specs.Prelude.{ℕ, List, [], ◌∷◌, Some}
-use Rattle.etherparse.specs.BuiltFrames.{Held, held_transport}
+use Rattle.etherparse.specs.BuiltFrames.{FrameHeaders, transport_frame_headers}
 use Rattle.etherparse.specs.Ipv6.{default_ipv6_header}
 use Rattle.etherparse.specs.Ipv6Chains.{no_ipv6_extensions}
 use Rattle.etherparse.specs.RawExtension.{raw_extension_with}
@@ -32,5 +32,5 @@ abbrev pub udp_header : TransportHeader
 udp_header = header.Udp (record { source_port = 4000; destination_port = 53; length = 0; checksum = 0 })
 
 -- all headers of the frame
-abbrev pub report_headers : Held
-report_headers = held_transport ethernet_header ip_headers udp_header
+abbrev pub report_headers : FrameHeaders
+report_headers = transport_frame_headers ethernet_header ip_headers udp_header

@@ -1,6 +1,6 @@
 -- The headers of the first segment of a TCP connection.
 use Rattle.std.specs.Prelude.{ℕ, true, [], ◌∷◌}
-use Rattle.etherparse.specs.BuiltFrames.{Held, held_transport}
+use Rattle.etherparse.specs.BuiltFrames.{FrameHeaders, transport_frame_headers}
 use Rattle.etherparse.specs.Steps.{ipv4_headers_between}
 use Rattle.etherparse.specs.Tcp.{default_tcp_header}
 use Rattle.etherparse.specs.Types.TcpHeader.{TcpHeader}
@@ -19,8 +19,8 @@ tcp_header sequence_number = record default_tcp_header {
 }
 
 -- all headers of the frame
-abbrev pub syn_headers : ℕ → Held
-syn_headers sequence_number = held_transport
+abbrev pub syn_headers : ℕ → FrameHeaders
+syn_headers sequence_number = transport_frame_headers
     ethernet_header
     (ipv4_headers_between (192 ∷ 0 ∷ 2 ∷ 1 ∷ []) (192 ∷ 0 ∷ 2 ∷ 2 ∷ []) 64)
     (header.Tcp (tcp_header sequence_number))

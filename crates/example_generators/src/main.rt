@@ -10,7 +10,7 @@ mod reports;
 mod requests;
 mod segments;
 
-use crate::fragments::{cut_at, write_fragment};
+use crate::fragments::{fragment_payload, write_fragment};
 use crate::reports::write_report;
 use crate::requests::{write_answer, write_request};
 use crate::segments::write_syn;
@@ -52,12 +52,12 @@ fn print_fragments(rt: &(impl Print + Eprint + Alloc), frame: &mut Vec<u8>) -> i
     // UDP header: source port 4000, destination port 53, length 4000, no checksum
     payload[..8].copy_from_slice(&[0x0f, 0xa0, 0, 53, 0x0f, 0xa0, 0, 0]);
     for index in 0..45 {
-        let place = IpFragOffset::try_new(185 * index).unwrap();
-        let Some((cut, more)) = cut_at(&payload, place) else {
+        let offset = IpFragOffset::try_new(185 * index).unwrap();
+        let Some((part, more)) = fragment_payload(&payload, offset) else {
             break;
         };
         frame.clear();
-        let Ok(()) = write_fragment(place, more, cut, frame) else {
+        let Ok(()) = write_fragment(offset, more, part, frame) else {
             return rt.eprintln("a fragment could not be written");
         };
         print_frame(rt, frame.as_slice())?;

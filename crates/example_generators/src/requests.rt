@@ -4,10 +4,10 @@ ghost use Rattle.std.specs.Prelude.{◌≡◌, None, option_map};
 ghost use Rattle.etherparse.specs.AppendedFrames.{AppendsFrame};
 ghost use Rattle.etherparse.specs.Frame.{IsFrame};
 ghost use Rattle.etherparse.specs.Layers.{Layers, layers_of};
-ghost use Rattle.etherparse.specs.Steps.{transport_held};
+ghost use Rattle.etherparse.specs.Steps.{transport_step_frame};
 ghost use Rattle.etherparse.specs.Types.Entry.TheVariants.{Ethernet as ethernet};
 ghost use Rattle.etherparse.specs.Types.TransportHeader.TheVariants.{Udp};
-ghost use Rattle.example_generators.specs.Requests.{AppendsWhere, answer_to, request_headers};
+ghost use Rattle.example_generators.specs.Requests.{AppendsIfSome, answer_to, request_headers};
 
 use etherparse::err::packet::BuildWriteError;
 use etherparse::{
@@ -34,9 +34,9 @@ pub fn write_answer(
     buf: &mut Vec<u8>,
 ) -> Option<Result<(), BuildWriteError>>
     ensures frames { (layers : Layers) → IsFrame ethernet request.now layers
-        → AppendsWhere (answer_to layers) payload.now buf.old buf.new result }
+        → AppendsIfSome (answer_to layers) payload.now buf.old buf.new result }
     ensures others { ((layers : Layers) → ¬ IsFrame ethernet request.now layers)
-        → AppendsWhere None payload.now buf.old buf.new result }
+        → AppendsIfSome None payload.now buf.old buf.new result }
 {
     match SlicedPacket::from_ethernet(request) {
         Ok(packet) => Some(answer_to(&packet)?.write(buf, payload)),
@@ -47,7 +47,7 @@ pub fn write_answer(
 /// Returns a packet builder with the headers of an answer to `packet`: its MAC addresses, IP addresses and ports are
 /// swapped. Returns `None` if `packet` is not a UDP datagram over IPv4 in an Ethernet frame.
 fn answer_to(packet: &SlicedPacket<'_>) -> Option<PacketBuilderStep<UdpHeader>>
-    ensures { option_map (transport_held Udp) result ≡ answer_to (layers_of packet.now) }
+    ensures { option_map (transport_step_frame Udp) result ≡ answer_to (layers_of packet.now) }
 {
     let Some(LinkSlice::Ethernet2(link)) = &packet.link else {
         return None;

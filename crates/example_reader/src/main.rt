@@ -24,7 +24,7 @@ pub type Pool = IpDefragPool<u64, ()>;
 pub type Answer = Result<Option<IpDefragPayloadVec>, IpDefragError>;
 
 /// Number of seconds for which the fragments of an incomplete IP payload are kept after the last of them was accepted.
-const PATIENCE: u64 = 30;
+const STREAM_TIMEOUT: u64 = 30;
 
 fn main(rt: HostRuntime) -> io::Result<()> {
     let alloc = rt.alloc();
@@ -37,7 +37,7 @@ fn main(rt: HostRuntime) -> io::Result<()> {
         let (Ok(time), Ok(frame)) = (time.parse::<u64>(), hex::decode(alloc, text)) else {
             continue;
         };
-        drop_before(&mut pool, time.saturating_sub(PATIENCE));
+        drop_before(&mut pool, time.saturating_sub(STREAM_TIMEOUT));
         match take(&mut pool, frame.as_slice(), time) {
             Ok(Ok(Some(payload))) => {
                 let bytes = hex::encode(alloc, payload.payload.as_slice())?;

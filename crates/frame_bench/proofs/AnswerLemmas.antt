@@ -80,17 +80,17 @@ module _ {X : Type 0} (line : List ℕ) (Says : Request → List ℕ → X → T
   asked_some =
       elim (ask_cases line) [
         | inl asked ↦
-            let said = (each asked.0 asked.1 (ask_bytes line asked.0 asked.1 asked.2)).some in
-            (said.0, inl (asked.0, asked.1, asked.2, said.1))
+            let found = (each asked.0 asked.1 (ask_bytes line asked.0 asked.1 asked.2)).some in
+            (found.0, inl (asked.0, asked.1, asked.2, found.1))
         | inr none ↦ (else, inr (none, refl))
       ]
 
   asked_one : (x y : X) → IsAsked line Says else x → IsAsked line Says else y → x ≡ y
   asked_one x y (inl a) (inl b) =
       let same = ask_one line a.0 b.0 a.1 b.1 a.2 b.2 in
-      let said =
+      let other =
       subst (λ (r : Request). Says r a.1 y) (sym same.0) (subst (λ (t : List ℕ). Says b.0 t y) (sym same.1) b.3) in
-      (each a.0 a.1 (ask_bytes line a.0 a.1 a.2)).one x y a.3 said
+      (each a.0 a.1 (ask_bytes line a.0 a.1 a.2)).one x y a.3 other
   asked_one x y (inl a) (inr b) = absurd (b.0 a.0 a.1 a.2)
   asked_one x y (inr a) (inl b) = absurd (a.0 b.0 b.1 b.2)
   asked_one x y (inr a) (inr b) = a.1 ∙ sym b.1

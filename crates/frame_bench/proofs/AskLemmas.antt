@@ -44,9 +44,9 @@ dash_cases (x ∷ []) =
 dash_cases (x ∷ y ∷ text) = inr (λ e. cc e)
 
 -- A text that is not `-` represents bytes or does not.
-digits_cases : (text : List ℕ) (decoded : Result (List ℕ) FromHexError) → text ≢ codes "-" → decode_of text ≡ decoded
+digits_cases : (text : List ℕ) (bytes : Result (List ℕ) FromHexError) → text ≢ codes "-" → decode_of text ≡ bytes
     → ((bytes : List ℕ) × IsHex text bytes) ⊎ ((bytes : List ℕ) → IsHex text bytes → ⊥)
-digits_cases [] decoded other is =
+digits_cases [] bytes other is =
     inr (λ bytes. λ h. elim h [ inl dash ↦ other dash.0 | inr digits ↦ absurd (omega (arith, digits.0)) ])
 digits_cases (x ∷ text) (Ok bytes) other is = inl (bytes, inr (omega arith, is))
 digits_cases (x ∷ text) (Err error) other is =
@@ -110,10 +110,10 @@ slice_cases : (rest : List ℕ) → AsksOrNot (codes "slice" ++ space ∷ rest)
 slice_cases rest =
     elim (entry_cases rest) [
       | inl found ↦ elim (hex_cases found.1) [
-        | inl said ↦ inl (
+        | inl bytes ↦ inl (
           Slice found.0,
-          said.0,
-          (found.2.0, found.1, found.2.1, ap (λ t. codes "slice" ++ space ∷ t) found.2.2, said.1),
+          bytes.0,
+          (found.2.0, found.1, found.2.1, ap (λ t. codes "slice" ++ space ∷ t) found.2.2, bytes.1),
         )
         | inr none ↦ inr (λ request bytes asks.
             none bytes (asked_slice_of rest found.1 found.0 found.2 request bytes asks).1)
@@ -129,18 +129,18 @@ fragment_cases rest =
       | inl found ↦ elim (number_at_cases found.1) [
         | inl time ↦ elim (number_at_cases time.1) [
           | inl number ↦ elim (hex_cases number.1) [
-            | inl said ↦ inl (
+            | inl bytes ↦ inl (
               Fragment found.0 time.2 number.2,
-              said.0,
-              asks_fragment rest found.1 time.0 time.1 number.0 number.1 said.0 found.0 time.2 number.2 found.2 time.3
-                  number.3 said.1,
+              bytes.0,
+              asks_fragment rest found.1 time.0 time.1 number.0 number.1 bytes.0 found.0 time.2 number.2 found.2 time.3
+                  number.3 bytes.1,
             )
             | inr none ↦ inr (λ request bytes asks.
                 none bytes (asked_from_channel time.1 number.0 number.1 time.2 number.2 found.0 number.3 request bytes
-                (behind_time rest found.0 found.1 found.2 time.0 time.1 time.2 time.3 request bytes asks)).1)
+                (after_timestamp rest found.0 found.1 found.2 time.0 time.1 time.2 time.3 request bytes asks)).1)
           ]
           | inr none ↦ inr (λ request bytes asks.
-              let asked = behind_time rest found.0 found.1 found.2 time.0 time.1 time.2 time.3 request bytes asks in
+              let asked = after_timestamp rest found.0 found.1 found.2 time.0 time.1 time.2 time.3 request bytes asks in
               none asked.0 asked.1 asked.2 asked.3)
         ]
         | inr none ↦ inr (λ request bytes asks.
@@ -152,11 +152,11 @@ fragment_cases rest =
           other asked.0 asked.1 asked.2)
     ]
   where
-    behind_time : (rest : List ℕ) (entry : Entry) (text : List ℕ) (at_entry : EntryAt rest entry text)
+    after_timestamp : (rest : List ℕ) (entry : Entry) (text : List ℕ) (at_entry : EntryAt rest entry text)
         (time timed : List ℕ) (timestamp : ℕ) (at : NumberAt text time timed timestamp)
         (request : Request) (bytes : List ℕ) → Asks (codes "frag" ++ space ∷ rest) request bytes
         → AsksFromChannel entry timestamp timed request bytes
-    behind_time rest entry text at_entry time timed timestamp at request bytes asks =
+    after_timestamp rest entry text at_entry time timed timestamp at request bytes asks =
         asked_from_timestamp text time timed timestamp entry at request bytes
         (asked_fragment_of rest text entry at_entry request bytes asks)
 

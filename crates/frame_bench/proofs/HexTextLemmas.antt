@@ -60,7 +60,7 @@ pair_read high low at small =
 -- Holds if after some pairs, if all sums are below 256, the bytes so far are the first bytes of the text, and if one is
 -- not, the text does not decode.
 pub record IsDecodedTo (text bytes : List ℕ) (at seen : ℕ) : Type 0 where
-  pub front : seen < 256
+  pub prefix : seen < 256
       → decode_pairs 0 text ≡ prepend (take at bytes) (decode_pairs (2 * at) (drop (2 * at) text))
   pub other : 256 ≤ seen → AllPass is_hex_digit text → ⊥
 
@@ -74,12 +74,12 @@ IsDecodedTo-more text bytes at seen long within decoded =
     let low = table_value (slice_index text (2 * at + 1)) in
     let sum = 16 * high + low in
     record {
-      front = λ small.
+      prefix = λ small.
           let small_sum : sum < 256 = omega (arith, small, le_or_r seen sum) in
           let byte : high * 16 + low ≡ sum % 256 = omega (arith, small_sum) in
           decode_step text bytes at (sum % 256) (omega (arith, long, within)) within
           (pair_read (slice_index text (2 * at)) (slice_index text (2 * at + 1)) (2 * at) small_sum ∙ ap Ok byte)
-          (decoded.front (omega (arith, small, le_or_l seen sum)));
+          (decoded.prefix (omega (arith, small, le_or_l seen sum)));
       other = λ great digits.
           let digit = λ (k : ℕ). λ (fits : k < length text).
           small_value (slice_index text k) (All-get_or (λ c. is_hex_digit c ≡ true) text k 0 fits digits) in
@@ -96,14 +96,14 @@ IsDecodedTo-more text bytes at seen long within decoded =
 -- After all pairs the bytes are the text's.
 pub IsDecodedTo-all : (text bytes : List ℕ) (at seen : ℕ) → length text ≡ 2 * length bytes → length bytes ≤ at
     → IsDecodedTo text bytes at seen → seen < 256 → decode_of text ≡ Ok bytes
-IsDecodedTo-all text bytes at seen long whole decoded small =
+IsDecodedTo-all text bytes at seen long ended decoded small =
     decode_of-even text (omega (arith, long))
-    ∙ decode_done text bytes at whole (omega (arith, long, whole)) (decoded.front small)
+    ∙ decode_done text bytes at ended (omega (arith, long, ended)) (decoded.prefix small)
 
-pub IsDecodedTo-said : (text bytes said : List ℕ) (at seen : ℕ) → IsDecodedTo text bytes at seen
-    → decode_of text ≡ Ok said → seen < 256
-IsDecodedTo-said text bytes said at seen decoded says =
+pub IsDecodedTo-small : (text bytes value : List ℕ) (at seen : ℕ) → IsDecodedTo text bytes at seen
+    → decode_of text ≡ Ok value → seen < 256
+IsDecodedTo-small text bytes value at seen decoded decodes =
     elim (cases_lt seen 256) [
       | inl small ↦ small
-      | inr great ↦ absurd (decoded.other great (decode_of-ok text said says).1)
+      | inr great ↦ absurd (decoded.other great (decode_of-ok text value decodes).1)
     ]

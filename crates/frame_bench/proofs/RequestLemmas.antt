@@ -13,11 +13,11 @@ use Rattle.frame_bench.specs.declared.requests.Request.TheVariants.{Slice, Fragm
 use Rattle.frame_bench.proofs.TextLemmas.{NumberAt, number_at_one}
 
 -- A word is followed by a space or is not.
-pub behind_word : (text word rest : List ℕ) (o : Option (Bor (List ℕ))) → text ≡ word ++ rest
+pub strip_word_found : (text word rest : List ℕ) (o : Option (Bor (List ℕ))) → text ≡ word ++ rest
     → MatchOption o ((r : List ℕ) → rest ≢ (space ∷ []) ++ r) (λ x. rest ≡ (space ∷ []) ++ x.now)
     → IfSome o (λ r. text ≡ word ++ space ∷ r.now) × IfNone o ((r : List ℕ) → text ≡ word ++ space ∷ r → ⊥)
-behind_word text word rest (Some x) parts is = (parts ∙ ap (λ t. word ++ t) is, tt)
-behind_word text word rest None parts refused =
+strip_word_found text word rest (Some x) parts is = (parts ∙ ap (λ t. word ++ t) is, tt)
+strip_word_found text word rest None parts refused =
     (tt, λ r e. refused r (append_cancel_left word rest (space ∷ r) (sym parts ∙ e)))
 
 -- Texts with different first bytes differ.
@@ -73,40 +73,40 @@ same_entry text Ip (EtherType type) a b x y = absurd y.1
 
 -- Holds if the request is this, with the bytes of the last word.
 abbrev pub AsksOf : Request → List ℕ → Request → List ℕ → Type 0
-AsksOf is text request said = (is ≡ request) × IsHex text said
+AsksOf is text request frame = (is ≡ request) × IsHex text frame
 
 -- Holds if the words from the channel on are those of the request.
 abbrev pub AsksFromChannel : Entry → ℕ → List ℕ → Request → List ℕ → Type 0
-AsksFromChannel entry timestamp text request said =
+AsksFromChannel entry timestamp text request frame =
     (number rest : List ℕ) × (channel : ℕ) × NumberAt text number rest channel
-    × AsksOf (Fragment entry timestamp channel) rest request said
+    × AsksOf (Fragment entry timestamp channel) rest request frame
 
 -- Holds if the words from the timestamp on are those of the request.
 abbrev pub AsksFromTimestamp : Entry → List ℕ → Request → List ℕ → Type 0
-AsksFromTimestamp entry text request said =
+AsksFromTimestamp entry text request frame =
     (time rest : List ℕ) × (timestamp : ℕ) × NumberAt text time rest timestamp
-    × AsksFromChannel entry timestamp rest request said
+    × AsksFromChannel entry timestamp rest request frame
 
 -- The requests of lines with these first words.
-pub asked_slice : (rest : List ℕ) (request : Request) (said : List ℕ)
-    → Asks (codes "slice" ++ space ∷ rest) request said
-    → (entry : Entry) × (text : List ℕ) × EntryAt rest entry text × AsksOf (Slice entry) text request said
-asked_slice rest (Slice entry) said (word, text, names, parts, is) = (
+pub asked_slice : (rest : List ℕ) (request : Request) (frame : List ℕ)
+    → Asks (codes "slice" ++ space ∷ rest) request frame
+    → (entry : Entry) × (text : List ℕ) × EntryAt rest entry text × AsksOf (Slice entry) text request frame
+asked_slice rest (Slice entry) frame (word, text, names, parts, is) = (
   entry,
   text,
   (word, names, append_cancel_left (codes "slice" ++ space ∷ []) rest (word ++ space ∷ text) parts),
   (refl, is),
 )
-asked_slice rest (Fragment entry timestamp channel) said asks = other_word 115 102 _ _ asks.5 (omega arith)
-asked_slice rest (Drop timestamp) said asks = other_word 115 100 _ _ asks.1 (omega arith)
-asked_slice rest (Limit max) said asks = other_word 115 108 _ _ asks.1 (omega arith)
+asked_slice rest (Fragment entry timestamp channel) frame asks = other_word 115 102 _ _ asks.5 (omega arith)
+asked_slice rest (Drop timestamp) frame asks = other_word 115 100 _ _ asks.1 (omega arith)
+asked_slice rest (Limit max) frame asks = other_word 115 108 _ _ asks.1 (omega arith)
 
-pub asked_fragment : (rest : List ℕ) (request : Request) (said : List ℕ)
-    → Asks (codes "frag" ++ space ∷ rest) request said
+pub asked_fragment : (rest : List ℕ) (request : Request) (frame : List ℕ)
+    → Asks (codes "frag" ++ space ∷ rest) request frame
     → (entry : Entry) × (text : List ℕ) × EntryAt rest entry text
-    × AsksFromTimestamp entry text request said
-asked_fragment rest (Slice entry) said asks = other_word 102 115 _ _ asks.3 (omega arith)
-asked_fragment rest (Fragment entry timestamp channel) said
+    × AsksFromTimestamp entry text request frame
+asked_fragment rest (Slice entry) frame asks = other_word 102 115 _ _ asks.3 (omega arith)
+asked_fragment rest (Fragment entry timestamp channel) frame
     (word, time, number, text, names, parts, is_time, is_number, is) = (
       entry,
       words (time ∷ number ∷ text ∷ []),
@@ -123,29 +123,29 @@ asked_fragment rest (Fragment entry timestamp channel) said
         (number, text, channel, (refl, is_number), (refl, is)),
       ),
     )
-asked_fragment rest (Drop timestamp) said asks = other_word 102 100 _ _ asks.1 (omega arith)
-asked_fragment rest (Limit max) said asks = other_word 102 108 _ _ asks.1 (omega arith)
+asked_fragment rest (Drop timestamp) frame asks = other_word 102 100 _ _ asks.1 (omega arith)
+asked_fragment rest (Limit max) frame asks = other_word 102 108 _ _ asks.1 (omega arith)
 
-pub asked_drop : (rest : List ℕ) (request : Request) (said : List ℕ)
-    → Asks (codes "drop" ++ space ∷ rest) request said
-    → (timestamp : ℕ) × (request ≡ Drop timestamp) × IsNumber rest timestamp × (said ≡ [])
-asked_drop rest (Slice entry) said asks = other_word 100 115 _ _ asks.3 (omega arith)
-asked_drop rest (Fragment entry timestamp channel) said asks = other_word 100 102 _ _ asks.5 (omega arith)
-asked_drop rest (Drop timestamp) said (time, parts, is, none) = (
+pub asked_drop : (rest : List ℕ) (request : Request) (frame : List ℕ)
+    → Asks (codes "drop" ++ space ∷ rest) request frame
+    → (timestamp : ℕ) × (request ≡ Drop timestamp) × IsNumber rest timestamp × (frame ≡ [])
+asked_drop rest (Slice entry) frame asks = other_word 100 115 _ _ asks.3 (omega arith)
+asked_drop rest (Fragment entry timestamp channel) frame asks = other_word 100 102 _ _ asks.5 (omega arith)
+asked_drop rest (Drop timestamp) frame (time, parts, is, none) = (
   timestamp,
   refl,
   subst (λ t. IsNumber t timestamp) (sym (append_cancel_left (codes "drop" ++ space ∷ []) rest time parts)) is,
   none,
 )
-asked_drop rest (Limit max) said asks = other_word 100 108 _ _ asks.1 (omega arith)
+asked_drop rest (Limit max) frame asks = other_word 100 108 _ _ asks.1 (omega arith)
 
-pub asked_limit : (rest : List ℕ) (request : Request) (said : List ℕ)
-    → Asks (codes "limit" ++ space ∷ rest) request said
-    → (max : ℕ) × (request ≡ Limit max) × IsLimit rest max × (said ≡ [])
-asked_limit rest (Slice entry) said asks = other_word 108 115 _ _ asks.3 (omega arith)
-asked_limit rest (Fragment entry timestamp channel) said asks = other_word 108 102 _ _ asks.5 (omega arith)
-asked_limit rest (Drop timestamp) said asks = other_word 108 100 _ _ asks.1 (omega arith)
-asked_limit rest (Limit max) said (text, parts, is, none) = (
+pub asked_limit : (rest : List ℕ) (request : Request) (frame : List ℕ)
+    → Asks (codes "limit" ++ space ∷ rest) request frame
+    → (max : ℕ) × (request ≡ Limit max) × IsLimit rest max × (frame ≡ [])
+asked_limit rest (Slice entry) frame asks = other_word 108 115 _ _ asks.3 (omega arith)
+asked_limit rest (Fragment entry timestamp channel) frame asks = other_word 108 102 _ _ asks.5 (omega arith)
+asked_limit rest (Drop timestamp) frame asks = other_word 108 100 _ _ asks.1 (omega arith)
+asked_limit rest (Limit max) frame (text, parts, is, none) = (
   max,
   refl,
   subst (λ t. IsLimit t max) (sym (append_cancel_left (codes "limit" ++ space ∷ []) rest text parts)) is,
@@ -154,45 +154,45 @@ asked_limit rest (Limit max) said (text, parts, is, none) = (
 
 -- The requests of lines with further known words.
 pub asked_slice_of : (rest text : List ℕ) (entry : Entry) → EntryAt rest entry text
-    → (request : Request) (said : List ℕ) → Asks (codes "slice" ++ space ∷ rest) request said
-    → AsksOf (Slice entry) text request said
-asked_slice_of rest text entry at request said asks =
-    let asked = asked_slice rest request said asks in
+    → (request : Request) (frame : List ℕ) → Asks (codes "slice" ++ space ∷ rest) request frame
+    → AsksOf (Slice entry) text request frame
+asked_slice_of rest text entry at request frame asks =
+    let asked = asked_slice rest request frame asks in
     let same = same_entry rest entry asked.0 text asked.1 at asked.2 in
-    (ap (λ (e : Entry). Slice e) same.0 ∙ asked.3.0, subst (λ t. IsHex t said) (sym same.1) asked.3.1)
+    (ap (λ (e : Entry). Slice e) same.0 ∙ asked.3.0, subst (λ t. IsHex t frame) (sym same.1) asked.3.1)
 
 pub asked_fragment_of : (rest text : List ℕ) (entry : Entry) → EntryAt rest entry text
-    → (request : Request) (said : List ℕ) → Asks (codes "frag" ++ space ∷ rest) request said
-    → AsksFromTimestamp entry text request said
-asked_fragment_of rest text entry at request said asks =
-    let asked = asked_fragment rest request said asks in
+    → (request : Request) (frame : List ℕ) → Asks (codes "frag" ++ space ∷ rest) request frame
+    → AsksFromTimestamp entry text request frame
+asked_fragment_of rest text entry at request frame asks =
+    let asked = asked_fragment rest request frame asks in
     let same = same_entry rest entry asked.0 text asked.1 at asked.2 in
-    subst (λ (e : Entry). AsksFromTimestamp e text request said) (sym same.0)
-    (subst (λ t. AsksFromTimestamp asked.0 t request said) (sym same.1) asked.3)
+    subst (λ (e : Entry). AsksFromTimestamp e text request frame) (sym same.0)
+    (subst (λ t. AsksFromTimestamp asked.0 t request frame) (sym same.1) asked.3)
 
 pub asked_from_timestamp : (text time rest : List ℕ) (timestamp : ℕ) (entry : Entry)
-    → NumberAt text time rest timestamp → (request : Request) (said : List ℕ)
-    → AsksFromTimestamp entry text request said → AsksFromChannel entry timestamp rest request said
-asked_from_timestamp text time rest timestamp entry at request said asks =
+    → NumberAt text time rest timestamp → (request : Request) (frame : List ℕ)
+    → AsksFromTimestamp entry text request frame → AsksFromChannel entry timestamp rest request frame
+asked_from_timestamp text time rest timestamp entry at request frame asks =
     let same = number_at_one text time asks.0 rest asks.1 timestamp asks.2 at asks.3 in
-    subst (λ n. AsksFromChannel entry n rest request said) (sym same.2)
-    (subst (λ t. AsksFromChannel entry asks.2 t request said) (sym same.1) asks.4)
+    subst (λ n. AsksFromChannel entry n rest request frame) (sym same.2)
+    (subst (λ t. AsksFromChannel entry asks.2 t request frame) (sym same.1) asks.4)
 
 pub asked_from_channel : (text number rest : List ℕ) (timestamp channel : ℕ) (entry : Entry)
-    → NumberAt text number rest channel → (request : Request) (said : List ℕ)
-    → AsksFromChannel entry timestamp text request said
-    → AsksOf (Fragment entry timestamp channel) rest request said
-asked_from_channel text number rest timestamp channel entry at request said asks =
+    → NumberAt text number rest channel → (request : Request) (frame : List ℕ)
+    → AsksFromChannel entry timestamp text request frame
+    → AsksOf (Fragment entry timestamp channel) rest request frame
+asked_from_channel text number rest timestamp channel entry at request frame asks =
     let same = number_at_one text number asks.0 rest asks.1 channel asks.2 at asks.3 in
-    subst (λ n. AsksOf (Fragment entry timestamp n) rest request said) (sym same.2)
-    (subst (λ t. AsksOf (Fragment entry timestamp asks.2) t request said) (sym same.1) asks.4)
+    subst (λ n. AsksOf (Fragment entry timestamp n) rest request frame) (sym same.2)
+    (subst (λ t. AsksOf (Fragment entry timestamp asks.2) t request frame) (sym same.1) asks.4)
 
 -- A line with all these words is this request.
-pub asks_fragment : (rest text time timed number numbered said : List ℕ) (entry : Entry) (timestamp channel : ℕ)
+pub asks_fragment : (rest text time timed number numbered frame : List ℕ) (entry : Entry) (timestamp channel : ℕ)
     → EntryAt rest entry text → NumberAt text time timed timestamp
-    → NumberAt timed number numbered channel → IsHex numbered said
-    → Asks (codes "frag" ++ space ∷ rest) (Fragment entry timestamp channel) said
-asks_fragment rest text time timed number numbered said entry timestamp channel at at_time at_number is = (
+    → NumberAt timed number numbered channel → IsHex numbered frame
+    → Asks (codes "frag" ++ space ∷ rest) (Fragment entry timestamp channel) frame
+asks_fragment rest text time timed number numbered frame entry timestamp channel at at_time at_number is = (
   at.0,
   time,
   number,

@@ -27,28 +27,28 @@ len_in mark text start = prefix_len (λ byte. not (byte == mark)) (chunk start 1
 -- After a step no byte before the result is the mark.
 pub without_in_step : (mark start len : ℕ) (text : List ℕ) → start + 16 ≤ length text → len ≡ len_in mark text start
     → IsWithoutBefore mark text start → IsWithoutBefore mark text (start + len)
-without_in_step mark start len text room counted before at below =
+without_in_step mark start len text in_text counted before at below =
     elim (cases_lt at start) [
-      | inl front ↦ before at front
-      | inr behind ↦
+      | inl earlier ↦ before at earlier
+      | inr later ↦
           other_byte (get_or text at 0) mark
-          (run_in_chunk_fails (λ byte. byte == mark) text start 16 len 0 room counted at (omega arith) below)
+          (run_in_chunk_fails (λ byte. byte == mark) text start 16 len 0 in_text counted at (omega arith) below)
     ]
 
 pub mark_in_step : (mark start len : ℕ) (text : List ℕ) → start + 16 ≤ length text → len ≡ len_in mark text start
     → len < 16 → get_or text (start + len) 0 ≡ mark
-mark_in_step mark start len text room counted short =
+mark_in_step mark start len text in_text counted short =
     same_byte (get_or text (start + len) 0) mark
-    (run_in_chunk_stops (λ byte. byte == mark) text start 16 len 0 room counted short)
+    (run_in_chunk_stops (λ byte. byte == mark) text start 16 len 0 in_text counted short)
 
 -- After the rest no byte before the result is the mark.
 pub without_in_rest : (mark start len : ℕ) (text : List ℕ) → start + len ≤ length text
     → IsWithoutBefore mark text start → All (λ byte. byte ≢ mark) (take len (drop start text))
     → IsWithoutBefore mark text (start + len)
-without_in_rest mark start len text room before rest at below same =
+without_in_rest mark start len text in_text before rest at below same =
     elim (cases_lt at start) [
-      | inl front ↦ before at front same
-      | inr behind ↦
+      | inl earlier ↦ before at earlier same
+      | inr later ↦
           let within : at - start < len = omega arith in
           let place : start + (at - start) ≡ at = omega arith in
           let found : get_or (take len (drop start text)) (at - start) 0 ≡ get_or text at 0 =
@@ -59,9 +59,9 @@ without_in_rest mark start len text room before rest at below same =
     ]
 
 -- The first bytes of a text up to the result do not contain the mark.
-pub front_without : (mark len : ℕ) (text : List ℕ) → len ≤ length text → IsWithoutBefore mark text len
+pub prefix_without : (mark len : ℕ) (text : List ℕ) → len ≤ length text → IsWithoutBefore mark text len
     → All (λ byte. byte ≢ mark) (take len text)
-front_without mark len text room before =
+prefix_without mark len text in_text before =
     All-from_get_or (λ byte. byte ≢ mark) (take len text) 0
     (λ at below same.
     let within : at < len = omega (arith, length-take len text, below) in

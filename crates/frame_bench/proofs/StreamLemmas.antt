@@ -24,12 +24,12 @@ pub AreAnswers-append : (before lines more : List (List ℕ)) (text rest : List 
     → AreAnswers (before ++ lines) more rest → AreAnswers before (lines ++ more) (text ++ rest)
 AreAnswers-append before [] more text rest none answers =
     rw none (same_before (before ++ []) before more rest (append-nil before) answers)
-AreAnswers-append before (line ∷ lines) more text rest (answer, behind, is, parts, others) answers = (
+AreAnswers-append before (line ∷ lines) more text rest (answer, after, is, parts, others) answers = (
   answer,
-  behind ++ rest,
+  after ++ rest,
   is,
-  ap (λ t. t ++ rest) parts ∙ append_assoc answer (line_feed ∷ behind) rest,
-  AreAnswers-append (before ++ (line ∷ [])) lines more behind rest others
+  ap (λ t. t ++ rest) parts ∙ append_assoc answer (line_feed ∷ after) rest,
+  AreAnswers-append (before ++ (line ∷ [])) lines more after rest others
       (same_before (before ++ (line ∷ lines)) ((before ++ (line ∷ [])) ++ lines) more rest
       (sym (append_assoc before (line ∷ []) lines)) answers),
 )
@@ -69,9 +69,9 @@ pub Advances-line : (before : List (List ℕ)) (begun taken answers line end ans
     → IsAnswer (before ++ first.ended) (line ++ end) answer
     → Advances before begun (taken ++ (end ++ line_feed ∷ [])) (answers ++ (answer ++ line_feed ∷ [])) []
 Advances-line before begun taken answers line end answer first within is =
-    let whole = All-append (λ byte. byte ≢ line_feed) line end first.within within in
+    let within_line = All-append (λ byte. byte ≢ line_feed) line end first.within within in
     Advances-then before begun line [] taken (end ++ line_feed ∷ []) answers (answer ++ line_feed ∷ []) first
-    (Advances-ended (before ++ first.ended) line end answer whole is)
+    (Advances-ended (before ++ first.ended) line end answer within_line is)
 
 -- A chunk followed by bytes without a line feed has no more answers.
 pub Advances-rest : (before : List (List ℕ)) (begun taken answers line rest : List ℕ)
@@ -168,14 +168,14 @@ module _ (answered : (before : List (List ℕ)) (input : List ℕ) → IsAnswere
   BeginsAnswers-none before line piece = (answered before (line ++ piece)).some
 
   -- A prefix of the answers is a start of the answers.
-  BeginsAnswers-front : (before : List (List ℕ)) (line piece front rest text next : List ℕ)
-      → Advances before line piece text next → text ≡ front ++ rest → BeginsAnswers before line piece front
-  BeginsAnswers-front before line piece front rest text next advances parts =
+  BeginsAnswers-prefix : (before : List (List ℕ)) (line piece prefix rest text next : List ℕ)
+      → Advances before line piece text next → text ≡ prefix ++ rest → BeginsAnswers before line piece prefix
+  BeginsAnswers-prefix before line piece prefix rest text next advances parts =
       let last = (answered (before ++ advances.ended) next).some in
-      let whole = AnswersAfter-all before line piece text next last.0 advances last.1 in
-      let regrouped : text ++ last.0 ≡ front ++ (rest ++ last.0) =
-      ap (λ t. t ++ last.0) parts ∙ append_assoc front rest last.0 in
-      (rest ++ last.0, subst (AnswersAfter before (line ++ piece)) regrouped whole)
+      let complete = AnswersAfter-all before line piece text next last.0 advances last.1 in
+      let regrouped : text ++ last.0 ≡ prefix ++ (rest ++ last.0) =
+      ap (λ t. t ++ last.0) parts ∙ append_assoc prefix rest last.0 in
+      (rest ++ last.0, subst (AnswersAfter before (line ++ piece)) regrouped complete)
 
   -- Nothing was read or written.
   pub Moves-kept : (before : List (List ℕ)) (line : List ℕ) (remaining_first remaining_second contents_first : Option (List ℕ)) → Keeps remaining_first remaining_second
@@ -195,11 +195,11 @@ module _ (answered : (before : List (List ℕ)) (input : List ℕ) → IsAnswere
       (piece, [], consumed, Appends-nil contents_first, BeginsAnswers-none before line piece)
 
   -- A prefix of the answers was written.
-  pub Moves-front : (before : List (List ℕ)) (line piece text next : List ℕ)
+  pub Moves-prefix : (before : List (List ℕ)) (line piece text next : List ℕ)
       → (remaining_first remaining_second contents_first contents_second : Option (List ℕ)) → Consumes remaining_first remaining_second piece → Advances before line piece text next
       → AppendsPrefix contents_first contents_second text → Moves (BeginsAnswers before line) remaining_first remaining_second contents_first contents_second
-  Moves-front before line piece text next remaining_first remaining_second contents_first contents_second consumed advances (front, rest, appended, parts) =
-      (piece, front, consumed, appended, BeginsAnswers-front before line piece front rest text next advances parts)
+  Moves-prefix before line piece text next remaining_first remaining_second contents_first contents_second consumed advances (prefix, rest, appended, parts) =
+      (piece, prefix, consumed, appended, BeginsAnswers-prefix before line piece prefix rest text next advances parts)
 
   -- Answers to a part of the input are a start of the answers to all of it.
   BeginsAnswersTo-part : (read written line : List ℕ) → Advances [] [] read written line → BeginsAnswersTo read written
@@ -255,20 +255,20 @@ Moves-ended line last pool remaining_first remaining_second contents_first conte
 )
 
 -- The last line was answered in part.
-pub Moves-ended_front : (line last : List ℕ) (pool : IpDefragPool ℕ ℕ)
+pub Moves-ended_prefix : (line last : List ℕ) (pool : IpDefragPool ℕ ℕ)
     (remaining_first remaining_second contents_first contents_second contents_third : Option (List ℕ))
     → Moves (λ read written. AdvancesTo [] [] read written line pool) remaining_first remaining_second contents_first contents_second
     → ((before : List (List ℕ)) → HoldsLines before pool → AnswersAfter before line last)
     → AppendsPrefix contents_second contents_third last → Moves BeginsAnswersTo remaining_first remaining_second contents_first contents_third
-Moves-ended_front line last pool remaining_first remaining_second contents_first contents_second contents_third (read, written, consumed, appended, advances) answers
-    (front, rest, more, parts) =
-    let whole =
+Moves-ended_prefix line last pool remaining_first remaining_second contents_first contents_second contents_third (read, written, consumed, appended, advances) answers
+    (prefix, rest, more, parts) =
+    let complete =
     AnswersAfter-all [] [] read written line last advances.0 (answers advances.0.ended advances.1) in
-    let regrouped : written ++ last ≡ (written ++ front) ++ rest =
-    ap (λ t. written ++ t) parts ∙ sym (append_assoc written front rest) in (
+    let regrouped : written ++ last ≡ (written ++ prefix) ++ rest =
+    ap (λ t. written ++ t) parts ∙ sym (append_assoc written prefix rest) in (
       read,
-      written ++ front,
+      written ++ prefix,
       consumed,
-      Appends-trans contents_first contents_second contents_third written front appended more,
-      (rest, subst (AnswersTo read) regrouped whole),
+      Appends-trans contents_first contents_second contents_third written prefix appended more,
+      (rest, subst (AnswersTo read) regrouped complete),
     )

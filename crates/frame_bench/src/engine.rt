@@ -47,7 +47,7 @@ pub fn run<R: Read, W: Write>(
 
     // All input is read, unless the reader still returns bytes after its limit of reads.
     ensures ended { OnOk result (has_ended reader.new ≡ true) }
-    ensures whole { OnOk result (IsAtEnd (R.remaining (inner_of reader.new)) ⊎ (reads_left reader.new ≡ 0)) }
+    ensures all_read { OnOk result (IsAtEnd (R.remaining (inner_of reader.new)) ⊎ (reads_left reader.new ≡ 0)) }
 
     // The writer is not read.
     ensures writer_reads { KeepsReads writer.old writer.new }
@@ -108,9 +108,9 @@ impl Session {
     {
         self.output.clear();
         let mut rest = piece;
-        'lines: while let Some((end, behind)) = split_at_first(rest, b'\n') {
+        'lines: while let Some((end, after)) = split_at_first(rest, b'\n') {
             self.end_line(end)?;
-            rest = behind;
+            rest = after;
         }
         self.line.extend_from_slice(rest)?;
         Ok(())
@@ -179,7 +179,7 @@ fn step<R: Read, W: Write>(
     requires reader_sound { has_failed reader.old ≡ false }
     requires reader_open { has_ended reader.old ≡ false }
     requires writer_sound { has_failed writer.old ≡ false }
-    requires room { 0 < length piece.old }
+    requires not_empty { 0 < length piece.old }
     ensures ok { OnOk result ((before : List (List ℕ)) → HoldsLines before session.old.pool → Transfers
         (λ read written. AdvancesTo before session.old.line.items read written session.new.line.items session.new.pool)
         R.remaining reader.old reader.new W.contents writer.old writer.new) }

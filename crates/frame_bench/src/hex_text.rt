@@ -34,8 +34,8 @@ static DIGIT_VALUES: [u16; 256] = [
 /// Decodes a text of hexadecimal digits, two for each byte, into the vector `bytes`, or `-` for no bytes. Returns false
 /// if the text is anything else, and the contents of the vector then have no meaning.
 pub fn decode(text: &[u8], bytes: &mut Vec<u8>) -> Result<bool, AllocError>
-    ensures said { IfOk result (λ is_hex. IsTrue is_hex → IsHex text.now bytes.new.items) }
-    ensures only { IfOk result (λ is_hex. (said : List ℕ) → IsHex text.now said → IsTrue is_hex) }
+    ensures decoded { IfOk result (λ is_hex. IsTrue is_hex → IsHex text.now bytes.new.items) }
+    ensures only { IfOk result (λ is_hex. (value : List ℕ) → IsHex text.now value → IsTrue is_hex) }
 {
     if text.is_empty() {
         return Ok(false);
@@ -56,8 +56,8 @@ pub fn decode(text: &[u8], bytes: &mut Vec<u8>) -> Result<bool, AllocError>
 /// no branch for each digit.
 fn decode_pairs(text: &[u8], bytes: &mut [u8]) -> bool
     requires { length text.now ≡ 2 * length bytes.old }
-    ensures said { IsTrue result → decode_of text.now ≡ Ok bytes.new }
-    ensures only { (said : List ℕ) → decode_of text.now ≡ Ok said → IsTrue result }
+    ensures decoded { IsTrue result → decode_of text.now ≡ Ok bytes.new }
+    ensures only { (value : List ℕ) → decode_of text.now ≡ Ok value → IsTrue result }
 {
     let mut seen = 0;
     'bytes: for at in 0..bytes.len() {

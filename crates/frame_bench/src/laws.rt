@@ -3,8 +3,8 @@
 ghost use Rattle.std.specs.Prelude.{ℕ, List};
 ghost use Rattle.frame_bench.specs.Answers.{IsAnswered};
 
-/// Whatever lines came before, the program has exactly one output for an input. It follows from the law `frames`: bytes
-/// are sliced in exactly one way or rejected with exactly one error.
+/// States that the program has exactly one output for an input, whatever lines came before. It follows from the law
+/// `frames`: bytes are sliced in exactly one way or rejected with exactly one error.
 pub fn answers()
     ensures { (before : List (List ℕ)) (input : List ℕ) → IsAnswered before input }
 {

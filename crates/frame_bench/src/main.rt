@@ -63,7 +63,7 @@ fn answered<R: Read, W: Write>(
     requires reader_sound { has_failed reader.old ≡ false }
     requires reader_open { has_ended reader.old ≡ false }
     requires writer_sound { has_failed writer.old ≡ false }
-    ensures whole { exit_status result ≡ 0 → Transfers AnswersTo R.remaining reader.old reader.new
+    ensures all_answered { exit_status result ≡ 0 → Transfers AnswersTo R.remaining reader.old reader.new
         W.contents writer.old writer.new }
     ensures begun { exit_status result ≢ 0 → Transfers BeginsAnswersTo R.remaining reader.old reader.new
         W.contents writer.old writer.new }

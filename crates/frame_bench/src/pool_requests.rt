@@ -16,8 +16,8 @@ use std::str;
 pub fn parse_fragment(text: &[u8], bytes: &mut Vec<u8>) -> Result<Option<Request>, AllocError>
     ensures some { IfOk result (λ found. IfSome found (λ request.
         Asks (codes "frag" ++ space ∷ text.now) request bytes.new.items)) }
-    ensures none { IfOk result (λ found. IfNone found ((request : Request) (said : List ℕ) →
-        Asks (codes "frag" ++ space ∷ text.now) request said → ⊥)) }
+    ensures none { IfOk result (λ found. IfNone found ((request : Request) (frame : List ℕ) →
+        Asks (codes "frag" ++ space ∷ text.now) request frame → ⊥)) }
 {
     let Some((entry, timed)) = entry_at(text) else {
         return Ok(None);
@@ -43,8 +43,8 @@ pub fn parse_fragment(text: &[u8], bytes: &mut Vec<u8>) -> Result<Option<Request
 /// `bytes` is cleared, as the line contains no frame.
 pub fn parse_drop(text: &[u8], bytes: &mut Vec<u8>) -> Option<Request>
     ensures some { IfSome result (λ request. Asks (codes "drop" ++ space ∷ text.now) request bytes.new.items) }
-    ensures none { IfNone result ((request : Request) (said : List ℕ) →
-        Asks (codes "drop" ++ space ∷ text.now) request said → ⊥) }
+    ensures none { IfNone result ((request : Request) (frame : List ℕ) →
+        Asks (codes "drop" ++ space ∷ text.now) request frame → ⊥) }
 {
     bytes.clear();
     let timestamp = number(text)?;
@@ -55,8 +55,8 @@ pub fn parse_drop(text: &[u8], bytes: &mut Vec<u8>) -> Option<Request>
 /// of at most 65535. The vector `bytes` is cleared, as the line contains no frame.
 pub fn parse_limit(text: &[u8], bytes: &mut Vec<u8>) -> Option<Request>
     ensures some { IfSome result (λ request. Asks (codes "limit" ++ space ∷ text.now) request bytes.new.items) }
-    ensures none { IfNone result ((request : Request) (said : List ℕ) →
-        Asks (codes "limit" ++ space ∷ text.now) request said → ⊥) }
+    ensures none { IfNone result ((request : Request) (frame : List ℕ) →
+        Asks (codes "limit" ++ space ∷ text.now) request frame → ⊥) }
 {
     bytes.clear();
     let max = limit(text)?;

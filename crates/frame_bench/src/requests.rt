@@ -8,7 +8,7 @@ ghost use Rattle.frame_bench.specs.declared.requests.Request.{Request};
 
 use crate::hex_text::decode;
 use crate::pool_requests::{parse_drop, parse_fragment, parse_limit};
-use crate::texts::behind;
+use crate::texts::strip_word;
 use etherparse::Entry;
 use std::alloc::AllocError;
 
@@ -43,18 +43,18 @@ pub enum Request {
 pub fn parse(line: &[u8], bytes: &mut Vec<u8>) -> Result<Option<Request>, AllocError>
     ensures some { IfOk result (λ found. IfSome found (λ request. Asks line.now request bytes.new.items)) }
     ensures none { IfOk result (λ found. IfNone found
-        ((request : Request) (said : List ℕ) → Asks line.now request said → ⊥)) }
+        ((request : Request) (frame : List ℕ) → Asks line.now request frame → ⊥)) }
 {
-    if let Some(rest) = behind(line, b"slice") {
+    if let Some(rest) = strip_word(line, b"slice") {
         return parse_slice(rest, bytes);
     }
-    if let Some(rest) = behind(line, b"frag") {
+    if let Some(rest) = strip_word(line, b"frag") {
         return parse_fragment(rest, bytes);
     }
-    if let Some(rest) = behind(line, b"drop") {
+    if let Some(rest) = strip_word(line, b"drop") {
         return Ok(parse_drop(rest, bytes));
     }
-    match behind(line, b"limit") {
+    match strip_word(line, b"limit") {
         Some(rest) => Ok(parse_limit(rest, bytes)),
         None => Ok(None),
     }
@@ -65,8 +65,8 @@ pub fn parse(line: &[u8], bytes: &mut Vec<u8>) -> Result<Option<Request>, AllocE
 fn parse_slice(text: &[u8], bytes: &mut Vec<u8>) -> Result<Option<Request>, AllocError>
     ensures some { IfOk result (λ found. IfSome found (λ request.
         Asks (codes "slice" ++ space ∷ text.now) request bytes.new.items)) }
-    ensures none { IfOk result (λ found. IfNone found ((request : Request) (said : List ℕ) →
-        Asks (codes "slice" ++ space ∷ text.now) request said → ⊥)) }
+    ensures none { IfOk result (λ found. IfNone found ((request : Request) (frame : List ℕ) →
+        Asks (codes "slice" ++ space ∷ text.now) request frame → ⊥)) }
 {
     let Some((entry, digits)) = entry_at(text) else {
         return Ok(None);
@@ -84,12 +84,12 @@ pub fn entry_at(text: &[u8]) -> Option<(Entry, &[u8])>
     ensures some { IfSome result (λ found. EntryAt text.now found.0 found.1.now) }
     ensures none { IfNone result ((entry : Entry) (rest : List ℕ) → EntryAt text.now entry rest → ⊥) }
 {
-    if let Some(rest) = behind(text, b"eth") {
+    if let Some(rest) = strip_word(text, b"eth") {
         return Some((Entry::Ethernet, rest));
     }
-    if let Some(rest) = behind(text, b"sll") {
+    if let Some(rest) = strip_word(text, b"sll") {
         return Some((Entry::LinuxSll, rest));
     }
-    let rest = behind(text, b"ip")?;
+    let rest = strip_word(text, b"ip")?;
     Some((Entry::Ip, rest))
 }

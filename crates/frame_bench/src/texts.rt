@@ -29,7 +29,7 @@ const STEP: usize = 16;
 /// byte.
 fn len_before(text: &[u8], mark: u8) -> usize
     ensures within { result ≤ length text.now }
-    ensures front { All (λ byte. byte ≢ mark) (take result text.now) }
+    ensures none_before { All (λ byte. byte ≢ mark) (take result text.now) }
     ensures found { result < length text.now → slice_index text.now result ≡ mark }
 {
     'steps: for step in 0..text.len() / STEP {
@@ -47,7 +47,7 @@ fn len_before(text: &[u8], mark: u8) -> usize
 /// compares byte by byte, for the last bytes of a text (fewer than 16).
 fn len_before_by_one(text: &[u8], mark: u8) -> usize
     ensures within { result ≤ length text.now }
-    ensures front { All (λ byte. byte ≢ mark) (take result text.now) }
+    ensures none_before { All (λ byte. byte ≢ mark) (take result text.now) }
     ensures found { result < length text.now → slice_index text.now result ≡ mark }
 {
     match text.iter().position(|byte| *byte == mark) {
@@ -73,7 +73,7 @@ fn len_in_step(text: &[u8], start: usize, mark: u8) -> usize
 }
 
 /// Returns the text after the given word and one space, or `None` if the text does not begin with them.
-pub fn behind<'a>(text: &'a [u8], word: &[u8]) -> Option<&'a [u8]>
+pub fn strip_word<'a>(text: &'a [u8], word: &[u8]) -> Option<&'a [u8]>
     ensures some { IfSome result (λ rest. text.now ≡ word.now ++ space ∷ rest.now) }
     ensures none { IfNone result ((rest : List ℕ) → text.now ≡ word.now ++ space ∷ rest → ⊥) }
 {

@@ -134,30 +134,30 @@ abbrev pub AreLastDigits : ℕ → ℕ → ℕ → List ℕ → Type 0
 AreLastDigits number rest start digits = decimal number ≡ decimal rest ++ drop start digits
 
 -- The remaining number has at most `start` digits.
-abbrev pub HasRoom : ℕ → ℕ → Type 0
-HasRoom rest start = (0 < start) × (rest < 10 ^ start)
+abbrev pub HasSpace : ℕ → ℕ → Type 0
+HasSpace rest start = (0 < start) × (rest < 10 ^ start)
 
 -- If at least three digits remain, there is space for three.
-pub HasRoom-three : (rest start : ℕ) → HasRoom rest start → 100 ≤ rest → 3 ≤ start
-HasRoom-three rest zero room three = absurd (omega (arith, room.0))
-HasRoom-three rest (suc zero) room three = absurd (omega (arith, room.1, three))
-HasRoom-three rest (suc (suc zero)) room three = absurd (omega (arith, room.1, three))
-HasRoom-three rest (suc (suc (suc start))) room three = omega arith
+pub HasSpace-three : (rest start : ℕ) → HasSpace rest start → 100 ≤ rest → 3 ≤ start
+HasSpace-three rest zero space three = absurd (omega (arith, space.0))
+HasSpace-three rest (suc zero) space three = absurd (omega (arith, space.1, three))
+HasSpace-three rest (suc (suc zero)) space three = absurd (omega (arith, space.1, three))
+HasSpace-three rest (suc (suc (suc start))) space three = omega arith
 
 -- If at least two digits remain, there is space for two.
-pub HasRoom-two : (rest start : ℕ) → HasRoom rest start → 10 ≤ rest → 2 ≤ start
-HasRoom-two rest zero room two = absurd (omega (arith, room.0))
-HasRoom-two rest (suc zero) room two = absurd (omega (arith, room.1, two))
-HasRoom-two rest (suc (suc start)) room two = omega arith
+pub HasSpace-two : (rest start : ℕ) → HasSpace rest start → 10 ≤ rest → 2 ≤ start
+HasSpace-two rest zero space two = absurd (omega (arith, space.0))
+HasSpace-two rest (suc zero) space two = absurd (omega (arith, space.1, two))
+HasSpace-two rest (suc (suc start)) space two = omega arith
 
-less_room : (rest start : ℕ) → rest < 10 ^ suc (suc start) → rest / 100 < 10 ^ start
-less_room rest start room = omega (arith, pow-succ' 10 (suc start), pow-succ' 10 start, room)
+less_space : (rest start : ℕ) → rest < 10 ^ suc (suc start) → rest / 100 < 10 ^ start
+less_space rest start space = omega (arith, pow-succ' 10 (suc start), pow-succ' 10 start, space)
 
-pub HasRoom-more : (rest start : ℕ) → HasRoom rest start → 100 ≤ rest → HasRoom (rest / 100) (start - 2)
-HasRoom-more rest start room three =
-    let some = HasRoom-three rest start room three in
+pub HasSpace-more : (rest start : ℕ) → HasSpace rest start → 100 ≤ rest → HasSpace (rest / 100) (start - 2)
+HasSpace-more rest start space three =
+    let some = HasSpace-three rest start space three in
     let same : suc (suc (start - 2)) ≡ start = omega (arith, some) in
-    (omega (arith, some), less_room rest (start - 2) (subst (λ n. rest < 10 ^ n) (sym same) room.1))
+    (omega (arith, some), less_space rest (start - 2) (subst (λ n. rest < 10 ^ n) (sym same) space.1))
 
 -- At the start, no digit is written.
 pub AreLastDigits-none : (number : ℕ) (digits : List ℕ) → length digits ≡ 20 → AreLastDigits number number 20 digits
@@ -196,15 +196,15 @@ AreLastDigits-one number rest start digits written last puts some one =
 -- ---- the appended digits
 
 -- The digits from the first one to the end of the 20 bytes are the digits of the number.
-pub digits-whole : (number start : ℕ) (digits : List ℕ) → length digits ≡ 20 → drop start digits ≡ decimal number
+pub digits-all : (number start : ℕ) (digits : List ℕ) → length digits ≡ 20 → drop start digits ≡ decimal number
     → take (20 - start) (drop start digits) ≡ decimal number
-digits-whole number start digits long are =
+digits-all number start digits long are =
     take_all (20 - start) (drop start digits) (omega (arith, length-drop start digits, long)) ∙ are
 
 -- The digits after the first one are the digits of the number without the first.
-pub digits-behind_first : (number start : ℕ) (digits : List ℕ) → length digits ≡ 20
+pub digits-after_first : (number start : ℕ) (digits : List ℕ) → length digits ≡ 20
     → drop start digits ≡ decimal number
     → take (20 - (start + 1)) (drop (start + 1) digits) ≡ drop 1 (decimal number)
-digits-behind_first number start digits long are =
+digits-after_first number start digits long are =
     take_all (20 - (start + 1)) (drop (start + 1) digits) (omega (arith, length-drop (start + 1) digits, long))
     ∙ sym (drop-drop 1 start digits) ∙ ap (λ t. drop 1 t) are

@@ -7,9 +7,11 @@ use Rattle.line_io.specs.declared.watched.Watched.{Watched}
 -- The bytes that were read from a reader and written to a writer are related by `Related`. The states are the bytes
 -- that remain in the reader and the contents of the writer, each before and after. If a reader or a writer does not
 -- expose its bytes, any bytes may have been transferred.
-abbrev pub Moves : (List ℕ → List ℕ → Type 0) → (had has held holds : Option (List ℕ)) → Type 0
-Moves Related had has held holds =
-    (read written : List ℕ) × Consumes had has read × Appends held holds written × Related read written
+abbrev pub Moves : (List ℕ → List ℕ → Type 0) → (remaining next_remaining contents next_contents : Option (List ℕ))
+    → Type 0
+Moves Related remaining next_remaining contents next_contents =
+    (read written : List ℕ) × Consumes remaining next_remaining read × Appends contents next_contents written
+    × Related read written
 
 -- Between two states of a watched reader and of a watched writer, the bytes read and the bytes written are related by
 -- `Related`.

@@ -29,4 +29,5 @@ KeepsReads old new = (reads_left new ≡ reads_left old) × (is_at_end new ≡ i
 
 -- known contents grow by a prefix of these bytes
 abbrev pub AppendsPrefix : Option (List ℕ) → Option (List ℕ) → List ℕ → Type 0
-AppendsPrefix held holds bytes = (front rest : List ℕ) × Appends held holds front × (bytes ≡ front ++ rest)
+AppendsPrefix contents next_contents bytes =
+    (prefix rest : List ℕ) × Appends contents next_contents prefix × (bytes ≡ prefix ++ rest)

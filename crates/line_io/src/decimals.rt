@@ -98,11 +98,11 @@ pub fn push(output: &mut Vec<u8>, number: u64) -> Result<(), AllocError>
     ensures text { OnOk result (output.new.items ≡ output.old.items ++ decimal number) }
     ensures full { OnErr result (vec_capacity output.old < vec_len output.old + length (decimal number)) }
 {
-    let room = output.capacity() - output.len();
-    if number < 10_000 && room >= 4 {
+    let spare = output.capacity() - output.len();
+    if number < 10_000 && spare >= 4 {
         push_four(output, number)
-    } else if number >= SHORT_END || room < 10 {
-        if number < 10 && room > 0 {
+    } else if number >= SHORT_END || spare < 10 {
+        if number < 10 && spare > 0 {
             output.push_reserved(b'0' + number as u8);
             return Ok(());
         }
@@ -117,7 +117,7 @@ pub fn push(output: &mut Vec<u8>, number: u64) -> Result<(), AllocError>
 /// Appends a number of one to four decimal digits to `output`, which must have space for at least one byte.
 #[inline]
 fn push_four(output: &mut Vec<u8>, number: u64) -> Result<(), AllocError>
-    requires room { vec_len output.old < vec_capacity output.old }
+    requires capacity { vec_len output.old < vec_capacity output.old }
     requires most { number < 10000 }
     ensures text { OnOk result (output.new.items ≡ output.old.items ++ decimal number) }
     ensures full { OnErr result (vec_capacity output.old < vec_len output.old + length (decimal number)) }
@@ -222,7 +222,7 @@ fn write_digits(digits: &mut [u8; MOST_DIGITS], number: u64) -> usize
 #[inline]
 fn write_pair(digits: &mut [u8; MOST_DIGITS], at: usize, number: u64)
     requires number { number < 100 }
-    requires room { at + 2 ≤ 20 }
+    requires within { at + 2 ≤ 20 }
     ensures { drop at digits.new ≡ (48 + number / 10) ∷ (48 + number % 10) ∷ drop (at + 2) digits.old }
 {
     let from = 2 * number as usize;

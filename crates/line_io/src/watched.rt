@@ -59,7 +59,7 @@ impl<R: Read> Watched<R> {
     pub fn read(&mut self, piece: &mut [u8]) -> Result<usize, RunError>
         requires sound { has_failed self.old ≡ false }
         requires open { has_ended self.old ≡ false }
-        requires room { 0 < length piece.old }
+        requires not_empty { 0 < length piece.old }
         ensures bound { IfOk result (λ count. count ≤ length piece.new) }
         ensures bytes { ReadConsumes (R.remaining (inner_of self.old)) (R.remaining (inner_of self.new)) result
             piece.new }
@@ -112,7 +112,7 @@ impl<W: Write> Watched<W> {
         requires { has_failed self.old ≡ false }
         ensures all { OnOk result (Appends (W.contents (inner_of self.old)) (W.contents (inner_of self.new))
             bytes.now) }
-        ensures front { OnErr result (AppendsPrefix (W.contents (inner_of self.old)) (W.contents (inner_of self.new))
+        ensures prefix { OnErr result (AppendsPrefix (W.contents (inner_of self.old)) (W.contents (inner_of self.new))
             bytes.now) }
         ensures reads { KeepsReads self.old self.new }
         ensures failed { has_failed self.new ≡ is_err result }

@@ -14,9 +14,13 @@ use std::process::Abort;
 /// payload, and gives the payload back.
 fn ends(rt: &(impl Abort + Print), pool: &mut Pool, identification: u16) {
     let last = fragment(rt, 1, false, b"ijkl");
-    let whole = answer(rt, pool, identification, &last).expect(rt, "whole");
-    same(rt, &whole.payload.as_slice(), &b"abcdefghijkl".as_slice());
-    pool.return_buf(whole);
+    let reassembled = answer(rt, pool, identification, &last).expect(rt, "whole");
+    same(
+        rt,
+        &reassembled.payload.as_slice(),
+        &b"abcdefghijkl".as_slice(),
+    );
+    pool.return_buf(reassembled);
 }
 
 /// Tests a reassembly pool with 1,200 incomplete datagrams at once. Then all of them are completed.

@@ -79,19 +79,19 @@ fn reversed(rt: HostRuntime) {
     );
 }
 
-const APART: [Step; 3] = [
+const MIDDLE_LAST: [Step; 3] = [
     (0, true, b"abcdefgh"),
     (2, false, b"qrst"),
     (1, true, b"ijklmnop"),
 ];
 
 #[test]
-fn apart(rt: HostRuntime) {
+fn middle_last(rt: HostRuntime) {
     makes(
         &rt,
         rt.alloc(),
         "add, apart",
-        &APART,
+        &MIDDLE_LAST,
         b"abcdefghijklmnopqrst",
     );
 }

@@ -127,7 +127,7 @@ fn of_cooked_captures(rt: HostRuntime) {
 
 /// Tests that the builder appends a frame to a vector of 3 bytes without spare capacity, and that these bytes stay.
 #[test]
-fn behind_bytes(rt: HostRuntime) {
+fn after_existing_bytes(rt: HostRuntime) {
     let mut buf = full(&rt, rt.alloc(), b"abc");
     builds(&rt, &mut buf, Last::Udp, 14 + 20 + 8 + 8);
     same(&rt, &buf.get(..3), &Some(b"abc".as_slice()));

@@ -165,7 +165,8 @@ fn writes<H: Append>(
     same(rt, &buf.len().saturating_sub(before), &len);
 }
 
-/// Asserts that a header of `len` bytes is written to an empty vector, at the second try if the allocation fails.
+/// Asserts that a header of `len` bytes is written to an empty vector: if the first allocation fails, a second call
+/// succeeds.
 fn writes_alone<H: Append>(
     rt: &(impl Abort + Print),
     alloc: Global,
@@ -300,7 +301,7 @@ fn ip_with_extensions(rt: HostRuntime) {
 /// Tests that the longest IPv6 headers are appended to a vector of 3 bytes without spare capacity, and that these bytes
 /// stay.
 #[test]
-fn behind_bytes(rt: HostRuntime) {
+fn after_existing_bytes(rt: HostRuntime) {
     let mut buf = full(&rt, rt.alloc(), b"abc");
     writes(
         &rt,

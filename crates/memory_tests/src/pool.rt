@@ -41,9 +41,9 @@ fn answers(
     }
     match answer.expect(rt, "refused") {
         None => same(rt, &payload, &b"".as_slice()),
-        Some(whole) => {
-            same(rt, &whole.payload.as_slice(), &payload);
-            pool.return_buf(whole);
+        Some(reassembled) => {
+            same(rt, &reassembled.payload.as_slice(), &payload);
+            pool.return_buf(reassembled);
         }
     }
 }
@@ -58,9 +58,9 @@ fn streams_by_vlan(rt: HostRuntime) {
     let mut pool = IpDefragPool::new(rt.alloc());
     answers(&rt, &mut pool, FIRST, (VLAN_1_FIRST, 1), 8, b"");
     answers(&rt, &mut pool, FIRST, (VLAN_2_FIRST, 1), 8, b"");
-    answers(&rt, &mut pool, LATER, (VLAN_1_LAST, 1), 16, WHOLE);
+    answers(&rt, &mut pool, LATER, (VLAN_1_LAST, 1), 16, VLAN_1_PAYLOAD);
     answers(&rt, &mut pool, FIRST, (VLAN_1_LAST, 1), 16, b"");
-    answers(&rt, &mut pool, LATER, (VLAN_2_LAST, 1), 16, OTHER);
+    answers(&rt, &mut pool, LATER, (VLAN_2_LAST, 1), 16, VLAN_2_PAYLOAD);
     same(&rt, &streams(&mut pool), &1);
 }
 
@@ -77,7 +77,7 @@ fn first_frame(rt: HostRuntime) {
 fn large_and_empty(rt: HostRuntime) {
     let mut pool = IpDefragPool::new(rt.alloc());
     let mut large = [7; 2034];
-    large[..34].copy_from_slice(&LARGE_FRONT);
+    large[..34].copy_from_slice(&LARGE_HEADERS);
     answers(&rt, &mut pool, FIRST, (&large, 1), 2000, b"");
     answers(&rt, &mut pool, FIRST, (EMPTY_FIRST, 1), 0, b"");
     same(&rt, &streams(&mut pool), &2);
@@ -106,13 +106,13 @@ fn refuses_unaligned(rt: &impl Abort, pool: &mut Pool, timestamp: u64) {
 
 /// Asserts that a reassembly pool with the limit `max` rejects a fragment of the bytes 16 to 23 of a payload, since it
 /// ends at 24, above the limit.
-fn refuses_behind(rt: &impl Abort, pool: &mut Pool, max: u16) {
+fn refuses_above_limit(rt: &impl Abort, pool: &mut Pool, max: u16) {
     let error = IpDefragError::SegmentTooBig {
         offset: offset(rt, 2),
         payload_len: 8,
         max,
     };
-    refuses(rt, pool, (VLAN_1_BEHIND, 1), error);
+    refuses(rt, pool, (VLAN_1_ENDS_AT_24, 1), error);
 }
 
 /// Tests that a rejected fragment does not change the timestamp of its datagram: a drop by timestamp still removes the
@@ -138,7 +138,7 @@ fn skips(rt: &impl Abort, pool: &mut Pool, frame: &[u8]) {
 #[test]
 fn without_memory(rt: HostRuntime) {
     let mut pool = IpDefragPool::new(rt.alloc());
-    skips(&rt, &mut pool, WHOLE_PACKET);
+    skips(&rt, &mut pool, UNFRAGMENTED_PACKET);
     refuses_unaligned(&rt, &mut pool, 1);
     same(&rt, &streams(&mut pool), &0);
     answers(&rt, &mut pool, "setup", (VLAN_1_FIRST, 1), 8, b"");
@@ -154,11 +154,11 @@ fn without_memory(rt: HostRuntime) {
 #[test]
 fn limits_without_memory(rt: HostRuntime) {
     let mut pool = IpDefragPool::with_limit(rt.alloc(), 8);
-    refuses_behind(&rt, &mut pool, 8);
+    refuses_above_limit(&rt, &mut pool, 8);
     answers(&rt, &mut pool, "setup", (VLAN_1_FIRST, 1), 8, b"");
-    refuses_behind(&rt, &mut pool, 8);
+    refuses_above_limit(&rt, &mut pool, 8);
     pool = IpDefragPool::with_limit(rt.alloc(), 23);
     same(&rt, &streams(&mut pool), &0);
-    refuses_behind(&rt, &mut pool, 23);
+    refuses_above_limit(&rt, &mut pool, 23);
     asks_once(&rt, rt.alloc());
 }

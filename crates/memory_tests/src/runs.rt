@@ -20,7 +20,7 @@ const FRAMES: [&[u8]; 3] = [VLAN_1_FIRST, VLAN_2_FIRST, VLAN_1_LAST];
 
 /// Four frames: both fragments of a payload of 16 bytes with VLAN identifier 1, and between them a fragment that ends
 /// at byte 24 and a fragment of another datagram.
-const FRAMES_BEHIND: [&[u8]; 4] = [VLAN_1_FIRST, VLAN_1_BEHIND, VLAN_2_FIRST, VLAN_1_LAST];
+const FRAMES_ABOVE_LIMIT: [&[u8]; 4] = [VLAN_1_FIRST, VLAN_1_ENDS_AT_24, VLAN_2_FIRST, VLAN_1_LAST];
 
 type Calls = Vec<PoolCall<'static, u64, u8, u64>>;
 
@@ -89,7 +89,7 @@ fn frames(rt: &(impl Abort + Print), alloc: Global) -> Frames {
 fn is_payload(answer: &PoolAnswer, payload: &[u8]) -> bool {
     match answer {
         PoolAnswer::Frame(Ok(None)) => payload.is_empty(),
-        PoolAnswer::Frame(Ok(Some(whole))) => whole.payload.as_slice() == payload,
+        PoolAnswer::Frame(Ok(Some(reassembled))) => reassembled.payload.as_slice() == payload,
         _ => false,
     }
 }
@@ -106,11 +106,11 @@ fn answers_of_calls(rt: &(impl Abort + Print), alloc: Global) -> Result<Vec<Pool
 
 /// Asserts that a run returned `count` results, and that the last result is the reassembled payload of VLAN identifier
 /// 1.
-fn are_whole(rt: &impl Abort, answers: &[PoolAnswer], count: usize) {
+fn answers_end_with_payload(rt: &impl Abort, answers: &[PoolAnswer], count: usize) {
     same(rt, &answers.len(), &count);
     same(
         rt,
-        &is_payload(answers.last().expect(rt, "some"), WHOLE),
+        &is_payload(answers.last().expect(rt, "some"), VLAN_1_PAYLOAD),
         &true,
     );
 }
@@ -118,11 +118,11 @@ fn are_whole(rt: &impl Abort, answers: &[PoolAnswer], count: usize) {
 #[test]
 fn of_calls(rt: HostRuntime) {
     match answers_of_calls(&rt, rt.alloc()) {
-        Ok(answers) => are_whole(&rt, &answers, 3),
+        Ok(answers) => answers_end_with_payload(&rt, &answers, 3),
         Err(stop) => {
             stopped(&rt, "run_calls", &stop);
             let answers = answers_of_calls(&rt, rt.alloc()).expect(&rt, "refused twice");
-            are_whole(&rt, &answers, 3);
+            answers_end_with_payload(&rt, &answers, 3);
         }
     }
 }
@@ -130,7 +130,7 @@ fn of_calls(rt: HostRuntime) {
 /// Runs `run_calls_with_limit` with the limit 16 on a list of four sliced frames, and returns the results of the calls,
 /// or where the run stopped. One fragment ends above the limit.
 fn answers_within(rt: &(impl Abort + Print), alloc: Global) -> Result<Vec<PoolAnswer>, RunStop> {
-    let calls = calls(rt, alloc, &FRAMES_BEHIND);
+    let calls = calls(rt, alloc, &FRAMES_ABOVE_LIMIT);
     let keep = |limit: &u64, timestamp: &u64| *timestamp >= *limit;
     match run_calls_with_limit(alloc, 16, calls, keep) {
         Ok((answers, _pool)) => Ok(answers),
@@ -143,11 +143,11 @@ fn answers_within(rt: &(impl Abort + Print), alloc: Global) -> Result<Vec<PoolAn
 #[test]
 fn of_calls_with_limit(rt: HostRuntime) {
     match answers_within(&rt, rt.alloc()) {
-        Ok(answers) => are_whole(&rt, &answers, 4),
+        Ok(answers) => answers_end_with_payload(&rt, &answers, 4),
         Err(stop) => {
             stopped(&rt, "run_calls_with_limit", &stop);
             let answers = answers_within(&rt, rt.alloc()).expect(&rt, "refused twice");
-            are_whole(&rt, &answers, 4);
+            answers_end_with_payload(&rt, &answers, 4);
         }
     }
 }
@@ -167,26 +167,30 @@ fn answers_of_frames(
 }
 
 /// Returns whether the result of a frame is the reassembled payload of VLAN identifier 1.
-fn is_whole(answer: &FrameAnswer) -> bool {
+fn is_vlan_1_payload(answer: &FrameAnswer) -> bool {
     match answer {
-        FrameAnswer::Pool(answer) => is_payload(answer, WHOLE),
+        FrameAnswer::Pool(answer) => is_payload(answer, VLAN_1_PAYLOAD),
         FrameAnswer::NotSliced(_) => false,
     }
 }
 
 /// Asserts that a run returned four results, and that the last result is the reassembled payload of VLAN identifier 1.
-fn are_whole_frames(rt: &impl Abort, answers: &[FrameAnswer]) {
+fn frames_end_with_payload(rt: &impl Abort, answers: &[FrameAnswer]) {
     same(rt, &answers.len(), &4);
-    same(rt, &is_whole(answers.last().expect(rt, "four")), &true);
+    same(
+        rt,
+        &is_vlan_1_payload(answers.last().expect(rt, "four")),
+        &true,
+    );
 }
 
 #[test]
 fn of_frames(rt: HostRuntime) {
     match answers_of_frames(&rt, rt.alloc()) {
-        Ok(answers) => are_whole_frames(&rt, &answers),
+        Ok(answers) => frames_end_with_payload(&rt, &answers),
         Err(stop) => {
             stopped(&rt, "run_frames", &stop);
-            are_whole_frames(
+            frames_end_with_payload(
                 &rt,
                 &answers_of_frames(&rt, rt.alloc()).expect(&rt, "refused twice"),
             );
@@ -210,7 +214,7 @@ pub fn fragment(
 
 /// Runs `add_all` on five fragments of a payload of 20 bytes, and returns the reassembly buffer, or where the run
 /// stopped. Some fragments overwrite earlier ones, and the buffer has no capacity at first.
-fn put_together(rt: &impl Abort, alloc: Global) -> Result<IpDefragBuf, RunStop> {
+fn buffer_of_fragments(rt: &impl Abort, alloc: Global) -> Result<IpDefragBuf, RunStop> {
     let fragments = [
         fragment(rt, 0, true, b"________"),
         fragment(rt, 0, true, b"abcdefgh"),
@@ -231,7 +235,7 @@ fn put_together(rt: &impl Abort, alloc: Global) -> Result<IpDefragBuf, RunStop> 
 }
 
 /// Asserts that a reassembly buffer holds the complete payload of 20 bytes.
-fn holds_whole(rt: &impl Abort, buffer: &IpDefragBuf) {
+fn holds_payload(rt: &impl Abort, buffer: &IpDefragBuf) {
     same(rt, &buffer.is_complete(), &true);
     same(
         rt,
@@ -242,13 +246,13 @@ fn holds_whole(rt: &impl Abort, buffer: &IpDefragBuf) {
 
 #[test]
 fn of_fragments(rt: HostRuntime) {
-    match put_together(&rt, rt.alloc()) {
-        Ok(buffer) => holds_whole(&rt, &buffer),
+    match buffer_of_fragments(&rt, rt.alloc()) {
+        Ok(buffer) => holds_payload(&rt, &buffer),
         Err(stop) => {
             stopped(&rt, "add_all", &stop);
-            holds_whole(
+            holds_payload(
                 &rt,
-                &put_together(&rt, rt.alloc()).expect(&rt, "refused twice"),
+                &buffer_of_fragments(&rt, rt.alloc()).expect(&rt, "refused twice"),
             );
         }
     }

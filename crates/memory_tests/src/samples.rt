@@ -27,7 +27,7 @@ pub const VLAN_2_LAST: &[u8] =
       \x18\x19\x1a\x1b\x1c\x1d\x1e\x1f";
 
 /// Ethernet II frame with VLAN identifier 1 and a final IPv4 fragment: the bytes 16 to 23 of a payload of 24 bytes.
-pub const VLAN_1_BEHIND: &[u8] =
+pub const VLAN_1_ENDS_AT_24: &[u8] =
     b"\x07\x08\x09\x0a\x0b\x0c\x01\x02\x03\x04\x05\x06\x81\x00\x00\x01\x08\x00\
       \x45\x00\x00\x1c\x00\x01\x00\x02\x14\x11\x23\x7b\xc0\xa8\x01\x01\xc0\xa8\x01\x02\
       \x10\x11\x12\x13\x14\x15\x16\x17";
@@ -41,7 +41,7 @@ pub const VLAN_1_UNALIGNED: &[u8] =
 
 /// Ethernet II and IPv4 header of a frame that carries the first 2,000 bytes of a payload as a fragment; the bytes are
 /// not included.
-pub const LARGE_FRONT: [u8; 34] = *b"\x07\x08\x09\x0a\x0b\x0c\x01\x02\x03\x04\x05\x06\x08\x00\
+pub const LARGE_HEADERS: [u8; 34] = *b"\x07\x08\x09\x0a\x0b\x0c\x01\x02\x03\x04\x05\x06\x08\x00\
       \x45\x00\x07\xe4\x00\x02\x20\x00\x14\x11\x00\x00\xc0\xa8\x01\x01\xc0\xa8\x01\x02";
 
 /// Ethernet II frame with an empty IPv4 fragment, the first one of its payload.
@@ -49,14 +49,16 @@ pub const EMPTY_FIRST: &[u8] = b"\x07\x08\x09\x0a\x0b\x0c\x01\x02\x03\x04\x05\x0
       \x45\x00\x00\x14\x00\x03\x20\x00\x14\x11\x00\x00\xc0\xa8\x01\x01\xc0\xa8\x01\x02";
 
 /// Ethernet II frame with an IPv4 packet that is not fragmented: UDP with 8 bytes.
-pub const WHOLE_PACKET: &[u8] =
+pub const UNFRAGMENTED_PACKET: &[u8] =
     b"\x07\x08\x09\x0a\x0b\x0c\x01\x02\x03\x04\x05\x06\x08\x00\x45\x00\x00\x24\x00\x00\x40\x00\x14\x11\xe3\x75\xc0\xa8\x01\x01\xc0\xa8\x01\x02\x00\x15\x04\xd2\x00\x10\x67\x7f\x01\x02\x03\x04\x05\x06\x07\x08";
 
-/// Reassembled payload, 16 bytes, of the fragments with VLAN identifier 1. The next constant, `OTHER`, is the payload
-/// of those with VLAN identifier 2.
-pub const WHOLE: &[u8] = b"\x00\x01\x02\x03\x04\x05\x06\x07\x08\x09\x0a\x0b\x0c\x0d\x0e\x0f";
+/// Reassembled payload, 16 bytes, of the fragments with VLAN identifier 1. The next constant, `VLAN_2_PAYLOAD`, is the
+/// payload of those with VLAN identifier 2.
+pub const VLAN_1_PAYLOAD: &[u8] =
+    b"\x00\x01\x02\x03\x04\x05\x06\x07\x08\x09\x0a\x0b\x0c\x0d\x0e\x0f";
 
-pub const OTHER: &[u8] = b"\x10\x11\x12\x13\x14\x15\x16\x17\x18\x19\x1a\x1b\x1c\x1d\x1e\x1f";
+pub const VLAN_2_PAYLOAD: &[u8] =
+    b"\x10\x11\x12\x13\x14\x15\x16\x17\x18\x19\x1a\x1b\x1c\x1d\x1e\x1f";
 
 /// Returns the identifier of a datagram in IPv4 fragments, from 192.168.1.1 to 192.168.1.2 with a UDP payload, for the
 /// given identification.

@@ -65,13 +65,13 @@ const LONG: Halves = (
     b"efghijkl",
 );
 
-/// Completes a payload of 64 bytes in a reassembly pool, and gives it back if `gives_back` is true. Asserts that a
+/// Completes a payload of 64 bytes in a reassembly pool, and gives it back if `is_returned` is true. Asserts that a
 /// payload of 16 bytes which is completed after it has no bytes of the long one.
-fn long_then_short(rt: &(impl Abort + Print), alloc: Global, gives_back: bool) {
+fn long_then_short(rt: &(impl Abort + Print), alloc: Global, is_returned: bool) {
     let mut pool = IpDefragPool::new(alloc);
     let long = completed(rt, &mut pool, 1, LONG);
     same(rt, &long.payload.len(), &64);
-    if gives_back {
+    if is_returned {
         pool.return_buf(long);
     }
     let short = completed(rt, &mut pool, 2, (b"01234567", b"89ABCDEF"));
@@ -99,9 +99,9 @@ fn not_given_back(rt: HostRuntime) {
 #[test]
 fn given_back_without_place(rt: HostRuntime) {
     let mut pool = IpDefragPool::new(rt.alloc());
-    let whole = completed(&rt, &mut pool, 1, (b"abcdefgh", b"ijkl"));
+    let reassembled = completed(&rt, &mut pool, 1, (b"abcdefgh", b"ijkl"));
     let mut other: Pool = IpDefragPool::new(rt.alloc());
-    other.return_buf(whole);
+    other.return_buf(reassembled);
     asks_once(&rt, rt.alloc());
 }
 
@@ -111,8 +111,8 @@ fn given_back_without_place(rt: HostRuntime) {
 fn steady(rt: HostRuntime) {
     let mut pool = IpDefragPool::new(rt.alloc());
     for identification in 0..100 {
-        let whole = completed(&rt, &mut pool, identification, (b"abcdefgh", b"ijkl"));
-        pool.return_buf(whole);
+        let reassembled = completed(&rt, &mut pool, identification, (b"abcdefgh", b"ijkl"));
+        pool.return_buf(reassembled);
     }
     asks_once(&rt, rt.alloc());
 }
@@ -151,7 +151,7 @@ fn refused_first(rt: HostRuntime) {
 }
 
 /// Gives a reassembly pool a payload of 8 bytes that it did not reassemble itself.
-fn gives(rt: &(impl Abort + Print), alloc: Global, pool: &mut Pool) {
+fn return_foreign_payload(rt: &(impl Abort + Print), alloc: Global, pool: &mut Pool) {
     pool.return_buf(IpDefragPayloadVec {
         ip_number: IpNumber::UDP,
         len_source: LenSource::Slice,
@@ -170,7 +170,7 @@ fn full_of_vectors(rt: HostRuntime) {
     pool.retain(|_timestamp| false);
     begins(&rt, &mut pool, 5, b"abcdefgh");
     for _ in 0..8 {
-        gives(&rt, rt.alloc(), &mut pool);
+        return_foreign_payload(&rt, rt.alloc(), &mut pool);
     }
     begins(&rt, &mut pool, 6, b"abcdefgh");
     asks_once(&rt, rt.alloc());
@@ -192,7 +192,7 @@ fn large_and_empty(rt: HostRuntime) {
 /// Tests a final fragment that only overwrites bytes which the reassembly pool holds: it returns the payload without an
 /// allocation.
 #[test]
-fn hand_out_in_place(rt: HostRuntime) {
+fn completes_in_place(rt: HostRuntime) {
     let mut pool = IpDefragPool::new(rt.alloc());
     let first = Fragment {
         offset: offset(&rt, 0),
@@ -205,13 +205,13 @@ fn hand_out_in_place(rt: HostRuntime) {
         more_fragments: false,
         payload: b"IJKLMNOP",
     };
-    let handed_out = pool.process_fragment(name(1), &last, 1);
-    let whole = handed_out.expect(&rt, "refused").expect(&rt, "whole");
+    let completion = pool.process_fragment(name(1), &last, 1);
+    let reassembled = completion.expect(&rt, "refused").expect(&rt, "whole");
     same(
         &rt,
-        &whole.payload.as_slice(),
+        &reassembled.payload.as_slice(),
         &b"abcdefghIJKLMNOP".as_slice(),
     );
-    pool.return_buf(whole);
+    pool.return_buf(reassembled);
     asks_once(&rt, rt.alloc());
 }

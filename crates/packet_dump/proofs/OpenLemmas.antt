@@ -25,7 +25,7 @@ use Rattle.etherparse.specs.IpFragments.{IpFragment}
 use Rattle.etherparse.specs.Pools.{BecomesEntry, HoldsEntry, HoldsTable, NamesDiffer, Stream, TakesFragment, limit_of}
 use Rattle.etherparse.specs.Pools.{stream_named, streams_of}
 use Rattle.etherparse.specs.Streams.{same_numbers, same_stream, same_version}
-use Rattle.packet_dump.specs.OpenStreams.{IsListed, arrival_at, number_at, number_behind, open_at, with_one, without}
+use Rattle.packet_dump.specs.OpenStreams.{IsListed, arrival_at, number_at, number_after, open_at, with_one, without}
 use Rattle.packet_dump.specs.PacketCalls.{number_of}
 use Rattle.packet_dump.specs.declared.pooling.Arrival.{Arrival}
 
@@ -226,7 +226,7 @@ abbrev pub IsNumberAfter : Option ℕ → ℕ → Option ℕ → Type 0
 IsNumberAfter had number has = (has ≡ had) ⊎ ((has ≡ None) ⊎ (has ≡ Some number))
 
 is_number_after : (result : Result (Option IpDefragPayloadVec) IpDefragError) (had : Option ℕ) (number : ℕ)
-    → IsNumberAfter had number (number_behind result had number)
+    → IsNumberAfter had number (number_after result had number)
 is_number_after (Err error) had number = inl refl
 is_number_after (Ok None) had number = inr (inr refl)
 is_number_after (Ok (Some payload)) had number = inr (inl refl)
@@ -234,7 +234,7 @@ is_number_after (Ok (Some payload)) had number = inr (inl refl)
 -- The answer to the fragment decides which number it is.
 entry_number_behind : (result : Result (Option IpDefragPayloadVec) IpDefragError) (old new : Option (Stream Arrival ℕ))
     (fragment : IpFragment) (at : Arrival) → BecomesEntry result old fragment at new
-    → number_behind result (entry_number old) at.number ≡ entry_number new
+    → number_after result (entry_number old) at.number ≡ entry_number new
 entry_number_behind (Err error) None None fragment at becomes = refl
 entry_number_behind (Err error) None (Some new) fragment at becomes = absurd becomes
 entry_number_behind (Err error) (Some old) None fragment at becomes = absurd becomes
@@ -263,7 +263,7 @@ module _ (old new : IpDefragPool Arrival ℕ) (name : IpFragId ℕ) (fragment : 
   taken_others = others_same old new name takes.others
 
   pub taken_behind : NamesDiffer nat_eq old
-      → number_behind result (number_at name old) at.number ≡ number_at name new
+      → number_after result (number_at name old) at.number ≡ number_at name new
   taken_behind differ =
       entry_number_behind result (stream_named nat_eq name old) (stream_named nat_eq name new) fragment at
       (takes.entry differ)

@@ -12,7 +12,8 @@ use Rattle.packet_dump.specs.Options.{fault_of, file, help, hex, hex_frame, inpu
 use Rattle.packet_dump.specs.Options.{no_names, no_value, only, option_word, quiet, reassemble, second_file, standard_input}
 use Rattle.packet_dump.specs.Options.{streams, strict, summary, texts, time, timeout, unknown_option, verbose, version}
 use Rattle.packet_dump.specs.Options.{with_item, write}
-use Rattle.packet_dump.specs.OptionSteps.{State, Step, behind_item, behind_joined, behind_value, behind_word, done, filtered, finished}
+use Rattle.packet_dump.specs.OptionSteps.{State, Step, done, input_or_item_step, joined_step, value_step, word_step}
+use Rattle.packet_dump.specs.OptionSteps.{filtered, finished}
 use Rattle.packet_dump.specs.OptionSteps.{first_state, input_in, joined_in, more, step}
 use Rattle.packet_dump.specs.OptionSteps.{value_in, word_named}
 use Rattle.packet_dump.specs.declared.options.Awaited.{Awaited}
@@ -138,7 +139,7 @@ sound_item : (words : List (List ℕ)) (settings : Settings) (named : Bool) (awa
     → (input : Bool) → is_input item ≡ input
     → ((n : Bool) → From (with_item settings item) n words (outcome words (at (with_item settings item) n None)))
     → From settings named (own ++ words)
-    (continue (λ next. outcome words next) (behind_item (at settings named awaited) value item input))
+    (continue (λ next. outcome words next) (input_or_item_step (at settings named awaited) value item input))
 sound_item words settings named awaited option value own spelled item says false is later =
     add_item settings named named own words _ item (value_item option value item own spelled says)
     (ap (λ b. named_count named + named_count b) is ∙ add-zero (named_count named)) (later named)
@@ -155,7 +156,7 @@ sound_value : (words : List (List ℕ)) (settings : Settings) (named : Bool) (aw
     → ((item : Item) (n : Bool) → From (with_item settings item) n words
     (outcome words (at (with_item settings item) n None)))
     → From settings named (own ++ words)
-    (continue (λ next. outcome words next) (behind_value (at settings named awaited) option value said))
+    (continue (λ next. outcome words next) (value_step (at settings named awaited) option value said))
 sound_value words settings named awaited option value own spelled (Some item) is later =
     sound_item words settings named awaited option value own spelled item (value_in-is option value item is) (is_input item)
     refl (λ n. later item n)
@@ -167,7 +168,7 @@ sound_value words settings named awaited option value own spelled None is later 
 sound_joined : (words : List (List ℕ)) (settings : Settings) (named : Bool) (text : List ℕ)
     (found : Option (Awaited × List ℕ)) → joined_in text ≡ found → is_dashed text ≡ true → is_known text ≡ false
     → Later words → From settings named (text ∷ words)
-    (continue (λ next. outcome words next) (behind_joined (at settings named None) text found))
+    (continue (λ next. outcome words next) (joined_step (at settings named None) text found))
 sound_joined words settings named text (Some (option, value)) is dashed unknown later =
     sound_value words settings named None option value (text ∷ []) (inr (text, joined_is text option value is, refl))
     (value_in option value) refl (λ item n. later (with_item settings item) n None [] refl)
@@ -181,7 +182,7 @@ sound_joined words settings named text None is dashed unknown later =
 
 sound_word : (words : List (List ℕ)) (settings : Settings) (named : Bool) (text : List ℕ) (w : Word) → IsWord text w
     → Later words → From settings named (text ∷ words)
-    (continue (λ next. outcome words next) (behind_word (at settings named None) text w))
+    (continue (λ next. outcome words next) (word_step (at settings named None) text w))
 sound_word words settings named text word.Help is later =
     end_here settings named (text ∷ words) (Ok help)
     (elim is [ inl e ↦ inl (words, ap (λ t. t ∷ words) e) | inr e ↦ inr (words, ap (λ t. t ∷ words) e) ])
@@ -255,41 +256,42 @@ sound (text ∷ words) settings named (Some option) lead is =
 
 one_step : (words : List (List ℕ)) (settings : Settings) (named : Bool) (text : List ℕ) (w : Word) → word_named text ≡ w
     → outcome (text ∷ words) (at settings named None)
-    ≡ continue (λ next. outcome words next) (behind_word (at settings named None) text w)
+    ≡ continue (λ next. outcome words next) (word_step (at settings named None) text w)
 one_step words settings named text w is =
-    ap (λ v. continue (λ next. outcome words next) (behind_word (at settings named None) text v)) is
+    ap (λ v. continue (λ next. outcome words next) (word_step (at settings named None) text v)) is
 
 same_item : (settings : Settings) (named : Bool) (awaited : Option Awaited) (value : List ℕ) (item : Item) (input : Bool)
-    → behind_item (at settings named awaited) value item input ≡ behind_item (at settings named None) value item input
+    → input_or_item_step (at settings named awaited) value item input
+    ≡ input_or_item_step (at settings named None) value item input
 same_item settings named awaited value item true = refl
 same_item settings named awaited value item false = refl
 
 same_behind : (settings : Settings) (named : Bool) (awaited : Option Awaited) (option : Awaited) (value : List ℕ)
-    (said : Option Item) → behind_value (at settings named awaited) option value said
-    ≡ behind_value (at settings named None) option value said
+    (said : Option Item) → value_step (at settings named awaited) option value said
+    ≡ value_step (at settings named None) option value said
 same_behind settings named awaited option value None = refl
 same_behind settings named awaited option value (Some item) = same_item settings named awaited value item (is_input item)
 
 -- The step of an option and its value.
-value_step : (option : Awaited) (value : List ℕ) (own words : List (List ℕ)) (settings : Settings) (named : Bool)
+spelled_value_step : (option : Awaited) (value : List ℕ) (own words : List (List ℕ)) (settings : Settings) (named : Bool)
     → AreSpelled option value own → (said : Option Item) → value_in option value ≡ said
     → outcome (own ++ words) (at settings named None)
-    ≡ continue (λ next. outcome words next) (behind_value (at settings named None) option value said)
-value_step option value own words settings named (inl (name, fits, spelled)) said is =
+    ≡ continue (λ next. outcome words next) (value_step (at settings named None) option value said)
+spelled_value_step option value own words settings named (inl (name, fits, spelled)) said is =
     ap (λ o. outcome (o ++ words) (at settings named None)) spelled
     ∙ one_step (value ∷ words) settings named name (word.Option option) (option_named option name fits)
-    ∙ ap (λ o. continue (λ next. outcome words next) (behind_value (at settings named (Some option)) option value o)) is
+    ∙ ap (λ o. continue (λ next. outcome words next) (value_step (at settings named (Some option)) option value o)) is
     ∙ ap (λ s. continue (λ next. outcome words next) s) (same_behind settings named (Some option) option value said)
-value_step option value own words settings named (inr (text, joined, spelled)) said is =
+spelled_value_step option value own words settings named (inr (text, joined, spelled)) said is =
     let so = joined_so option value text joined in
     ap (λ o. outcome (o ++ words) (at settings named None)) spelled
     ∙ one_step words settings named text word.Unknown so.0
-    ∙ ap (λ f. continue (λ next. outcome words next) (behind_joined (at settings named None) text f)) so.1
-    ∙ ap (λ o. continue (λ next. outcome words next) (behind_value (at settings named None) option value o)) is
+    ∙ ap (λ f. continue (λ next. outcome words next) (joined_step (at settings named None) text f)) so.1
+    ∙ ap (λ o. continue (λ next. outcome words next) (value_step (at settings named None) option value o)) is
 
 item_behind : (words : List (List ℕ)) (settings : Settings) (named : Bool) (value : List ℕ) (item : Item) (input : Bool)
     → named_count named + named_count input ≤ 1
-    → continue (λ next. outcome words next) (behind_item (at settings named None) value item input)
+    → continue (λ next. outcome words next) (input_or_item_step (at settings named None) value item input)
     ≡ outcome words (at (with_item settings item) (input || named) None)
 item_behind words settings named value item false fits = refl
 item_behind words settings true value item true fits = absurd (omega arith)
@@ -300,7 +302,7 @@ option_step : (item : Item) (own words : List (List ℕ)) (settings : Settings) 
     → outcome (own ++ words) (at settings named None)
     ≡ outcome words (at (with_item settings item) (is_input item || named) None)
 option_step item own words settings named is fits =
-    value_step is.0 is.1 own words settings named is.2 (Some item) (value_in-some is.0 is.1 item is.3)
+    spelled_value_step is.0 is.1 own words settings named is.2 (Some item) (value_in-some is.0 is.1 item is.3)
     ∙ item_behind words settings named is.1 item (is_input item) fits
 
 item_step : (item : Item) (own words : List (List ℕ)) (settings : Settings) (named : Bool) → IsItem own item
@@ -354,7 +356,8 @@ second_step text words settings true (inr same) counted =
 -- A second input is an error.
 second_item : (words : List (List ℕ)) (settings : Settings) (named : Bool) (text : List ℕ) (item : Item) (input : Bool)
     → input ≡ true → named_count named ≡ 1
-    → continue (λ next. outcome words next) (behind_item (at settings named None) text item input) ≡ Err (second_file text)
+    → continue (λ next. outcome words next) (input_or_item_step (at settings named None) text item input)
+    ≡ Err (second_file text)
 second_item words settings true text item true is counted = refl
 second_item words settings false text item true is counted = absurd (omega arith)
 second_item words settings named text item false is counted = let never : ⊥ = cc in absurd never
@@ -375,7 +378,7 @@ complete_end rest settings named (Err crowded_filter) ends =
 complete_end rest settings named (Err (unknown_option text)) ends =
     ap (λ w. outcome w (at settings named None)) ends.0.1
     ∙ one_step ends.0.0 settings named text word.Unknown (unknown_word text ends.1 ends.2)
-    ∙ ap (λ f. continue (λ next. outcome ends.0.0 next) (behind_joined (at settings named None) text f))
+    ∙ ap (λ f. continue (λ next. outcome ends.0.0 next) (joined_step (at settings named None) text f))
     (joined_none text ends.3)
 complete_end rest settings named (Err (no_value text)) ends =
     ap (λ w. outcome w (at settings named None)) ends.3
@@ -383,13 +386,13 @@ complete_end rest settings named (Err (no_value text)) ends =
     ∙ ap (λ t. Err (no_value t)) (sym ends.4)
 complete_end rest settings named (Err (bad_value option text)) ends =
     ap (λ w. outcome w (at settings named None)) ends.3
-    ∙ value_step option text ends.0 ends.1 settings named ends.2 None (value_in-none option text ends.4)
+    ∙ spelled_value_step option text ends.0 ends.1 settings named ends.2 None (value_in-none option text ends.4)
 complete_end rest settings named (Err (second_file text)) (inl leads, counted) =
     ap (λ w. outcome w (at settings named None)) leads.0.1
     ∙ second_step text leads.0.0 settings named leads.1 counted
 complete_end rest settings named (Err (second_file text)) (inr (own, others, spelled, is), counted) =
     ap (λ w. outcome w (at settings named None)) is
-    ∙ value_step Input text own others settings named spelled (Some (input_in text)) refl
+    ∙ spelled_value_step Input text own others settings named spelled (Some (input_in text)) refl
     ∙ second_item others settings named text (input_in text) (is_input (input_in text)) (input_is text) counted
 
 fits_both : (b named : Bool) (n : ℕ) → named_count named + (named_count b + n) ≤ 1

@@ -31,7 +31,7 @@ use Rattle.etherparse.specs.Frame.{IsFrame}
 use Rattle.etherparse.specs.FrameRefusals.{RefusesFrame}
 use Rattle.etherparse.specs.Layers.{Layers}
 use Rattle.etherparse.specs.Types.SliceError.{SliceError}
-use Rattle.packet_dump.specs.OpenStreams.{number_at, number_behind, open_at, with_one, without}
+use Rattle.packet_dump.specs.OpenStreams.{number_at, number_after, open_at, with_one, without}
 use Rattle.packet_dump.specs.PacketCalls.{AreOpen, HoldsHistory, IsBounded, NumberCall, PoolHistory}
 use Rattle.packet_dump.specs.PacketCalls.{given_up, is_since, number_of, since_instant, since_packet, table_behind}
 use Rattle.packet_dump.specs.PacketCalls.{with_call, with_frame, with_sweep}
@@ -228,7 +228,7 @@ pub frame_pooled : OneMoreCall → (old new : Pooling) (between : BTreeMap ℕ (
     (name : IpFragId ℕ) (stood stands : Option ℕ) → TakesFrame nat_eq old.pool new.pool carried at 0 result
     → IsFalse (is_allocation_failure_in result) → option_map (λ c. name_of c 0) carried ≡ Some name → (before : PoolHistory)
     → HoldsStreams before old → before.number < at.number → new.swept ≡ old.swept
-    → stood ≡ number_at name old.pool → stands ≡ number_behind result stood at.number
+    → stood ≡ number_at name old.pool → stands ≡ number_after result stood at.number
     → ((number : ℕ) → get nat_cmp between number ≡ without (get nat_cmp old.names) stood number)
     → ((number : ℕ) → get nat_cmp new.names number ≡ with_one (get nat_cmp between) name stands number)
     → HoldsStreams (record before { number = at.number; calls = before.calls ++ gives_frame carried at 0 ∷ [] }) new
@@ -241,7 +241,7 @@ frame_pooled law old new between (Some carried) at result name stood stands take
     subst (λ n. TakesFragment nat_eq old.pool new.pool n carried.fragment at result) same takes in
     let differ = held.held.table.apart in
     let now : number_at name new.pool ≡ stands =
-    sym (stands_is ∙ ap (λ had. number_behind result had at.number) stood_is
+    sym (stands_is ∙ ap (λ had. number_after result had at.number) stood_is
     ∙ taken_behind old.pool new.pool name carried.fragment at result own differ) in
     let after =
     HoldsHistory-frame law old.pool new.pool (Some carried) at 0 result takes enough before held.held in

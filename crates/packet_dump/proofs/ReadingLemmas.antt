@@ -9,7 +9,7 @@ use Rattle.etherparse.specs.Lax.{IsLax}
 use Rattle.etherparse.specs.LaxLayers.{LaxLayers}
 use Rattle.etherparse.specs.LaxPackets.{ShowsLax, lax_layers_of}
 use Rattle.etherparse.specs.LaxPayloads.{LaxEtherPayload, last_after, lax_ether_payload_after, lax_ether_payload_in, lax_ether_payload_of}
-use Rattle.etherparse.specs.LaxPayloads.{source_after, typed_payload, whole_payload}
+use Rattle.etherparse.specs.LaxPayloads.{source_after, typed_payload, complete_payload}
 use Rattle.etherparse.specs.LaxViews.{extension_incomplete, lax_extension_of, lax_extensions_of}
 use Rattle.etherparse.specs.Layers.{Layers}
 use Rattle.etherparse.specs.LinkExtensions.{LinkExtension, vlan, macsec, extension_ether_payload, extension_type}
@@ -26,8 +26,8 @@ use Rattle.etherparse.specs.Types.Layer.{Layer}
 use Rattle.etherparse.specs.Types.LenSource.{LenSource}
 use Rattle.etherparse.specs.Types.LenSource.TheVariants as source
 use Rattle.etherparse.specs.Types.SliceError.{SliceError}
-use Rattle.packet_dump.specs.Details.{AreTold, IsDetailed}
-use Rattle.packet_dump.specs.PacketContents.{HoldsBehind, HoldsStrictly, content_of, content_with, has_extensions}
+use Rattle.packet_dump.specs.Details.{AreWantedDetails, IsDetailed}
+use Rattle.packet_dump.specs.PacketContents.{HoldsAfterOpening, HoldsStrictly, content_of, content_with, has_extensions}
 use Rattle.packet_dump.specs.PacketContents.{has_layer, packet}
 use Rattle.packet_dump.specs.PacketLines.{tells_details}
 use Rattle.packet_dump.specs.declared.dump_options.DumpOptions.{DumpOptions}
@@ -38,7 +38,7 @@ use Rattle.packet_dump.specs.declared.openings.Opening.{Opening}
 -- The content of a frame is its layers.
 pub holds_frame : (strict : Bool) (opening : Opening) (bytes : List ℕ) (layers : Layers) (read : LaxLayers)
     → IsFrame opening.entry bytes layers → IsLax opening.entry bytes read → layers_in read ≡ layers → IsWhole read
-    → HoldsBehind strict opening bytes (content_with opening read)
+    → HoldsAfterOpening strict opening bytes (content_with opening read)
 holds_frame true opening bytes layers read frame lax same whole =
     subst (λ c. HoldsStrictly opening bytes c)
     (sym (ap (λ stop. content_of stop (has_layer opening read) read) whole.stop))
@@ -83,13 +83,13 @@ where_sliced (Err error) P Q must is = absurd must
 
 -- The details of a packet are those of the content of its bytes.
 packet_detailed : (told : Bool) (bytes : List ℕ) (slices : LaxSlicedPacket) (text : List ℕ) → ShowsLax bytes slices
-    → AreTold told slices text → IsDetailed told bytes (packet (lax_layers_of slices)) text
+    → AreWantedDetails told slices text → IsDetailed told bytes (packet (lax_layers_of slices)) text
 packet_detailed true bytes slices text shows are = (slices, shows, refl, are)
 packet_detailed false bytes slices text shows are = are
 
 pub detailed : (options : DumpOptions) (bytes : List ℕ) (slices : LaxSlicedPacket) (text : List ℕ)
     (stop : Option (SliceError × Layer)) (stands : Bool) → ShowsLax bytes slices
-    → AreTold (tells_details options (content_of stop stands (lax_layers_of slices))) slices text
+    → AreWantedDetails (tells_details options (content_of stop stands (lax_layers_of slices))) slices text
     → IsDetailed (tells_details options (content_of stop stands (lax_layers_of slices))) bytes
     (content_of stop stands (lax_layers_of slices)) text
 detailed options bytes slices text None stands shows are =
@@ -100,13 +100,14 @@ detailed options bytes slices text (Some stop) false shows are = are
 
 -- The details of a packet that is shown are appended if they are wanted.
 pub told_shown : (verbose shows : Bool) (slices : LaxSlicedPacket) (text : List ℕ) → shows ≡ true
-    → AreTold verbose slices text → AreTold (verbose && shows) slices text
-told_shown true shows slices text is are = subst (λ b. AreTold b slices text) (sym is) are
+    → AreWantedDetails verbose slices text → AreWantedDetails (verbose && shows) slices text
+told_shown true shows slices text is are = subst (λ b. AreWantedDetails b slices text) (sym is) are
 told_shown false shows slices text is are = are
 
 -- A packet that is not shown has no details.
-pub not_told : (verbose shows : Bool) (slices : LaxSlicedPacket) → shows ≡ false → AreTold (verbose && shows) slices []
-not_told true shows slices is = subst (λ b. AreTold b slices []) (sym is) refl
+pub not_told : (verbose shows : Bool) (slices : LaxSlicedPacket) → shows ≡ false
+    → AreWantedDetails (verbose && shows) slices []
+not_told true shows slices is = subst (λ b. AreWantedDetails b slices []) (sym is) refl
 not_told false shows slices is = refl
 
 -- If a disjunction is false, both parts are false.
@@ -154,7 +155,7 @@ same_type : (type : Option EtherType) (with_type : EtherType → LaxEtherPayload
 same_type None with_type is = refl
 same_type (Some type) with_type is = ap (λ t. Some t) (is type)
 
-whole_type : (payload : Option EtherPayload) → lax_type_of (option_map whole_payload payload) ≡ type_of payload
+whole_type : (payload : Option EtherPayload) → lax_type_of (option_map complete_payload payload) ≡ type_of payload
 whole_type None = refl
 whole_type (Some payload) = refl
 

@@ -3,7 +3,7 @@ use Rattle.std.proofs.Common.{◌≡◌, ℕ, ◌+◌, ◌^◌, ◌<◌, Bool, t
 use Rattle.std.proofs.Common.{Some, None}
 use Rattle.std.proofs.Common.{refl, sym, ap, subst, ◌∙◌, append_assoc}
 use Rattle.std.proofs.lemmas.List.{append-nil}
-use Rattle.capture_reader.specs.Captures.{Item, PlainShown, Stage, at_start, shown_in, stage_after, stage_behind}
+use Rattle.capture_reader.specs.Captures.{Item, PlainShown, Stage, at_start, shown_in, stage_after, stage_after_items}
 use Rattle.capture_reader.specs.Classic.{heading_bytes}
 use Rattle.capture_writer.specs.Written.{AreWritten, IsWriteError, IsWritten, capture_bytes, packet_bytes}
 use Rattle.capture_writer.specs.Written.{written_heading}
@@ -12,7 +12,8 @@ use Rattle.capture_writer.specs.declared.write_error.WriteRefusal.{WriteRefusal}
 use Rattle.packet_dump.specs.Dumps.{Begin, packets_in}
 use Rattle.packet_dump.specs.PacketContents.{Content, Holds}
 use Rattle.packet_dump.specs.Saves.{AreSaved, AreSelected, BeginsCopy, BeginsSaved, GoesOn, Pushes, Saves, Selects}
-use Rattle.packet_dump.specs.Saves.{begun_bytes, copy_bytes, first_link, front_bytes, is_empty, is_idle, is_wanted}
+use Rattle.packet_dump.specs.Saves.{begun_bytes, copy_bytes, file_header_bytes, first_link, is_empty, is_idle}
+use Rattle.packet_dump.specs.Saves.{is_wanted}
 use Rattle.packet_dump.specs.Saves.{link_in, link_with}
 use Rattle.packet_dump.specs.declared.dump_options.DumpOptions.{DumpOptions}
 use Rattle.packet_dump.specs.declared.saving.SaveFault.{SaveFault}
@@ -39,7 +40,7 @@ no_byte byte bytes is = cc
 
 selected_more : (options : DumpOptions) (items : List Item) (stage : Stage) (item : Item)
     (packets one : List PlainShown)
-    → AreSelected options stage items packets → Selects options (shown_in (stage_behind stage items) item) one
+    → AreSelected options stage items packets → Selects options (shown_in (stage_after_items stage items) item) one
     → AreSelected options stage (items ++ item ∷ []) (packets ++ one)
 selected_more options [] stage item packets one none is =
     (one, [], is, ap (λ (p : List PlainShown). p ++ one) none ∙ sym (append-nil one), refl)
@@ -70,7 +71,7 @@ regrouped saved old front behind =
 -- The bytes of one more packet, after those of the others, are the bytes of all.
 bytes_more : AllMore → (packets : List PlainShown) (shown : PlainShown) (saved old : List ℕ)
     → saved ++ old ≡ begun_bytes false packets
-    → saved ++ ((old ++ front_bytes (first_link packets) shown.link) ++ packet_bytes shown)
+    → saved ++ ((old ++ file_header_bytes (first_link packets) shown.link) ++ packet_bytes shown)
     ≡ begun_bytes false (packets ++ shown ∷ [])
 bytes_more more [] shown saved old are =
     let front = heading_bytes (written_heading shown.link) in
@@ -96,9 +97,9 @@ same_first (first ∷ others) shown = refl
 -- A shown packet is appended.
 pub saves_written : AllMore → (options : DumpOptions) (wanted : Bool) (link : Option ℕ) (items : List Item)
     (item : Item)
-    (shown : PlainShown) (saved old new : List ℕ) → shown_in (stage_behind at_start items) item ≡ Some shown
+    (shown : PlainShown) (saved old new : List ℕ) → shown_in (stage_after_items at_start items) item ≡ Some shown
     → Selects options (Some shown) (shown ∷ []) → shown.link < 2 ^ 16 → IsWritten (link_with link shown.link) shown
-    → new ≡ (old ++ front_bytes link shown.link) ++ packet_bytes shown
+    → new ≡ (old ++ file_header_bytes link shown.link) ++ packet_bytes shown
     → Saves options wanted false (Open link) items (saved ++ old)
     → Saves options wanted false (Open (Some (link_with link shown.link))) (items ++ item ∷ []) (saved ++ new)
 saves_written more options false link items item shown saved old new shows selects fits is bytes saves = absurd saves
@@ -110,7 +111,7 @@ saves_written more options true link items item shown saved old new shows select
       saved_more packets shown are fits (subst (λ l. IsWritten (link_with l shown.link) shown) first is),
       ap (λ l. Some (link_with l shown.link)) first ∙ same_first packets shown,
       ap (λ (b : List ℕ). saved ++ b) bytes
-          ∙ ap (λ l. saved ++ ((old ++ front_bytes l shown.link) ++ packet_bytes shown)) first
+          ∙ ap (λ l. saved ++ ((old ++ file_header_bytes l shown.link) ++ packet_bytes shown)) first
           ∙ bytes_more more packets shown saved old parts,
     )
 
@@ -133,7 +134,7 @@ still_written (first ∷ others) shown are = are.1
 -- The bytes before a packet that cannot be written.
 bytes_front : (packets : List PlainShown) (shown : PlainShown) (saved old : List ℕ)
     → saved ++ old ≡ begun_bytes false packets
-    → saved ++ (old ++ front_bytes (first_link packets) shown.link)
+    → saved ++ (old ++ file_header_bytes (first_link packets) shown.link)
     ≡ capture_bytes (link_in (packets ++ shown ∷ [])) packets
 bytes_front [] shown saved old are =
     let front = heading_bytes (written_heading shown.link) in
@@ -143,19 +144,19 @@ bytes_front (first ∷ others) shown saved old are = ap (λ (b : List ℕ). save
 -- A shown packet cannot be written.
 pub saves_refused : (options : DumpOptions) (wanted : Bool) (link : Option ℕ) (items : List Item) (item : Item)
     (shown : PlainShown) (number : ℕ) (refusal : WriteRefusal) (saved old new : List ℕ)
-    → shown_in (stage_behind at_start items) item ≡ Some shown → Selects options (Some shown) (shown ∷ [])
+    → shown_in (stage_after_items at_start items) item ≡ Some shown → Selects options (Some shown) (shown ∷ [])
     → shown.link < 2 ^ 16 → number ≡ packets_in items + 1
     → IsWriteError (link_with link shown.link) shown (write_error.Refused refusal)
-    → new ≡ old ++ front_bytes link shown.link → Saves options wanted false (Open link) items (saved ++ old)
+    → new ≡ old ++ file_header_bytes link shown.link → Saves options wanted false (Open link) items (saved ++ old)
     → Saves options wanted false (Stopped (Refused number refusal)) (items ++ item ∷ []) (saved ++ new)
 saves_refused options false link items item shown number refusal saved old new shows selects fits counted refused
     bytes saves =
     absurd saves
 saves_refused options true link items item shown number refusal saved old new shows selects fits counted refused bytes
     (packets, selected, are, first, parts) = record {
-      front = items;
+      earlier = items;
       item = item;
-      behind = [];
+      later = [];
       packets = packets;
       shown = shown;
       parts = refl;
@@ -168,14 +169,14 @@ saves_refused options true link items item shown number refusal saved old new sh
       fits = link_fits packets shown are fits;
       written = still_written packets shown are;
       bytes_are = ap (λ (b : List ℕ). saved ++ b) bytes
-          ∙ ap (λ l. saved ++ (old ++ front_bytes l shown.link)) first
+          ∙ ap (λ l. saved ++ (old ++ file_header_bytes l shown.link)) first
           ∙ bytes_front packets shown saved old parts;
     }
 
 -- A shown packet is appended, or cannot be written.
 pushed : AllMore → (options : DumpOptions) (wanted : Bool) (link : Option ℕ) (state : SaveState) (items : List Item)
     (item : Item) (shown : PlainShown) (number : ℕ) (saved old new : List ℕ)
-    → shown_in (stage_behind at_start items) item ≡ Some shown → Selects options (Some shown) (shown ∷ [])
+    → shown_in (stage_after_items at_start items) item ≡ Some shown → Selects options (Some shown) (shown ∷ [])
     → number ≡ packets_in items + 1 → Pushes link state number shown old new
     → Saves options wanted false (Open link) items (saved ++ old)
     → Saves options wanted false state (items ++ item ∷ []) (saved ++ new)
@@ -198,7 +199,7 @@ pushed more options wanted link (Stopped (Refused place refusal)) items item sho
 pub goes_pushed : AllMore → (options : DumpOptions) (start next : Saving) (link : Option ℕ) (items : List Item)
     (item : Item)
     (shown : PlainShown) (number : ℕ) → start.state ≡ Open link
-    → shown_in (stage_behind at_start items) item ≡ Some shown → Selects options (Some shown) (shown ∷ [])
+    → shown_in (stage_after_items at_start items) item ≡ Some shown → Selects options (Some shown) (shown ∷ [])
     → number ≡ packets_in items + 1 → Pushes link next.state number shown start.bytes.items next.bytes.items
     → GoesOn options start next items (items ++ item ∷ [])
 goes_pushed more options start next link items item shown number is_open shows selects counted pushes wanted saved
@@ -219,7 +220,7 @@ selects options shown answer (content, holds, is) =
 -- An item without a selected packet changes nothing, nor does any item after packets are no longer saved.
 pub saves_stays : (options : DumpOptions) (wanted closed : Bool) (state : SaveState) (items : List Item) (item : Item)
     (bytes : List ℕ)
-    → ((link : Option ℕ) → state ≡ Open link → Selects options (shown_in (stage_behind at_start items) item) [])
+    → ((link : Option ℕ) → state ≡ Open link → Selects options (shown_in (stage_after_items at_start items) item) [])
     → Saves options wanted closed state items bytes → Saves options wanted closed state (items ++ item ∷ []) bytes
 saves_stays options false closed Unasked items item bytes none saves = saves
 saves_stays options false closed (Open link) items item bytes none saves = absurd saves
@@ -234,13 +235,13 @@ saves_stays options true closed (Open link) items item bytes none (packets, sele
   parts,
 )
 saves_stays options true closed (Stopped (Refused number refusal)) items item bytes none saves = record {
-  front = saves.front;
+  earlier = saves.earlier;
   item = saves.item;
-  behind = saves.behind ++ item ∷ [];
+  later = saves.later ++ item ∷ [];
   packets = saves.packets;
   shown = saves.shown;
   parts = ap (λ (i : List Item). i ++ item ∷ []) saves.parts
-      ∙ append_assoc saves.front (saves.item ∷ saves.behind) (item ∷ []);
+      ∙ append_assoc saves.earlier (saves.item ∷ saves.later) (item ∷ []);
   selected = saves.selected;
   shows = saves.shows;
   is_selected = saves.is_selected;
@@ -251,20 +252,20 @@ saves_stays options true closed (Stopped (Refused number refusal)) items item by
   bytes_are = saves.bytes_are;
 }
 saves_stays options true closed (Stopped Failed) items item bytes none saves = record {
-  front = saves.front;
-  behind = saves.behind ++ item ∷ [];
+  earlier = saves.earlier;
+  later = saves.later ++ item ∷ [];
   packets = saves.packets;
   link = saves.link;
   rest = saves.rest;
-  parts = ap (λ (i : List Item). i ++ item ∷ []) saves.parts ∙ append_assoc saves.front saves.behind (item ∷ []);
+  parts = ap (λ (i : List Item). i ++ item ∷ []) saves.parts ∙ append_assoc saves.earlier saves.later (item ∷ []);
   selected = saves.selected;
   written = saves.written;
-  whole = saves.whole;
+  complete = saves.complete;
 }
 
 -- A packet that is not selected changes nothing.
 pub goes_unselected : (options : DumpOptions) (saving : Saving) (items : List Item) (item : Item) (shown : PlainShown)
-    → shown_in (stage_behind at_start items) item ≡ Some shown → Selects options (Some shown) []
+    → shown_in (stage_after_items at_start items) item ≡ Some shown → Selects options (Some shown) []
     → GoesOn options saving saving items (items ++ item ∷ [])
 goes_unselected options saving items item shown shows selects wanted saved saves =
     saves_stays options wanted false saving.state items item (saved ++ saving.bytes.items)
@@ -300,26 +301,26 @@ begins options closed Unasked items bytes saves = absurd saves
 begins options closed (Open link) items bytes (packets, selected, are, first, parts) =
     let missing = rest_of closed packets in
     record {
-      front = items;
-      behind = [];
+      earlier = items;
+      later = [];
       packets = packets;
       link = link_in packets;
       rest = missing.0;
       parts = sym (append-nil items);
       selected = selected;
       written = are.1;
-      whole = missing.1 ∙ ap (λ (b : List ℕ). b ++ missing.0) (sym parts);
+      complete = missing.1 ∙ ap (λ (b : List ℕ). b ++ missing.0) (sym parts);
     }
 begins options closed (Stopped (Refused number refusal)) items bytes saves = record {
-  front = saves.front;
-  behind = saves.item ∷ saves.behind;
+  earlier = saves.earlier;
+  later = saves.item ∷ saves.later;
   packets = saves.packets;
   link = link_in (saves.packets ++ saves.shown ∷ []);
   rest = [];
   parts = saves.parts;
   selected = saves.selected;
   written = saves.written;
-  whole = sym saves.bytes_are ∙ sym (append-nil bytes);
+  complete = sym saves.bytes_are ∙ sym (append-nil bytes);
 }
 begins options closed (Stopped Failed) items bytes saves = saves
 
@@ -327,15 +328,15 @@ begins options closed (Stopped Failed) items bytes saves = saves
 link_start_of : (options : DumpOptions) (items : List Item) (front rest : List ℕ) → BeginsCopy options items (front ++ rest)
     → BeginsCopy options items front
 link_start_of options items front rest copy = record {
-  front = copy.front;
-  behind = copy.behind;
+  earlier = copy.earlier;
+  later = copy.later;
   packets = copy.packets;
   link = copy.link;
   rest = rest ++ copy.rest;
   parts = copy.parts;
   selected = copy.selected;
   written = copy.written;
-  whole = copy.whole ∙ append_assoc front rest copy.rest;
+  complete = copy.complete ∙ append_assoc front rest copy.rest;
 }
 
 none_in_front : (front rest : List ℕ) → front ++ rest ≡ [] → front ≡ []

@@ -12,7 +12,7 @@ use Rattle.etherparse.specs.Layers.{Layers}
 use Rattle.etherparse.specs.StrictFrames.{IsWhole, layers_in}
 use Rattle.etherparse.specs.Types.SliceError.{SliceError}
 use Rattle.packet_filter.specs.declared.word.Word.{Word}
-use Rattle.packet_dump.specs.PacketContents.{Content, HoldsBehind, HoldsLaxly, HoldsStrictly, asks_nothing}
+use Rattle.packet_dump.specs.PacketContents.{Content, HoldsAfterOpening, HoldsLaxly, HoldsStrictly, asks_nothing}
 use Rattle.packet_dump.specs.PacketContents.{content_kind, content_with, meets, other_link, packet, refusal}
 use Rattle.packet_dump.specs.PacketContents.{shows_kind, slot_holds}
 use Rattle.packet_dump.specs.declared.dump_options.Kind.{Kind}
@@ -50,7 +50,7 @@ pub some_content : (strict : Bool) (opening : Opening) (bytes : List ℕ) → Ar
     ⊎ ((error : SliceError) × RefusesFrame opening.entry bytes error)
     → ((read : LaxLayers) × IsLax opening.entry bytes read)
     ⊎ ((error : SliceError) × RefusesLax opening.entry bytes error)
-    → (content : Content) × HoldsBehind strict opening bytes content
+    → (content : Content) × HoldsAfterOpening strict opening bytes content
 some_content true opening bytes read_laxly frame lax = strict_content opening bytes read_laxly frame
 some_content false opening bytes read_laxly frame lax = lax_content opening bytes lax
 

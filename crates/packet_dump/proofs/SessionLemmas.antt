@@ -3,24 +3,25 @@ use Rattle.std.proofs.Common.{◌≡◌, ◌≢◌, false, ℕ, ◌+◌, ◌<◌
 use Rattle.std.proofs.Common.{sym, ap, subst, ◌∙◌, append_assoc, length, length-append}
 use Rattle.std.proofs.lemmas.List.{append-nil}
 use Rattle.capture_reader.specs.Captures.{Item, PlainShown, Stage, at_start, RefusesCapture, shown_in}
-use Rattle.capture_reader.specs.Captures.{stage_after, stage_behind}
-use Rattle.capture_reader.specs.Readers.{IsOther, Reads, ReadsMore, ShowsItem, reader_left, reader_offset}
+use Rattle.capture_reader.specs.Captures.{stage_after, stage_after_items}
+use Rattle.capture_reader.specs.Readers.{IsOther, Reads, ReadsMore, ShowsItem, reader_offset, reader_unread}
 use Rattle.capture_reader.specs.Readers.{reader_rest, reader_shown}
 use Rattle.capture_reader.specs.declared.reader.CaptureReader.{CaptureReader}
 use Rattle.capture_reader.specs.declared.refusal.CaptureError.{CaptureError}
 use Rattle.packet_dump.specs.Dumps.{AreAllTexts, AreFewer, AreTexts, IsItemText, IsLine, IsShownText, Progress, none_read}
-use Rattle.packet_dump.specs.Dumps.{packets_in, progress_after, progress_behind, progress_with}
+use Rattle.packet_dump.specs.Dumps.{packets_in, progress_after, progress_after_items, progress_with}
 use Rattle.packet_dump.specs.PacketCalls.{PoolHistory, new_pool}
 use Rattle.packet_dump.specs.PacketLines.{start_text}
 use Rattle.packet_dump.specs.Saves.{GoesOn, Saves, Selects}
-use Rattle.packet_dump.specs.Sessions.{AwaitsPacket, Counts, Drained, Drains, Gathered, HoldsPooling, PushesLine, Stands}
-use Rattle.packet_dump.specs.Sessions.{StandsSo}
-use Rattle.packet_dump.specs.Summaries.{AreHeld, CountsPacket, Held, IsCounted, IsHeld}
+use Rattle.packet_dump.specs.Sessions.{AwaitsPacket, Counts, Drained, Drains, Gathered, HoldsPooling, PushesLine}
+use Rattle.packet_dump.specs.Sessions.{HasRead}
+use Rattle.packet_dump.specs.Sessions.{HasState}
+use Rattle.packet_dump.specs.Summaries.{AreReadPackets, CountsPacket, IsCounted, IsReadPacket, ReadPacket}
 use Rattle.packet_dump.specs.Shown.{first_after, instant_in, latest_after}
 use Rattle.packet_dump.specs.declared.saving.Saving.{Saving}
 use Rattle.packet_dump.specs.declared.session.Session.{Session}
-use Rattle.packet_dump.specs.declared.session.Standing.{Standing}
-use Rattle.packet_dump.specs.declared.session.Standing.TheVariants.{Enough}
+use Rattle.packet_dump.specs.declared.session.CaptureState.{CaptureState}
+use Rattle.packet_dump.specs.declared.session.CaptureState.TheVariants.{Enough}
 use Rattle.packet_dump.specs.declared.dump_options.DumpOptions.{DumpOptions}
 use Rattle.packet_dump.proofs.SavingLemmas.{saves_stays}
 use Rattle.packet_dump.proofs.SummaryLemmas.{counts_on, counts_other_more, counts_packet_more}
@@ -28,14 +29,15 @@ use Rattle.packet_dump.proofs.PoolLemmas.{pooled_number}
 
 -- ---- one more item
 
-progress_behind-append : (items : List Item) (before : Progress) (item : Item)
-    → progress_behind before (items ++ item ∷ []) ≡ progress_after (progress_behind before items) item
-progress_behind-append [] before item = refl
-progress_behind-append (first ∷ items) before item = progress_behind-append items (progress_after before first) item
+progress_after_items-append : (items : List Item) (before : Progress) (item : Item)
+    → progress_after_items before (items ++ item ∷ []) ≡ progress_after (progress_after_items before items) item
+progress_after_items-append [] before item = refl
+progress_after_items-append (first ∷ items) before item =
+    progress_after_items-append items (progress_after before first) item
 
 pub AreTexts-append : (options : DumpOptions) (items : List Item) (before : Progress) (pool : PoolHistory) (item : Item)
     (text one : List ℕ) (after next : PoolHistory) → AreTexts options before pool items text after
-    → IsItemText options (progress_behind before items) after item one next
+    → IsItemText options (progress_after_items before items) after item one next
     → AreTexts options before pool (items ++ item ∷ []) (text ++ one) next
 AreTexts-append options [] before pool item text one after next (none, same) is = (
   one,
@@ -63,29 +65,31 @@ progress_with-stage before item None = refl
 progress_with-stage before item (Some shown) = refl
 
 progress_stage : (items : List Item) (before : Progress)
-    → (progress_behind before items).stage ≡ stage_behind before.stage items
+    → (progress_after_items before items).stage ≡ stage_after_items before.stage items
 progress_stage [] before = refl
 progress_stage (item ∷ items) before =
     progress_stage items (progress_after before item)
-    ∙ ap (λ s. stage_behind s items) (progress_with-stage before item (shown_in before.stage item))
+    ∙ ap (λ s. stage_after_items s items) (progress_with-stage before item (shown_in before.stage item))
 
 -- The progress after one more item, given its packet, if it is one.
-behind_item : (items : List Item) (item : Item) (shown : Option PlainShown)
-    → shown_in (stage_behind at_start items) item ≡ shown
-    → progress_behind none_read (items ++ item ∷ []) ≡ progress_with (progress_behind none_read items) item shown
-behind_item items item shown shows =
-    let before = progress_behind none_read items in
-    progress_behind-append items none_read item
+progress_with_item : (items : List Item) (item : Item) (shown : Option PlainShown)
+    → shown_in (stage_after_items at_start items) item ≡ shown
+    → progress_after_items none_read (items ++ item ∷ [])
+    ≡ progress_with (progress_after_items none_read items) item shown
+progress_with_item items item shown shows =
+    let before = progress_after_items none_read items in
+    progress_after_items-append items none_read item
     ∙ ap (λ (s : Option PlainShown). progress_with before item s)
     (ap (λ (s : Stage). shown_in s item) (progress_stage items none_read) ∙ shows)
 
 -- The text of one more item, given its packet, if it is one.
 texts_item : (options : DumpOptions) (items : List Item) (item : Item) (shown : Option PlainShown) (text one : List ℕ)
-    (pool after : PoolHistory) → shown_in (stage_behind at_start items) item ≡ shown → AreAllTexts options items text pool
-    → IsShownText options (progress_behind none_read items) pool shown one after
+    (pool after : PoolHistory) → shown_in (stage_after_items at_start items) item ≡ shown
+    → AreAllTexts options items text pool
+    → IsShownText options (progress_after_items none_read items) pool shown one after
     → AreAllTexts options (items ++ item ∷ []) (text ++ one) after
 texts_item options items item shown text one pool after shows texts is =
-    let before = progress_behind none_read items in
+    let before = progress_after_items none_read items in
     AreTexts-append options items none_read (new_pool options.limit) item text one pool after texts
     (subst (λ (s : Option PlainShown). IsShownText options before pool s one after)
     (sym (ap (λ (s : Stage). shown_in s item) (progress_stage items none_read) ∙ shows)) is)
@@ -96,17 +100,17 @@ texts_item options items item shown text one pool after shows texts is =
 pub takes : (old new : Session) (piece : List ℕ) → new.options ≡ old.options → new.number ≡ old.number
     → new.first ≡ old.first → new.latest ≡ old.latest → new.pooling ≡ old.pooling
     → ((taken : List ℕ) (items : List Item) → Reads old.capture taken items → Reads new.capture (taken ++ piece) items)
-    → (options : DumpOptions) (read : List ℕ) (items : List Item) (history : PoolHistory) → Stands options old read items history
-    → Stands options new (read ++ piece) items history
-takes old new piece same number first latest pooling take options read items history stands = record {
-  options_is = same ∙ stands.options_is;
-  reads = take read items stands.reads;
-  within = subst (λ n. n ≤ options.most) (sym number) stands.within;
-  number = number ∙ stands.number;
-  first = first ∙ stands.first;
-  latest = latest ∙ stands.latest;
-  pooled = subst (HoldsPooling history) (sym pooling) stands.pooled;
-  given = subst (λ n. history.number ≤ n) (sym number) stands.given;
+    → (options : DumpOptions) (read : List ℕ) (items : List Item) (history : PoolHistory) → HasRead options old read items history
+    → HasRead options new (read ++ piece) items history
+takes old new piece same number first latest pooling take options read items history has_read = record {
+  options_is = same ∙ has_read.options_is;
+  reads = take read items has_read.reads;
+  within = subst (λ n. n ≤ options.most) (sym number) has_read.within;
+  number = number ∙ has_read.number;
+  first = first ∙ has_read.first;
+  latest = latest ∙ has_read.latest;
+  pooled = subst (HoldsPooling history) (sym pooling) has_read.pooled;
+  given = subst (λ n. history.number ≤ n) (sym number) has_read.given;
 }
 
 -- A number that has not reached the maximum can grow by one.
@@ -127,23 +131,23 @@ goes_on options start saving next items more item first second wanted saved save
 drains_shown : (options : DumpOptions) (old new : Session) (read : List ℕ) (items : List Item) (text : List ℕ)
     (start was next : Gathered) → (drained : Drained options old read items text start was)
     → (item : Item) (shown : PlainShown)
-    → shown_in (stage_behind at_start (items ++ drained.more)) item ≡ Some shown
+    → shown_in (stage_after_items at_start (items ++ drained.more)) item ≡ Some shown
     → ReadsMore new.capture read (items ++ drained.more) item → PushesLine old new drained.after shown
     → GoesOn options was.saving next.saving (items ++ drained.more) ((items ++ drained.more) ++ item ∷ [])
     → CountsPacket options.strict shown was.summary next.summary
     → old.number ≢ old.options.most → Drained options new read items text start next
 drains_shown options old new read items text start was next drained item shown shows reads line saves counts fewer =
     let before = items ++ drained.more in
-    let known = progress_behind none_read before in
-    let stands = drained.stands in
+    let known = progress_after_items none_read before in
+    let has_read = drained.has_read in
     let pool = drained.after in
     let this = instant_in shown in
-    let behind = behind_item before item (Some shown) shows in
-    let number : old.number + 1 ≡ known.number + 1 = ap (λ (n : ℕ). n + 1) stands.number in
+    let progressed = progress_with_item before item (Some shown) shows in
+    let number : old.number + 1 ≡ known.number + 1 = ap (λ (n : ℕ). n + 1) has_read.number in
     let first : first_after old.first this ≡ first_after known.first this =
-    ap (λ (f : Option ℕ). first_after f this) stands.first in
+    ap (λ (f : Option ℕ). first_after f this) has_read.first in
     let latest : latest_after old.latest this ≡ latest_after known.latest this =
-    ap (λ (l : ℕ). latest_after l this) stands.latest in
+    ap (λ (l : ℕ). latest_after l this) has_read.latest in
     let all : before ++ item ∷ [] ≡ items ++ (drained.more ++ item ∷ []) =
     append_assoc items drained.more (item ∷ []) in
     let is : IsLine options (known.number + 1) (first_after known.first this) (latest_after known.latest this) pool shown
@@ -158,7 +162,7 @@ drains_shown options old new read items text start was next drained item shown s
     line.after) number
     (subst
     (λ v. IsLine v (old.number + 1) (first_after old.first this) (latest_after old.latest this) pool shown line.line
-    line.after) stands.options_is line.is))) in
+    line.after) has_read.options_is line.is))) in
     let texts =
     texts_item options before item (Some shown) (text ++ old.output.items) line.line pool line.after shows drained.texts is in
     let output : (text ++ old.output.items) ++ line.line ≡ text ++ new.output.items =
@@ -166,14 +170,14 @@ drains_shown options old new read items text start was next drained item shown s
     record {
       more = drained.more ++ item ∷ [];
       after = line.after;
-      stands = subst (λ s. Stands options new read s line.after) all (record {
-        options_is = line.options ∙ stands.options_is;
+      has_read = subst (λ s. HasRead options new read s line.after) all (record {
+        options_is = line.options ∙ has_read.options_is;
         reads = reads;
-        within = one_more old.number old.options.most options.most new.number fewer stands.within
-            (ap (λ v. v.most) stands.options_is) line.number;
-        number = line.number ∙ number ∙ sym (ap (λ p. p.number) behind);
-        first = line.first ∙ first ∙ sym (ap (λ p. p.first) behind);
-        latest = line.latest ∙ latest ∙ sym (ap (λ p. p.latest) behind);
+        within = one_more old.number old.options.most options.most new.number fewer has_read.within
+            (ap (λ v. v.most) has_read.options_is) line.number;
+        number = line.number ∙ number ∙ sym (ap (λ p. p.number) progressed);
+        first = line.first ∙ first ∙ sym (ap (λ p. p.first) progressed);
+        latest = line.latest ∙ latest ∙ sym (ap (λ p. p.latest) progressed);
         pooled = line.pooled;
         given = line.given;
       });
@@ -188,18 +192,18 @@ drains_shown options old new read items text start was next drained item shown s
 pub drains_packet : (options : DumpOptions) (old new : Session) (moved : CaptureReader) (read : List ℕ) (items : List Item)
     (text : List ℕ) (start was next : Gathered) → (drained : Drained options old read items text start was)
     → (found : (item : Item) × ReadsMore moved read (items ++ drained.more) item
-    × ShowsItem moved (stage_behind at_start (items ++ drained.more)) item)
+    × ShowsItem moved (stage_after_items at_start (items ++ drained.more)) item)
     → ((before : PoolHistory) → AwaitsPacket before (old.number + 1) old.pooling
     → PushesLine (record old { capture = moved }) new before (reader_shown moved))
     → ((items : List Item) (item : Item) → old.number ≡ packets_in items
-    → shown_in (stage_behind at_start items) item ≡ Some (reader_shown moved)
+    → shown_in (stage_after_items at_start items) item ≡ Some (reader_shown moved)
     → GoesOn old.options was.saving next.saving items (items ++ item ∷ []))
     → CountsPacket old.options.strict (reader_shown moved) was.summary next.summary
     → new.capture ≡ moved → old.number ≢ old.options.most → Drained options new read items text start next
 drains_packet options old new moved read items text start was next drained found push save counts capture fewer =
     let before = items ++ drained.more in
-    let given : drained.after.number ≤ old.number = drained.stands.given in
-    let line = push drained.after (record { holds = drained.stands.pooled; later = omega arith }) in
+    let given : drained.after.number ≤ old.number = drained.has_read.given in
+    let line = push drained.after (record { holds = drained.has_read.pooled; later = omega arith }) in
     drains_shown options old new read items text start was next drained found.0 (reader_shown moved) found.2.shown
     (subst (λ r. ReadsMore r read before found.0) (sym capture) found.1)
     (record {
@@ -214,23 +218,23 @@ drains_packet options old new moved read items text start was next drained found
       first = line.first;
       latest = line.latest;
     })
-    (subst (λ o. GoesOn o was.saving next.saving before (before ++ found.0 ∷ [])) drained.stands.options_is
-    (save before found.0 drained.stands.number found.2.shown))
+    (subst (λ o. GoesOn o was.saving next.saving before (before ++ found.0 ∷ [])) drained.has_read.options_is
+    (save before found.0 drained.has_read.number found.2.shown))
     (subst (λ (o : DumpOptions). CountsPacket o.strict (reader_shown moved) was.summary next.summary)
-    drained.stands.options_is counts) fewer
+    drained.has_read.options_is counts) fewer
 
 -- An item that is no packet was read, and the session is unchanged.
 pub drains_other : (options : DumpOptions) (old new : Session) (read : List ℕ) (items : List Item) (text : List ℕ)
     (start was : Gathered) → (drained : Drained options old read items text start was) → (item : Item)
-    → IsOther (stage_behind at_start (items ++ drained.more)) item
+    → IsOther (stage_after_items at_start (items ++ drained.more)) item
     → ReadsMore new.capture read (items ++ drained.more) item → new.options ≡ old.options → new.number ≡ old.number
     → new.first ≡ old.first → new.latest ≡ old.latest → new.pooling ≡ old.pooling
     → new.output.items ≡ old.output.items → Drained options new read items text start was
 drains_other options old new read items text start was drained item shows reads same number first latest pooling
     output =
     let before = items ++ drained.more in
-    let stands = drained.stands in
-    let behind = behind_item before item None shows in
+    let has_read = drained.has_read in
+    let progressed = progress_with_item before item None shows in
     let all : before ++ item ∷ [] ≡ items ++ (drained.more ++ item ∷ []) =
     append_assoc items drained.more (item ∷ []) in
     let texts =
@@ -239,15 +243,15 @@ drains_other options old new read items text start was drained item shows reads 
     record {
       more = drained.more ++ item ∷ [];
       after = drained.after;
-      stands = subst (λ s. Stands options new read s drained.after) all (record {
-        options_is = same ∙ stands.options_is;
+      has_read = subst (λ s. HasRead options new read s drained.after) all (record {
+        options_is = same ∙ has_read.options_is;
         reads = reads;
-        within = subst (λ n. n ≤ options.most) (sym number) stands.within;
-        number = number ∙ stands.number ∙ sym (ap (λ p. p.number) behind);
-        first = first ∙ stands.first ∙ sym (ap (λ p. p.first) behind);
-        latest = latest ∙ stands.latest ∙ sym (ap (λ p. p.latest) behind);
-        pooled = subst (HoldsPooling drained.after) (sym pooling) stands.pooled;
-        given = subst (λ n. drained.after.number ≤ n) (sym number) stands.given;
+        within = subst (λ n. n ≤ options.most) (sym number) has_read.within;
+        number = number ∙ has_read.number ∙ sym (ap (λ p. p.number) progressed);
+        first = first ∙ has_read.first ∙ sym (ap (λ p. p.first) progressed);
+        latest = latest ∙ has_read.latest ∙ sym (ap (λ p. p.latest) progressed);
+        pooled = subst (HoldsPooling drained.after) (sym pooling) has_read.pooled;
+        given = subst (λ n. drained.after.number ≤ n) (sym number) has_read.given;
       });
       texts = subst (λ s. AreAllTexts options s (text ++ new.output.items) drained.after) all
           (subst (λ (t : List ℕ). AreAllTexts options (before ++ item ∷ []) (text ++ t) drained.after) (sym output)
@@ -262,26 +266,26 @@ drains_other options old new read items text start was drained item shows reads 
     }
 
 -- Nothing more was read, and the capture has this state.
-pub drains_end : (options : DumpOptions) (old new : Session) (standing : Standing) (read : List ℕ) (items : List Item)
+pub drains_end : (options : DumpOptions) (old new : Session) (capture_state : CaptureState) (read : List ℕ) (items : List Item)
     (text : List ℕ) (start was : Gathered) → (drained : Drained options old read items text start was) → Reads
     new.capture read (items ++ drained.more)
     → new.options ≡ old.options → new.number ≡ old.number → new.first ≡ old.first → new.latest ≡ old.latest
     → new.pooling ≡ old.pooling → new.output.items ≡ old.output.items
-    → StandsSo options standing read (items ++ drained.more) → Drains options new standing read items text start was
-drains_end options old new standing read items text start was drained reads same number first latest pooling output
+    → HasState options capture_state read (items ++ drained.more) → Drains options new capture_state read items text start was
+drains_end options old new capture_state read items text start was drained reads same number first latest pooling output
     so = (
       record {
         more = drained.more;
         after = drained.after;
-        stands = record {
-          options_is = same ∙ drained.stands.options_is;
+        has_read = record {
+          options_is = same ∙ drained.has_read.options_is;
           reads = reads;
-          within = subst (λ n. n ≤ options.most) (sym number) drained.stands.within;
-          number = number ∙ drained.stands.number;
-          first = first ∙ drained.stands.first;
-          latest = latest ∙ drained.stands.latest;
-          pooled = subst (HoldsPooling drained.after) (sym pooling) drained.stands.pooled;
-          given = subst (λ n. drained.after.number ≤ n) (sym number) drained.stands.given;
+          within = subst (λ n. n ≤ options.most) (sym number) drained.has_read.within;
+          number = number ∙ drained.has_read.number;
+          first = first ∙ drained.has_read.first;
+          latest = latest ∙ drained.has_read.latest;
+          pooled = subst (HoldsPooling drained.after) (sym pooling) drained.has_read.pooled;
+          given = subst (λ n. drained.after.number ≤ n) (sym number) drained.has_read.given;
         };
         texts = subst (λ (t : List ℕ). AreAllTexts options (items ++ drained.more) (text ++ t) drained.after) (sym output)
             drained.texts;
@@ -293,10 +297,10 @@ drains_end options old new standing read items text start was drained reads same
 
 -- The wanted number of packets was read.
 pub enough_read : (options : DumpOptions) (session : Session) (read : List ℕ) (items : List Item) (history : PoolHistory)
-    → Stands options session read items history → session.number ≡ session.options.most → StandsSo options Enough read items
-enough_read options session read items history stands all = (
-  (reader_rest session.capture, stands.reads.fits, stands.reads.parts),
-  sym stands.number ∙ all ∙ ap (λ v. v.most) stands.options_is,
+    → HasRead options session read items history → session.number ≡ session.options.most → HasState options Enough read items
+enough_read options session read items history has_read all = (
+  (reader_rest session.capture, has_read.reads.fits, has_read.reads.parts),
+  sym has_read.number ∙ all ∙ ap (λ v. v.most) has_read.options_is,
 )
 
 -- A number that has not reached the maximum is less than it.
@@ -305,10 +309,10 @@ fewer : (number most wanted packets : ℕ) → number ≢ most → number ≤ wa
 fewer number most wanted packets not_all within same count = omega (arith, not_all, within, same, count)
 
 pub fewer_read : (options : DumpOptions) (session : Session) (read : List ℕ) (items : List Item) (history : PoolHistory)
-    → Stands options session read items history → session.number ≢ session.options.most → AreFewer options items
-fewer_read options session read items history stands not_all =
-    fewer session.number session.options.most options.most (packets_in items) not_all stands.within
-    (ap (λ v. v.most) stands.options_is) stands.number
+    → HasRead options session read items history → session.number ≢ session.options.most → AreFewer options items
+fewer_read options session read items history has_read not_all =
+    fewer session.number session.options.most options.most (packets_in items) not_all has_read.within
+    (ap (λ v. v.most) has_read.options_is) has_read.number
 
 -- A capture that is rejected whatever bytes come after it is rejected if it ends here.
 pub refused_here : (read : List ℕ) (found : List Item × CaptureError)
@@ -320,8 +324,8 @@ pub counts_kept : (number offset next : ℕ) → number ≤ offset → offset �
 counts_kept number offset next within more = omega arith
 
 pub counts_packet : (old new : Session) (moved : CaptureReader) → new.number ≤ old.number + 1 → new.capture ≡ moved
-    → reader_offset moved + reader_left moved ≡ reader_offset old.capture + reader_left old.capture
-    → reader_left moved < reader_left old.capture → Counts old → Counts new
+    → reader_offset moved + reader_unread moved ≡ reader_offset old.capture + reader_unread old.capture
+    → reader_unread moved < reader_unread old.capture → Counts old → Counts new
 counts_packet old new moved number capture total less counts =
     let offset : reader_offset new.capture ≡ reader_offset moved = ap reader_offset capture in
     omega (arith, number, offset, total, less, counts)
@@ -364,23 +368,23 @@ pushes old new shown one this first latest before later same same_one is_this is
 pub drains_start : (options : DumpOptions) (old new : Session) → new.capture ≡ old.capture → new.options ≡ old.options
     → new.number ≡ old.number → new.first ≡ old.first → new.latest ≡ old.latest → new.pooling ≡ old.pooling
     → new.output.items ≡ [] → (read : List ℕ) (items : List Item) (text : List ℕ) (history : PoolHistory)
-    (start : Gathered) → Stands options old read items history → AreAllTexts options items text history
+    (start : Gathered) → HasRead options old read items history → AreAllTexts options items text history
     → Drained options new read items text start start
-drains_start options old new capture same number first latest pooling output read items text history start stands
+drains_start options old new capture same number first latest pooling output read items text history start has_read
     texts =
     let none = sym (append-nil items) in
     record {
       more = [];
       after = history;
-      stands = subst (λ s. Stands options new read s history) none (record {
-        options_is = same ∙ stands.options_is;
-        reads = subst (λ r. Reads r read items) (sym capture) stands.reads;
-        within = subst (λ n. n ≤ options.most) (sym number) stands.within;
-        number = number ∙ stands.number;
-        first = first ∙ stands.first;
-        latest = latest ∙ stands.latest;
-        pooled = subst (HoldsPooling history) (sym pooling) stands.pooled;
-        given = subst (λ n. history.number ≤ n) (sym number) stands.given;
+      has_read = subst (λ s. HasRead options new read s history) none (record {
+        options_is = same ∙ has_read.options_is;
+        reads = subst (λ r. Reads r read items) (sym capture) has_read.reads;
+        within = subst (λ n. n ≤ options.most) (sym number) has_read.within;
+        number = number ∙ has_read.number;
+        first = first ∙ has_read.first;
+        latest = latest ∙ has_read.latest;
+        pooled = subst (HoldsPooling history) (sym pooling) has_read.pooled;
+        given = subst (λ n. history.number ≤ n) (sym number) has_read.given;
       });
       texts = subst (λ s. AreAllTexts options s (text ++ new.output.items) history) none
           (subst (λ (t : List ℕ). AreAllTexts options items t history)
@@ -393,31 +397,32 @@ drains_start options old new capture same number first latest pooling output rea
 
 -- ---- number of counted packets
 
-held_number : (options : DumpOptions) (before : Progress) (item : Item) (shown : Option PlainShown) (one : List Held)
-    → IsHeld options shown one → (progress_with before item shown).number ≡ before.number + length one
-held_number options before item None one is = omega (arith, ap (λ (p : List Held). length p) is)
-held_number options before item (Some shown) one (content, holds, is) =
-    omega (arith, ap (λ (p : List Held). length p) is)
+rejected_value : (options : DumpOptions) (before : Progress) (item : Item) (shown : Option PlainShown)
+    (one : List ReadPacket) → IsReadPacket options shown one
+    → (progress_with before item shown).number ≡ before.number + length one
+rejected_value options before item None one is = omega (arith, ap (λ (p : List ReadPacket). length p) is)
+rejected_value options before item (Some shown) one (content, holds, is) =
+    omega (arith, ap (λ (p : List ReadPacket). length p) is)
 
-held_after : (options : DumpOptions) (items : List Item) (before : Progress) (packets : List Held)
-    → AreHeld options before.stage items packets
-    → (progress_behind before items).number ≡ before.number + length packets
-held_after options [] before packets none = omega (arith, ap (λ (p : List Held). length p) none)
-held_after options (item ∷ items) before packets (one, others, is, parts, behind) =
+frame_after : (options : DumpOptions) (items : List Item) (before : Progress) (packets : List ReadPacket)
+    → AreReadPackets options before.stage items packets
+    → (progress_after_items before items).number ≡ before.number + length packets
+frame_after options [] before packets none = omega (arith, ap (λ (p : List ReadPacket). length p) none)
+frame_after options (item ∷ items) before packets (one, others, is, parts, behind) =
     let next = progress_after before item in
     let first : next.number ≡ before.number + length one =
-    held_number options before item (shown_in before.stage item) one is in
-    let rest : (progress_behind next items).number ≡ next.number + length others =
-    held_after options items next others
-    (subst (λ (s : Stage). AreHeld options s items others)
+    rejected_value options before item (shown_in before.stage item) one is in
+    let rest : (progress_after_items next items).number ≡ next.number + length others =
+    frame_after options items next others
+    (subst (λ (s : Stage). AreReadPackets options s items others)
     (sym (progress_with-stage before item (shown_in before.stage item))) behind) in
     let all : length packets ≡ length one + length others =
-    ap (λ (p : List Held). length p) parts ∙ length-append one others in
+    ap (λ (p : List ReadPacket). length p) parts ∙ length-append one others in
     omega (arith, first, rest, all)
 
 -- The number of counted packets is the number of packets in the items.
-pub held_packets : (options : DumpOptions) (items : List Item) (packets : List Held)
-    → AreHeld options at_start items packets → length packets ≡ packets_in items
+pub held_packets : (options : DumpOptions) (items : List Item) (packets : List ReadPacket)
+    → AreReadPackets options at_start items packets → length packets ≡ packets_in items
 held_packets options items packets are =
-    let known : packets_in items ≡ 0 + length packets = held_after options items none_read packets are in
+    let known : packets_in items ≡ 0 + length packets = frame_after options items none_read packets are in
     omega (arith, known)

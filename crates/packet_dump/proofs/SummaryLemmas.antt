@@ -5,7 +5,7 @@ use Rattle.std.proofs.Common.{nat_eq}
 use Rattle.std.proofs.lemmas.List.{append-nil, drop-set, drop_more, get_or-map, length-map, map-set}
 use Rattle.std.proofs.lemmas.List.{take-append-drop, take-set, take_more}
 use Rattle.std.specs.Str.{bytes_eq}
-use Rattle.capture_reader.specs.Captures.{Item, PlainShown, Stage, at_start, shown_in, stage_after, stage_behind}
+use Rattle.capture_reader.specs.Captures.{Item, PlainShown, Stage, at_start, shown_in, stage_after, stage_after_items}
 use Rattle.etherparse.specs.Layers.{Layers}
 use Rattle.etherparse.specs.StrictFrames.{layers_in}
 use Rattle.etherparse.specs.Types.Layer.{Layer}
@@ -13,51 +13,56 @@ use Rattle.etherparse.specs.Types.SliceError.{SliceError}
 use Rattle.packet_dump.specs.Openings.{opening_of}
 use Rattle.packet_dump.specs.PacketContents.{Content, other_link, packet, refusal}
 use Rattle.packet_dump.specs.SliceErrorTexts.{error_name}
-use Rattle.packet_dump.specs.Summaries.{AddsUp, AreHeld, CountsOn, CountsPacket, Held, IsCounted, IsHeld, PlainRefusals}
-use Rattle.packet_dump.specs.Summaries.{PlainSummary, counted, counted_all, counted_one, has_cooked, is_cut, more, plain_count}
-use Rattle.packet_dump.specs.Summaries.{new_summary, standing, stands_in, total, with_cause, with_content, with_error}
+use Rattle.packet_dump.specs.Summaries.{AddsUp, AreReadPackets, CountsOn, CountsPacket, IsCounted, ReadPacket}
+use Rattle.packet_dump.specs.Summaries.{IsReadPacket, PlainRefusals}
+use Rattle.packet_dump.specs.Summaries.{PlainSummary, counted, counted_all, counted_one, has_cooked, is_truncated, more, plain_count}
+use Rattle.packet_dump.specs.Summaries.{new_summary, parsed_count, parsed_in, total, with_cause, with_content}
+use Rattle.packet_dump.specs.Summaries.{with_error}
 use Rattle.packet_dump.specs.Summaries.{with_one, with_packet, with_read, with_refused, with_stop, with_unread}
 use Rattle.packet_dump.specs.declared.dump_options.DumpOptions.{DumpOptions}
 
 -- ---- one more packet
 
-held_more : (options : DumpOptions) (items : List Item) (stage : Stage) (item : Item) (packets one : List Held)
-    → AreHeld options stage items packets → IsHeld options (shown_in (stage_behind stage items) item) one
-    → AreHeld options stage (items ++ item ∷ []) (packets ++ one)
-held_more options [] stage item packets one none is =
-    (one, [], is, ap (λ (p : List Held). p ++ one) none ∙ sym (append-nil one), refl)
-held_more options (first ∷ items) stage item packets one (front, rest, of_first, parts, others) is = (
+read_packets_more : (options : DumpOptions) (items : List Item) (stage : Stage) (item : Item)
+    (packets one : List ReadPacket) → AreReadPackets options stage items packets
+    → IsReadPacket options (shown_in (stage_after_items stage items) item) one
+    → AreReadPackets options stage (items ++ item ∷ []) (packets ++ one)
+read_packets_more options [] stage item packets one none is =
+    (one, [], is, ap (λ (p : List ReadPacket). p ++ one) none ∙ sym (append-nil one), refl)
+read_packets_more options (first ∷ items) stage item packets one (front, rest, of_first, parts, others) is = (
   front,
   rest ++ one,
   of_first,
-  ap (λ (p : List Held). p ++ one) parts ∙ append_assoc front rest one,
-  held_more options items (stage_after stage first) item rest one others is,
+  ap (λ (p : List ReadPacket). p ++ one) parts ∙ append_assoc front rest one,
+  read_packets_more options items (stage_after stage first) item rest one others is,
 )
 
-counted_more : (packets : List Held) (one : Held) (start : PlainSummary)
+counted_more : (packets : List ReadPacket) (one : ReadPacket) (start : PlainSummary)
     → counted_all (packets ++ one ∷ []) start ≡ counted_one one (counted_all packets start)
 counted_more [] one start = refl
 counted_more (first ∷ others) one start = counted_more others one (counted_one first start)
 
 -- One more packet was counted.
 pub counts_packet_more : (options : DumpOptions) (items : List Item) (item : Item) (shown : PlainShown)
-    (old new : PlainSummary) → shown_in (stage_behind at_start items) item ≡ Some shown
+    (old new : PlainSummary) → shown_in (stage_after_items at_start items) item ≡ Some shown
     → CountsPacket options.strict shown old new → CountsOn options old new items (items ++ item ∷ [])
 counts_packet_more options items item shown old new shows (content, holds, same) start (packets, are, is) = (
   packets ++ (shown, content) ∷ [],
-  held_more options items at_start item packets ((shown, content) ∷ []) are
-      (subst (λ (s : Option PlainShown). IsHeld options s ((shown, content) ∷ [])) (sym shows) (content, holds, refl)),
+  read_packets_more options items at_start item packets ((shown, content) ∷ []) are
+      (subst (λ (s : Option PlainShown). IsReadPacket options s ((shown, content) ∷ [])) (sym shows)
+      (content, holds, refl)),
   same ∙ ap (λ (p : PlainSummary). counted_one (shown, content) p) is ∙ sym (counted_more packets (shown, content) start),
 )
 
 -- An item that is no packet is not counted.
 pub counts_other_more : (options : DumpOptions) (items : List Item) (item : Item) (summary : PlainSummary)
-    → shown_in (stage_behind at_start items) item ≡ None → CountsOn options summary summary items (items ++ item ∷ [])
+    → shown_in (stage_after_items at_start items) item ≡ None
+    → CountsOn options summary summary items (items ++ item ∷ [])
 counts_other_more options items item summary shows start (packets, are, is) = (
   packets,
-  subst (λ (p : List Held). AreHeld options at_start (items ++ item ∷ []) p) (append-nil packets)
-      (held_more options items at_start item packets [] are
-      (subst (λ (s : Option PlainShown). IsHeld options s []) (sym shows) refl)),
+  subst (λ (p : List ReadPacket). AreReadPackets options at_start (items ++ item ∷ []) p) (append-nil packets)
+      (read_packets_more options items at_start item packets [] are
+      (subst (λ (s : Option PlainShown). IsReadPacket options s []) (sym shows) refl)),
   is,
 )
 
@@ -173,17 +178,17 @@ total_one same key (entry ∷ others) fits =
     (total_one same key others (omega (arith, fits)))
 
 -- The bytes of a packet were counted, but not yet its content.
-record Awaits (stands : ℕ) (summary : PlainSummary) : Type 0 where
+record Awaits (parsed : ℕ) (summary : PlainSummary) : Type 0 where
   fits : summary.packets < 2 ^ 64
-  packets : summary.packets ≡ stands + summary.refused.all + total summary.unread + 1
+  packets : summary.packets ≡ parsed + summary.refused.all + total summary.unread + 1
   refused : summary.refused.all ≡ total summary.refused.errors
   stopped : summary.stopped.all ≡ total summary.stopped.errors
-  within : summary.stopped.all ≤ stands
+  within : summary.stopped.all ≤ parsed
   causes : summary.cut + summary.malformed ≡ summary.refused.all + summary.stopped.all
 
-awaits : (stands : ℕ) (shown : PlainShown) (summary : PlainSummary) → summary.packets + 1 < 2 ^ 64
-    → AddsUp stands summary → Awaits stands (with_packet shown summary)
-awaits stands shown summary fits up = record {
+awaits : (parsed : ℕ) (shown : PlainShown) (summary : PlainSummary) → summary.packets + 1 < 2 ^ 64
+    → AddsUp parsed summary → Awaits parsed (with_packet shown summary)
+awaits parsed shown summary fits up = record {
   fits = omega (arith, fits);
   packets = omega (arith, fits, up.packets);
   refused = up.refused;
@@ -200,23 +205,23 @@ more_errors error before is fits =
     total_one bytes_eq (error_name error) before.errors (omega (arith, is, fits)) in
     omega (arith, is, fits, one)
 
-adds_stop : (cut : Bool) (stop : Option (SliceError × Layer)) (stands : ℕ) (before : PlainSummary)
-    → Awaits stands before → AddsUp (stands + 1) (with_stop cut stop before)
-adds_stop cut None stands before up = record {
+adds_stop : (cut : Bool) (stop : Option (SliceError × Layer)) (parsed : ℕ) (before : PlainSummary)
+    → Awaits parsed before → AddsUp (parsed + 1) (with_stop cut stop before)
+adds_stop cut None parsed before up = record {
   packets = omega (arith, up.packets);
   refused = up.refused;
   stopped = up.stopped;
   within = omega (arith, up.within);
   causes = up.causes;
 }
-adds_stop true (Some stop) stands before up = record {
+adds_stop true (Some stop) parsed before up = record {
   packets = omega (arith, up.packets);
   refused = up.refused;
   stopped = more_errors stop.0 before.stopped up.stopped (omega (arith, up.fits, up.packets, up.within));
   within = omega (arith, up.within);
   causes = omega (arith, up.fits, up.packets, up.within, up.causes);
 }
-adds_stop false (Some stop) stands before up = record {
+adds_stop false (Some stop) parsed before up = record {
   packets = omega (arith, up.packets);
   refused = up.refused;
   stopped = more_errors stop.0 before.stopped up.stopped (omega (arith, up.fits, up.packets, up.within));
@@ -224,16 +229,16 @@ adds_stop false (Some stop) stands before up = record {
   causes = omega (arith, up.fits, up.packets, up.within, up.causes);
 }
 
-adds_refused : (cut : Bool) (error : SliceError) (stands : ℕ) (before : PlainSummary) → Awaits stands before
-    → AddsUp (stands + 0) (with_refused error (with_cause cut before))
-adds_refused true error stands before up = record {
+adds_refused : (cut : Bool) (error : SliceError) (parsed : ℕ) (before : PlainSummary) → Awaits parsed before
+    → AddsUp (parsed + 0) (with_refused error (with_cause cut before))
+adds_refused true error parsed before up = record {
   packets = omega (arith, up.fits, up.packets);
   refused = more_errors error before.refused up.refused (omega (arith, up.fits, up.packets));
   stopped = up.stopped;
   within = omega (arith, up.within);
   causes = omega (arith, up.fits, up.packets, up.within, up.causes);
 }
-adds_refused false error stands before up = record {
+adds_refused false error parsed before up = record {
   packets = omega (arith, up.fits, up.packets);
   refused = more_errors error before.refused up.refused (omega (arith, up.fits, up.packets));
   stopped = up.stopped;
@@ -241,9 +246,9 @@ adds_refused false error stands before up = record {
   causes = omega (arith, up.fits, up.packets, up.within, up.causes);
 }
 
-adds_unread : (link : ℕ) (stands : ℕ) (before : PlainSummary) → Awaits stands before
-    → AddsUp (stands + 0) (with_unread link before)
-adds_unread link stands before up =
+adds_unread : (link : ℕ) (parsed : ℕ) (before : PlainSummary) → Awaits parsed before
+    → AddsUp (parsed + 0) (with_unread link before)
+adds_unread link parsed before up =
     let one : total (with_one nat_eq link before.unread) ≡ total before.unread + 1 =
     total_one nat_eq link before.unread (omega (arith, up.fits, up.packets)) in
     record {
@@ -255,9 +260,9 @@ adds_unread link stands before up =
     }
 
 -- The counts of layers do not affect these sums.
-awaits_read : (cooked : Bool) (layers : Layers) (stands : ℕ) (before : PlainSummary) → Awaits stands before
-    → Awaits stands (with_read cooked layers before)
-awaits_read cooked layers stands before up = record {
+awaits_read : (cooked : Bool) (layers : Layers) (parsed : ℕ) (before : PlainSummary) → Awaits parsed before
+    → Awaits parsed (with_read cooked layers before)
+awaits_read cooked layers parsed before up = record {
   fits = up.fits;
   packets = up.packets;
   refused = up.refused;
@@ -266,13 +271,13 @@ awaits_read cooked layers stands before up = record {
   causes = up.causes;
 }
 
-adds_content : (cooked : Bool) (shown : PlainShown) (content : Content) (stands : ℕ) (before : PlainSummary)
-    → Awaits stands before → AddsUp (stands + stands_in content) (with_content cooked shown content before)
-adds_content cooked shown (packet read) stands before up =
-    adds_stop (is_cut shown) read.net.inside.stop stands (with_read cooked (layers_in read) before)
-    (awaits_read cooked (layers_in read) stands before up)
-adds_content cooked shown (refusal error) stands before up = adds_refused (is_cut shown) error stands before up
-adds_content cooked shown (other_link number) stands before up = adds_unread number stands before up
+adds_content : (cooked : Bool) (shown : PlainShown) (content : Content) (parsed : ℕ) (before : PlainSummary)
+    → Awaits parsed before → AddsUp (parsed + parsed_in content) (with_content cooked shown content before)
+adds_content cooked shown (packet read) parsed before up =
+    adds_stop (is_truncated shown) read.net.inside.stop parsed (with_read cooked (layers_in read) before)
+    (awaits_read cooked (layers_in read) parsed before up)
+adds_content cooked shown (refusal error) parsed before up = adds_refused (is_truncated shown) error parsed before up
+adds_content cooked shown (other_link number) parsed before up = adds_unread number parsed before up
 
 -- ---- counts that no content changes
 
@@ -294,57 +299,59 @@ keeps_stop cut (Some stop) before =
 keeps : (cooked : Bool) (shown : PlainShown) (content : Content) (before : PlainSummary)
     → Keeps before (with_content cooked shown content before)
 keeps cooked shown (packet read) before =
-    let kept = keeps_stop (is_cut shown) read.net.inside.stop (with_read cooked (layers_in read) before) in
+    let kept = keeps_stop (is_truncated shown) read.net.inside.stop (with_read cooked (layers_in read) before) in
     record { packets = kept.packets; wanted = kept.wanted }
 keeps cooked shown (refusal error) before =
-    record { packets = (keeps_cause (is_cut shown) before).packets; wanted = (keeps_cause (is_cut shown) before).wanted }
+    record { packets = (keeps_cause (is_truncated shown) before).packets; wanted = (keeps_cause (is_truncated shown) before).wanted }
 keeps cooked shown (other_link number) before = record { packets = refl; wanted = refl }
 
 -- One packet was counted.
-record AddsOne (stands : ℕ) (before behind : PlainSummary) : Type 0 where
-  up : AddsUp stands behind
+record AddsOne (parsed : ℕ) (before behind : PlainSummary) : Type 0 where
+  up : AddsUp parsed behind
   packets : behind.packets ≡ before.packets + 1
   wanted : behind.wanted ≡ true
 
-adds_one : (one : Held) (stands : ℕ) (summary : PlainSummary) → summary.wanted ≡ true
-    → summary.packets + 1 < 2 ^ 64 → AddsUp stands summary
-    → AddsOne (stands + stands_in one.1) summary (counted_one one summary)
-adds_one (shown, content) stands summary is fits up =
+adds_one : (one : ReadPacket) (parsed : ℕ) (summary : PlainSummary) → summary.wanted ≡ true
+    → summary.packets + 1 < 2 ^ 64 → AddsUp parsed summary
+    → AddsOne (parsed + parsed_in one.1) summary (counted_one one summary)
+adds_one (shown, content) parsed summary is fits up =
     let cooked = has_cooked (opening_of shown.link shown.bytes) in
     let bytes = with_packet shown summary in
     let behind = with_content cooked shown content bytes in
     let same = counted_wanted cooked shown content summary is in
     let kept = keeps cooked shown content bytes in
-    subst (λ (s : PlainSummary). AddsOne (stands + stands_in content) summary s) same (record {
-      up = adds_content cooked shown content stands bytes (awaits stands shown summary fits up);
+    subst (λ (s : PlainSummary). AddsOne (parsed + parsed_in content) summary s) same (record {
+      up = adds_content cooked shown content parsed bytes (awaits parsed shown summary fits up);
       packets = omega (arith, kept.packets, fits);
       wanted = kept.wanted ∙ is;
     })
 
-adds_all : (packets : List Held) (stands : ℕ) (summary : PlainSummary) → summary.wanted ≡ true
-    → summary.packets + length packets < 2 ^ 64 → AddsUp stands summary
-    → AddsUp (stands + standing packets) (counted_all packets summary)
+adds_all : (packets : List ReadPacket) (parsed : ℕ) (summary : PlainSummary) → summary.wanted ≡ true
+    → summary.packets + length packets < 2 ^ 64 → AddsUp parsed summary
+    → AddsUp (parsed + parsed_count packets) (counted_all packets summary)
     × ((counted_all packets summary).packets ≡ summary.packets + length packets)
-adds_all [] stands summary is fits up =
-    let none : stands ≡ stands + 0 = omega arith in
+adds_all [] parsed summary is fits up =
+    let none : parsed ≡ parsed + 0 = omega arith in
     let all : summary.packets ≡ summary.packets + 0 = omega arith in
     (subst (λ (n : ℕ). AddsUp n summary) none up, all)
-adds_all (one ∷ others) stands summary is fits up =
-    let step = adds_one one stands summary is (omega (arith, fits)) up in
+adds_all (one ∷ others) parsed summary is fits up =
+    let step = adds_one one parsed summary is (omega (arith, fits)) up in
     let next = counted_one one summary in
-    let rest = adds_all others (stands + stands_in one.1) next step.wanted (omega (arith, fits, step.packets)) step.up in
-    let all : (stands + stands_in one.1) + standing others ≡ stands + (stands_in one.1 + standing others) = omega arith in (
+    let rest = adds_all others (parsed + parsed_in one.1) next step.wanted (omega (arith, fits, step.packets))
+    step.up in
+    let all : (parsed + parsed_in one.1) + parsed_count others ≡ parsed + (parsed_in one.1 + parsed_count others) =
+    omega arith in (
       subst (λ (n : ℕ). AddsUp n (counted_all others next)) all rest.0,
       omega (arith, rest.1, step.packets),
     )
 
 -- The rows of a summary add up.
-pub adds_up : (packets : List Held) (apart : Bool) → length packets < 2 ^ 64
-    → AddsUp (standing packets) (counted_all packets (new_summary true apart))
-    × ((counted_all packets (new_summary true apart)).packets ≡ length packets)
-adds_up packets apart fits =
-    let summary = counted_all packets (new_summary true apart) in
-    let all = adds_all packets 0 (new_summary true apart) refl (omega (arith, fits))
+pub adds_up : (packets : List ReadPacket) (by_cause : Bool) → length packets < 2 ^ 64
+    → AddsUp (parsed_count packets) (counted_all packets (new_summary true by_cause))
+    × ((counted_all packets (new_summary true by_cause)).packets ≡ length packets)
+adds_up packets by_cause fits =
+    let summary = counted_all packets (new_summary true by_cause) in
+    let all = adds_all packets 0 (new_summary true by_cause) refl (omega (arith, fits))
     (record { packets = refl; refused = refl; stopped = refl; within = omega arith; causes = refl }) in
-    let same : 0 + standing packets ≡ standing packets = omega arith in
+    let same : 0 + parsed_count packets ≡ parsed_count packets = omega arith in
     (subst (λ (n : ℕ). AddsUp n summary) same all.0, omega (arith, all.1))

@@ -15,14 +15,14 @@ use Rattle.etherparse.specs.Types.Entry.TheVariants.{Ip}
 use Rattle.etherparse.specs.Types.LaxSlicedPacket.{LaxSlicedPacket}
 use Rattle.etherparse.specs.Types.Layer.{Layer}
 use Rattle.etherparse.specs.Types.SliceError.{SliceError}
-use Rattle.packet_dump.specs.LayerTexts.{incomplete_text, inner_in, outer_text, refused_front_text}
+use Rattle.packet_dump.specs.LayerTexts.{incomplete_text, inner_in, outer_text, refused_start_text}
 use Rattle.packet_dump.specs.PacketContents.{Content, packet}
 
 -- the payload of the outer layers of a quoted packet, which is mostly truncated: if a layer is rejected, the known
 -- fields of its header
 abbrev pub quoted_rest : Bool → Layers → Option (SliceError × Layer) → List ℕ
 quoted_rest incomplete layers None = inner_in incomplete layers
-quoted_rest incomplete layers (Some stop) = refused_front_text layers.net
+quoted_rest incomplete layers (Some stop) = refused_start_text layers.net
 
 -- a quoted packet: its layers as in a line of its own, but without the error at which they end
 abbrev pub quoted_text : LaxLayers → List ℕ
@@ -57,9 +57,9 @@ AreDetails slices text =
     (own quote : List ℕ) × IsPacketDetails slices own × IsQuoteOf (quoted_by slices) quote × (text ≡ own ++ quote)
 
 -- The text is the details of a packet if they are shown, else empty.
-abbrev pub AreTold : Bool → LaxSlicedPacket → List ℕ → Type 0
-AreTold true slices text = AreDetails slices text
-AreTold false slices text = text ≡ []
+abbrev pub AreWantedDetails : Bool → LaxSlicedPacket → List ℕ → Type 0
+AreWantedDetails true slices text = AreDetails slices text
+AreWantedDetails false slices text = text ≡ []
 
 -- The text is the details of the packet that is read from the bytes if they are shown, else empty.
 abbrev pub IsDetailed : Bool → List ℕ → Content → List ℕ → Type 0

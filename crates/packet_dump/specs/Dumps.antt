@@ -2,7 +2,7 @@
 use Rattle.std.specs.Prelude.{◌≡◌, ℕ, ◌+◌, ◌<◌, ◌≤◌, Bool, true, false, List, [], ◌∷◌, ◌++◌, Option, Some, None}
 use Rattle.capture_reader.specs.Captures.{Item, PlainShown, Stage, at_start, shown_in, stage_after}
 use Rattle.capture_reader.specs.Captures.{AreItems, IsCapture, RefusesCapture, items_bytes}
-use Rattle.packet_dump.specs.PacketContents.{Content, Holds, HoldsBehind}
+use Rattle.packet_dump.specs.PacketContents.{Content, Holds, HoldsAfterOpening}
 use Rattle.packet_dump.specs.Details.{IsDetailed}
 use Rattle.packet_dump.specs.Openings.{read_bytes}
 use Rattle.packet_dump.specs.PacketLines.{parts_start, parts_text, shown_text, start_text, tells_details}
@@ -13,7 +13,7 @@ use Rattle.capture_reader.specs.declared.refusal.CaptureError.{CaptureError}
 use Rattle.packet_dump.specs.declared.lines.LineParts.{LineParts}
 use Rattle.packet_dump.specs.declared.openings.Opening.{Opening}
 use Rattle.packet_dump.specs.declared.ending.Ending.{Ending}
-use Rattle.packet_dump.specs.declared.ending.Ending.TheVariants.{Whole, Enough, Broken}
+use Rattle.packet_dump.specs.declared.ending.Ending.TheVariants.{Complete, Enough, Broken}
 use Rattle.packet_dump.specs.declared.dump_options.DumpOptions.{DumpOptions}
 
 -- ---- one packet
@@ -31,7 +31,7 @@ IsLine options number first latest before shown text after =
 -- The bytes after the opening have this content and these details.
 abbrev pub HoldsDetailed : DumpOptions → Opening → List ℕ → Content → List ℕ → Type 0
 HoldsDetailed options opening bytes content details =
-    HoldsBehind options.strict opening bytes content × IsDetailed (tells_details options content) bytes content details
+    HoldsAfterOpening options.strict opening bytes content × IsDetailed (tells_details options content) bytes content details
 
 -- The text is the line of the packet after the opening, and then the answer of the pool; `after` is the state of the
 -- pool.
@@ -70,9 +70,9 @@ abbrev pub progress_after : Progress → Item → Progress
 progress_after before item = progress_with before item (shown_in before.stage item)
 
 -- progress after several items
-abbrev pub progress_behind : Progress → List Item → Progress
-progress_behind before [] = before
-progress_behind before (item ∷ items) = progress_behind (progress_after before item) items
+abbrev pub progress_after_items : Progress → List Item → Progress
+progress_after_items before [] = before
+progress_after_items before (item ∷ items) = progress_after_items (progress_after before item) items
 
 -- The text is that of an item, given its packet, if it is one, and `after` is the state of the pool. An item that is no
 -- packet has no text.
@@ -95,7 +95,7 @@ AreTexts options before pool (item ∷ items) text after =
 
 -- the number of packets in the items
 abbrev pub packets_in : List Item → ℕ
-packets_in items = (progress_behind none_read items).number
+packets_in items = (progress_after_items none_read items).number
 
 -- The text is that of the items from the start of a capture, on a new pool, and `after` is the state of the pool.
 abbrev pub AreAllTexts : DumpOptions → List Item → List ℕ → PoolHistory → Type 0
@@ -121,12 +121,12 @@ abbrev pub IsRefused : Bool → List ℕ → List Item × CaptureError → Type 
 IsRefused true read found = RefusesCapture read found
 IsRefused false read found = (more : List ℕ) → RefusesCapture (read ++ more) found
 
--- The input and the output of a run that ends in this way; in each case the output is the lines of the items. `Whole`:
--- the input is a capture of fewer packets than are wanted. `Enough`: the input begins with as many packets as are
--- wanted. `Broken`: the input is rejected with this error after fewer packets, and this is their number. The reader
--- need not have ended for `Enough`, nor for input that is rejected whatever bytes come after it.
+-- The input and the output of a run that ends in this way; in each case the output is the lines of the items.
+-- `Complete`: the input is a capture of fewer packets than are wanted. `Enough`: the input begins with as many
+-- packets as are wanted. `Broken`: the input is rejected with this error after fewer packets, and this is their number.
+-- The reader need not have ended for `Enough`, nor for input that is rejected whatever bytes come after it.
 abbrev pub IsDump : DumpOptions → Bool → Ending → List ℕ → List ℕ → Type 0
-IsDump options ended Whole read written =
+IsDump options ended Complete read written =
     (ended ≡ true) × (items : List Item) × IsCapture read items × AreFewer options items × AreShown options items written
 IsDump options ended Enough read written =
     (items : List Item) × Begin read items × (packets_in items ≡ options.most) × AreShown options items written

@@ -5,7 +5,7 @@ use Rattle.capture_reader.specs.declared.refusal.Refusal.TheVariants.{UnknownMag
 use Rattle.line_io.specs.declared.run_error.RunError.{RunError}
 use Rattle.line_io.specs.declared.run_error.RunError.TheVariants.{Read, Write, OutOfMemory}
 use Rattle.packet_dump.specs.declared.ending.Ending.{Ending}
-use Rattle.packet_dump.specs.declared.ending.Ending.TheVariants.{Whole, Enough, Broken}
+use Rattle.packet_dump.specs.declared.ending.Ending.TheVariants.{Complete, Enough, Broken}
 use Rattle.packet_dump.specs.declared.saving.SaveState.{SaveState}
 use Rattle.packet_dump.specs.declared.saving.SaveState.TheVariants.{Unasked, Open, Stopped}
 
@@ -17,7 +17,7 @@ run_error_text OutOfMemory = codes "packet_dump: out of memory"
 
 -- the exit status after a run: 0 if the complete capture or the wanted number of packets was read
 abbrev pub status_of : Result Ending RunError → ℕ
-status_of (Ok Whole) = 0
+status_of (Ok Complete) = 0
 status_of (Ok Enough) = 0
 status_of (Ok (Broken packets error)) = 1
 status_of (Err error) = 1

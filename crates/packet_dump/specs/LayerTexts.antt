@@ -16,10 +16,10 @@ use Rattle.etherparse.specs.StrictFrames.{layers_in}
 use Rattle.etherparse.specs.TransportParts.{TransportLayer}
 use Rattle.packet_dump.specs.Addresses.{hex_text}
 use Rattle.packet_dump.specs.Links.{extensions_text, link_text}
-use Rattle.packet_dump.specs.Missing.{cut_payload_text, whole_text}
+use Rattle.packet_dump.specs.Missing.{full_len_if_truncated_text, missing_tcp_payload_text}
 use Rattle.packet_dump.specs.Nets.{begins_payload, net_text}
 use Rattle.packet_dump.specs.SliceErrorTexts.{stop_text}
-use Rattle.packet_dump.specs.Transports.{header_front_text, len_text, transport_text}
+use Rattle.packet_dump.specs.Transports.{header_start_text, len_text, transport_text}
 
 -- the name of a number, if it has one
 abbrev pub name_text : Option (List ℕ) → List ℕ
@@ -36,14 +36,14 @@ ip_payload_text (Some payload) = protocol_text payload.number ++ len_text payloa
 ip_payload_text None = []
 
 -- the known fields at the start of an IP payload, if it begins with a transport header
-abbrev pub payload_front_text : Bool → Option IpPayload → List ℕ
-payload_front_text begins (Some payload) = if begins then header_front_text payload.number payload.bytes else []
-payload_front_text begins None = []
+abbrev pub payload_start_text : Bool → Option IpPayload → List ℕ
+payload_start_text begins (Some payload) = if begins then header_start_text payload.number payload.bytes else []
+payload_start_text begins None = []
 
 -- the known fields of a transport header that is not parsed since it is truncated, invalid or in a first fragment
-abbrev pub transport_front_text : Option NetLayer → List ℕ
-transport_front_text (Some net) = payload_front_text (begins_payload net) (net_payload net)
-transport_front_text None = []
+abbrev pub transport_start_text : Option NetLayer → List ℕ
+transport_start_text (Some net) = payload_start_text (begins_payload net) (net_payload net)
+transport_start_text None = []
 
 -- True if a link layer is Ethernet, whose type field is a length up to 1500 (IEEE 802.3, 3.2.6).
 abbrev pub has_lengths : Option LinkLayer → Bool
@@ -73,7 +73,7 @@ ether_type_text lengths None = []
 
 -- the payload that no layer was read from: that of the IP packet, or else that of the link layer and its extensions
 abbrev pub unread_text : Option NetLayer → Bool → Option EtherType → List ℕ → List ℕ
-unread_text (Some net) lengths type payload = transport_front_text (Some net) ++ ip_payload_text (net_payload net)
+unread_text (Some net) lengths type payload = transport_start_text (Some net) ++ ip_payload_text (net_payload net)
 unread_text None lengths type payload = ether_type_text lengths type ++ len_text payload
 
 -- the payload that no layer was read from, given the layers
@@ -89,11 +89,11 @@ inner_text None unread = unread
 -- the transport layer, or the payload that no layer was read from, given the layers, and the full length of the last
 -- payload if bytes of it are missing
 abbrev pub inner_in : Bool → Layers → List ℕ
-inner_in incomplete layers = inner_text layers.transport (unread_in layers) ++ whole_text incomplete layers
+inner_in incomplete layers = inner_text layers.transport (unread_in layers) ++ full_len_if_truncated_text incomplete layers
 
 -- the known fields of a rejected transport header, and the length of its payload
-abbrev pub refused_front_text : Option NetLayer → List ℕ
-refused_front_text net = transport_front_text net ++ cut_payload_text net
+abbrev pub refused_start_text : Option NetLayer → List ℕ
+refused_start_text net = transport_start_text net ++ missing_tcp_payload_text net
 
 -- the layers outside the payload of the network layer, from the outermost inwards
 abbrev pub outer_text : Layers → List ℕ
@@ -102,7 +102,7 @@ outer_text layers = link_text layers.link ++ extensions_text layers.link_exts ++
 -- the payload of the outer layers, or why the next layer is rejected
 abbrev pub rest_text : Bool → Layers → Option (SliceError × Layer) → List ℕ
 rest_text incomplete layers None = inner_in incomplete layers
-rest_text incomplete layers (Some stop) = refused_front_text layers.net ++ stop_text stop.0
+rest_text incomplete layers (Some stop) = refused_start_text layers.net ++ stop_text stop.0
 
 -- a word if bytes of the last payload are missing, by a length field
 abbrev pub incomplete_text : Bool → List ℕ

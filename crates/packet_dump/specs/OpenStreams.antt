@@ -19,10 +19,10 @@ abbrev pub number_at : IpFragId ℕ → IpDefragPool Arrival ℕ → Option ℕ
 number_at name pool = option_map (λ at. at.number) (arrival_at name pool)
 
 -- the number of a stream after the answer to its fragment in packet `number`, given the number before
-abbrev pub number_behind : Result (Option IpDefragPayloadVec) IpDefragError → Option ℕ → ℕ → Option ℕ
-number_behind (Ok None) stood number = Some number
-number_behind (Ok (Some payload)) stood number = None
-number_behind (Err error) stood number = stood
+abbrev pub number_after : Result (Option IpDefragPayloadVec) IpDefragError → Option ℕ → ℕ → Option ℕ
+number_after (Ok None) stood number = Some number
+number_after (Ok (Some payload)) stood number = None
+number_after (Err error) stood number = stood
 
 -- a list without the entry `gone`, if there is one
 abbrev pub without : {X : Type 0} → (ℕ → Option X) → Option ℕ → ℕ → Option X

@@ -11,12 +11,12 @@ use Rattle.packet_dump.specs.Links.{sender_text, way_name}
 use Rattle.packet_dump.specs.declared.openings.Opening.{Opening}
 
 -- the opening of a packet whose bytes are all parsed by the library
-abbrev pub whole_of : Entry → Opening
-whole_of entry = record { entry = entry; skipped = 0 }
+abbrev pub opening_at_start : Entry → Opening
+opening_at_start entry = record { entry = entry; skipped = 0 }
 
 -- the opening of a packet whose payload of the given ether type starts after `skipped` bytes
-abbrev pub behind_front : ℕ → ℕ → Opening
-behind_front skipped type = record { entry = EtherType (record { 0 = type }); skipped = skipped }
+abbrev pub opening_after_header : ℕ → ℕ → Opening
+opening_after_header skipped type = record { entry = EtherType (record { 0 = type }); skipped = skipped }
 
 -- True if the header of a Linux cooked capture is parsed by the program.
 abbrev pub is_cooked : Opening → Bool
@@ -29,8 +29,8 @@ is_bare_ip link = (link == 12) || (link == 14) || (link == 101) || (link == 228)
 -- ---- BSD loopback (0, and 108 of OpenBSD): four bytes with the address family
 
 -- the address family, in the last or in the first byte, by the byte order of the machine
-abbrev pub family_in : List ℕ → ℕ
-family_in bytes =
+abbrev pub loopback_family : List ℕ → ℕ
+loopback_family bytes =
     if (word_at bytes 0 == 0) && (slice_index bytes 2 == 0) then slice_index bytes 3 else
     (if (slice_index bytes 1 == 0) && (word_at bytes 2 == 0) then slice_index bytes 0 else 0)
 
@@ -41,11 +41,11 @@ is_ipv6_family family = (family == 10) || (family == 24) || (family == 28) || (f
 -- the opening of a packet after its address family: IPv4 for 2, or IPv6
 abbrev pub family_opening : ℕ → Option Opening
 family_opening family =
-    if family == 2 then Some (behind_front 4 ipv4_type) else
-    (if is_ipv6_family family then Some (behind_front 4 ipv6_type) else None)
+    if family == 2 then Some (opening_after_header 4 ipv4_type) else
+    (if is_ipv6_family family then Some (opening_after_header 4 ipv6_type) else None)
 
 abbrev pub loopback_opening : List ℕ → Option Opening
-loopback_opening bytes = if nat_le 4 (length bytes) then family_opening (family_in bytes) else None
+loopback_opening bytes = if nat_le 4 (length bytes) then family_opening (loopback_family bytes) else None
 
 -- ---- Linux cooked captures
 
@@ -65,7 +65,7 @@ abbrev pub reads_sll : List ℕ → Bool
 reads_sll bytes = nat_le 16 (length bytes) && (nat_le (word_at bytes 0) 7 && reads_hardware (word_at bytes 2))
 
 abbrev pub sll_opening : List ℕ → Opening
-sll_opening bytes = if reads_sll bytes then behind_front 16 (word_at bytes 14) else whole_of LinuxSll
+sll_opening bytes = if reads_sll bytes then opening_after_header 16 (word_at bytes 14) else opening_at_start LinuxSll
 
 -- True if the header of a capture of version 2 (276) is supported. It has 20 bytes: protocol (2), reserved (2),
 -- interface index (4), hardware type (2), packet type (1), and the length (1) and bytes (8) of an address.
@@ -73,30 +73,30 @@ abbrev pub reads_sll2 : List ℕ → Bool
 reads_sll2 bytes = nat_le 20 (length bytes) && not (has_no_type (word_at bytes 8))
 
 abbrev pub sll2_opening : List ℕ → Option Opening
-sll2_opening bytes = if reads_sll2 bytes then Some (behind_front 20 (word_at bytes 0)) else None
+sll2_opening bytes = if reads_sll2 bytes then Some (opening_after_header 20 (word_at bytes 0)) else None
 
 -- ---- all link types
 
 abbrev pub opening_of : ℕ → List ℕ → Option Opening
 opening_of link bytes =
-    if link == 1 then Some (whole_of Ethernet) else
-    (if is_bare_ip link then Some (whole_of Ip) else
+    if link == 1 then Some (opening_at_start Ethernet) else
+    (if is_bare_ip link then Some (opening_at_start Ip) else
     (if link == 113 then Some (sll_opening bytes) else
     (if (link == 0) || (link == 108) then loopback_opening bytes else
     (if link == 276 then sll2_opening bytes else None))))
 
 -- the bytes that the library parses after an opening; all bytes without one
-abbrev pub bytes_behind : Option Opening → List ℕ → List ℕ
-bytes_behind (Some opening) bytes = drop opening.skipped bytes
-bytes_behind None bytes = bytes
+abbrev pub bytes_after_opening : Option Opening → List ℕ → List ℕ
+bytes_after_opening (Some opening) bytes = drop opening.skipped bytes
+bytes_after_opening None bytes = bytes
 
 -- the bytes of a packet of a link type that the library parses
 abbrev pub read_bytes : ℕ → List ℕ → List ℕ
-read_bytes link bytes = bytes_behind (opening_of link bytes) bytes
+read_bytes link bytes = bytes_after_opening (opening_of link bytes) bytes
 
 -- the fields of a header that the program parses: the direction of the packet, and the address of the sender
-unfoldable pub sll_front : List ℕ → List ℕ
-sll_front bytes =
+unfoldable pub sll_header_text : List ℕ → List ℕ
+sll_header_text bytes =
     codes " sll " ++ way_name (word_at bytes 0) ++ sender_text (take (min (word_at bytes 4) 8) (slice_range bytes 6 14))
 
 -- the interface index
@@ -107,12 +107,12 @@ sll2_interface bytes = 65536 * word_at bytes 4 + word_at bytes 6
 abbrev pub way_text : ℕ → List ℕ
 way_text way = codes " " ++ way_name way
 
-unfoldable pub sll2_front : List ℕ → List ℕ
-sll2_front bytes =
+unfoldable pub sll2_header_text : List ℕ → List ℕ
+sll2_header_text bytes =
     (codes " sll2 interface " ++ decimal (sll2_interface bytes)) ++ way_text (slice_index bytes 10)
     ++ sender_text (take (min (slice_index bytes 11) 8) (slice_range bytes 12 20))
 
-abbrev pub front_text : ℕ → List ℕ → List ℕ
-front_text link bytes =
-    if (link == 113) && reads_sll bytes then sll_front bytes else
-    (if (link == 276) && reads_sll2 bytes then sll2_front bytes else [])
+abbrev pub skipped_header_text : ℕ → List ℕ → List ℕ
+skipped_header_text link bytes =
+    if (link == 113) && reads_sll bytes then sll_header_text bytes else
+    (if (link == 276) && reads_sll2 bytes then sll2_header_text bytes else [])

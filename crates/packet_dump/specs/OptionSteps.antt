@@ -140,8 +140,8 @@ pub data Step : Type 0 where
   done : Result Asked Fault → Step
 
 -- the step of an item
-abbrev pub behind : State → Item → Step
-behind state item =
+abbrev pub item_step : State → Item → Step
+item_step state item =
     more (record { settings = with_item state.settings item; named = state.named; awaited = None })
 
 -- the step of an argument that names the input
@@ -152,41 +152,41 @@ named_by state text item =
     else more (record { settings = with_item state.settings item; named = true; awaited = None })
 
 -- the step of an item, given whether it names the input
-abbrev pub behind_item : State → List ℕ → Item → Bool → Step
-behind_item state text item true = named_by state text item
-behind_item state text item false = behind state item
+abbrev pub input_or_item_step : State → List ℕ → Item → Bool → Step
+input_or_item_step state text item true = named_by state text item
+input_or_item_step state text item false = item_step state item
 
 -- the step of the value of an option
-abbrev pub behind_value : State → Awaited → List ℕ → Option Item → Step
-behind_value state option text (Some item) = behind_item state text item (is_input item)
-behind_value state option text None = done (Err (bad_value option text))
+abbrev pub value_step : State → Awaited → List ℕ → Option Item → Step
+value_step state option text (Some item) = input_or_item_step state text item (is_input item)
+value_step state option text None = done (Err (bad_value option text))
 
 -- the step of an argument that begins with `-` and is in no row of the table: an option joined to its value, or unknown
-abbrev pub behind_joined : State → List ℕ → Option (Awaited × List ℕ) → Step
-behind_joined state text (Some said) = behind_value state said.0 said.1 (value_in said.0 said.1)
-behind_joined state text None = done (Err (unknown_option text))
+abbrev pub joined_step : State → List ℕ → Option (Awaited × List ℕ) → Step
+joined_step state text (Some joined) = value_step state joined.0 joined.1 (value_in joined.0 joined.1)
+joined_step state text None = done (Err (unknown_option text))
 
 -- the step of an argument that is no value
-abbrev pub behind_word : State → List ℕ → Word → Step
-behind_word state text word.Help = done (Ok help)
-behind_word state text word.Version = done (Ok version)
-behind_word state text word.Hex = behind state hex
-behind_word state text word.HexFrame = behind state hex_frame
-behind_word state text word.Strict = behind state strict
-behind_word state text word.Verbose = behind state verbose
-behind_word state text word.Summary = behind state summary
-behind_word state text word.Quiet = behind state quiet
-behind_word state text word.Reassemble = behind state reassemble
-behind_word state text word.NoNames = behind state no_names
-behind_word state text (word.Option option) = more (record state { awaited = Some option })
-behind_word state text word.StandardInput = named_by state text standard_input
-behind_word state text word.File = named_by state text (file text)
-behind_word state text word.Unknown = behind_joined state text (joined_in text)
+abbrev pub word_step : State → List ℕ → Word → Step
+word_step state text word.Help = done (Ok help)
+word_step state text word.Version = done (Ok version)
+word_step state text word.Hex = item_step state hex
+word_step state text word.HexFrame = item_step state hex_frame
+word_step state text word.Strict = item_step state strict
+word_step state text word.Verbose = item_step state verbose
+word_step state text word.Summary = item_step state summary
+word_step state text word.Quiet = item_step state quiet
+word_step state text word.Reassemble = item_step state reassemble
+word_step state text word.NoNames = item_step state no_names
+word_step state text (word.Option option) = more (record state { awaited = Some option })
+word_step state text word.StandardInput = named_by state text standard_input
+word_step state text word.File = named_by state text (file text)
+word_step state text word.Unknown = joined_step state text (joined_in text)
 
 -- the step of an argument
 abbrev pub step_from : State → List ℕ → Option Awaited → Step
-step_from state text (Some option) = behind_value state option text (value_in option text)
-step_from state text None = behind_word state text (word_named text)
+step_from state text (Some option) = value_step state option text (value_in option text)
+step_from state text None = word_step state text (word_named text)
 
 abbrev pub step : State → List ℕ → Step
 step state text = step_from state text state.awaited
@@ -201,10 +201,10 @@ finished state = finished_from state state.awaited
 
 -- an option and its value that were in one argument
 abbrev pub joined_parts : Joined → Awaited × List ℕ
-joined_parts said = (said.option, said.value.now)
+joined_parts joined = (joined.option, joined.value.now)
 
 -- The step has this answer and leaves this state.
-abbrev pub StepGives : Step → State → Result (Option Request) UsageError → Type 0
-StepGives step state (Ok None) = step ≡ more state
-StepGives step state (Ok (Some request)) = step ≡ done (Ok (asked_of request))
-StepGives step state (Err error) = step ≡ done (Err (fault_of error))
+abbrev pub IsStepResult : Step → State → Result (Option Request) UsageError → Type 0
+IsStepResult step state (Ok None) = step ≡ more state
+IsStepResult step state (Ok (Some request)) = step ≡ done (Ok (asked_of request))
+IsStepResult step state (Err error) = step ≡ done (Err (fault_of error))

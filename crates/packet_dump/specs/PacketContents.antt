@@ -87,15 +87,15 @@ HoldsLaxly opening bytes content =
 -- ---- either
 
 -- The bytes after an opening have this content, parsed strictly or laxly.
-abbrev pub HoldsBehind : Bool → Opening → List ℕ → Content → Type 0
-HoldsBehind true opening bytes content = HoldsStrictly opening bytes content
-HoldsBehind false opening bytes content = HoldsLaxly opening bytes content
+abbrev pub HoldsAfterOpening : Bool → Opening → List ℕ → Content → Type 0
+HoldsAfterOpening true opening bytes content = HoldsStrictly opening bytes content
+HoldsAfterOpening false opening bytes content = HoldsLaxly opening bytes content
 
 -- The bytes of a packet of this link type have this content, parsed strictly or laxly.
 abbrev pub Holds : Bool → ℕ → List ℕ → Content → Type 0
 Holds strict link bytes content =
     ((opening : Opening) × (opening_of link bytes ≡ Some opening)
-    × HoldsBehind strict opening (drop opening.skipped bytes) content)
+    × HoldsAfterOpening strict opening (drop opening.skipped bytes) content)
     ⊎ ((opening_of link bytes ≡ None) × (content ≡ other_link link))
 
 -- the text of a content; for a link type that is not supported, its number and the length of the packet

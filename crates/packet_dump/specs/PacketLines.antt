@@ -5,8 +5,8 @@ use Rattle.capture_reader.specs.Captures.{PlainShown}
 use Rattle.capture_reader.specs.declared.shown.Time.{Time}
 use Rattle.line_io.specs.Lines.{line_feed, space}
 use Rattle.etherparse.specs.Types.LaxSlicedPacket.{LaxSlicedPacket}
-use Rattle.packet_dump.specs.Details.{AreTold, interface_text}
-use Rattle.packet_dump.specs.Openings.{front_text}
+use Rattle.packet_dump.specs.Details.{AreWantedDetails, interface_text}
+use Rattle.packet_dump.specs.Openings.{skipped_header_text}
 use Rattle.packet_dump.specs.PacketContents.{Content, bytes_text, content_kind, content_text, meets, shown_bytes}
 use Rattle.packet_dump.specs.PacketContents.{other_link, packet, refusal, shows_line}
 use Rattle.packet_times.specs.Instants.{instant_of, is_fine}
@@ -43,7 +43,7 @@ moment_text form number first shown = decimal number ++ space ∷ time_text form
 
 -- the start of a line: the number, the time, and the fields of a link header that the program parses itself
 abbrev pub start_text : TimeForm → ℕ → Option ℕ → PlainShown → List ℕ
-start_text form number first shown = moment_text form number first shown ++ front_text shown.link shown.bytes
+start_text form number first shown = moment_text form number first shown ++ skipped_header_text shown.link shown.bytes
 
 -- the end of a line: the interface number if details are wanted, the captured length if the packet is truncated, rows
 -- of bytes and a line feed
@@ -88,5 +88,5 @@ parts_text options parts content details =
 -- The line of these parts was appended, with the details of the lax reading if they are shown.
 abbrev pub AppendsTold : DumpOptions → LineParts → LaxSlicedPacket → Content → List ℕ → List ℕ → Type 0
 AppendsTold options parts read content old new =
-    (details : List ℕ) × AreTold (tells_details options content) read details
+    (details : List ℕ) × AreWantedDetails (tells_details options content) read details
     × (new ≡ old ++ parts_text options parts content details)

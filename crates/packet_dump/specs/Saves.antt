@@ -3,7 +3,7 @@ use Rattle.std.specs.Prelude.{◌≡◌, ℕ, ◌+◌, ◌^◌, ◌<◌, if◌th
 use Rattle.std.specs.Prelude.{Some, None, ◌&&◌}
 use Rattle.std.specs.Io.KnownBytes.{Appends}
 use Rattle.capture_reader.specs.Captures.{Item, IsCapture, PlainShown, Stage, at_start, shown_in, stage_after}
-use Rattle.capture_reader.specs.Captures.{stage_behind}
+use Rattle.capture_reader.specs.Captures.{stage_after_items}
 use Rattle.capture_reader.specs.Classic.{heading_bytes}
 use Rattle.capture_writer.specs.Written.{AreWritten, IsWriteError, IsWritten, capture_bytes, packet_bytes}
 use Rattle.capture_writer.specs.Written.{written_heading}
@@ -13,7 +13,7 @@ use Rattle.packet_dump.specs.Dumps.{AreFewer, Begin, IsRefused, packets_in}
 use Rattle.packet_dump.specs.PacketContents.{Content, Holds, content_kind, meets, shows_kind}
 use Rattle.packet_dump.specs.declared.dump_options.DumpOptions.{DumpOptions}
 use Rattle.packet_dump.specs.declared.ending.Ending.{Ending}
-use Rattle.packet_dump.specs.declared.ending.Ending.TheVariants.{Whole, Enough, Broken}
+use Rattle.packet_dump.specs.declared.ending.Ending.TheVariants.{Complete, Enough, Broken}
 use Rattle.packet_dump.specs.declared.saving.SaveFault.TheVariants.{Refused, Failed}
 use Rattle.packet_dump.specs.declared.saving.SaveState.{SaveState}
 use Rattle.packet_dump.specs.declared.saving.SaveState.TheVariants.{Unasked, Open, Stopped}
@@ -58,16 +58,16 @@ AreSaved packets = (link_in packets < 2 ^ 16) × AreWritten (link_in packets) pa
 -- packets before it.
 pub record IsUnsaved (options : DumpOptions) (items : List Item) (bytes : List ℕ) (number : ℕ) (refusal : WriteRefusal)
     : Type 0 where
-  pub front : List Item
+  pub earlier : List Item
   pub item : Item
-  pub behind : List Item
+  pub later : List Item
   pub packets : List PlainShown
   pub shown : PlainShown
-  pub parts : items ≡ front ++ item ∷ behind
-  pub selected : AreSelected options at_start front packets
-  pub shows : shown_in (stage_behind at_start front) item ≡ Some shown
+  pub parts : items ≡ earlier ++ item ∷ later
+  pub selected : AreSelected options at_start earlier packets
+  pub shows : shown_in (stage_after_items at_start earlier) item ≡ Some shown
   pub is_selected : Selects options (Some shown) (shown ∷ [])
-  pub number_is : number ≡ packets_in front + 1
+  pub number_is : number ≡ packets_in earlier + 1
   pub refused : IsWriteError (link_in (packets ++ shown ∷ [])) shown (write_error.Refused refusal)
   pub fits : link_in (packets ++ shown ∷ []) < 2 ^ 16
   pub written : AreWritten (link_in (packets ++ shown ∷ [])) packets
@@ -75,15 +75,15 @@ pub record IsUnsaved (options : DumpOptions) (items : List Item) (bytes : List �
 
 -- The bytes begin a capture of selected packets of the first items.
 pub record BeginsCopy (options : DumpOptions) (items : List Item) (bytes : List ℕ) : Type 0 where
-  pub front : List Item
-  pub behind : List Item
+  pub earlier : List Item
+  pub later : List Item
   pub packets : List PlainShown
   pub link : ℕ
   pub rest : List ℕ
-  pub parts : items ≡ front ++ behind
-  pub selected : AreSelected options at_start front packets
+  pub parts : items ≡ earlier ++ later
+  pub selected : AreSelected options at_start earlier packets
   pub written : AreWritten link packets
-  pub whole : capture_bytes link packets ≡ bytes ++ rest
+  pub complete : capture_bytes link packets ≡ bytes ++ rest
 
 -- ---- states
 
@@ -144,7 +144,7 @@ Saves options wanted closed state items bytes = ⊥
 
 -- The input ends with these items, so that a run ends there.
 abbrev pub EndsAt : DumpOptions → Bool → Ending → List ℕ → List Item → Type 0
-EndsAt options ended Whole read items = (ended ≡ true) × IsCapture read items × AreFewer options items
+EndsAt options ended Complete read items = (ended ≡ true) × IsCapture read items × AreFewer options items
 EndsAt options ended Enough read items = Begin read items × (packets_in items ≡ options.most)
 EndsAt options ended (Broken packets error) read items =
     IsRefused ended read (items, error) × AreFewer options items × (packets ≡ packets_in items)
@@ -162,9 +162,9 @@ BeginsSaved options true read saved = (items : List Item) × Begin read items ×
 -- ---- steps
 
 -- the file header before a packet, if it is the first
-abbrev pub front_bytes : Option ℕ → ℕ → List ℕ
-front_bytes None link = heading_bytes (written_heading link)
-front_bytes (Some first) link = []
+abbrev pub file_header_bytes : Option ℕ → ℕ → List ℕ
+file_header_bytes None link = heading_bytes (written_heading link)
+file_header_bytes (Some first) link = []
 
 -- the link type of the capture, which is that of the first packet
 abbrev pub link_with : Option ℕ → ℕ → ℕ
@@ -175,11 +175,11 @@ link_with (Some first) link = first
 abbrev pub Pushes : Option ℕ → SaveState → ℕ → PlainShown → (old new : List ℕ) → Type 0
 Pushes link (Open next) number shown old new =
     (shown.link < 2 ^ 16) × (next ≡ Some (link_with link shown.link)) × IsWritten (link_with link shown.link) shown
-    × (new ≡ (old ++ front_bytes link shown.link) ++ packet_bytes shown)
+    × (new ≡ (old ++ file_header_bytes link shown.link) ++ packet_bytes shown)
 Pushes link (Stopped (Refused place refusal)) number shown old new =
     (shown.link < 2 ^ 16) × (place ≡ number) × IsWriteError (link_with link shown.link) shown (write_error.Refused
     refusal)
-    × (new ≡ old ++ front_bytes link shown.link)
+    × (new ≡ old ++ file_header_bytes link shown.link)
 Pushes link state number shown old new = ⊥
 
 -- Bytes that are right for these items, after those in the file, become right for all items.
@@ -189,11 +189,12 @@ GoesOn options old new items all =
     → Saves options wanted false new.state all (saved ++ new.bytes.items)
 
 -- The pending bytes were written, as far as the file accepted them.
-abbrev pub Flushes : Saving → Saving → (held holds : Option (List ℕ)) → Type 0
-Flushes old new held holds =
+abbrev pub Flushes : Saving → Saving → (contents next_contents : Option (List ℕ)) → Type 0
+Flushes old new contents next_contents =
     (options : DumpOptions) (wanted closed : Bool) (items : List Item) (saved : List ℕ)
     → Saves options wanted closed old.state items (saved ++ old.bytes.items)
-    → (more : List ℕ) × Appends held holds more × Saves options wanted closed new.state items (saved ++ more)
+    → (more : List ℕ) × Appends contents next_contents more
+    × Saves options wanted closed new.state items (saved ++ more)
 
 -- No more packets follow.
 abbrev pub Finishes : Saving → Saving → Type 0
@@ -203,8 +204,9 @@ Finishes old new =
     → Saves options wanted true new.state items (saved ++ new.bytes.items)
 
 -- No more packets follow, and the pending bytes were written.
-abbrev pub Closes : Saving → Saving → (held holds : Option (List ℕ)) → Type 0
-Closes old new held holds =
+abbrev pub Closes : Saving → Saving → (contents next_contents : Option (List ℕ)) → Type 0
+Closes old new contents next_contents =
     (options : DumpOptions) (wanted : Bool) (items : List Item) (saved : List ℕ)
     → Saves options wanted false old.state items (saved ++ old.bytes.items)
-    → (more : List ℕ) × Appends held holds more × Saves options wanted true new.state items (saved ++ more)
+    → (more : List ℕ) × Appends contents next_contents more
+    × Saves options wanted true new.state items (saved ++ more)

@@ -20,7 +20,7 @@ use Rattle.etherparse.specs.Types.TransportHeader.TheVariants as header
 use Rattle.packet_dump.specs.Dumps.{AreAllTexts, packets_in}
 use Rattle.packet_dump.specs.Openings.{is_cooked, opening_of}
 use Rattle.packet_dump.specs.PacketCalls.{AreOpen, NumberCall, PoolHistory, is_since, table_behind}
-use Rattle.packet_dump.specs.PacketContents.{Content, Holds, HoldsBehind, other_link, packet, refusal}
+use Rattle.packet_dump.specs.PacketContents.{Content, Holds, HoldsAfterOpening, other_link, packet, refusal}
 use Rattle.packet_dump.specs.Saves.{EndsAt}
 use Rattle.packet_dump.specs.SliceErrorTexts.{error_name}
 use Rattle.packet_dump.specs.declared.dump_options.DumpOptions.{DumpOptions}
@@ -41,7 +41,7 @@ pub record PlainRefusals : Type 0 where
 
 pub record PlainSummary : Type 0 where
   pub wanted : Bool
-  pub apart : Bool
+  pub by_cause : Bool
   pub packets : ℕ
   pub kept : ℕ
   pub original : ℕ
@@ -63,7 +63,7 @@ plain_refusals refusals = record { all = refusals.all; errors = map plain_count 
 abbrev pub plain_of : Summary → PlainSummary
 plain_of summary = record {
   wanted = summary.wanted;
-  apart = summary.apart;
+  by_cause = summary.by_cause;
   packets = summary.packets;
   kept = summary.kept;
   original = summary.original;
@@ -97,9 +97,9 @@ no_layers = record {
 
 -- the summary before any packet
 abbrev pub new_summary : Bool → Bool → PlainSummary
-new_summary wanted apart = record {
+new_summary wanted by_cause = record {
   wanted = wanted;
-  apart = apart;
+  by_cause = by_cause;
   packets = 0;
   kept = 0;
   original = 0;
@@ -190,8 +190,8 @@ with_packet shown before = record before {
 }
 
 -- True if the capture truncated a packet.
-abbrev pub is_cut : PlainShown → Bool
-is_cut shown = nat_lt (length shown.bytes) shown.original_len
+abbrev pub is_truncated : PlainShown → Bool
+is_truncated shown = nat_lt (length shown.bytes) shown.original_len
 
 -- the summary with a refused or stopped packet: truncated by the capture, or malformed
 abbrev pub with_cause : Bool → PlainSummary → PlainSummary
@@ -221,8 +221,8 @@ with_unread link before = record before { unread = with_one nat_eq link before.u
 -- the summary with the content of a packet
 abbrev pub with_content : Bool → PlainShown → Content → PlainSummary → PlainSummary
 with_content cooked shown (packet read) before =
-    with_stop (is_cut shown) read.net.inside.stop (with_read cooked (layers_in read) before)
-with_content cooked shown (refusal error) before = with_refused error (with_cause (is_cut shown) before)
+    with_stop (is_truncated shown) read.net.inside.stop (with_read cooked (layers_in read) before)
+with_content cooked shown (refusal error) before = with_refused error (with_cause (is_truncated shown) before)
 with_content cooked shown (other_link number) before = with_unread number before
 
 -- The summary with a packet of this content, and the cooked header before its layers, if the program parsed one. It is
@@ -234,7 +234,7 @@ counted cooked shown content before =
 -- The packet of these bytes after an opening was counted.
 abbrev pub CountsBehind : Bool → Opening → List ℕ → PlainShown → PlainSummary → PlainSummary → Type 0
 CountsBehind strict opening bytes shown old new =
-    (content : Content) × HoldsBehind strict opening bytes content
+    (content : Content) × HoldsAfterOpening strict opening bytes content
     × (new ≡ counted (is_cooked opening) shown content old)
 
 -- True if the program parses a cooked header of the opening.
@@ -251,35 +251,35 @@ CountsPacket strict shown old new =
 -- ---- several packets
 
 -- a packet and its content
-abbrev pub Held : Type 0
-Held = PlainShown × Content
+abbrev pub ReadPacket : Type 0
+ReadPacket = PlainShown × Content
 
 -- The packets are that of an item with its content, if it is one, else none.
-abbrev pub IsHeld : DumpOptions → Option PlainShown → List Held → Type 0
-IsHeld options (Some shown) packets =
+abbrev pub IsReadPacket : DumpOptions → Option PlainShown → List ReadPacket → Type 0
+IsReadPacket options (Some shown) packets =
     (content : Content) × Holds options.strict shown.link shown.bytes content × (packets ≡ (shown, content) ∷ [])
-IsHeld options None packets = packets ≡ []
+IsReadPacket options None packets = packets ≡ []
 
 -- The packets are those of these items with their contents, in order.
-abbrev pub AreHeld : DumpOptions → Stage → List Item → List Held → Type 0
-AreHeld options stage [] packets = packets ≡ []
-AreHeld options stage (item ∷ items) packets =
-    (one others : List Held) × IsHeld options (shown_in stage item) one × (packets ≡ one ++ others)
-    × AreHeld options (stage_after stage item) items others
+abbrev pub AreReadPackets : DumpOptions → Stage → List Item → List ReadPacket → Type 0
+AreReadPackets options stage [] packets = packets ≡ []
+AreReadPackets options stage (item ∷ items) packets =
+    (one others : List ReadPacket) × IsReadPacket options (shown_in stage item) one × (packets ≡ one ++ others)
+    × AreReadPackets options (stage_after stage item) items others
 
-abbrev pub counted_one : Held → PlainSummary → PlainSummary
-counted_one held before =
-    counted (has_cooked (opening_of held.0.link held.0.bytes)) held.0 held.1 before
+abbrev pub counted_one : ReadPacket → PlainSummary → PlainSummary
+counted_one read before =
+    counted (has_cooked (opening_of read.0.link read.0.bytes)) read.0 read.1 before
 
 -- the summary after these packets
-abbrev pub counted_all : List Held → PlainSummary → PlainSummary
+abbrev pub counted_all : List ReadPacket → PlainSummary → PlainSummary
 counted_all [] before = before
 counted_all (one ∷ others) before = counted_all others (counted_one one before)
 
 -- The packets of these items were counted, whether or not they are shown.
 abbrev pub IsCounted : DumpOptions → List Item → PlainSummary → PlainSummary → Type 0
 IsCounted options items old new =
-    (packets : List Held) × AreHeld options at_start items packets × (new ≡ counted_all packets old)
+    (packets : List ReadPacket) × AreReadPackets options at_start items packets × (new ≡ counted_all packets old)
 
 -- A summary of the packets of these items becomes one of those of all items.
 abbrev pub CountsOn : DumpOptions → PlainSummary → PlainSummary → (items all : List Item) → Type 0
@@ -367,15 +367,15 @@ IsCountedDump options ended ending old new read written =
 -- ---- sums
 
 -- 1 if a packet has a valid layer, else 0
-abbrev pub stands_in : Content → ℕ
-stands_in (packet read) = 1
-stands_in (refusal error) = 0
-stands_in (other_link number) = 0
+abbrev pub parsed_in : Content → ℕ
+parsed_in (packet read) = 1
+parsed_in (refusal error) = 0
+parsed_in (other_link number) = 0
 
 -- the number of packets with a valid layer
-abbrev pub standing : List Held → ℕ
-standing [] = 0
-standing (one ∷ others) = stands_in one.1 + standing others
+abbrev pub parsed_count : List ReadPacket → ℕ
+parsed_count [] = 0
+parsed_count (one ∷ others) = parsed_in one.1 + parsed_count others
 
 -- the total of counts by key
 abbrev pub total : {K : Type 0} → List (K × ℕ) → ℕ
@@ -384,9 +384,9 @@ total (entry ∷ others) = entry.1 + total others
 
 -- The rows of a summary add up to its packets, given the number of packets with a valid layer. The counts of each error
 -- add up to all refused or stopped packets, and so do truncated and malformed ones.
-pub record AddsUp (stands : ℕ) (summary : PlainSummary) : Type 0 where
-  pub packets : summary.packets ≡ stands + summary.refused.all + total summary.unread
+pub record AddsUp (parsed : ℕ) (summary : PlainSummary) : Type 0 where
+  pub packets : summary.packets ≡ parsed + summary.refused.all + total summary.unread
   pub refused : summary.refused.all ≡ total summary.refused.errors
   pub stopped : summary.stopped.all ≡ total summary.stopped.errors
-  pub within : summary.stopped.all ≤ stands
+  pub within : summary.stopped.all ≤ parsed
   pub causes : summary.cut + summary.malformed ≡ summary.refused.all + summary.stopped.all

@@ -46,7 +46,7 @@ refusals_text row refusals = count_text row refusals.all ++ errors_text refusals
 -- the numbers of truncated and of malformed packets, if they are printed separately
 abbrev pub causes_text : PlainSummary → List ℕ
 causes_text summary =
-    if summary.apart
+    if summary.by_cause
     then count_text (codes "cut by the capture") summary.cut ++ count_text (codes "malformed") summary.malformed
     else []
 

@@ -77,16 +77,16 @@ abbrev pub state_at : List ℕ → List ℕ
 state_at bytes = if nat_le 14 (length bytes) then state_text (tcp_header_of bytes) else []
 
 -- the known fields of a UDP header
-abbrev pub udp_front_text : List ℕ → List ℕ
-udp_front_text bytes = codes " udp " ++ ports_at bytes
+abbrev pub udp_start_text : List ℕ → List ℕ
+udp_start_text bytes = codes " udp " ++ ports_at bytes
 
 -- the known fields of a TCP header
-abbrev pub tcp_front_text : List ℕ → List ℕ
-tcp_front_text bytes = codes " tcp " ++ ports_at bytes ++ state_at bytes
+abbrev pub tcp_start_text : List ℕ → List ℕ
+tcp_start_text bytes = codes " tcp " ++ ports_at bytes ++ state_at bytes
 
 -- the known fields of a header of this protocol: UDP or TCP, if the 4 bytes of the ports are captured
-abbrev pub header_front_text : ℕ → List ℕ → List ℕ
-header_front_text number bytes =
+abbrev pub header_start_text : ℕ → List ℕ → List ℕ
+header_start_text number bytes =
     if nat_lt (length bytes) 4 then [] else
-    (if number == udp_number then udp_front_text bytes else
-    (if number == tcp_number then tcp_front_text bytes else []))
+    (if number == udp_number then udp_start_text bytes else
+    (if number == tcp_number then tcp_start_text bytes else []))

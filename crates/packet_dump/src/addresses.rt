@@ -116,9 +116,9 @@ fn put_octet(text: &mut [u8; DOTTED_LEN], at: usize, octet: u8) -> usize
 {
     let tens = octet / 10;
     text[at] = b'.';
-    let behind_first = put_digit(text, at + 1, b'0' + tens / 10, octet >= 100);
-    let behind_second = put_digit(text, behind_first, b'0' + tens % 10, octet >= 10);
-    put_digit(text, behind_second, b'0' + octet % 10, true)
+    let after_first = put_digit(text, at + 1, b'0' + tens / 10, octet >= 100);
+    let after_second = put_digit(text, after_first, b'0' + tens % 10, octet >= 10);
+    put_digit(text, after_second, b'0' + octet % 10, true)
 }
 
 /// Writes a digit at position `at` of the text, and returns the position for the next digit: `at` itself if this digit
@@ -217,8 +217,8 @@ fn put_group(text: &mut [u8; GROUPS_LEN], at: usize, group: u16) -> usize
 {
     let [first, second] = hex_pair((group / 256) as u8);
     let [third, fourth] = hex_pair((group % 256) as u8);
-    let behind_first = put_digit(text, at, first, group >= 0x1000);
-    let behind_second = put_digit(text, behind_first, second, group >= 0x100);
-    let behind_third = put_digit(text, behind_second, third, group >= 0x10);
-    put_digit(text, behind_third, fourth, true)
+    let after_first = put_digit(text, at, first, group >= 0x1000);
+    let after_second = put_digit(text, after_first, second, group >= 0x100);
+    let after_third = put_digit(text, after_second, third, group >= 0x10);
+    put_digit(text, after_third, fourth, true)
 }

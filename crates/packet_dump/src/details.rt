@@ -5,10 +5,11 @@ ghost use Rattle.std.specs.Prelude.{◌≡◌, ◌++◌, ℕ, List, OnOk};
 ghost use Rattle.std.specs.Option.{option_copied};
 ghost use Rattle.etherparse.specs.LaxPackets.{lax_layers_of};
 ghost use Rattle.etherparse.specs.StrictFrames.{layers_in};
-ghost use Rattle.packet_dump.specs.Details.{AreDetails, AreTold, IsQuote, IsQuoteOf, interface_text, quoted_by};
+ghost use Rattle.packet_dump.specs.Details.{AreDetails, AreWantedDetails, IsQuote, IsQuoteOf, interface_text};
+ghost use Rattle.packet_dump.specs.Details.{quoted_by};
 ghost use Rattle.packet_dump.specs.Details.{quoted_rest, quoted_text};
 
-use crate::layers::{push_incomplete, push_inner, push_outer, push_refused_front};
+use crate::layers::{push_incomplete, push_inner, push_outer, push_refused_start};
 use detail_texts::quoted_packet;
 use etherparse::{Entry, LaxSlicedPacket};
 use line_io::decimals;
@@ -35,12 +36,12 @@ pub fn push_interface(
 
 /// Appends the details of a packet's layers (TTL, TCP window ..), and the packet that an ICMP error quotes, with
 /// `--verbose`.
-pub fn push_told(
+pub fn push_wanted_details(
     output: &mut Vec<u8>,
     wanted: bool,
     read: &LaxSlicedPacket<'_>,
 ) -> Result<(), AllocError>
-    ensures { OnOk result ((text : List ℕ) × AreTold wanted read.now text
+    ensures { OnOk result ((text : List ℕ) × AreWantedDetails wanted read.now text
         × (output.new.items ≡ output.old.items ++ text)) }
 {
     if wanted {
@@ -111,7 +112,7 @@ fn push_quoted_rest(output: &mut Vec<u8>, read: &LaxSlicedPacket<'_>) -> Result<
         quoted_rest layers.net.inside.incomplete (layers_in layers) layers.net.inside.stop)) }
 {
     match &read.stop_err {
-        Some(_) => push_refused_front(output, &read.net),
+        Some(_) => push_refused_start(output, &read.net),
         None => push_inner(output, read),
     }
 }

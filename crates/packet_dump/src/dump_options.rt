@@ -166,16 +166,16 @@ impl DumpOptions {
         self.only.is_none() && self.asks_nothing()
     }
 
-    /// Returns whether the line of a packet with layers is printed: not with `--quiet`, and else if `--only` and all
-    /// filter options select it.
+    /// Returns whether the line of a packet with a valid first header is printed: never with `--quiet`, otherwise only
+    /// if `--only` and all filter options select the packet.
     pub fn shows_read(&self, read: &LaxSlicedPacket<'_>) -> bool
         ensures { result ≡ shows_content self.now (packet (lax_layers_of read.now)) }
     {
         self.shows(Kind::of(read)) && self.meets(read)
     }
 
-    /// Returns whether the line of a packet that is printed without layers (rejected, or with an unsupported link type)
-    /// is printed, given its kind: not with `--quiet` or with any filter option, and else if `--only` selects it.
+    /// Returns whether the line of a packet without valid layers (rejected, or with an unsupported link type) is
+    /// printed, given its kind: never with `--quiet` or any filter option, otherwise only if `--only` selects the kind.
     pub fn shows_unread(&self, kind: Option<Kind>) -> bool
         ensures { result ≡ (shows_line self.now kind && asks_nothing self.now.words) }
     {

@@ -10,7 +10,7 @@ use line_io::RunError;
 #[derive(Clone, Copy)]
 pub enum Ending {
     /// The capture is complete and was read to its end.
-    Whole,
+    Complete,
     /// The number of packets given by `--count` was read.
     Enough,
     /// The capture is invalid, or it ends within a packet or block.

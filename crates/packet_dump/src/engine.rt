@@ -67,7 +67,7 @@ pub fn run<R: Read, W: Write, F: Write>(
     ensures failed { has_failed file.new ≡ is_failed saving.new.state }
 
     // A reader that has ended was read to its end, unless it still returns bytes after the maximum number of reads.
-    ensures whole { OnOk result (has_ended reader.new ≡ true →
+    ensures all_read { OnOk result (has_ended reader.new ≡ true →
         IsAtEnd (R.remaining (inner_of reader.new)) ⊎ (reads_left reader.new ≡ 0)) }
 
     // The error names the side that failed.
@@ -78,11 +78,11 @@ pub fn run<R: Read, W: Write, F: Write>(
     let piece = buffer.as_mut_slice();
     let mut session = Session::new(alloc, options);
     'pieces: loop {
-        let standing = session.drain(summary, saving)?;
+        let capture_state = session.drain(summary, saving)?;
         writer.write_all(session.output.as_slice())?;
-        if standing.ends_run(reader.ended()) {
+        if capture_state.ends_run(reader.ended()) {
             saving.close(file)?;
-            let ending = session.ending(standing);
+            let ending = session.ending(capture_state);
             session.count_pool(summary);
             return Ok(ending);
         }

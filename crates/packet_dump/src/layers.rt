@@ -9,17 +9,18 @@ ghost use Rattle.etherparse.specs.LinkSlices.{link_layer_of};
 ghost use Rattle.etherparse.specs.Payloads.{ether_payload_in, payload_ether_type_in};
 ghost use Rattle.etherparse.specs.StrictFrames.{extension_in, layers_in};
 ghost use Rattle.packet_dump.specs.LayerTexts.{ether_type_text, has_lengths, incomplete_text, inner_in, is_length, named_type_text, inner_text, ip_payload_text, name_text, outer_text};
-ghost use Rattle.packet_dump.specs.LayerTexts.{packet_text, payload_front_text, protocol_text, refused_front_text, rest_text};
-ghost use Rattle.packet_dump.specs.LayerTexts.{transport_front_text, type_text, unread_in};
+ghost use Rattle.packet_dump.specs.LayerTexts.{packet_text, payload_start_text, protocol_text, refused_start_text};
+ghost use Rattle.packet_dump.specs.LayerTexts.{rest_text};
+ghost use Rattle.packet_dump.specs.LayerTexts.{transport_start_text, type_text, unread_in};
 ghost use Rattle.packet_dump.specs.Links.{extensions_text};
 ghost use Rattle.packet_dump.specs.SliceErrorTexts.{stop_text};
 
 use crate::addresses::push_hex;
 use crate::links::{push_extensions, push_link};
-use crate::missing::{push_cut_payload, push_whole};
+use crate::missing::{push_full_len_if_truncated, push_missing_tcp_payload};
 use crate::nets::{begins_payload, push_net};
 use crate::refusals::push_stop;
-use crate::transports::{push_header_front, push_len, push_transport};
+use crate::transports::{push_header_start, push_len, push_transport};
 use etherparse::err::packet::SliceError;
 use etherparse::{
     EtherType, IpNumber, LaxIpPayloadSlice, LaxLinkExtSlice, LaxNetSlice, LaxSlicedPacket,
@@ -74,23 +75,23 @@ fn push_stopped(
     error: &SliceError,
 ) -> Result<(), AllocError>
     ensures { OnOk result (output.new.items ≡ output.old.items
-        ++ (refused_front_text (option_map lax_net_layer_of net.now) ++ stop_text error.now)) }
+        ++ (refused_start_text (option_map lax_net_layer_of net.now) ++ stop_text error.now)) }
 {
-    push_refused_front(output, net)?;
+    push_refused_start(output, net)?;
     push_stop(output, error)
 }
 
 /// Appends the known fields at the start of a transport header that is truncated or invalid (the ports, for example),
 /// and the length of its payload, if it is known.
-pub fn push_refused_front(
+pub fn push_refused_start(
     output: &mut Vec<u8>,
     net: &Option<LaxNetSlice<'_>>,
 ) -> Result<(), AllocError>
     ensures { OnOk result (output.new.items
-        ≡ output.old.items ++ refused_front_text (option_map lax_net_layer_of net.now)) }
+        ≡ output.old.items ++ refused_start_text (option_map lax_net_layer_of net.now)) }
 {
-    push_transport_front(output, net)?;
-    push_cut_payload(output, net)
+    push_transport_start(output, net)?;
+    push_missing_tcp_payload(output, net)
 }
 
 /// Appends the transport layer of a packet, or else the protocol and length of its payload, and the payload's full
@@ -99,12 +100,15 @@ pub fn push_inner(output: &mut Vec<u8>, read: &LaxSlicedPacket<'_>) -> Result<()
     ensures { OnOk result (output.new.items ≡ output.old.items ++ (let layers = lax_layers_of read.now in
         inner_in layers.net.inside.incomplete (layers_in layers))) }
 {
-    push_there(output, read)?;
-    push_whole(output, read)
+    push_transport_or_payload(output, read)?;
+    push_full_len_if_truncated(output, read)
 }
 
 /// Appends the transport layer of a packet, or else the protocol and length of its payload.
-fn push_there(output: &mut Vec<u8>, read: &LaxSlicedPacket<'_>) -> Result<(), AllocError>
+fn push_transport_or_payload(
+    output: &mut Vec<u8>,
+    read: &LaxSlicedPacket<'_>,
+) -> Result<(), AllocError>
     ensures { OnOk result (output.new.items ≡ output.old.items ++ (let layers = layers_in (lax_layers_of read.now) in
         inner_text layers.transport (unread_in layers))) }
 {
@@ -126,34 +130,34 @@ pub fn push_incomplete(output: &mut Vec<u8>, incomplete: bool) -> Result<(), All
 
 /// Appends the ports and, for TCP, further fields at the start of a transport header that is not parsed, since it is
 /// truncated or invalid, or in a first fragment.
-fn push_transport_front(
+fn push_transport_start(
     output: &mut Vec<u8>,
     net: &Option<LaxNetSlice<'_>>,
 ) -> Result<(), AllocError>
     ensures { OnOk result (output.new.items
-        ≡ output.old.items ++ transport_front_text (option_map lax_net_layer_of net.now)) }
+        ≡ output.old.items ++ transport_start_text (option_map lax_net_layer_of net.now)) }
 {
     match net {
-        Some(net) => push_payload_front(output, begins_payload(net), net.ip_payload_ref()),
+        Some(net) => push_payload_start(output, begins_payload(net), net.ip_payload_ref()),
         None => Ok(()),
     }
 }
 
 /// Appends the ports and, for TCP, further fields at the start of an IP payload that is not parsed. Appends nothing for
 /// a later fragment (offset above 0), whose payload does not begin with a transport header.
-fn push_payload_front(
+fn push_payload_start(
     output: &mut Vec<u8>,
     begins: bool,
     payload: Option<&LaxIpPayloadSlice<'_>>,
 ) -> Result<(), AllocError>
     ensures { OnOk result (output.new.items ≡ output.old.items
-        ++ payload_front_text begins (option_map lax_ip_payload_of (option_copied payload.entry))) }
+        ++ payload_start_text begins (option_map lax_ip_payload_of (option_copied payload.entry))) }
 {
     let Some(payload) = payload else {
         return Ok(());
     };
     if begins {
-        push_header_front(output, payload.ip_number, payload.payload)
+        push_header_start(output, payload.ip_number, payload.payload)
     } else {
         Ok(())
     }
@@ -166,7 +170,7 @@ fn push_unread(output: &mut Vec<u8>, read: &LaxSlicedPacket<'_>) -> Result<(), A
 {
     match &read.net {
         Some(net) => {
-            push_transport_front(output, &read.net)?;
+            push_transport_start(output, &read.net)?;
             push_ip_payload(output, net.ip_payload_ref())
         }
         None => {
@@ -205,14 +209,14 @@ fn open_type(read: &LaxSlicedPacket<'_>) -> Option<EtherType>
     ensures { result ≡ payload_ether_type_in (layers_in (lax_layers_of read.now)) }
 {
     match (&read.net, &read.transport) {
-        (None, None) => type_behind(read),
+        (None, None) => payload_ether_type(read),
         (Some(_), _) | (None, Some(_)) => None,
     }
 }
 
 /// Returns the ether type of the payload after the link header and tags, whether or not a network layer is parsed in
 /// it; `None` if it is unknown.
-fn type_behind(read: &LaxSlicedPacket<'_>) -> Option<EtherType>
+fn payload_ether_type(read: &LaxSlicedPacket<'_>) -> Option<EtherType>
     ensures { result ≡ option_map (λ payload. payload.ether_type)
         (ether_payload_in (layers_in (lax_layers_of read.now))) }
 {

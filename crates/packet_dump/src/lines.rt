@@ -22,10 +22,10 @@ ghost use Rattle.packet_dump.specs.PoolLines.{GivesWhere, arrival_of};
 ghost use Rattle.packet_dump.specs.Sessions.{AwaitsPacket, HoldsPooling};
 ghost use Rattle.packet_dump.specs.Summaries.{CountsBehind, CountsPacket, counted, plain_of};
 
-use crate::details::{push_interface, push_told};
+use crate::details::{push_interface, push_wanted_details};
 use crate::dump_options::{DumpOptions, Kind, TimeForm};
 use crate::layers::push_packet;
-use crate::openings::{Opening, opening_of, push_front};
+use crate::openings::{Opening, opening_of, push_skipped_header};
 use crate::pooling::Pooling;
 use crate::refusals::push_refusal;
 use crate::rows::push_rows;
@@ -315,7 +315,7 @@ fn push_layers(
     }
     push_start(output, options.time, parts)?;
     push_packet(output, read)?;
-    push_told(output, options.verbose, read)?;
+    push_wanted_details(output, options.verbose, read)?;
     push_end(
         output,
         &parts.shown,
@@ -393,7 +393,7 @@ pub fn push_start(
     ensures { OnOk result (output.new.items ≡ output.old.items ++ parts_start form parts.now) }
 {
     push_moment(output, form, parts)?;
-    push_front(output, parts.shown.link_type, parts.shown.bytes)
+    push_skipped_header(output, parts.shown.link_type, parts.shown.bytes)
 }
 
 /// Appends the number of a packet, a space and its timestamp.

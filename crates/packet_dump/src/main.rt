@@ -140,19 +140,19 @@ fn main(rt: HostRuntime) -> ExitCode {
     let Ok(args) = env::args(&rt) else {
         let line = "packet_dump: an argument is not UTF-8; a file with such a name is read by \
             packet_dump < FILE";
-        return said(&rt, line, 1);
+        return print_error(&rt, line, 1);
     };
     let mut words = Vec::new(rt.alloc());
     for word in args {
         if words.push(word).is_err() {
-            return said(&rt, "packet_dump: out of memory", 1);
+            return print_error(&rt, "packet_dump: out of memory", 1);
         }
     }
-    let behind_name = match words.as_slice() {
-        [_, behind @ ..] => behind,
+    let arguments = match words.as_slice() {
+        [_, arguments @ ..] => arguments,
         [] => &[],
     };
-    match parse(behind_name) {
+    match parse(arguments) {
         Ok(Request::Help) => printed(&mut Watched::new(rt.stdout(), 0), HELP),
         Ok(Request::Version) => printed(&mut Watched::new(rt.stdout(), 0), VERSION),
         Ok(
@@ -190,7 +190,7 @@ fn printed<W: Write>(writer: &mut Watched<W>, text: &str) -> ExitCode
 }
 
 /// Prints an error message to standard error, and returns the given exit status.
-fn said(rt: &impl Eprint, line: &str, status: u8) -> ExitCode
+fn print_error(rt: &impl Eprint, line: &str, status: u8) -> ExitCode
     ensures { exit_status result ≡ status }
 {
     let _ = rt.eprintln(line);
@@ -235,7 +235,7 @@ fn refused(rt: &impl Eprint, error: &UsageError<'_>) -> ExitCode
             )
         }
     };
-    said(rt, "packet_dump --help lists the options", 2)
+    print_error(rt, "packet_dump --help lists the options", 2)
 }
 
 /// Prints the error of an invalid filter option (such as `--port x`) to standard error, and returns exit status 2.
@@ -262,7 +262,7 @@ fn refused_filter(rt: &impl Eprint, error: &FilterError<'_>) -> ExitCode
             eprintln!(rt; "packet_dump: invalid network '{word}'; it has bits set after the prefix")
         }
     };
-    said(rt, "packet_dump --help lists the options", 2)
+    print_error(rt, "packet_dump --help lists the options", 2)
 }
 
 /// Runs `packet_dump` on a capture file or on standard input, with a summary (`--summary`) and a new capture file of
@@ -424,7 +424,7 @@ fn ended(rt: &impl Eprint, path: Option<&str>, outcome: Result<Ending, RunError>
     ensures { exit_status result ≡ status_of outcome }
 {
     match outcome {
-        Ok(Ending::Whole | Ending::Enough) => ExitCode::SUCCESS,
+        Ok(Ending::Complete | Ending::Enough) => ExitCode::SUCCESS,
         Ok(Ending::Broken { packets, error }) => {
             let _ = match path {
                 Some(path) => {
@@ -438,7 +438,7 @@ fn ended(rt: &impl Eprint, path: Option<&str>, outcome: Result<Ending, RunError>
             ExitCode::from(1)
         }
         Err(RunError::Read) => ExitCode::from(1),
-        Err(error) => said(rt, error_text(&error), 1),
+        Err(error) => print_error(rt, error_text(&error), 1),
     }
 }
 

@@ -2,10 +2,12 @@
 //! itself, and the library parses the bytes after it.
 
 ghost use Rattle.std.specs.Prelude.{◌≡◌, ◌≤◌, ◌++◌, true, IfSome, OnOk, length};
-ghost use Rattle.packet_dump.specs.Openings.{behind_front, family_in, family_opening, front_text, has_no_type};
+ghost use Rattle.packet_dump.specs.Openings.{family_opening, has_no_type, loopback_family, opening_after_header};
+ghost use Rattle.packet_dump.specs.Openings.{skipped_header_text};
 ghost use Rattle.packet_dump.specs.Openings.{is_bare_ip, is_cooked, is_ipv6_family, loopback_opening, opening_of};
 ghost use Rattle.packet_dump.specs.Openings.{reads_hardware, reads_sll};
-ghost use Rattle.packet_dump.specs.Openings.{reads_sll2, sll2_front, sll2_interface, sll2_opening, sll_front, sll_opening, way_text, whole_of};
+ghost use Rattle.packet_dump.specs.Openings.{reads_sll2, sll2_header_text, sll2_interface, sll2_opening};
+ghost use Rattle.packet_dump.specs.Openings.{opening_at_start, sll_header_text, sll_opening, way_text};
 
 use crate::bytes::word_at;
 use crate::links::{push_sender, way_name};
@@ -41,9 +43,9 @@ pub fn opening_of(link_type: u16, bytes: &[u8]) -> Option<Opening>
     ensures within { IfSome result (λ opening. opening.skipped ≤ length bytes.now) }
 {
     if link_type == 1 {
-        Some(whole_of(Entry::Ethernet))
+        Some(opening_at_start(Entry::Ethernet))
     } else if is_bare_ip(link_type) {
-        Some(whole_of(Entry::Ip))
+        Some(opening_at_start(Entry::Ip))
     } else if link_type == 113 {
         Some(sll_opening(bytes))
     } else if link_type == 0 || link_type == 108 {
@@ -57,15 +59,15 @@ pub fn opening_of(link_type: u16, bytes: &[u8]) -> Option<Opening>
 
 /// Returns the start of a packet that the library parses from the first byte on, where the layer `entry` (Ethernet, for
 /// example) begins.
-fn whole_of(entry: Entry) -> Opening
-    ensures { result ≡ whole_of entry }
+fn opening_at_start(entry: Entry) -> Opening
+    ensures { result ≡ opening_at_start entry }
 {
     Opening { entry, skipped: 0 }
 }
 
 /// Returns where the library starts to parse a packet: after `skipped` bytes, at the layer of this ether type.
-fn behind_front(skipped: usize, ether_type: u16) -> Opening
-    ensures { result ≡ behind_front skipped ether_type }
+fn opening_after_header(skipped: usize, ether_type: u16) -> Opening
+    ensures { result ≡ opening_after_header skipped ether_type }
 {
     Opening {
         entry: Entry::EtherType(EtherType(ether_type)),
@@ -82,9 +84,9 @@ fn is_bare_ip(link_type: u16) -> bool
 }
 
 /// Returns the address family, the first 4 bytes of a BSD loopback packet, in either byte order; 0 if it is above 255.
-fn family_in(bytes: &[u8]) -> u8
+fn loopback_family(bytes: &[u8]) -> u8
     requires { 4 ≤ length bytes.now }
-    ensures { result ≡ family_in bytes.now }
+    ensures { result ≡ loopback_family bytes.now }
 {
     if word_at(bytes, 0) == 0 && bytes[2] == 0 {
         bytes[3]
@@ -109,9 +111,9 @@ fn family_opening(family: u8) -> Option<Opening>
     ensures within { IfSome result (λ opening. opening.skipped ≤ 4) }
 {
     if family == 2 {
-        Some(behind_front(4, 0x0800))
+        Some(opening_after_header(4, 0x0800))
     } else if is_ipv6_family(family) {
-        Some(behind_front(4, 0x86dd))
+        Some(opening_after_header(4, 0x86dd))
     } else {
         None
     }
@@ -124,7 +126,7 @@ fn loopback_opening(bytes: &[u8]) -> Option<Opening>
     ensures within { IfSome result (λ opening. opening.skipped ≤ length bytes.now) }
 {
     if bytes.len() >= 4 {
-        family_opening(family_in(bytes))
+        family_opening(loopback_family(bytes))
     } else {
         None
     }
@@ -163,9 +165,9 @@ fn sll_opening(bytes: &[u8]) -> Opening
     ensures within { result.skipped ≤ length bytes.now }
 {
     if reads_sll(bytes) {
-        behind_front(16, word_at(bytes, 14))
+        opening_after_header(16, word_at(bytes, 14))
     } else {
-        whole_of(Entry::LinuxSll)
+        opening_at_start(Entry::LinuxSll)
     }
 }
 
@@ -185,7 +187,7 @@ fn sll2_opening(bytes: &[u8]) -> Option<Opening>
     ensures within { IfSome result (λ opening. opening.skipped ≤ length bytes.now) }
 {
     if reads_sll2(bytes) {
-        Some(behind_front(20, word_at(bytes, 0)))
+        Some(opening_after_header(20, word_at(bytes, 0)))
     } else {
         None
     }
@@ -193,13 +195,17 @@ fn sll2_opening(bytes: &[u8]) -> Option<Opening>
 
 /// Appends the fields of a Linux cooked capture header (version 1 or 2) that the program parses itself; nothing for
 /// other packets.
-pub fn push_front(output: &mut Vec<u8>, link_type: u16, bytes: &[u8]) -> Result<(), AllocError>
-    ensures { OnOk result (output.new.items ≡ output.old.items ++ front_text link_type bytes.now) }
+pub fn push_skipped_header(
+    output: &mut Vec<u8>,
+    link_type: u16,
+    bytes: &[u8],
+) -> Result<(), AllocError>
+    ensures { OnOk result (output.new.items ≡ output.old.items ++ skipped_header_text link_type bytes.now) }
 {
     if link_type == 113 && reads_sll(bytes) {
-        push_sll_front(output, bytes)
+        push_sll_header(output, bytes)
     } else if link_type == 276 && reads_sll2(bytes) {
-        push_sll2_front(output, bytes)
+        push_sll2_header(output, bytes)
     } else {
         Ok(())
     }
@@ -207,10 +213,10 @@ pub fn push_front(output: &mut Vec<u8>, link_type: u16, bytes: &[u8]) -> Result<
 
 /// Appends the fields of a Linux cooked capture header (version 1) that the program parses itself: the direction of the
 /// packet, and the sender's address.
-#[tactic(auto, unfolding(crate::specs::Openings::sll_front))]
-fn push_sll_front(output: &mut Vec<u8>, bytes: &[u8]) -> Result<(), AllocError>
+#[tactic(auto, unfolding(crate::specs::Openings::sll_header_text))]
+fn push_sll_header(output: &mut Vec<u8>, bytes: &[u8]) -> Result<(), AllocError>
     requires { 16 ≤ length bytes.now }
-    ensures { OnOk result (output.new.items ≡ output.old.items ++ sll_front bytes.now) }
+    ensures { OnOk result (output.new.items ≡ output.old.items ++ sll_header_text bytes.now) }
 {
     let len = usize::from(word_at(bytes, 4)).min(8);
     let address = &bytes[6..14];
@@ -221,10 +227,10 @@ fn push_sll_front(output: &mut Vec<u8>, bytes: &[u8]) -> Result<(), AllocError>
 
 /// Appends the fields of a Linux cooked capture header of version 2: the interface index, the direction of the packet,
 /// and the sender's address.
-#[tactic(auto, unfolding(crate::specs::Openings::sll2_front))]
-fn push_sll2_front(output: &mut Vec<u8>, bytes: &[u8]) -> Result<(), AllocError>
+#[tactic(auto, unfolding(crate::specs::Openings::sll2_header_text))]
+fn push_sll2_header(output: &mut Vec<u8>, bytes: &[u8]) -> Result<(), AllocError>
     requires { 20 ≤ length bytes.now }
-    ensures { OnOk result (output.new.items ≡ output.old.items ++ sll2_front bytes.now) }
+    ensures { OnOk result (output.new.items ≡ output.old.items ++ sll2_header_text bytes.now) }
 {
     let len = usize::from(bytes[11]).min(8);
     let address = &bytes[12..20];

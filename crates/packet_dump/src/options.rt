@@ -4,7 +4,7 @@ ghost use Rattle.std.specs.Prelude.{◌≡◌, IfOk, IfErr, IfSome, IfNone, OnOk
 ghost use Rattle.std.specs.Option.{option_map};
 ghost use Rattle.packet_dump.specs.Options.{Asked, Fault, IsRequest, IsValue, Item, RefusesWords, answer_of, asked_of};
 ghost use Rattle.packet_dump.specs.Options.{bad_value, fault_of, form_name, is_dashed, kind_name, option_word, texts, options_with};
-ghost use Rattle.packet_dump.specs.OptionSteps.{StepGives, behind_joined, behind_value, filtered, finished, first_state};
+ghost use Rattle.packet_dump.specs.OptionSteps.{IsStepResult, filtered, finished, first_state, joined_step, value_step};
 ghost use Rattle.packet_dump.specs.OptionSteps.{input_in, joined_in, joined_parts, named_by, option_with, reading_state};
 ghost use Rattle.packet_dump.specs.OptionSteps.{step, value_in, word_named};
 ghost use Rattle.packet_dump.specs.declared.dump_options.Kind.{Kind};
@@ -272,7 +272,7 @@ impl<'a> Reading<'a> {
     /// Parses one argument of the command line. Returns the request if it is `--help` or `--version`, after which other
     /// arguments do not matter; `None` to go on.
     fn push(&mut self, text: &'a str) -> Result<Option<Request<'a>>, UsageError<'a>>
-        ensures { StepGives (step (reading_state self.old) text.now) (reading_state self.new) result }
+        ensures { IsStepResult (step (reading_state self.old) text.now) (reading_state self.new) result }
     {
         if let Some(option) = self.awaited {
             return self.push_value(option, text);
@@ -314,7 +314,7 @@ impl<'a> Reading<'a> {
         option: Awaited,
         text: &'a str,
     ) -> Result<Option<Request<'a>>, UsageError<'a>>
-        ensures { StepGives (behind_value (reading_state self.old) option text.now (value_in option text.now))
+        ensures { IsStepResult (value_step (reading_state self.old) option text.now (value_in option text.now))
             (reading_state self.new) result }
     {
         if let Awaited::Input = option {
@@ -329,7 +329,7 @@ impl<'a> Reading<'a> {
     /// Parses the value of `-r`, the name of the input: a file, even if its name begins with `-`, or `-` for standard
     /// input. Fails if an input was named already.
     fn push_input(&mut self, text: &'a str) -> Result<Option<Request<'a>>, UsageError<'a>>
-        ensures { StepGives (named_by (reading_state self.old) text.now (input_in text.now)) (reading_state self.new)
+        ensures { IsStepResult (named_by (reading_state self.old) text.now (input_in text.now)) (reading_state self.new)
             result }
     {
         if self.is_named {
@@ -346,7 +346,7 @@ impl<'a> Reading<'a> {
     /// Parses an argument that begins with `-` and is no option by itself: an option with its value after `=`, such as
     /// `--count=5`; else it is an unknown option.
     fn push_joined(&mut self, text: &'a str) -> Result<Option<Request<'a>>, UsageError<'a>>
-        ensures { StepGives (behind_joined (reading_state self.old) text.now (joined_in text.now))
+        ensures { IsStepResult (joined_step (reading_state self.old) text.now (joined_in text.now))
             (reading_state self.new) result }
     {
         match joined_in(text) {

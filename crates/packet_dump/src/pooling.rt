@@ -13,7 +13,7 @@ ghost use Rattle.packet_dump.specs.PacketLines.{parts_start};
 ghost use Rattle.packet_dump.specs.PacketCalls.{IsBounded, PoolHistory, is_since, new_pool, since_instant};
 ghost use Rattle.packet_dump.specs.PacketCalls.{with_frame, with_sweep};
 ghost use Rattle.packet_dump.specs.PoolLines.{GivesFrame, IsCallText, arrival_of, oldest_from};
-ghost use Rattle.packet_dump.specs.OpenStreams.{arrival_at, number_at, number_behind, open_at, with_one, without};
+ghost use Rattle.packet_dump.specs.OpenStreams.{arrival_at, number_at, number_after, open_at, with_one, without};
 ghost use Rattle.packet_dump.specs.Sessions.{AwaitsPacket, HoldsPooling, HoldsStreams, fates_of};
 ghost use Rattle.packet_dump.specs.Summaries.{AreFragments, with_answer};
 
@@ -149,7 +149,7 @@ impl Pooling {
         };
         let stood = number_at(&self.pool, &name);
         let answer = self.pool.process_sliced_packet(sliced, arrival, 0);
-        let stands = number_behind(&answer, stood, parts.number);
+        let stands = number_after(&answer, stood, parts.number);
         push_answer(output, options, parts, read, &answer)?;
         unlist(&mut self.names, stood);
         list(&mut self.names, name, stands)?;
@@ -240,12 +240,12 @@ fn number_at(pool: &IpDefragPool<Arrival, u64>, name: &IpFragId<u64>) -> Option<
 /// Returns the packet number of a stream's last accepted fragment, after the reassembly pool processed one more
 /// fragment: that fragment's packet if it was accepted, the number before if it was rejected, `None` if the payload is
 /// complete. Saves a second lookup in the pool.
-fn number_behind(
+fn number_after(
     answer: &Result<Option<IpDefragPayloadVec>, IpDefragError>,
     stood: Option<u64>,
     number: u64,
 ) -> Option<u64>
-    ensures { result ≡ number_behind answer.now stood number }
+    ensures { result ≡ number_after answer.now stood number }
 {
     match answer {
         Ok(None) => Some(number),

@@ -3,7 +3,8 @@
 ghost use Rattle.std.specs.Prelude.{◌≡◌, ◌<◌, ◌^◌, ◌++◌, [], false, IfOk, OnErr, OnOk};
 ghost use Rattle.capture_reader.specs.Readers.{shown_of};
 ghost use Rattle.line_io.specs.WatchedWords.{has_failed, inner_of};
-ghost use Rattle.packet_dump.specs.Saves.{Closes, Finishes, Flushes, Pushes, asks, front_bytes, is_empty, is_failed};
+ghost use Rattle.packet_dump.specs.Saves.{Closes, Finishes, Flushes, Pushes, asks, file_header_bytes, is_empty};
+ghost use Rattle.packet_dump.specs.Saves.{is_failed};
 ghost use Rattle.packet_dump.specs.Saves.{is_idle, link_with, new_state};
 
 use capture_reader::Shown;
@@ -99,7 +100,7 @@ impl Saving {
     fn begin(&mut self, link: Option<u16>, link_type: u16) -> Result<u16, AllocError>
         ensures fits { link_type < 2 ^ 16 }
         ensures link { IfOk result (λ found. found ≡ link_with link link_type) }
-        ensures bytes { OnOk result (self.new.bytes.items ≡ self.old.bytes.items ++ front_bytes link link_type) }
+        ensures bytes { OnOk result (self.new.bytes.items ≡ self.old.bytes.items ++ file_header_bytes link link_type) }
         ensures state { self.new.state ≡ self.old.state }
     {
         match link {

@@ -3,7 +3,7 @@
 
 ghost use Rattle.std.specs.Prelude.{◌≡◌, ◌&&◌};
 ghost use Rattle.etherparse.specs.LaxPackets.{lax_layers_of};
-ghost use Rattle.packet_dump.specs.PacketContents.{Content, Holds, HoldsBehind, HoldsLaxly, HoldsStrictly};
+ghost use Rattle.packet_dump.specs.PacketContents.{Content, Holds, HoldsAfterOpening, HoldsLaxly, HoldsStrictly};
 ghost use Rattle.packet_dump.specs.PacketContents.{asks_nothing, content_with, packet, shows_kind};
 ghost use Rattle.packet_dump.specs.Saves.{is_wanted};
 
@@ -30,7 +30,7 @@ pub fn is_selected(options: &DumpOptions, shown: &Shown<'_>) -> bool
 /// Returns whether `--only` and the filter options select a packet. `bytes` are the bytes that the library parses, from
 /// the layer that `opening` names.
 fn selects_behind(options: &DumpOptions, opening: Opening, bytes: &[u8]) -> bool
-    ensures { (content : Content) × HoldsBehind options.now.strict opening bytes.now content
+    ensures { (content : Content) × HoldsAfterOpening options.now.strict opening bytes.now content
         × (result ≡ is_wanted options.now content) }
 {
     if options.wants_all() {

@@ -1,12 +1,13 @@
 //! State of a `packet_dump` run between two chunks of the capture that are read.
 
 ghost use Rattle.std.specs.Prelude.{◌≡◌, ◌<◌, ◌≤◌, ◌+◌, ◌^◌, ◌++◌, [], ◌∷◌, ℕ, List, Some, IfOk, OnOk, length};
-ghost use Rattle.capture_reader.specs.Captures.{Item, at_start, shown_in, stage_behind};
+ghost use Rattle.capture_reader.specs.Captures.{Item, at_start, shown_in, stage_after_items};
 ghost use Rattle.capture_reader.specs.Readers.{reader_shown};
 ghost use Rattle.packet_dump.specs.Dumps.{AreAllTexts, packets_in};
 ghost use Rattle.packet_dump.specs.PacketCalls.{PoolHistory, new_pool};
 ghost use Rattle.packet_dump.specs.Saves.{GoesOn, is_failed};
-ghost use Rattle.packet_dump.specs.Sessions.{AwaitsPacket, Counts, Drains, HoldsPooling, PushesLine, Stands, ending_of};
+ghost use Rattle.packet_dump.specs.Sessions.{AwaitsPacket, Counts, Drains, HasRead, HoldsPooling, PushesLine};
+ghost use Rattle.packet_dump.specs.Sessions.{ending_of};
 ghost use Rattle.packet_dump.specs.Sessions.{ends_run, gathered, taken_by};
 ghost use Rattle.packet_dump.specs.Summaries.{CountsFragments, CountsPacket, plain_of};
 ghost use Rattle.packet_dump.specs.declared.dump_options.DumpOptions.{DumpOptions};
@@ -25,26 +26,26 @@ use std::alloc::{AllocError, Global};
 
 /// State of a run after all packets in the bytes read so far: whether and how the capture may end here.
 #[derive(Clone, Copy)]
-pub enum Standing {
+pub enum CaptureState {
     /// The bytes read so far are a complete capture, which may end here or go on.
     MayEnd,
     /// The number of packets given by `--count` was read.
     Enough,
-    /// The bytes read so far end within a packet or block. If the capture ends here, this is its error.
+    /// The bytes read so far end within a packet or block. If the capture ends here, this is the error to report.
     Cut(CaptureError),
     /// The capture is invalid with this error, whatever bytes follow.
     Refused(CaptureError),
 }
 
-impl Standing {
+impl CaptureState {
     /// Returns whether the run ends in this state; `ended` is whether the reader is at its end or no more reads are
     /// allowed.
     pub fn ends_run(self, ended: bool) -> bool
         ensures { result ≡ ends_run self ended }
     {
         match self {
-            Standing::MayEnd | Standing::Cut(_) => ended,
-            Standing::Enough | Standing::Refused(_) => true,
+            CaptureState::MayEnd | CaptureState::Cut(_) => ended,
+            CaptureState::Enough | CaptureState::Refused(_) => true,
         }
     }
 }
@@ -68,7 +69,7 @@ pub struct Session {
 impl Session {
     /// Returns the state of a run before any byte of the capture is read.
     pub fn new(alloc: Global, options: DumpOptions) -> Session
-        ensures stands { Stands options result [] [] (new_pool options.limit) }
+        ensures has_read { HasRead options result [] [] (new_pool options.limit) }
         ensures taken { taken_by result ≡ 0 }
         ensures counts { Counts result }
     {
@@ -85,9 +86,10 @@ impl Session {
 
     /// Passes the next chunk of bytes of the capture to its parser. Packets in it are not processed yet.
     pub fn take(&mut self, piece: &[u8]) -> Result<(), AllocError>
-        requires room { taken_by self.old + length piece.now < 2 ^ 64 }
-        ensures stands { OnOk result ((options : DumpOptions) (read : List ℕ) (items : List Item) (history : PoolHistory) →
-            Stands options self.old read items history → Stands options self.new (read ++ piece.now) items history) }
+        requires fits { taken_by self.old + length piece.now < 2 ^ 64 }
+        ensures has_read { OnOk result ((options : DumpOptions) (read : List ℕ) (items : List Item)
+            (history : PoolHistory) → HasRead options self.old read items history →
+            HasRead options self.new (read ++ piece.now) items history) }
         ensures taken { OnOk result (taken_by self.new ≡ taken_by self.old + length piece.now) }
         ensures counts { Counts self.old → Counts self.new }
     {
@@ -101,13 +103,13 @@ impl Session {
         &mut self,
         summary: &mut Summary,
         saving: &mut Saving,
-    ) -> Result<Standing, AllocError>
-        requires room { taken_by self.old < 2 ^ 64 }
+    ) -> Result<CaptureState, AllocError>
+        requires fits { taken_by self.old < 2 ^ 64 }
         requires counts { Counts self.old }
-        ensures drains { IfOk result (λ standing. (options : DumpOptions) (read : List ℕ) (items : List Item) (text : List ℕ)
-            (history : PoolHistory) → Stands options self.old read items history →
+        ensures drains { IfOk result (λ capture_state. (options : DumpOptions) (read : List ℕ) (items : List Item) (text : List ℕ)
+            (history : PoolHistory) → HasRead options self.old read items history →
             AreAllTexts options items text history →
-            Drains options self.new standing read items text (gathered saving.old summary.old)
+            Drains options self.new capture_state read items text (gathered saving.old summary.old)
             (gathered saving.new summary.new)) }
         ensures failed { is_failed saving.new.state ≡ is_failed saving.old.state }
         ensures taken { OnOk result (taken_by self.new ≡ taken_by self.old) }
@@ -116,7 +118,7 @@ impl Session {
         self.output.clear();
         'items: loop {
             if self.number == self.options.most {
-                return Ok(Standing::Enough);
+                return Ok(CaptureState::Enough);
             }
             match self.capture.advance() {
                 Ok(Advance::Packet) => {
@@ -124,21 +126,21 @@ impl Session {
                     self.push_packet(summary)?;
                 }
                 Ok(Advance::Other) => {}
-                Ok(Advance::MayEnd) => return Ok(Standing::MayEnd),
-                Ok(Advance::Cut(error)) => return Ok(Standing::Cut(error)),
-                Err(error) => return Ok(Standing::Refused(error)),
+                Ok(Advance::MayEnd) => return Ok(CaptureState::MayEnd),
+                Ok(Advance::Cut(error)) => return Ok(CaptureState::Cut(error)),
+                Err(error) => return Ok(CaptureState::Refused(error)),
             }
         }
     }
 
     /// Returns the result of a run that ends in this state of the capture.
-    pub fn ending(&self, standing: Standing) -> Ending
-        ensures { result ≡ ending_of standing self.now.number }
+    pub fn ending(&self, capture_state: CaptureState) -> Ending
+        ensures { result ≡ ending_of capture_state self.now.number }
     {
-        match standing {
-            Standing::MayEnd => Ending::Whole,
-            Standing::Enough => Ending::Enough,
-            Standing::Cut(error) | Standing::Refused(error) => Ending::Broken {
+        match capture_state {
+            CaptureState::MayEnd => Ending::Complete,
+            CaptureState::Enough => Ending::Enough,
+            CaptureState::Cut(error) | CaptureState::Refused(error) => Ending::Broken {
                 packets: self.number,
                 error,
             },
@@ -160,7 +162,7 @@ impl Session {
     fn save_packet(&self, saving: &mut Saving) -> Result<(), AllocError>
         requires { self.now.number + 1 < 2 ^ 64 }
         ensures saves { OnOk result ((items : List Item) (item : Item) → self.now.number ≡ packets_in items →
-            shown_in (stage_behind at_start items) item ≡ Some (reader_shown self.now.capture) →
+            shown_in (stage_after_items at_start items) item ≡ Some (reader_shown self.now.capture) →
             GoesOn self.now.options saving.old saving.new items (items ++ item ∷ [])) }
         ensures failed { is_failed saving.new.state ≡ is_failed saving.old.state }
     {

@@ -15,7 +15,7 @@ ghost use Rattle.packet_dump.specs.SummaryTexts.{causes_text, count_text, errors
 ghost use Rattle.packet_dump.specs.SummaryTexts.{inner_counts_text, links_text, outer_counts_text, packets_text, pieces_text};
 ghost use Rattle.packet_dump.specs.SummaryTexts.{refusals_text, some_text, summary_text, unread_text};
 ghost use Rattle.packet_dump.specs.SliceErrorTexts.{error_name};
-ghost use Rattle.packet_dump.specs.Summaries.{counted, is_cut, more, new_summary, no_layers, no_refusals, plain_count};
+ghost use Rattle.packet_dump.specs.Summaries.{counted, is_truncated, more, new_summary, no_layers, no_refusals, plain_count};
 ghost use Rattle.packet_dump.specs.Summaries.{plain_of, plain_refusals, with_cause, with_cooked, with_error};
 ghost use Rattle.packet_dump.specs.Summaries.{with_extension, with_extensions, with_fragment, with_fragments};
 ghost use Rattle.packet_dump.specs.Summaries.{with_layers, with_link, with_net, with_one, with_packet, with_stop};
@@ -51,7 +51,7 @@ pub struct Summary {
     wanted: bool,
     /// True if the summary also prints how many of the refused and stopped packets are truncated, and how many are
     /// malformed (`--quiet`).
-    apart: bool,
+    by_cause: bool,
     /// Number of packets with a truncated or invalid layer that the capture truncated.
     cut: u64,
     /// Number of packets with an invalid layer that are completely in the capture.
@@ -108,14 +108,14 @@ impl Fragments {
 }
 
 impl Summary {
-    /// Returns a summary with all counts 0. If `wanted` is false, nothing is counted; `apart` is whether truncated and
-    /// malformed packets are printed separately.
-    pub fn new(alloc: Global, wanted: bool, apart: bool) -> Summary
-        ensures { plain_of result ≡ new_summary wanted apart }
+    /// Returns a summary with all counts 0. If `wanted` is false, nothing is counted; `by_cause` is whether truncated
+    /// and malformed packets are printed separately.
+    pub fn new(alloc: Global, wanted: bool, by_cause: bool) -> Summary
+        ensures { plain_of result ≡ new_summary wanted by_cause }
     {
         Summary {
             wanted,
-            apart,
+            by_cause,
             cut: 0,
             malformed: 0,
             packets: 0,
@@ -190,7 +190,7 @@ impl Summary {
         shown: &Shown<'_>,
         stop: &Option<(SliceError, Layer)>,
     ) -> Result<(), AllocError>
-        ensures { OnOk result (plain_of self.new ≡ with_stop (is_cut (shown_of shown.now)) stop.now (plain_of self.old)) }
+        ensures { OnOk result (plain_of self.new ≡ with_stop (is_truncated (shown_of shown.now)) stop.now (plain_of self.old)) }
     {
         match stop {
             Some(stop) => {
@@ -204,9 +204,9 @@ impl Summary {
     /// Counts a packet with a truncated or invalid layer as truncated, if the capture lacks bytes of it, or else as
     /// malformed.
     fn count_cause(&mut self, shown: &Shown<'_>)
-        ensures { plain_of self.new ≡ with_cause (is_cut (shown_of shown.now)) (plain_of self.old) }
+        ensures { plain_of self.new ≡ with_cause (is_truncated (shown_of shown.now)) (plain_of self.old) }
     {
-        if is_cut(shown) {
+        if is_truncated(shown) {
             more(&mut self.cut, 1);
         } else {
             more(&mut self.malformed, 1);
@@ -250,7 +250,7 @@ impl Summary {
     fn push_causes(&self, text: &mut String) -> Result<(), AllocError>
         ensures { OnOk result (string_bytes text.new ≡ string_bytes text.old ++ causes_text (plain_of self.now)) }
     {
-        if !self.apart {
+        if !self.by_cause {
             return Ok(());
         }
         push_count(text, "cut by the capture", self.cut)?;
@@ -421,8 +421,8 @@ impl LayerCounts {
 }
 
 /// Returns whether the capture has fewer bytes of a packet than the packet had.
-fn is_cut(shown: &Shown<'_>) -> bool
-    ensures { result ≡ is_cut (shown_of shown.now) }
+fn is_truncated(shown: &Shown<'_>) -> bool
+    ensures { result ≡ is_truncated (shown_of shown.now) }
 {
     (shown.bytes.len() as u64) < u64::from(shown.original_len)
 }
@@ -485,11 +485,11 @@ fn push_unread(text: &mut String, unread: &[(u16, u64)]) -> Result<(), AllocErro
         more(&mut all, *times);
     }
     push_some(text, "not read", all)?;
-    push_links(text, unread)
+    push_unread_link_types(text, unread)
 }
 
 /// Appends an indented summary line for each unsupported link type and its number of packets.
-fn push_links(text: &mut String, unread: &[(u16, u64)]) -> Result<(), AllocError>
+fn push_unread_link_types(text: &mut String, unread: &[(u16, u64)]) -> Result<(), AllocError>
     ensures { OnOk result (string_bytes text.new ≡ string_bytes text.old ++ links_text unread.now) }
 {
     for (link_type, times) in unread {

@@ -5,9 +5,10 @@ ghost use Rattle.etherparse.specs.Tcp.{flag_at, tcp_header_of};
 ghost use Rattle.etherparse.specs.TransportParts.{transport_layer_of};
 ghost use Rattle.etherparse.specs.UdpSlices.{udp_slice_header, udp_slice_payload};
 ghost use Rattle.etherparse.specs.Types.TransportHeader.TheVariants as header;
-ghost use Rattle.packet_dump.specs.Transports.{acknowledgment_text, flag_text, flags_text, header_front_text, len_text};
-ghost use Rattle.packet_dump.specs.Transports.{no_length_text, ports_at, ports_text, state_at, state_text, tcp_front_text};
-ghost use Rattle.packet_dump.specs.Transports.{tcp_text, transport_text, udp_front_text, udp_text};
+ghost use Rattle.packet_dump.specs.Transports.{acknowledgment_text, flag_text, flags_text, header_start_text, len_text};
+ghost use Rattle.packet_dump.specs.Transports.{no_length_text, ports_at, ports_text, state_at, state_text};
+ghost use Rattle.packet_dump.specs.Transports.{tcp_start_text};
+ghost use Rattle.packet_dump.specs.Transports.{tcp_text, transport_text, udp_start_text, udp_text};
 
 use crate::bytes::{byte_at, long_at, word_at};
 use crate::icmp_messages::{push_icmpv4, push_icmpv6};
@@ -87,29 +88,29 @@ fn push_no_length(output: &mut Vec<u8>, datagram: &UdpSlice<'_>) -> Result<(), A
 
 /// Appends the fields at the start of a UDP or TCP header that is truncated, invalid or in a first fragment: the ports,
 /// if these 4 bytes are captured, and further fields of TCP. Appends nothing for other protocols.
-pub fn push_header_front(
+pub fn push_header_start(
     output: &mut Vec<u8>,
     number: IpNumber,
     bytes: &[u8],
 ) -> Result<(), AllocError>
-    ensures { OnOk result (output.new.items ≡ output.old.items ++ header_front_text number.0 bytes.now) }
+    ensures { OnOk result (output.new.items ≡ output.old.items ++ header_start_text number.0 bytes.now) }
 {
     if bytes.len() < 4 {
         return Ok(());
     }
     if number.0 == 17 {
-        return push_udp_front(output, bytes);
+        return push_udp_start(output, bytes);
     }
     if number.0 == 6 {
-        return push_tcp_front(output, bytes);
+        return push_tcp_start(output, bytes);
     }
     Ok(())
 }
 
 /// Appends ` udp` and the ports of a UDP header that is truncated or in a first fragment. `bytes` has at least the
 /// first 4 bytes of the header.
-fn push_udp_front(output: &mut Vec<u8>, bytes: &[u8]) -> Result<(), AllocError>
-    ensures { OnOk result (output.new.items ≡ output.old.items ++ udp_front_text bytes.now) }
+fn push_udp_start(output: &mut Vec<u8>, bytes: &[u8]) -> Result<(), AllocError>
+    ensures { OnOk result (output.new.items ≡ output.old.items ++ udp_start_text bytes.now) }
 {
     output.extend_from_slice(b" udp ")?;
     push_ports_at(output, bytes)
@@ -117,8 +118,8 @@ fn push_udp_front(output: &mut Vec<u8>, bytes: &[u8]) -> Result<(), AllocError>
 
 /// Appends ` tcp` and the ports of a TCP header that is truncated, invalid or in a first fragment, and its flags and
 /// sequence numbers if its first 14 bytes are captured.
-fn push_tcp_front(output: &mut Vec<u8>, bytes: &[u8]) -> Result<(), AllocError>
-    ensures { OnOk result (output.new.items ≡ output.old.items ++ tcp_front_text bytes.now) }
+fn push_tcp_start(output: &mut Vec<u8>, bytes: &[u8]) -> Result<(), AllocError>
+    ensures { OnOk result (output.new.items ≡ output.old.items ++ tcp_start_text bytes.now) }
 {
     output.extend_from_slice(b" tcp ")?;
     push_ports_at(output, bytes)?;

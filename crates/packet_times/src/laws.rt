@@ -14,8 +14,8 @@ pub fn calendar()
     ensures end { date_of 3652425 ≡ record { year = 10000; month = 1; day = 1 } }
 {}
 
-/// States that `EPOCH` (the start of 1970 as an instant) is 2^63 seconds, and that `SECOND` is 1,000,000,000
-/// nanoseconds.
+/// States that `SECOND` is 1,000,000,000 nanoseconds, and that `EPOCH`, the start of 1970, is 2^63 seconds: instants
+/// count from 2^63 seconds before 1970.
 pub fn constants()
     ensures epoch { instants.EPOCH ≡ 2 ^ 63 * 1000000000 }
     ensures second { instants.SECOND ≡ 1000000000 }

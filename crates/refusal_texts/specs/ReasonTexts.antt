@@ -52,17 +52,17 @@ reason_text_with (Ipv6Exts (exts_error.IpAuth auth_error.ZeroPayloadLen)) number
 reason_text_with (Tcp (tcp_error.DataOffsetTooSmall held)) number = codes "DataOffsetTooSmall " ++ decimal number
 
 -- number of the rejected field, 0 for an error without one
-abbrev pub held_number : SliceError → ℕ
-held_number (LinuxSll (linux_sll_error.UnsupportedPacketTypeField held)) = held
-held_number (LinuxSll (linux_sll_error.UnsupportedArpHardwareId held)) = held
-held_number (Ip (ip_error.UnsupportedIpVersion held)) = held
-held_number (Ip (ip_error.Ipv4HeaderLengthSmallerThanHeader held)) = held
-held_number (Ipv4 (ipv4_error.UnexpectedVersion held)) = held
-held_number (Ipv4 (ipv4_error.HeaderLengthSmallerThanHeader held)) = held
-held_number (Ipv6 (ipv6_error.UnexpectedVersion held)) = held
-held_number (Tcp (tcp_error.DataOffsetTooSmall held)) = held
-held_number _ = 0
+abbrev pub rejected_value : SliceError → ℕ
+rejected_value (LinuxSll (linux_sll_error.UnsupportedPacketTypeField held)) = held
+rejected_value (LinuxSll (linux_sll_error.UnsupportedArpHardwareId held)) = held
+rejected_value (Ip (ip_error.UnsupportedIpVersion held)) = held
+rejected_value (Ip (ip_error.Ipv4HeaderLengthSmallerThanHeader held)) = held
+rejected_value (Ipv4 (ipv4_error.UnexpectedVersion held)) = held
+rejected_value (Ipv4 (ipv4_error.HeaderLengthSmallerThanHeader held)) = held
+rejected_value (Ipv6 (ipv6_error.UnexpectedVersion held)) = held
+rejected_value (Tcp (tcp_error.DataOffsetTooSmall held)) = held
+rejected_value _ = 0
 
 -- text of an error
 abbrev pub reason_text : SliceError → List ℕ
-reason_text error = reason_text_with error (held_number error)
+reason_text error = reason_text_with error (rejected_value error)

@@ -3,7 +3,7 @@
 #![tactic(auto)]
 
 ghost use Rattle.std.specs.Prelude.{◌≡◌, ◌++◌, OnOk};
-ghost use Rattle.refusal_texts.specs.ReasonTexts.{held_number, len_error_text, limit_text, needed_text, reason_text, reason_text_with};
+ghost use Rattle.refusal_texts.specs.ReasonTexts.{rejected_value, len_error_text, limit_text, needed_text, reason_text, reason_text_with};
 
 use etherparse::err::packet::SliceError;
 use etherparse::err::{LenError, ip, ip_auth, ipv4, ipv6, ipv6_exts, linux_sll, macsec, tcp};
@@ -17,7 +17,7 @@ mod tests;
 pub fn push_reason(output: &mut Vec<u8>, error: &SliceError) -> Result<(), AllocError>
     ensures { OnOk result (output.new.items ≡ output.old.items ++ reason_text error.now) }
 {
-    push_reason_with(output, error, held_number(error))
+    push_reason_with(output, error, rejected_value(error))
 }
 
 /// Appends the text of an error of slicing a packet, with `number` in place of the field value that the error contains,
@@ -71,8 +71,8 @@ pub fn push_reason_with(
 
 /// Returns the value of the packet's field that the error rejects (such as the IP version), or 0 for an error that
 /// contains none.
-fn held_number(error: &SliceError) -> u64
-    ensures { result ≡ held_number error.now }
+fn rejected_value(error: &SliceError) -> u64
+    ensures { result ≡ rejected_value error.now }
 {
     match error {
         SliceError::LinuxSll(linux_sll::HeaderError::UnsupportedPacketTypeField { packet_type }) =>

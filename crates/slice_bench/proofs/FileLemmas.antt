@@ -35,34 +35,34 @@ one_frame bytes a b x y (fits_a, is_a) (fits_b, is_b) =
     same_parts a b x y lengths fields.1
 
 -- The bytes after the first frame are the other frames of the file.
-pub frames_behind : (bytes frame behind : List ℕ) (more : List (List ℕ)) → StartsWith bytes frame behind
-    → HoldsFrames bytes more → (others : List (List ℕ)) × HoldsFrames behind others
-frames_behind bytes frame behind [] front held = absurd (omega (arith, ap length (sym held ∙ front.1)))
-frames_behind bytes frame behind (first ∷ others) front held =
-    (others, subst (λ r. HoldsFrames r others) (one_frame bytes first frame held.0 behind held.1 front).1 held.2)
+pub frames_after : (bytes frame after : List ℕ) (more : List (List ℕ)) → StartsWith bytes frame after
+    → HoldsFrames bytes more → (others : List (List ℕ)) × HoldsFrames after others
+frames_after bytes frame after [] starts holds = absurd (omega (arith, ap length (sym holds ∙ starts.1)))
+frames_after bytes frame after (first ∷ others) starts holds =
+    (others, subst (λ r. HoldsFrames r others) (one_frame bytes first frame holds.0 after holds.1 starts).1 holds.2)
 
 -- Non-empty bytes that start with no frame are not the bytes of a list of frames.
 pub no_frames : (bytes : List ℕ) (frames : List (List ℕ)) → 0 < length bytes
     → ((frame rest : List ℕ) → StartsWith bytes frame rest → ⊥) → HoldsFrames bytes frames → ⊥
-no_frames bytes [] some none held = omega (arith, some, ap length held)
-no_frames bytes (frame ∷ frames) some none held = none frame held.0 held.1
+no_frames bytes [] some none holds = omega (arith, some, ap length holds)
+no_frames bytes (frame ∷ frames) some none holds = none frame holds.0 holds.1
 
 -- If the first four bytes state the length of a frame, and the rest has at least that many bytes, the bytes start with
 -- the frame.
-pub frame_in_front : (bytes field rest : List ℕ) (len : ℕ) → AreBytes bytes
+pub first_frame : (bytes field rest : List ℕ) (len : ℕ) → AreBytes bytes
     → field ≡ take 4 bytes → rest ≡ drop 4 bytes → length rest + 4 ≡ length bytes → len ≡ from_le_bytes w32 field
     → len < 2 ^ 32 → len ≤ length rest → StartsWith bytes (take len rest) (take (length rest - len) (drop len rest))
-frame_in_front bytes field rest len below field_is rest_is whole len_is small room =
-    let count : length (take len rest) ≡ len = length-take-le len rest room in
-    let four : length field ≡ 4 = ap length field_is ∙ length-take-le 4 bytes (omega (arith, whole)) in
+first_frame bytes field rest len below field_is rest_is lens len_is small fits =
+    let count : length (take len rest) ≡ len = length-take-le len rest fits in
+    let four : length field ≡ 4 = ap length field_is ∙ length-take-le 4 bytes (omega (arith, lens)) in
     let each : AreBytes field = rw field_is (AreBytes-take 4 bytes below) in
     let back : take (length rest - len) (drop len rest) ≡ drop len rest =
     take_all (length rest - len) (drop len rest) (omega (arith, length-drop len rest)) in (
       rw count small,
-      sym (take-append-drop 4 bytes) ∙ ap (λ front. front ++ drop 4 bytes) (sym field_is)
-          ∙ ap (λ behind. field ++ behind) (sym rest_is)
-          ∙ ap (λ front. front ++ rest) (sym (le_bytes_4 field len four each len_is))
+      sym (take-append-drop 4 bytes) ∙ ap (λ start. start ++ drop 4 bytes) (sym field_is)
+          ∙ ap (λ tail. field ++ tail) (sym rest_is)
+          ∙ ap (λ start. start ++ rest) (sym (le_bytes_4 field len four each len_is))
           ∙ ap (λ n. to_le_bytes w32 n ++ rest) (sym count)
-          ∙ ap (λ behind. to_le_bytes w32 (length (take len rest)) ++ behind)
-          (sym (take-append-drop len rest) ∙ ap (λ behind. take len rest ++ behind) (sym back)),
+          ∙ ap (λ tail. to_le_bytes w32 (length (take len rest)) ++ tail)
+          (sym (take-append-drop len rest) ∙ ap (λ tail. take len rest ++ tail) (sym back)),
     )

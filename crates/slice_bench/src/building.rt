@@ -111,12 +111,12 @@ fn ether_payload_parts<'a>(
 ) -> Option<EtherPayloadParts<'a>> {
     match net? {
         NetHeaders::Ipv4(header, extensions) => {
-            let behind = ip_payload_parts(transport, payload)?;
-            Some(EtherPayloadParts::Ipv4(header, extensions, behind))
+            let ip_payload = ip_payload_parts(transport, payload)?;
+            Some(EtherPayloadParts::Ipv4(header, extensions, ip_payload))
         }
         NetHeaders::Ipv6(header, extensions) => {
-            let behind = ip_payload_parts(transport, payload)?;
-            Some(EtherPayloadParts::Ipv6(header, extensions, behind))
+            let ip_payload = ip_payload_parts(transport, payload)?;
+            Some(EtherPayloadParts::Ipv6(header, extensions, ip_payload))
         }
         NetHeaders::Arp(packet) => Some(EtherPayloadParts::Arp(packet)),
     }
@@ -218,15 +218,25 @@ fn number_of(built: Result<(), BuildWriteError>, frame: &[u8]) -> Result<u64, Be
 /// to the buffer. An error leaves the buffer unchanged.
 pub fn build(parts: &FrameParts<'_>, buffer: &mut Vec<u8>) -> Result<(), BuildWriteError> {
     match &parts.inside {
-        EtherPayloadParts::Ipv4(header, extensions, behind) => {
+        EtherPayloadParts::Ipv4(header, extensions, ip_payload) => {
             let header = header.clone().unwrap();
             let extensions = extensions.clone().unwrap();
-            build_ip(parts, IpHeaders::Ipv4(header, extensions), behind, buffer)
+            build_ip(
+                parts,
+                IpHeaders::Ipv4(header, extensions),
+                ip_payload,
+                buffer,
+            )
         }
-        EtherPayloadParts::Ipv6(header, extensions, behind) => {
+        EtherPayloadParts::Ipv6(header, extensions, ip_payload) => {
             let header = header.clone().unwrap();
             let extensions = copy_of(extensions);
-            build_ip(parts, IpHeaders::Ipv6(header, extensions), behind, buffer)
+            build_ip(
+                parts,
+                IpHeaders::Ipv6(header, extensions),
+                ip_payload,
+                buffer,
+            )
         }
         EtherPayloadParts::Arp(packet) => {
             let packet = packet.clone().unwrap();
@@ -248,43 +258,63 @@ pub fn build_from_addresses(
 ) -> Result<(), BuildWriteError> {
     let link = PacketBuilder::ethernet2(parts.link.source, parts.link.destination);
     match &parts.inside {
-        EtherPayloadParts::Ipv4(header, _, behind) => {
+        EtherPayloadParts::Ipv4(header, _, ip_payload) => {
             let (source, destination) = (header.source, header.destination);
             let hops = header.time_to_live;
             match &parts.tags {
                 None => append_ip_payload(
                     link.ipv4(source, destination, hops),
-                    behind,
+                    ip_payload,
                     false,
                     buffer,
                 ),
                 Some(VlanHeader::Single(tag)) => {
                     let link = link.single_vlan(tag.vlan_id);
-                    append_ip_payload(link.ipv4(source, destination, hops), behind, false, buffer)
+                    append_ip_payload(
+                        link.ipv4(source, destination, hops),
+                        ip_payload,
+                        false,
+                        buffer,
+                    )
                 }
                 Some(VlanHeader::Double(tags)) => {
                     let link = link.double_vlan(tags.outer.vlan_id, tags.inner.vlan_id);
-                    append_ip_payload(link.ipv4(source, destination, hops), behind, false, buffer)
+                    append_ip_payload(
+                        link.ipv4(source, destination, hops),
+                        ip_payload,
+                        false,
+                        buffer,
+                    )
                 }
             }
         }
-        EtherPayloadParts::Ipv6(header, _, behind) => {
+        EtherPayloadParts::Ipv6(header, _, ip_payload) => {
             let (source, destination) = (header.source, header.destination);
             let hops = header.hop_limit;
             match &parts.tags {
                 None => append_ip_payload(
                     link.ipv6(source, destination, hops),
-                    behind,
+                    ip_payload,
                     false,
                     buffer,
                 ),
                 Some(VlanHeader::Single(tag)) => {
                     let link = link.single_vlan(tag.vlan_id);
-                    append_ip_payload(link.ipv6(source, destination, hops), behind, false, buffer)
+                    append_ip_payload(
+                        link.ipv6(source, destination, hops),
+                        ip_payload,
+                        false,
+                        buffer,
+                    )
                 }
                 Some(VlanHeader::Double(tags)) => {
                     let link = link.double_vlan(tags.outer.vlan_id, tags.inner.vlan_id);
-                    append_ip_payload(link.ipv6(source, destination, hops), behind, false, buffer)
+                    append_ip_payload(
+                        link.ipv6(source, destination, hops),
+                        ip_payload,
+                        false,
+                        buffer,
+                    )
                 }
             }
         }
@@ -326,39 +356,39 @@ fn copy_of(extensions: &Ipv6Extensions) -> Ipv6Extensions {
 fn build_ip(
     parts: &FrameParts<'_>,
     headers: IpHeaders,
-    behind: &IpPayloadParts<'_>,
+    ip_payload: &IpPayloadParts<'_>,
     buffer: &mut Vec<u8>,
 ) -> Result<(), BuildWriteError> {
     let link = PacketBuilder::ethernet2(parts.link.source, parts.link.destination);
     match &parts.tags {
         Some(tags) => append_ip_payload(
             link.vlan(tags.clone().unwrap()).ip(headers),
-            behind,
+            ip_payload,
             true,
             buffer,
         ),
-        None => append_ip_payload(link.ip(headers), behind, true, buffer),
+        None => append_ip_payload(link.ip(headers), ip_payload, true, buffer),
     }
 }
 
-/// Adds a decoded IP payload to a builder step that has IP headers, and appends the frame to the buffer. If `whole` is
-/// true, a TCP header is copied completely, else only its ports, numbers and window size. Inlined, so that the step is
-/// not moved.
+/// Adds a decoded IP payload to a builder step that has IP headers, and appends the frame to the buffer. If
+/// `full_tcp_header` is true, a TCP header is copied completely, else only its ports, numbers and window size. Inlined,
+/// so that the step is not moved.
 #[inline(always)]
 fn append_ip_payload(
     step: PacketBuilderStep<IpHeaders>,
-    behind: &IpPayloadParts<'_>,
-    whole: bool,
+    ip_payload: &IpPayloadParts<'_>,
+    full_tcp_header: bool,
     buffer: &mut Vec<u8>,
 ) -> Result<(), BuildWriteError> {
-    match behind {
+    match ip_payload {
         IpPayloadParts::Payload(number, payload) => step.write(buffer, *number, payload),
         IpPayloadParts::Transport(transport, payload) => match transport {
             TransportHeader::Udp(header) => {
                 step.udp(header.source_port, header.destination_port)
                     .write(buffer, payload)
             }
-            TransportHeader::Tcp(header) if whole => {
+            TransportHeader::Tcp(header) if full_tcp_header => {
                 step.tcp_header(header.clone().unwrap())
                     .write(buffer, payload)
             }

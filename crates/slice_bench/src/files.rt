@@ -16,13 +16,13 @@ pub fn frames_of(alloc: Global, bytes: &[u8]) -> Result<Vec<&[u8]>, BenchError>
     let mut frames = Vec::new(alloc);
     let mut rest = bytes;
     'frames: while !rest.is_empty() {
-        let Some((frame, behind)) = split_frame(rest) else {
+        let Some((frame, after)) = split_frame(rest) else {
             return Err(BenchError::Cut);
         };
         let Ok(()) = frames.push(frame) else {
             return Err(BenchError::OutOfMemory);
         };
-        rest = behind;
+        rest = after;
     }
     Ok(frames)
 }

@@ -123,10 +123,10 @@ fn print_measured<R: Clock + Print + AllocGlobal>(
         return println!(rt; "{name:<23} {items:>9} {rounds:>9}").map_err(|_| BenchError::Output);
     }
     let tenths = mean_tenths(measured.nanos, count);
-    let whole = tenths / 10;
+    let nanos = tenths / 10;
     let part = tenths % 10;
     let sum = measured.sum;
-    println!(rt; "{name:<23} {items:>9} {rounds:>9} {whole:>8}.{part} {sum:>20}").map_err(
+    println!(rt; "{name:<23} {items:>9} {rounds:>9} {nanos:>8}.{part} {sum:>20}").map_err(
         |_| BenchError::Output,
     )
 }

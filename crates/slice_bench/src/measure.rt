@@ -9,7 +9,7 @@ use crate::columns::{
     Decoding, Filling, LaxFilling, ReadingIpHeaders, Rereading, Slicing, SlicingIpv4,
     SlicingNotInlined, total,
 };
-use crate::reassembly::handed_out;
+use crate::reassembly::reassembled_len;
 use std::alloc::Global;
 use std::rt::Clock;
 use std::time::Instant;
@@ -132,7 +132,7 @@ impl Measurement {
                 built::<FromAddresses>(alloc, corpus.frame_parts.as_slice())
             }
             Measurement::BuildingWithSize => built_with_size(alloc, corpus.frame_parts.as_slice()),
-            Measurement::Reassembly => handed_out(alloc, corpus.frames.as_slice()),
+            Measurement::Reassembly => reassembled_len(alloc, corpus.frames.as_slice()),
         }
     }
 }

@@ -8,18 +8,18 @@ use std::alloc::Global;
 /// Passes all frames in order to a new reassembly pool, and returns the total length in bytes of the payloads that it
 /// reassembles. Frames that slicing or the pool rejects are ignored. The buffer of each payload is returned to the pool
 /// for reuse.
-pub fn handed_out(alloc: Global, frames: &[&[u8]]) -> Result<u64, BenchError> {
+pub fn reassembled_len(alloc: Global, frames: &[&[u8]]) -> Result<u64, BenchError> {
     let mut pool: IpDefragPool<(), ()> = IpDefragPool::new(alloc);
     let mut total: u64 = 0;
     for frame in frames {
-        total = total.wrapping_add(taken(&mut pool, frame)?);
+        total = total.wrapping_add(completed_len(&mut pool, frame)?);
     }
     Ok(total)
 }
 
 /// Passes one frame to the reassembly pool, and returns the length in bytes of the payload that it completes, or 0 if
 /// it completes none.
-fn taken(pool: &mut IpDefragPool<(), ()>, frame: &[u8]) -> Result<u64, BenchError> {
+fn completed_len(pool: &mut IpDefragPool<(), ()>, frame: &[u8]) -> Result<u64, BenchError> {
     let Ok(packet) = SlicedPacket::from_ethernet(frame) else {
         return Ok(0);
     };

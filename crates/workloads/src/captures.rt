@@ -112,7 +112,7 @@ impl Tape {
     }
 
     /// Appends a packet, truncated to at most `most` bytes, to the generated capture. `place` has the positions of the
-    /// addresses and ports that are set in each round.
+    /// addresses and ports, which get new values each time the capture is read.
     fn push(&mut self, place: &Place, frame: &[u8], most: usize) -> Result<(), BenchError> {
         let kept = between(frame, 0, frame.len().min(most));
         let (kept_len, len) = (low_32(kept.len()), low_32(frame.len()));

@@ -40,7 +40,7 @@ const TURNS: u64 = 7;
 
 /// Size of a group of fragmented datagrams that are reassembled at the same time.
 #[derive(Clone, Copy)]
-struct Crowd {
+struct FragmentGroup {
     /// Number of datagrams whose fragments arrive alternately.
     streams: u64,
     /// Maximum number of fragments of a datagram; each datagram has at least two.
@@ -50,14 +50,14 @@ struct Crowd {
 }
 
 /// A thousand fragmented datagrams of up to 9 KB, reassembled at the same time.
-const MANY: Crowd = Crowd {
+const SMALL_GROUP: FragmentGroup = FragmentGroup {
     streams: 1_000,
     most_fragments: 6,
     piece_len: PIECE_LEN,
 };
 
 /// Fifty thousand short datagrams in two fragments each, reassembled at the same time.
-const CROWD: Crowd = Crowd {
+const LARGE_GROUP: FragmentGroup = FragmentGroup {
     streams: 50_000,
     most_fragments: 2,
     piece_len: 120,
@@ -65,7 +65,7 @@ const CROWD: Crowd = Crowd {
 
 /// Order in which the fragments of a datagram arrive.
 #[derive(Clone, Copy, PartialEq, Eq)]
-enum Habit {
+enum ArrivalPattern {
     /// The fragments of the datagram arrive in order.
     InOrder,
     /// The fragments of the datagram arrive in reverse order.
@@ -84,7 +84,7 @@ struct Stream {
     fragments: u64,
     piece_len: usize,
     last_len: usize,
-    habit: Habit,
+    order: ArrivalPattern,
 }
 
 /// A reassembly pool, the frames that are passed to it, and the digest of the results.
@@ -111,9 +111,13 @@ pub fn reassemble_streams(alloc: Global, rounds: u32, seed: u64) -> Result<Diges
     let mut reassembly = Reassembly::new(alloc, seed)?;
     let mut first = (seed % 65_536).wrapping_mul(65_536);
     for round in 0..rounds {
-        let crowd = if round % 32 == 31 { CROWD } else { MANY };
-        reassembly.process_group(crowd, first)?;
-        first = first.wrapping_add(crowd.streams);
+        let group = if round % 32 == 31 {
+            LARGE_GROUP
+        } else {
+            SMALL_GROUP
+        };
+        reassembly.process_group(group, first)?;
+        first = first.wrapping_add(group.streams);
     }
     Ok(reassembly.digest)
 }
@@ -160,10 +164,10 @@ impl Reassembly {
 
     /// Passes the fragments of a group of datagrams alternately to the reassembly pool. The datagrams have the numbers
     /// from `first` on.
-    fn process_group(&mut self, crowd: Crowd, first: u64) -> Result<(), BenchError> {
+    fn process_group(&mut self, group: FragmentGroup, first: u64) -> Result<(), BenchError> {
         for turn in 0..TURNS {
-            for index in 0..crowd.streams {
-                let stream = Stream::of_number(first.wrapping_add(index), crowd);
+            for index in 0..group.streams {
+                let stream = Stream::of_number(first.wrapping_add(index), group);
                 if let Some(place) = stream.place_at(turn) {
                     self.process_fragment_of(&stream, place)?;
                     if self.frames % 4 == 0 {
@@ -292,39 +296,39 @@ fn give(
 
 impl Stream {
     /// Derives IP version, fragment lengths and order of a fragmented datagram from its number.
-    fn of_number(number: u64, crowd: Crowd) -> Stream {
+    fn of_number(number: u64, group: FragmentGroup) -> Stream {
         let drawn = mixed(number);
-        let habit = match (drawn >> 40) % 50 {
-            0 => Habit::NeverEnds,
-            1 => Habit::Repeated,
-            2 => Habit::Backwards,
-            _ => Habit::InOrder,
+        let order = match (drawn >> 40) % 50 {
+            0 => ArrivalPattern::NeverEnds,
+            1 => ArrivalPattern::Repeated,
+            2 => ArrivalPattern::Backwards,
+            _ => ArrivalPattern::InOrder,
         };
         let is_ipv6 = drawn % 4 == 0;
         let piece_len = if is_ipv6 {
-            crowd.piece_len.min(PIECE_LEN_IPV6)
+            group.piece_len.min(PIECE_LEN_IPV6)
         } else {
-            crowd.piece_len
+            group.piece_len
         };
-        let spread = crowd.most_fragments.saturating_sub(1).max(1);
+        let spread = group.most_fragments.saturating_sub(1).max(1);
         Stream {
             number,
             is_ipv6,
             fragments: 2 + (drawn >> 8) % spread,
             piece_len,
             last_len: 8 + (drawn >> 16) as usize % piece_len.saturating_sub(8).max(1),
-            habit,
+            order,
         }
     }
 
     /// Returns the index of the fragment that arrives as number `turn` of its datagram, from 0 on, or `None` if no more
     /// arrive.
     fn place_at(&self, turn: u64) -> Option<u64> {
-        let place = match self.habit {
-            Habit::Backwards if turn < self.fragments => self.fragments - 1 - turn,
-            Habit::Repeated => turn.saturating_sub(1),
-            Habit::NeverEnds if turn.saturating_add(1) >= self.fragments => return None,
-            Habit::InOrder | Habit::Backwards | Habit::NeverEnds => turn,
+        let place = match self.order {
+            ArrivalPattern::Backwards if turn < self.fragments => self.fragments - 1 - turn,
+            ArrivalPattern::Repeated => turn.saturating_sub(1),
+            ArrivalPattern::NeverEnds if turn.saturating_add(1) >= self.fragments => return None,
+            ArrivalPattern::InOrder | ArrivalPattern::Backwards | ArrivalPattern::NeverEnds => turn,
         };
         if place < self.fragments {
             Some(place)

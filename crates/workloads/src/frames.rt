@@ -37,8 +37,8 @@ pub struct Place {
     /// Positions of the lower 16 bits of the frame's source and destination IP address, the second the complement of
     /// the first.
     pub addresses: Balance,
-    /// Positions of the frame's source port (or of another field that distinguishes frames) and of a field with its
-    /// complement.
+    /// Positions of the frame's source port (or of another field that distinguishes frames), and of a second field that
+    /// is set to its one's complement, so that the checksum stays valid.
     pub ports: Balance,
 }
 

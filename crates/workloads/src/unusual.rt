@@ -152,14 +152,14 @@ fn add_transport(digest: &mut Digest, transport: &TransportSlice<'_>) {
 fn add_options(digest: &mut Digest, segment: &TcpSlice<'_>) {
     for option in segment.options_iterator() {
         match option {
-            Ok(option) => digest.add(number_of(&option)),
+            Ok(option) => digest.add(option_value(&option)),
             Err(_) => digest.add(5),
         }
     }
 }
 
 /// Returns a number for the digest that depends on the value of a TCP option.
-fn number_of(option: &TcpOptionElement) -> u64 {
+fn option_value(option: &TcpOptionElement) -> u64 {
     match option {
         TcpOptionElement::Noop => 1,
         TcpOptionElement::MaximumSegmentSize(size) => u64::from(*size),

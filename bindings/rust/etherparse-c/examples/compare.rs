@@ -6,12 +6,12 @@ use etherparse_c::{sys, Entry, SlicedPacket};
 use std::{env, error::Error, fs, hint::black_box, time::Instant};
 
 fn by_call(frames: &[&[u8]]) -> usize {
-    let mut told = sys::Packet::default();
+    let mut packet = sys::Packet::default();
     let mut sum = 0;
     for frame in frames {
         // SAFETY: both pointers come from references that outlive the call, and they do not overlap.
-        let status = unsafe { sys::etherparse_slice(sys::ENTRY_ETHERNET, 0, frame.as_ptr(), frame.len(), &mut told) };
-        sum += if status == sys::OK { told.payload.len } else { 0 };
+        let status = unsafe { sys::etherparse_slice(sys::ENTRY_ETHERNET, 0, frame.as_ptr(), frame.len(), &mut packet) };
+        sum += if status == sys::OK { packet.payload.len } else { 0 };
     }
     sum
 }

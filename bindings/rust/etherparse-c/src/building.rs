@@ -66,7 +66,7 @@ pub struct Route {
 }
 
 impl Route {
-    fn told(&self) -> sys::TaggedRoute {
+    fn to_raw(&self) -> sys::TaggedRoute {
         let mut route = sys::Route { hop_limit: self.hop_limit, ..Default::default() };
         if let Some((source, destination)) = self.ethernet {
             route.with_ethernet = 1;
@@ -169,7 +169,7 @@ impl Place {
 
 /// Builds a frame and returns its length; that many bytes are then initialized.
 pub(crate) fn build_at(route: &Route, behind: Behind<'_>, payload: &[u8], place: Place) -> Result<usize, BuildError> {
-    let route = route.told();
+    let route = route.to_raw();
     let (from, len, mut written) = (payload.as_ptr(), payload.len(), 0);
     // SAFETY: all pointers come from references that outlive the call, or from the place, and none overlap. An export
     // does not read from the place.

@@ -83,7 +83,7 @@ impl<'a> LaxSlicedPacket<'a> {
     #[must_use]
     #[inline]
     pub fn stop(&self) -> Option<Refusal> {
-        let refusal = self.0.told().refusal;
+        let refusal = self.0.as_raw().refusal;
         (refusal.kind != 0).then(|| Refusal::from(refusal))
     }
 
@@ -91,7 +91,7 @@ impl<'a> LaxSlicedPacket<'a> {
     #[must_use]
     #[inline]
     pub fn is_incomplete(&self) -> bool {
-        self.0.told().payload.incomplete != 0
+        self.0.as_raw().payload.incomplete != 0
     }
 }
 

@@ -116,9 +116,9 @@ impl<'a> Ipv4Slice<'a> {
 
 impl fmt::Debug for Ipv4Slice<'_> {
     fn fmt(&self, f: &mut fmt::Formatter<'_>) -> fmt::Result {
-        let mut told = f.debug_struct("Ipv4Slice");
-        told.field("header", &self.header().to_header()).field("extensions", &self.extensions());
-        told.field("payload", &self.payload).finish()
+        let mut fields = f.debug_struct("Ipv4Slice");
+        fields.field("header", &self.header().to_header()).field("extensions", &self.extensions());
+        fields.field("payload", &self.payload).finish()
     }
 }
 
@@ -367,9 +367,9 @@ impl<'a> Ipv6Slice<'a> {
 
 impl fmt::Debug for Ipv6Slice<'_> {
     fn fmt(&self, f: &mut fmt::Formatter<'_>) -> fmt::Result {
-        let mut told = f.debug_struct("Ipv6Slice");
-        told.field("header", &self.header().to_header()).field("extensions", &self.extensions());
-        told.field("payload", &self.payload).finish()
+        let mut fields = f.debug_struct("Ipv6Slice");
+        fields.field("header", &self.header().to_header()).field("extensions", &self.extensions());
+        fields.field("payload", &self.payload).finish()
     }
 }
 

@@ -66,15 +66,15 @@ numbered! {
 pub struct Refusal(sys::Refusal);
 
 impl From<sys::Refusal> for Refusal {
-    fn from(told: sys::Refusal) -> Refusal {
-        Refusal(told)
+    fn from(raw: sys::Refusal) -> Refusal {
+        Refusal(raw)
     }
 }
 
 impl Refusal {
     /// Returns the error as the library's numbers.
     #[must_use]
-    pub fn told(&self) -> &sys::Refusal {
+    pub fn as_raw(&self) -> &sys::Refusal {
         &self.0
     }
 
@@ -116,16 +116,16 @@ impl Refusal {
 impl fmt::Debug for Refusal {
     /// Formats the kind, or the length error, and the number.
     fn fmt(&self, f: &mut fmt::Formatter<'_>) -> fmt::Result {
-        let mut told = f.debug_tuple("Refusal");
+        let mut fields = f.debug_tuple("Refusal");
         match (self.len_error(), self.kind()) {
-            (Some(error), _) => told.field(&error),
-            (None, Some(kind)) => told.field(&kind),
-            (None, None) => told.field(&self.0),
+            (Some(error), _) => fields.field(&error),
+            (None, Some(kind)) => fields.field(&kind),
+            (None, None) => fields.field(&self.0),
         };
         if let Some(number) = self.number() {
-            told.field(&number);
+            fields.field(&number);
         }
-        told.finish()
+        fields.finish()
     }
 }
 

@@ -72,7 +72,7 @@ pub struct Ip {
 #[must_use]
 pub struct SlicedPacket<'a> {
     /// Initialized in every packet that is returned.
-    told: MaybeUninit<sys::Packet>,
+    description: MaybeUninit<sys::Packet>,
     frame: &'a [u8],
     entry: Entry,
 }
@@ -140,7 +140,7 @@ impl<'a> SlicedPacket<'a> {
     /// The error, if the bytes are not a frame.
     #[inline]
     pub fn from_entry(entry: Entry, frame: &'a [u8]) -> Result<SlicedPacket<'a>, Refusal> {
-        let mut packet = SlicedPacket { told: MaybeUninit::uninit(), frame, entry };
+        let mut packet = SlicedPacket { description: MaybeUninit::uninit(), frame, entry };
         packet.fill_in()?;
         Ok(packet)
     }
@@ -174,12 +174,12 @@ impl<'a> SlicedPacket<'a> {
 
     /// Packet without layers, of no bytes.
     pub const EMPTY: SlicedPacket<'static> =
-        SlicedPacket { told: MaybeUninit::zeroed(), frame: &[], entry: Entry::Ethernet };
+        SlicedPacket { description: MaybeUninit::zeroed(), frame: &[], entry: Entry::Ethernet };
 
     /// Slices a packet laxly, whose first header is `entry`.
     #[inline]
     pub(crate) fn lax(entry: Entry, frame: &'a [u8]) -> Result<SlicedPacket<'a>, Refusal> {
-        let mut packet = SlicedPacket { told: MaybeUninit::uninit(), frame, entry };
+        let mut packet = SlicedPacket { description: MaybeUninit::uninit(), frame, entry };
         packet.fill_in_by(sys::etherparse_slice_lax)?;
         Ok(packet)
     }
@@ -199,12 +199,12 @@ impl<'a> SlicedPacket<'a> {
         let (entry, ether_type) = self.entry.numbers();
         let frame = self.frame;
         // SAFETY: both pointers point to memory that outlives the call, and they do not overlap.
-        let status = unsafe { slice(entry, ether_type, frame.as_ptr(), frame.len(), self.told.as_mut_ptr()) };
+        let status = unsafe { slice(entry, ether_type, frame.as_ptr(), frame.len(), self.description.as_mut_ptr()) };
         // By its contract the call wrote each field, whatever its status; the previous content is not read.
         if status == sys::OK {
             Ok(())
         } else {
-            Err(Refusal::from(self.told().refusal)) // an entry is always known here
+            Err(Refusal::from(self.as_raw().refusal)) // an entry is always known here
         }
     }
 
@@ -225,9 +225,9 @@ impl<'a> SlicedPacket<'a> {
     /// Description of the frame, as the library's numbers.
     #[must_use]
     #[inline]
-    pub fn told(&self) -> &sys::Packet {
+    pub fn as_raw(&self) -> &sys::Packet {
         // SAFETY: the call that filled it wrote each field.
-        unsafe { self.told.assume_init_ref() }
+        unsafe { self.description.assume_init_ref() }
     }
 
     /// Returns `len` bytes of the frame at `offset`.
@@ -239,15 +239,15 @@ impl<'a> SlicedPacket<'a> {
     /// Returns the end of the bytes after the tags: limited by the short length of a MACsec tag, or the end of the
     /// frame.
     #[inline]
-    fn end_behind_tags(&self) -> usize {
+    fn end_after_tags(&self) -> usize {
         let mut end = self.frame.len();
-        for tag in self.told().link_exts.iter().filter(|tag| tag.kind == sys::EXT_MACSEC) {
+        for tag in self.as_raw().link_exts.iter().filter(|tag| tag.kind == sys::EXT_MACSEC) {
             let bytes = self.bytes(tag.offset, tag.len);
             let short_len = usize::from(bytes[1] & 0x3f);
             // it counts the bytes after the SecTAG, which has 6 bytes, or 14 with an SCI
-            let says = tag.offset + if bytes[0] & 0x20 == 0 { 6 } else { 14 } + short_len;
-            if short_len != 0 && (tag.offset + tag.len..=end).contains(&says) {
-                end = says;
+            let stated = tag.offset + if bytes[0] & 0x20 == 0 { 6 } else { 14 } + short_len;
+            if short_len != 0 && (tag.offset + tag.len..=end).contains(&stated) {
+                end = stated;
             }
         }
         end
@@ -257,7 +257,7 @@ impl<'a> SlicedPacket<'a> {
     #[must_use]
     #[inline]
     pub fn link(&self) -> Option<LinkSlice<'a>> {
-        let part = &self.told().link;
+        let part = &self.as_raw().link;
         match part.kind {
             sys::LINK_ETHERNET2 => Some(LinkSlice::Ethernet2(Ethernet2Slice(self.bytes(part.offset, part.len)))),
             sys::LINK_LINUX_SLL => Some(LinkSlice::LinuxSll(LinuxSllSlice(self.bytes(part.offset, part.len)))),
@@ -269,7 +269,7 @@ impl<'a> SlicedPacket<'a> {
     #[must_use]
     #[inline]
     pub fn link_exts(&self) -> [Option<LinkExtSlice<'a>>; 3] {
-        self.told().link_exts.map(|tag| match tag.kind {
+        self.as_raw().link_exts.map(|tag| match tag.kind {
             sys::EXT_VLAN => Some(LinkExtSlice::Vlan(SingleVlanSlice(self.bytes(tag.offset, tag.len)))),
             sys::EXT_MACSEC => Some(LinkExtSlice::Macsec(MacsecSlice(self.bytes(tag.offset, tag.len)))),
             _ => None,
@@ -289,7 +289,7 @@ impl<'a> SlicedPacket<'a> {
     /// ```
     #[inline]
     pub fn vlan_ids(&self) -> impl Iterator<Item = u16> + 'a {
-        let tags = self.told().link_exts.into_iter();
+        let tags = self.as_raw().link_exts.into_iter();
         tags.filter(|tag| tag.kind == sys::EXT_VLAN).map(|tag| tag.vlan_id)
     }
 
@@ -297,17 +297,17 @@ impl<'a> SlicedPacket<'a> {
     #[must_use]
     #[inline]
     pub fn net(&self) -> Option<NetSlice<'a>> {
-        let (part, ip) = (&self.told().net, &self.told().ip);
+        let (part, ip) = (&self.as_raw().net, &self.as_raw().ip);
         let headers = self.bytes(part.offset, part.len);
         let (header_len, number, fragmented) = (ip.header_len, IpNumber(ip.number), ip.fragmented != 0);
         // number of bytes from the header on: available ones, and those that its length field counts
-        let there = self.end_behind_tags() - part.offset;
-        let says = match part.kind {
+        let available = self.end_after_tags() - part.offset;
+        let stated = match part.kind {
             sys::NET_IPV4 => usize::from(u16_at(headers, 2)),
             sys::NET_IPV6 if u16_at(headers, 4) != 0 => 40 + usize::from(u16_at(headers, 4)),
-            _ => there,
+            _ => available,
         };
-        let len = if (header_len..=there).contains(&says) { says } else { there };
+        let len = if (header_len..=available).contains(&stated) { stated } else { available };
         let payload = &self.frame[part.offset..part.offset + len][part.len..];
         match part.kind {
             sys::NET_ARP => Some(NetSlice::Arp(ArpPacketSlice(headers))),
@@ -321,7 +321,7 @@ impl<'a> SlicedPacket<'a> {
     #[must_use]
     #[inline]
     pub fn ip(&self) -> Option<Ip> {
-        let ip = &self.told().ip;
+        let ip = &self.as_raw().ip;
         (ip.version != 0).then_some(Ip {
             version: ip.version,
             number: IpNumber(ip.number),
@@ -355,14 +355,14 @@ impl<'a> SlicedPacket<'a> {
     #[must_use]
     #[inline]
     pub fn is_ip_payload_fragmented(&self) -> bool {
-        self.told().ip.fragmented != 0
+        self.as_raw().ip.fragmented != 0
     }
 
     /// Transport layer; none in a fragment.
     #[must_use]
     #[inline]
     pub fn transport(&self) -> Option<TransportSlice<'a>> {
-        let (part, payload) = (&self.told().transport, &self.told().payload);
+        let (part, payload) = (&self.as_raw().transport, &self.as_raw().payload);
         if part.kind == 0 {
             return None;
         }
@@ -380,29 +380,29 @@ impl<'a> SlicedPacket<'a> {
     #[must_use]
     #[inline]
     pub fn ports(&self) -> Option<(u16, u16)> {
-        matches!(self.told().transport.kind, sys::TRANSPORT_TCP | sys::TRANSPORT_UDP)
-            .then_some((self.told().source_port, self.told().destination_port))
+        matches!(self.as_raw().transport.kind, sys::TRANSPORT_TCP | sys::TRANSPORT_UDP)
+            .then_some((self.as_raw().source_port, self.as_raw().destination_port))
     }
 
     /// Payload of the last layer; empty after an ARP packet.
     #[must_use]
     #[inline]
     pub fn payload(&self) -> &'a [u8] {
-        self.bytes(self.told().payload.offset, self.told().payload.len)
+        self.bytes(self.as_raw().payload.offset, self.as_raw().payload.len)
     }
 
     /// Offset of the payload in the frame, in bytes.
     #[must_use]
     #[inline]
     pub fn payload_offset(&self) -> usize {
-        self.told().payload.offset
+        self.as_raw().payload.offset
     }
 
     /// Length field that limits the payload.
     #[must_use]
     #[inline]
     pub fn payload_len_source(&self) -> LenSource {
-        LenSource::of(self.told().payload.len_source).unwrap_or(LenSource::Slice)
+        LenSource::of(self.as_raw().payload.len_source).unwrap_or(LenSource::Slice)
     }
 }
 
@@ -424,8 +424,8 @@ impl core::hash::Hash for SlicedPacket<'_> {
 impl fmt::Debug for SlicedPacket<'_> {
     /// Formats the layers.
     fn fmt(&self, f: &mut fmt::Formatter<'_>) -> fmt::Result {
-        let mut told = f.debug_struct("SlicedPacket");
-        told.field("link", &self.link()).field("link_exts", &self.link_exts()).field("net", &self.net());
-        told.field("transport", &self.transport()).field("payload", &self.payload()).finish()
+        let mut fields = f.debug_struct("SlicedPacket");
+        fields.field("link", &self.link()).field("link_exts", &self.link_exts()).field("net", &self.net());
+        fields.field("transport", &self.transport()).field("payload", &self.payload()).finish()
     }
 }

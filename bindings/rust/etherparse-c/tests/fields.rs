@@ -125,7 +125,7 @@ fn fields_of_ipv4_and_tcp() {
 fn fields_of_ipv6_and_udp() {
     let mut packet = vec![0x6a, 0xb1, 0x23, 0x45, 0, 19, 17, 61];
     packet.extend([[1; 16], [2; 16]].concat());
-    packet.extend([0, 21, 4, 210, 0, 11, 0x12, 0x34, 7, 8, 9, /* behind the datagram */ 0, 0, 0, 0, 0, 0, 0, 0]);
+    packet.extend([0, 21, 4, 210, 0, 11, 0x12, 0x34, 7, 8, 9, /* after the datagram */ 0, 0, 0, 0, 0, 0, 0, 0]);
     let sliced = SlicedPacket::from_ether_type(EtherType::IPV6, &packet).unwrap();
     let Some(NetSlice::Ipv6(ip)) = sliced.net() else { panic!("{sliced:?}") };
     assert_eq!((ip.extensions(), ip.payload_ip_number(), ip.is_payload_fragmented()), (&[][..], IpNumber::UDP, false));

@@ -71,7 +71,7 @@ fn each_cut_and_each_change_is_read() {
 }
 
 #[test]
-fn what_is_missing_is_told() {
+fn missing_bytes_are_reported() {
     let packet = LaxSlicedPacket::from_entry(Entry::Ethernet, &VLAN[..72]).unwrap();
     let stop = packet.stop().and_then(|refusal| refusal.len_error()).unwrap();
     assert_eq!((stop.layer, stop.required_len, stop.len, stop.layer_start_offset), (Layer::UdpHeader, 8, 6, 66));
@@ -83,15 +83,15 @@ fn what_is_missing_is_told() {
     // nothing
     let mut counted = MACSEC;
     (counted[15], counted[59]) = (46, 0);
-    let told = |bytes: &[u8; 64]| {
+    let limit = |bytes: &[u8; 64]| {
         let packet = LaxSlicedPacket::from_ethernet(bytes).unwrap();
         assert!(packet.stop().is_none() && packet.payload() == [1, 2]);
         (packet.payload_len_source(), packet.is_incomplete())
     };
-    assert_eq!(told(&MACSEC), (LenSource::UdpHeaderLen, false));
-    assert_eq!(told(&counted), (LenSource::Ipv4HeaderTotalLen, false));
+    assert_eq!(limit(&MACSEC), (LenSource::UdpHeaderLen, false));
+    assert_eq!(limit(&counted), (LenSource::Ipv4HeaderTotalLen, false));
     counted[25] = 0;
-    assert_eq!(told(&counted), (LenSource::Slice, true));
+    assert_eq!(limit(&counted), (LenSource::Slice, true));
 
     assert!(LaxSlicedPacket::from_linux_sll(&[]).is_err() && LaxSlicedPacket::from_ip(&[0x50]).is_err());
     let refused = LaxSlicedPacket::from_ether_type(EtherType::ARP, &[0; 3]).unwrap();

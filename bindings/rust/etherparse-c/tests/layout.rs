@@ -156,10 +156,9 @@ fn passed(kind: &str) -> &'static str {
     }
 }
 
-/// Returns a parameter. A length has no name of its own in Rattle, and the answer of a pool has another one.
+/// Returns a parameter. A length has no name of its own in Rattle.
 fn parameter(name: &str, kind: &str) -> (String, &'static str) {
     let name = match name {
-        "told" => "answer",
         _ if name.ends_with("len") => "len",
         _ => name,
     };
@@ -340,30 +339,30 @@ fn kinds_have_their_names() {
     ];
     for (entry, frame, link, tag, net, transport, end) in frames {
         let packet = SlicedPacket::from_entry(entry, &frame).unwrap();
-        let told_link = packet.link().map_or("", |link| match link {
+        let link_name = packet.link().map_or("", |link| match link {
             LinkSlice::Ethernet2(_) => "Ethernet2",
             LinkSlice::LinuxSll(_) => "LinuxSll",
             _ => "?",
         });
-        let told_tag = packet.link_exts()[0].map_or("", |tag| match tag {
+        let tag_name = packet.link_exts()[0].map_or("", |tag| match tag {
             LinkExtSlice::Vlan(tag) if tag.vlan_identifier() == 42 => "Vlan",
             LinkExtSlice::Macsec(_) => "Macsec",
             _ => "?",
         });
-        let told_net = packet.net().map_or("", |net| match net {
+        let net_name = packet.net().map_or("", |net| match net {
             NetSlice::Ipv4(_) => "Ipv4",
             NetSlice::Ipv6(_) => "Ipv6",
             NetSlice::Arp(_) => "Arp",
             _ => "?",
         });
-        let told_transport = packet.transport().map_or("", |transport| match transport {
+        let transport_name = packet.transport().map_or("", |transport| match transport {
             TransportSlice::Udp(_) => "Udp",
             TransportSlice::Tcp(_) => "Tcp",
             TransportSlice::Icmpv4(_) => "Icmpv4",
             TransportSlice::Icmpv6(_) => "Icmpv6",
             _ => "?",
         });
-        assert_eq!((told_link, told_tag, told_net, told_transport), (link, tag, net, transport));
+        assert_eq!((link_name, tag_name, net_name, transport_name), (link, tag, net, transport));
         assert_eq!(packet.payload_len_source(), end);
         // values with a kind are printed with their fields
         let printed = format!("{packet:?}");
@@ -445,13 +444,13 @@ fn refusals_have_their_kinds() {
     use etherparse_c::{LenSource, RefusalKind};
     let (v4, v6) = (Entry::EtherType(EtherType::IPV4), Entry::EtherType(EtherType::IPV6));
     // IP headers with 12 bytes after them
-    let ipv4 = |number: u8, behind: [u8; 12]| {
-        [&[0x45, 0, 0, 32, 0, 0, 0, 0, 64, number, 0, 0, 10, 0, 0, 1, 10, 0, 0, 2][..], &behind].concat()
+    let ipv4 = |number: u8, payload: [u8; 12]| {
+        [&[0x45, 0, 0, 32, 0, 0, 0, 0, 64, number, 0, 0, 10, 0, 0, 1, 10, 0, 0, 2][..], &payload].concat()
     };
-    let ipv6 = |number: u8, behind: &[u8]| {
-        let mut header = vec![0x60, 0, 0, 0, 0, behind.len() as u8, number, 64];
+    let ipv6 = |number: u8, payload: &[u8]| {
+        let mut header = vec![0x60, 0, 0, 0, 0, payload.len() as u8, number, 64];
         header.resize(40, 0);
-        [&header, behind].concat()
+        [&header, payload].concat()
     };
     let cooked = |packet_type: u8| vec![0, packet_type, 0xff, 0, 0, 6, 1, 2, 3, 4, 5, 6, 0, 0, 8, 0];
     let tcp = [&[0; 12][..], &[0x40, 0, 0, 0, 0, 0, 0, 0]].concat();
@@ -559,14 +558,14 @@ fn pools_answer() {
     assert_eq!(buffer, [7; 20]);
 
     // two streams; the second one is longer than the buffer
-    let told = |len: usize| PoolAnswer { ip_number: 17, len_source: 2, len, ..nothing };
+    let complete = |len: usize| PoolAnswer { ip_number: 17, len_source: 2, len, ..nothing };
     assert_eq!(push(3, &fragment(2, 2, false, b"ijklmnop"), 2, 0, &mut buffer), (0, nothing));
     assert_eq!(push(3, &fragment(2, 0, true, b"ABCDEFGH"), 2, 0, &mut buffer), (0, nothing));
-    assert_eq!(push(3, &fragment(1, 0, true, b"12345678"), 2, 0, &mut buffer), (6, told(12)));
+    assert_eq!(push(3, &fragment(1, 0, true, b"12345678"), 2, 0, &mut buffer), (6, complete(12)));
     assert_eq!(buffer, *b"12345678abcd\x07\x07\x07\x07\x07\x07\x07\x07");
     buffer = [7; 20];
-    assert_eq!(push(3, &fragment(2, 1, true, b"abcdefgh"), 2, 0, &mut buffer), (3, told(24)));
-    assert_eq!(push(3, &fragment(3, 0, true, b"12345678"), 3, 0, &mut buffer), (8, told(24)));
+    assert_eq!(push(3, &fragment(2, 1, true, b"abcdefgh"), 2, 0, &mut buffer), (3, complete(24)));
+    assert_eq!(push(3, &fragment(3, 0, true, b"12345678"), 3, 0, &mut buffer), (8, complete(24)));
     assert_eq!(take(&mut buffer), (3, 24, 17, 2));
     assert_eq!(buffer, [7; 20]);
     let mut room = [7; 25];
@@ -579,13 +578,13 @@ fn pools_answer() {
     assert_eq!(push(3, &fragment(4, 1, false, b"x"), 5, 1, &mut buffer), (0, nothing));
     unsafe { sys::etherparse_pool_drop_older(pool, 5) };
     assert_eq!(push(3, &fragment(4, 0, true, b"12345678"), 6, 0, &mut buffer), (0, nothing));
-    assert_eq!(push(3, &fragment(4, 0, true, b"12345678"), 6, 1, &mut buffer), (6, told(9)));
+    assert_eq!(push(3, &fragment(4, 0, true, b"12345678"), 6, 1, &mut buffer), (6, complete(9)));
     unsafe { sys::etherparse_pool_free(pool) };
 }
 
 /// A pool of the maximum limit, and the wrapper's own buffer.
 #[test]
-fn pools_hand_out_long_payloads() {
+fn pools_return_long_payloads() {
     use etherparse_c::{Pool, PushError};
     use std::error::Error;
     let mut pool = Pool::new().unwrap();

@@ -137,18 +137,18 @@ const REFUSALS: [(&str, &str, &str); 13] = [
 ];
 
 /// Returns the variants and the number of each error in a text. `before` is the text before the outer variant, `inner`
-/// before the variant of its inner error, and `number_behind` before the number.
-fn refusals(text: &str, before: &str, inner: &str, number_behind: &str) -> BTreeMap<(String, String), u32> {
-    let told = text.split(before).skip(1).filter_map(|case| {
-        let (variants, rest) = case.split_once(number_behind)?;
+/// before the variant of its inner error, and `before_number` before the number.
+fn refusals(text: &str, before: &str, inner: &str, before_number: &str) -> BTreeMap<(String, String), u32> {
+    let found = text.split(before).skip(1).filter_map(|case| {
+        let (variants, rest) = case.split_once(before_number)?;
         let (_, innermost) = variants.rsplit_once(inner)?;
         Some(((word(variants).to_string(), word(innermost).to_string()), number(rest)?))
     });
-    told.collect()
+    found.collect()
 }
 
 /// Returns the number after `kind` in the first record after a text.
-fn kind_behind(text: &str, before: &str, kind: &str) -> u32 {
+fn kind_after(text: &str, before: &str, kind: &str) -> u32 {
     let (_, record) = text.split_once(before).unwrap_or_else(|| panic!("no {before}"));
     number(record.split_once(kind).unwrap().1).unwrap()
 }
@@ -176,14 +176,14 @@ fn rattle_has_the_numbers_of_the_c_header() {
         assert_eq!(names.len(), named.count, "{}", named.first);
         for (file, before, between) in named.places {
             let text = read_rattle(file);
-            let told = pairs(&text, before, between).filter_map(|(first, second)| match number(first) {
+            let rows = pairs(&text, before, between).filter_map(|(first, second)| match number(first) {
                 Some(it) => Some((second, it)),
                 None => Some((first, number(second)?)),
             });
             // 0 is none, if it has no name
-            let told: Vec<_> = told.filter(|(_, it)| *it != 0 || names.iter().any(|(_, other)| *other == 0)).collect();
-            assert_eq!(told.len(), named.count, "{} in {file}: {told:?}", named.first);
-            for (theirs, it) in told {
+            let rows: Vec<_> = rows.filter(|(_, it)| *it != 0 || names.iter().any(|(_, other)| *other == 0)).collect();
+            assert_eq!(rows.len(), named.count, "{} in {file}: {rows:?}", named.first);
+            for (theirs, it) in rows {
                 let place = format!("{file}, {theirs}");
                 let ours = names.iter().find(|(_, other)| *other == it).unwrap_or_else(|| panic!("{it} in {place}")).0;
                 let (ours_plain, theirs_plain) = (plain(ours), plain(theirs));
@@ -200,22 +200,22 @@ fn rattle_has_the_numbers_of_the_c_header() {
     let places = [
         (
             refusals(&source, "SliceError::", "HeaderError::", "content_part("),
-            kind_behind(&source, "fn len_part(", "kind: "),
-            kind_behind(&no_source, "fn no_refusal(", "kind: "),
+            kind_after(&source, "fn len_part(", "kind: "),
+            kind_after(&no_source, "fn no_refusal(", "kind: "),
             &mut in_sources,
         ),
         (
             refusals(&definition, "\nrefusal_part (", "_error.", "content_part "),
-            kind_behind(&definition, "\nlen_part error = ", "kind = "),
-            kind_behind(&no_definition, "\nno_refusal = ", "kind = "),
+            kind_after(&definition, "\nlen_part error = ", "kind = "),
+            kind_after(&no_definition, "\nno_refusal = ", "kind = "),
             &mut in_definitions,
         ),
     ];
-    for (told, len, none, compared) in places {
-        assert_eq!(told.len(), REFUSALS.len(), "{told:?}");
+    for (found, len, none, compared) in places {
+        assert_eq!(found.len(), REFUSALS.len(), "{found:?}");
         for (name, outer, inner) in REFUSALS {
-            let it = told[&(outer.to_string(), inner.to_string())];
-            same(&c, compared, format!("REFUSAL_{name}"), it, "what C is told of refusals");
+            let it = found[&(outer.to_string(), inner.to_string())];
+            same(&c, compared, format!("REFUSAL_{name}"), it, "numbers of refusals for C");
         }
         same(&c, compared, "REFUSAL_LEN".to_string(), len, "len_part");
         same(&c, compared, "REFUSAL_NONE".to_string(), none, "no_refusal");

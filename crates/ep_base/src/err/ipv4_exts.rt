@@ -3,7 +3,8 @@
 use crate::ip_number::IpNumber;
 use thiserror::Error;
 
-/// Error of an authentication header in an IPv4 packet that the protocol field before it does not reference.
+/// The IPv4 packet has an authentication header, but the protocol field of its IPv4 header is not 51 (authentication
+/// header).
 #[derive(Clone, Debug, PartialEq, Eq, Hash, Drop, Error)]
 pub enum ExtsWalkError {
     /// The IPv4 protocol number does not reference the extension header with the number `missing_ext` (51:
@@ -15,7 +16,7 @@ pub enum ExtsWalkError {
 /// Error when writing the extension header of an IPv4 packet, the authentication header.
 #[derive(Clone, Debug, PartialEq, Eq, Hash, Drop, Error)]
 pub enum HeaderWriteError {
-    /// The protocol number before the authentication header does not reference it.
+    /// The protocol field of the IPv4 header is not 51 (authentication header).
     #[error(transparent)]
     Content(ExtsWalkError),
     /// The allocation for the written extension header failed.

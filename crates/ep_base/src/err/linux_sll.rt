@@ -21,6 +21,6 @@ pub enum HeaderError {
 pub enum HeaderSliceError {
     /// The slice has too few bytes for the header of a Linux cooked capture (SLL v1): 16.
     Len(LenError),
-    /// The header of the Linux cooked capture (SLL v1) has an unsupported field.
+    /// A field of the Linux cooked capture header (SLL v1) has an unsupported value.
     Content(HeaderError),
 }

@@ -2,7 +2,7 @@
 
 ghost use Rattle.std.specs.Prelude.{◌≡◌, ◌+◌, ◌<◌, ◌≤◌, ◌++◌, [], length, IfErr, OnOk, OnErr, vec_len, vec_capacity};
 ghost use Rattle.ep_build.specs.BuiltFrames.{built_frame, built_size};
-ghost use Rattle.ep_build.specs.Steps.{ArpStepReadsBack, arp_held};
+ghost use Rattle.ep_build.specs.Steps.{ArpStepReadsBack, arp_step_frame};
 
 use super::PacketBuilderStep;
 use crate::err::BuildWriteError;
@@ -15,11 +15,11 @@ impl PacketBuilderStep<ArpPacket> {
     /// then the buffer is unchanged. Both parsers read this ARP packet back from the frame; after a Linux cooked
     /// capture header, if its packet type is a known one.
     pub fn write(self, buf: &mut Vec<u8>) -> Result<(), BuildWriteError>
-        ensures ok { OnOk result (buf.new.items ≡ buf.old.items ++ built_frame (arp_held self) []) }
+        ensures ok { OnOk result (buf.new.items ≡ buf.old.items ++ built_frame (arp_step_frame self) []) }
         ensures err { OnErr result (buf.new.items ≡ buf.old.items) }
         ensures refused { IfErr result (λ error. error ≡ BuildWriteError.OutOfMemory) }
         ensures read_back { OnOk result (ArpStepReadsBack self) }
-        ensures full { OnErr result (vec_capacity buf.old < vec_len buf.old + built_size (arp_held self) 0) }
+        ensures full { OnErr result (vec_capacity buf.old < vec_len buf.old + built_size (arp_step_frame self) 0) }
         ensures capacity { vec_capacity buf.old ≤ vec_capacity buf.new }
     {
         write_arp(&self.before, &self.last, buf)
@@ -28,8 +28,8 @@ impl PacketBuilderStep<ArpPacket> {
     /// Length in bytes of the frame that `write` appends: link header, VLAN tags and ARP packet.
     #[inline]
     pub fn size(&self) -> usize
-        ensures value { result ≡ built_size (arp_held self.now) 0 }
-        ensures frame { length (built_frame (arp_held self.now) []) ≡ result }
+        ensures value { result ≡ built_size (arp_step_frame self.now) 0 }
+        ensures frame { length (built_frame (arp_step_frame self.now) []) ≡ result }
     {
         link_fits(&self.before);
         self.before.header_len() + self.last.packet_len()

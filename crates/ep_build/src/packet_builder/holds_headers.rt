@@ -20,61 +20,61 @@ pub trait HoldsHeaders: Drop {
     type Before: Drop;
 
     /// Type of the innermost header, in the form in which the caller passed it.
-    type Held: Drop;
+    type Last: Drop;
 }
 
 impl HoldsHeaders for Ethernet2Header {
     type Before = ();
 
-    type Held = Ethernet2Header;
+    type Last = Ethernet2Header;
 }
 
 impl HoldsHeaders for LinuxSllHeader {
     type Before = ();
 
-    type Held = LinuxSllHeader;
+    type Last = LinuxSllHeader;
 }
 
 impl HoldsHeaders for VlanHeader {
     type Before = Ethernet2Header;
 
-    type Held = VlanHeader;
+    type Last = VlanHeader;
 }
 
 impl HoldsHeaders for ArpPacket {
     type Before = LinkPart;
 
-    type Held = ArpPacket;
+    type Last = ArpPacket;
 }
 
 impl HoldsHeaders for IpHeaders {
     type Before = LinkPart;
 
-    type Held = IpPart;
+    type Last = IpPart;
 }
 
 impl HoldsHeaders for UdpHeader {
     type Before = (LinkPart, IpPart);
 
-    type Held = UdpHeader;
+    type Last = UdpHeader;
 }
 
 impl HoldsHeaders for TcpHeader {
     type Before = (LinkPart, IpPart);
 
-    type Held = TcpHeader;
+    type Last = TcpHeader;
 }
 
 impl HoldsHeaders for Icmpv4Header {
     type Before = (LinkPart, IpPart);
 
-    type Held = Icmpv4Header;
+    type Last = Icmpv4Header;
 }
 
 impl HoldsHeaders for Icmpv6Header {
     type Before = (LinkPart, IpPart);
 
-    type Held = Icmpv6Header;
+    type Last = Icmpv6Header;
 }
 
 /// Header that a network layer can follow: implemented by Ethernet II, Linux cooked capture and VLAN headers. No other
@@ -84,7 +84,7 @@ pub trait CarriesNet: HoldsHeaders {
     ghost use Rattle.ep_build.specs.declared.packet_builder.PacketBuilderStep.{PacketBuilderStep};
 
     /// The link header and VLAN tags of the frame, before its network layer, for contracts.
-    ghost link: { PacketBuilderStep Self Self.Before Self.Held → LinkPart };
+    ghost link: { PacketBuilderStep Self Self.Before Self.Last → LinkPart };
 
     /// Returns the link header and VLAN tags of a frame whose innermost header so far is of this type.
     fn link_part(step: PacketBuilderStep<Self>) -> LinkPart

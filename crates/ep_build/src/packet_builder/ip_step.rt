@@ -10,7 +10,7 @@ ghost use Rattle.ep_base.specs.declared.ip_number.IpNumber.{IpNumber};
 ghost use Rattle.ep_build.specs.BuildErrors.{IsBuildable, IsBuildError};
 ghost use Rattle.ep_build.specs.BuiltFrames.{built_frame, built_size};
 ghost use Rattle.ep_build.specs.Placing.{FillsStart};
-ghost use Rattle.ep_build.specs.Steps.{IpStepReadsBack, held_after, ip_held, ip_step_size, transport_held};
+ghost use Rattle.ep_build.specs.Steps.{IpStepReadsBack, frame_after, ip_step_frame, ip_step_size, transport_step_frame};
 
 use super::PacketBuilderStep;
 use super::holds_headers::HoldsHeaders;
@@ -30,8 +30,8 @@ impl PacketBuilderStep<IpHeaders> {
     /// Appends an ICMPv4 header (RFC 792) of this type to the headers of the frame.
     #[inline(always)]
     pub fn icmpv4(self, icmp_type: Icmpv4Type) -> PacketBuilderStep<Icmpv4Header>
-        ensures { transport_held transport.Icmpv4 result
-            ≡ held_after self (transport.Icmpv4 (record { icmp_type = icmp_type; checksum = 0 })) }
+        ensures { transport_step_frame transport.Icmpv4 result
+            ≡ frame_after self (transport.Icmpv4 (record { icmp_type = icmp_type; checksum = 0 })) }
     {
         self.followed_by(Icmpv4Header::new(icmp_type))
     }
@@ -44,7 +44,7 @@ impl PacketBuilderStep<IpHeaders> {
         code_u8: u8,
         bytes5to8: [u8; 4],
     ) -> PacketBuilderStep<Icmpv4Header>
-        ensures { transport_held transport.Icmpv4 result ≡ held_after self (transport.Icmpv4 (record {
+        ensures { transport_step_frame transport.Icmpv4 result ≡ frame_after self (transport.Icmpv4 (record {
           icmp_type = v4.Unknown type_u8 code_u8 bytes5to8;
           checksum = 0;
         })) }
@@ -60,7 +60,7 @@ impl PacketBuilderStep<IpHeaders> {
     /// frame.
     #[inline(always)]
     pub fn icmpv4_echo_request(self, id: u16, seq: u16) -> PacketBuilderStep<Icmpv4Header>
-        ensures { transport_held transport.Icmpv4 result ≡ held_after self (transport.Icmpv4 (record {
+        ensures { transport_step_frame transport.Icmpv4 result ≡ frame_after self (transport.Icmpv4 (record {
           icmp_type = v4.EchoRequest (record { id = id; seq = seq });
           checksum = 0;
         })) }
@@ -72,7 +72,7 @@ impl PacketBuilderStep<IpHeaders> {
     /// frame.
     #[inline(always)]
     pub fn icmpv4_echo_reply(self, id: u16, seq: u16) -> PacketBuilderStep<Icmpv4Header>
-        ensures { transport_held transport.Icmpv4 result ≡ held_after self (transport.Icmpv4 (record {
+        ensures { transport_step_frame transport.Icmpv4 result ≡ frame_after self (transport.Icmpv4 (record {
           icmp_type = v4.EchoReply (record { id = id; seq = seq });
           checksum = 0;
         })) }
@@ -83,8 +83,8 @@ impl PacketBuilderStep<IpHeaders> {
     /// Appends an ICMPv6 header (RFC 4443) of this type to the headers of the frame.
     #[inline(always)]
     pub fn icmpv6(self, icmp_type: Icmpv6Type) -> PacketBuilderStep<Icmpv6Header>
-        ensures { transport_held transport.Icmpv6 result
-            ≡ held_after self (transport.Icmpv6 (record { icmp_type = icmp_type; checksum = 0 })) }
+        ensures { transport_step_frame transport.Icmpv6 result
+            ≡ frame_after self (transport.Icmpv6 (record { icmp_type = icmp_type; checksum = 0 })) }
     {
         self.followed_by(Icmpv6Header::new(icmp_type))
     }
@@ -97,7 +97,7 @@ impl PacketBuilderStep<IpHeaders> {
         code_u8: u8,
         bytes5to8: [u8; 4],
     ) -> PacketBuilderStep<Icmpv6Header>
-        ensures { transport_held transport.Icmpv6 result ≡ held_after self (transport.Icmpv6 (record {
+        ensures { transport_step_frame transport.Icmpv6 result ≡ frame_after self (transport.Icmpv6 (record {
           icmp_type = v6.Unknown type_u8 code_u8 bytes5to8;
           checksum = 0;
         })) }
@@ -113,7 +113,7 @@ impl PacketBuilderStep<IpHeaders> {
     /// frame.
     #[inline(always)]
     pub fn icmpv6_echo_request(self, id: u16, seq: u16) -> PacketBuilderStep<Icmpv6Header>
-        ensures { transport_held transport.Icmpv6 result ≡ held_after self (transport.Icmpv6 (record {
+        ensures { transport_step_frame transport.Icmpv6 result ≡ frame_after self (transport.Icmpv6 (record {
           icmp_type = v6.EchoRequest (record { id = id; seq = seq });
           checksum = 0;
         })) }
@@ -125,7 +125,7 @@ impl PacketBuilderStep<IpHeaders> {
     /// frame.
     #[inline(always)]
     pub fn icmpv6_echo_reply(self, id: u16, seq: u16) -> PacketBuilderStep<Icmpv6Header>
-        ensures { transport_held transport.Icmpv6 result ≡ held_after self (transport.Icmpv6 (record {
+        ensures { transport_step_frame transport.Icmpv6 result ≡ frame_after self (transport.Icmpv6 (record {
           icmp_type = v6.EchoReply (record { id = id; seq = seq });
           checksum = 0;
         })) }
@@ -136,7 +136,7 @@ impl PacketBuilderStep<IpHeaders> {
     /// Appends a UDP header (RFC 768) with these ports to the headers of the frame.
     #[inline(always)]
     pub fn udp(self, source_port: u16, destination_port: u16) -> PacketBuilderStep<UdpHeader>
-        ensures { transport_held transport.Udp result ≡ held_after self (transport.Udp (record {
+        ensures { transport_step_frame transport.Udp result ≡ frame_after self (transport.Udp (record {
           source_port = source_port;
           destination_port = destination_port;
           length = 0;
@@ -161,7 +161,7 @@ impl PacketBuilderStep<IpHeaders> {
         sequence_number: u32,
         window_size: u16,
     ) -> PacketBuilderStep<TcpHeader>
-        ensures { transport_held transport.Tcp result ≡ held_after self (transport.Tcp (record default_tcp_header {
+        ensures { transport_step_frame transport.Tcp result ≡ frame_after self (transport.Tcp (record default_tcp_header {
           source_port = source_port;
           destination_port = destination_port;
           sequence_number = sequence_number;
@@ -174,7 +174,7 @@ impl PacketBuilderStep<IpHeaders> {
     /// Appends the given TCP header (RFC 9293, 3.1) to the headers of the frame.
     #[inline(always)]
     pub fn tcp_header(self, tcp_header: TcpHeader) -> PacketBuilderStep<TcpHeader>
-        ensures { transport_held transport.Tcp result ≡ held_after self (transport.Tcp tcp_header) }
+        ensures { transport_step_frame transport.Tcp result ≡ frame_after self (transport.Tcp tcp_header) }
     {
         self.followed_by(tcp_header)
     }
@@ -191,15 +191,15 @@ impl PacketBuilderStep<IpHeaders> {
         last_next_header_ip_number: IpNumber,
         payload: &[u8],
     ) -> Result<(), BuildWriteError>
-        ensures ok { let held = ip_held self last_next_header_ip_number in
-            OnOk result (IsBuildable held (length payload.now)
-            × (buf.new.items ≡ buf.old.items ++ built_frame held payload.now)) }
+        ensures ok { let frame = ip_step_frame self last_next_header_ip_number in
+            OnOk result (IsBuildable frame (length payload.now)
+            × (buf.new.items ≡ buf.old.items ++ built_frame frame payload.now)) }
         ensures err { OnErr result (buf.new.items ≡ buf.old.items) }
         ensures refused { IfErr result
-            (IsBuildError (ip_held self last_next_header_ip_number) (length payload.now)) }
+            (IsBuildError (ip_step_frame self last_next_header_ip_number) (length payload.now)) }
         ensures fragment { OnOk result (IpStepReadsBack self last_next_header_ip_number payload.now) }
         ensures full { result ≡ Err BuildWriteError.OutOfMemory → vec_capacity buf.old
-            < vec_len buf.old + built_size (ip_held self last_next_header_ip_number) (length payload.now) }
+            < vec_len buf.old + built_size (ip_step_frame self last_next_header_ip_number) (length payload.now) }
         ensures capacity { vec_capacity buf.old ≤ vec_capacity buf.new }
     {
         append_ip_step(
@@ -221,7 +221,7 @@ impl PacketBuilderStep<IpHeaders> {
         last_next_header_ip_number: IpNumber,
         payload: &[u8],
     ) -> Result<usize, BuildSliceWriteError>
-        ensures filled { FillsStart (ip_held self last_next_header_ip_number) payload.now
+        ensures filled { FillsStart (ip_step_frame self last_next_header_ip_number) payload.now
             slice.old slice.new result }
         ensures fragment { OnOk result (IpStepReadsBack self last_next_header_ip_number payload.now) }
     {
@@ -241,7 +241,7 @@ impl PacketBuilderStep<IpHeaders> {
         requires { ip_step_size self.now payload_size < 2 ^ 64 }
         ensures value { result ≡ ip_step_size self.now payload_size }
         ensures frame { (last : IpNumber) (payload : List ℕ) → length payload ≡ payload_size
-            → length (built_frame (ip_held self.now last) payload) ≡ result }
+            → length (built_frame (ip_step_frame self.now last) payload) ≡ result }
     {
         link_fits(&self.before);
         self.before.header_len() + self.last.header_len() + payload_size
@@ -249,7 +249,7 @@ impl PacketBuilderStep<IpHeaders> {
 
     /// Returns the builder of the frame with a transport header after the IP headers.
     #[inline(always)]
-    fn followed_by<H: HoldsHeaders<Before = (LinkPart, IpPart), Held = H>>(
+    fn followed_by<H: HoldsHeaders<Before = (LinkPart, IpPart), Last = H>>(
         self,
         header: H,
     ) -> PacketBuilderStep<H>

@@ -3,8 +3,8 @@
 
 ghost use Rattle.std.specs.Prelude.{◌≡◌};
 ghost use Rattle.ep_link.specs.ArpSlices.{arp_of};
-ghost use Rattle.ep_build.specs.BuiltFrames.{held_arp};
-ghost use Rattle.ep_build.specs.Steps.{arp_held, ip_link, ip_step_headers, vlan_link};
+ghost use Rattle.ep_build.specs.BuiltFrames.{arp_frame_headers};
+ghost use Rattle.ep_build.specs.Steps.{arp_step_frame, ip_link, ip_step_headers, vlan_link};
 ghost use Rattle.ep_build.specs.Steps.{ipv4_headers_between, ipv6_headers_between, tag_of};
 
 use super::holds_headers::CarriesNet;
@@ -64,7 +64,7 @@ impl<Link: CarriesNet> PacketBuilderStep<Link> {
     /// Appends the given ARP packet (RFC 826), which ends the frame.
     #[inline(always)]
     pub fn arp(self, packet: ArpPacket) -> PacketBuilderStep<ArpPacket>
-        ensures { arp_held result ≡ held_arp (Link.link self) (arp_of packet) }
+        ensures { arp_step_frame result ≡ arp_frame_headers (Link.link self) (arp_of packet) }
     {
         PacketBuilderStep {
             before: Link::link_part(self),

@@ -4,7 +4,7 @@ ghost use Rattle.std.specs.Prelude.{◌≡◌, ◌+◌, ◌<◌, ◌≤◌, ◌^
 ghost use Rattle.ep_build.specs.BuildErrors.{IsBuildable, IsBuildError};
 ghost use Rattle.ep_build.specs.BuiltFrames.{built_frame, built_size};
 ghost use Rattle.ep_build.specs.Placing.{FillsStart};
-ghost use Rattle.ep_build.specs.Steps.{StepReadsBack, transport_held};
+ghost use Rattle.ep_build.specs.Steps.{StepReadsBack, transport_step_frame};
 
 use super::PacketBuilderStep;
 use super::holds_headers::{HoldsHeaders, IsTransport};
@@ -16,7 +16,7 @@ use crate::placing::place_transport_step;
 use crate::writing::append_transport_step;
 
 impl<
-    Transport: HoldsHeaders<Before = (LinkPart, IpPart), Held = Transport> + IsTransport,
+    Transport: HoldsHeaders<Before = (LinkPart, IpPart), Last = Transport> + IsTransport,
 > PacketBuilderStep<Transport> {
     /// Appends the frame: all headers, and the payload. On an error the buffer is unchanged: the IP packet is too long
     /// for its length field, the transport header is ICMPv6 after IPv4, or the buffer cannot grow. Both parsers read
@@ -24,15 +24,15 @@ impl<
     /// length of its type, and a Linux cooked capture header has a known packet type.
     #[inline(always)]
     pub fn write(self, buf: &mut Vec<u8>, payload: &[u8]) -> Result<(), BuildWriteError>
-        ensures ok { let held = transport_held Transport.kind self in
-            OnOk result (IsBuildable held (length payload.now)
-            × (buf.new.items ≡ buf.old.items ++ built_frame held payload.now)) }
+        ensures ok { let frame = transport_step_frame Transport.kind self in
+            OnOk result (IsBuildable frame (length payload.now)
+            × (buf.new.items ≡ buf.old.items ++ built_frame frame payload.now)) }
         ensures err { OnErr result (buf.new.items ≡ buf.old.items) }
         ensures refused { IfErr result
-            (IsBuildError (transport_held Transport.kind self) (length payload.now)) }
+            (IsBuildError (transport_step_frame Transport.kind self) (length payload.now)) }
         ensures read_back { OnOk result (StepReadsBack Transport.kind self payload.now) }
         ensures full { result ≡ Err BuildWriteError.OutOfMemory → vec_capacity buf.old
-            < vec_len buf.old + built_size (transport_held Transport.kind self) (length payload.now) }
+            < vec_len buf.old + built_size (transport_step_frame Transport.kind self) (length payload.now) }
         ensures capacity { vec_capacity buf.old ≤ vec_capacity buf.new }
     {
         let transport = self.last.into_transport();
@@ -49,7 +49,7 @@ impl<
         slice: &mut [u8],
         payload: &[u8],
     ) -> Result<usize, BuildSliceWriteError>
-        ensures filled { FillsStart (transport_held Transport.kind self) payload.now slice.old slice.new result }
+        ensures filled { FillsStart (transport_step_frame Transport.kind self) payload.now slice.old slice.new result }
         ensures read_back { OnOk result (StepReadsBack Transport.kind self payload.now) }
     {
         let transport = self.last.into_transport();
@@ -60,10 +60,10 @@ impl<
     /// Length in bytes of the frame with a payload of `payload_size` bytes. The sum must fit a `usize`.
     #[inline(always)]
     pub fn size(&self, payload_size: usize) -> usize
-        requires { built_size (transport_held Transport.kind self.now) payload_size < 2 ^ 64 }
-        ensures value { result ≡ built_size (transport_held Transport.kind self.now) payload_size }
+        requires { built_size (transport_step_frame Transport.kind self.now) payload_size < 2 ^ 64 }
+        ensures value { result ≡ built_size (transport_step_frame Transport.kind self.now) payload_size }
         ensures frame { (payload : List ℕ) → length payload ≡ payload_size
-            → length (built_frame (transport_held Transport.kind self.now) payload) ≡ result }
+            → length (built_frame (transport_step_frame Transport.kind self.now) payload) ≡ result }
     {
         link_fits(&self.before.0);
         self.before.0.header_len()

@@ -17,8 +17,8 @@ use crate::{
     Ipv6HeaderSlice, Ipv6Slice,
 };
 
-/// Law: two IP headers are equal (`==`) if and only if all their fields are equal; options are compared by their bytes.
-/// Two slices of IP headers or packets are equal if and only if their contents are equal.
+/// States that two IP headers are equal (`==`) if and only if all their fields are equal; options are compared by their
+/// bytes. Two slices of IP headers or packets are equal if and only if their contents are equal.
 pub fn equalities()
     ensures ipv4_options { DecidesEquality ⟦<Ipv4Options as PartialEq>⟧.eq }
     ensures options_error { DecidesEquality ⟦<BadOptionsLen as PartialEq>⟧.eq }
@@ -36,7 +36,8 @@ pub fn equalities()
     ep_ext::laws::comparisons();
 }
 
-/// Law: cloning an IP header, options or slice never fails, even if memory is exhausted, and a clone equals its source.
+/// States that cloning an IP header, options or slice never fails, even if memory is exhausted, and a clone equals its
+/// source.
 pub fn clones()
     ensures ipv4_options { ClonesExactly ⟦<Ipv4Options as Clone>⟧.is_infallible ⟦<Ipv4Options as Clone>⟧.is_clone }
     ensures options_error { ClonesExactly ⟦<BadOptionsLen as Clone>⟧.is_infallible ⟦<BadOptionsLen as Clone>⟧.is_clone }

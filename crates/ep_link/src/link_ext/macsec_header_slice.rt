@@ -24,7 +24,7 @@ struct TagBytes<'a> {
     slice: &'a [u8],
     ghost fixed: { 6 ≤ length slice.now },
     ghost version: { slice_index slice.now 0 < 128 },
-    ghost room: { ¬ IsTooShortForType slice.now },
+    ghost holds_type: { ¬ IsTooShortForType slice.now },
     ghost whole: { length slice.now ≡ tag_len_of slice.now },
 }
 

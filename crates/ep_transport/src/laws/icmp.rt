@@ -25,19 +25,19 @@ use crate::{
     icmpv4, icmpv6,
 };
 
-/// Law: any bytes either parse as exactly one ICMPv4 message (header and payload), or are rejected with exactly one
-/// error.
+/// States that any bytes either parse as exactly one ICMPv4 message (header and payload), or are rejected with exactly
+/// one error.
 pub fn icmpv4_messages()
     ensures { (bytes : List ℕ) → AreBytes bytes → IsDecided (IsIcmpv4 bytes) (RefusesIcmpv4 bytes) }
 {}
 
-/// Law: any bytes either parse as exactly one ICMPv6 message (header and payload), or are rejected with exactly one
-/// error.
+/// States that any bytes either parse as exactly one ICMPv6 message (header and payload), or are rejected with exactly
+/// one error.
 pub fn icmpv6_messages()
     ensures { (bytes : List ℕ) → AreBytes bytes → IsDecided (IsIcmpv6 bytes) (RefusesIcmpv6 bytes) }
 {}
 
-/// Law: a written ICMPv4 or ICMPv6 header is read back unchanged if its type and code belong to its variant of
+/// States that a written ICMPv4 or ICMPv6 header is read back unchanged if its type and code belong to its variant of
 /// `Icmpv4Type` or `Icmpv6Type` (for `Unknown`: to no other variant), and an MTU or pointer that is not written is 0.
 /// An ICMPv4 timestamp message must have no payload. All headers that parsing returns meet these conditions.
 pub fn read_back()
@@ -48,8 +48,8 @@ pub fn read_back()
         → IsIcmpv6 (icmpv6_bytes header ++ payload) (parts_of header payload []) }
 {}
 
-/// Law: an ICMPv4 message with its computed checksum has the one's complement sum 65535, as a receiver verifies. An
-/// ICMPv6 message has it together with any even number of bytes before it, such as the pseudo header.
+/// States that an ICMPv4 message with its computed checksum has the one's complement sum 65535, as a receiver verifies.
+/// An ICMPv6 message has it together with any even number of bytes before it, such as the pseudo header.
 pub fn checksums()
     ensures icmpv4 { (header : Icmpv4Header) (payload : List ℕ)
         → ones_sum (icmpv4_bytes (record header { checksum = checksum_of (icmpv4_message header payload) })
@@ -60,8 +60,8 @@ pub fn checksums()
         ++ payload)) ≡ 65535 }
 {}
 
-/// Law: the values of the constants for ICMPv4 and ICMPv6, which are the lengths of headers in bytes and the numbers of
-/// the message types (RFC 792; RFC 4443, 2.1).
+/// States the values of the constants for ICMPv4 and ICMPv6, which are the lengths of headers in bytes and the numbers
+/// of the message types (RFC 792; RFC 4443, 2.1).
 pub fn constants()
     ensures lengths { (Icmpv4Header.MIN_LEN ≡ 8) × (Icmpv4Header.MAX_LEN ≡ 20) × (Icmpv6Header.MIN_LEN ≡ 8)
         × (Icmpv6Header.MAX_LEN ≡ 8) × (IcmpEchoHeader.LEN ≡ 4) }
@@ -73,8 +73,8 @@ pub fn constants()
         × (v6.TYPE_ECHO_REQUEST ≡ 128) × (v6.TYPE_ECHO_REPLY ≡ 129) }
 {}
 
-/// Law: ICMPv4 and ICMPv6 headers, types and codes are equal (`==`) if and only if all fields are equal, and slices if
-/// and only if their bytes are equal.
+/// States that ICMPv4 and ICMPv6 headers, types and codes are equal (`==`) if and only if all fields are equal, and
+/// slices if and only if their bytes are equal.
 pub fn comparisons()
     ensures echoes { (a b : IcmpEchoHeader) → IsTrue (⟦<IcmpEchoHeader as PartialEq>⟧.eq a b) ↔ (a ≡ b) }
     ensures timestamps { (a b : TimestampMessage) → IsTrue (⟦<TimestampMessage as PartialEq>⟧.eq a b) ↔ (a ≡ b) }
@@ -92,7 +92,7 @@ pub fn comparisons()
         IsTrue (⟦<Icmpv6Slice<'static> as PartialEq>⟧.eq a b) ↔ (icmpv6_slice_bytes a ≡ icmpv6_slice_bytes b) }
 {}
 
-/// Law: a clone of an ICMPv4 or ICMPv6 header, type, code or slice equals its source.
+/// States that a clone of an ICMPv4 or ICMPv6 header, type, code or slice equals its source.
 pub fn clones()
     ensures echoes { (a b : IcmpEchoHeader) → ⟦<IcmpEchoHeader as Clone>⟧.is_clone a b → b ≡ a }
     ensures timestamps { (a b : TimestampMessage) → ⟦<TimestampMessage as Clone>⟧.is_clone a b → b ≡ a }
@@ -106,7 +106,7 @@ pub fn clones()
     ensures icmpv6_slices { (a b : Icmpv6Slice) → ⟦<Icmpv6Slice<'static> as Clone>⟧.is_clone a b → b ≡ a }
 {}
 
-/// Law: cloning an ICMPv4 or ICMPv6 header, type, code or slice does not allocate, and never fails.
+/// States that cloning an ICMPv4 or ICMPv6 header, type, code or slice does not allocate, and never fails.
 pub fn clones_succeed()
     ensures echoes { (a : IcmpEchoHeader) → ⟦<IcmpEchoHeader as Clone>⟧.is_infallible a }
     ensures timestamps { (a : TimestampMessage) → ⟦<TimestampMessage as Clone>⟧.is_infallible a }

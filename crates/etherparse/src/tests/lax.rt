@@ -95,17 +95,17 @@ fn stops(rt: &impl Abort, packet: &LaxSlicedPacket<'_>, error: SliceError, layer
 /// bytes that are present.
 #[test]
 fn total_lengths(rt: HostRuntime) {
-    let cut = LenSource::Ipv4HeaderTotalLen;
-    for (is_answer, len, incomplete, source) in [
+    let limited = LenSource::Ipv4HeaderTotalLen;
+    for (length_field, len, incomplete, source) in [
         (0u16, 16, false, LenSource::Slice),
         (19, 16, false, LenSource::Slice),
-        (28, 8, false, cut),
-        (36, 16, false, cut),
+        (28, 8, false, limited),
+        (36, 16, false, limited),
         (37, 16, true, LenSource::Slice),
         (65535, 16, true, LenSource::Slice),
     ] {
         let mut frame = UDP;
-        let bytes = is_answer.to_be_bytes();
+        let bytes = length_field.to_be_bytes();
         frame[16] = bytes[0];
         frame[17] = bytes[1];
         let packet = read(&rt, Entry::Ethernet, &frame);
@@ -134,7 +134,7 @@ fn total_length_of_a_header(rt: HostRuntime) {
 /// payload.
 #[test]
 fn datagram_lengths(rt: HostRuntime) {
-    for (total_len, is_answer, len, incomplete) in [
+    for (total_len, udp_len, len, incomplete) in [
         (36u8, 0u8, 8, false),
         (36, 7, 8, false),
         (36, 8, 0, false),
@@ -151,7 +151,7 @@ fn datagram_lengths(rt: HostRuntime) {
     ] {
         let mut frame = UDP;
         frame[17] = total_len;
-        frame[39] = is_answer;
+        frame[39] = udp_len;
         ends_in(&rt, &read(&rt, Entry::Ethernet, &frame), len, incomplete);
     }
 }
@@ -159,16 +159,16 @@ fn datagram_lengths(rt: HostRuntime) {
 /// Lax parsing of an IPv6 packet whose payload length field is 0, smaller than the payload, correct or too large.
 #[test]
 fn payload_lengths(rt: HostRuntime) {
-    let cut = LenSource::Ipv6HeaderPayloadLen;
-    for (is_answer, len, incomplete, source) in [
+    let limited = LenSource::Ipv6HeaderPayloadLen;
+    for (length_field, len, incomplete, source) in [
         (0u16, 4, false, LenSource::Slice),
-        (1, 1, false, cut),
-        (4, 4, false, cut),
+        (1, 1, false, limited),
+        (4, 4, false, limited),
         (5, 4, true, LenSource::Slice),
         (65535, 4, true, LenSource::Slice),
     ] {
         let mut bytes = IPV6_PACKET;
-        let field = is_answer.to_be_bytes();
+        let field = length_field.to_be_bytes();
         bytes[4] = field[0];
         bytes[5] = field[1];
         let packet = read(&rt, IPV6, &bytes);
@@ -178,7 +178,7 @@ fn payload_lengths(rt: HostRuntime) {
     let mut header = IPV6_PACKET;
     header[5] = 0;
     let packet = read(&rt, IPV6, &header[..40]);
-    has_ip(&rt, &packet, 0, false, cut);
+    has_ip(&rt, &packet, 0, false, limited);
 }
 
 /// Lax parsing of a MACsec tag with a VLAN tag and an IPv4 packet as payload, for several values of the MACsec short
@@ -251,7 +251,8 @@ fn short_lengths_that_stop(rt: HostRuntime) {
     same(&rt, &packet.payload().len(), &36);
 }
 
-/// Lax parsing of a modified (encrypted) MACsec payload, for several values of the short length.
+/// Tests lax slicing of a MACsec packet whose tag has both E and C set (encrypted payload), for several values of the
+/// short length.
 #[test]
 fn modified_payloads(rt: HostRuntime) {
     for (short_len, len, incomplete) in [
@@ -269,7 +270,7 @@ fn modified_payloads(rt: HostRuntime) {
 
 /// Lax parsing of an Ethernet II frame with a UDP datagram, truncated to each length from 0 to 49 of its 50 bytes.
 #[test]
-fn cut_datagrams(rt: HostRuntime) {
+fn truncated_datagrams(rt: HostRuntime) {
     for n in 0..50usize {
         let bytes = UDP.get(..n).expect(&rt, "a front of it");
         let mut packet = LaxSlicedPacket::new();
@@ -302,7 +303,7 @@ fn cut_datagrams(rt: HostRuntime) {
 /// Lax parsing of an IPv6 packet with two fragment headers, truncated to each length from 40 (the IPv6 header alone) to
 /// 63 of its 64 bytes.
 #[test]
-fn cut_chains(rt: HostRuntime) {
+fn truncated_chains(rt: HostRuntime) {
     for n in 40..64usize {
         let bytes = FRAGMENT_TWICE.get(..n).expect(&rt, "a front of it");
         let packet = read(&rt, IPV6, bytes);
@@ -328,7 +329,7 @@ fn cut_chains(rt: HostRuntime) {
 /// Lax parsing of an IPv4 packet with an authentication header, truncated to each length from 20 (the IPv4 header
 /// alone) to 35 of its 36 bytes.
 #[test]
-fn cut_authentication_headers(rt: HostRuntime) {
+fn truncated_authentication_headers(rt: HostRuntime) {
     for n in 20..36usize {
         let bytes = AUTHENTICATED.get(..n).expect(&rt, "a front of it");
         let packet = read(&rt, Entry::Ip, bytes);

@@ -51,7 +51,7 @@ fn assert_ending(
 
 /// Returns the behaviour of a reader or writer for its first calls: one call moves `len` bytes, the next call does as
 /// `then` states, and a further call would move all bytes.
-fn turns_behind(rt: &impl Abort, alloc: Global, len: usize, then: Turn) -> Vec<Turn> {
+fn turns_after_one_call(rt: &impl Abort, alloc: Global, len: usize, then: Turn) -> Vec<Turn> {
     let mut turns = Vec::with_capacity(alloc, 3).expect(rt, "refused");
     if len > 0 {
         turns.push(Turn::Moves(len)).expect(rt, "refused");
@@ -64,7 +64,7 @@ fn turns_behind(rt: &impl Abort, alloc: Global, len: usize, then: Turn) -> Vec<T
 /// Asserts the result of a run whose reader returns `len` bytes and then does as `then` states (fails, or returns
 /// nothing).
 fn assert_reader(rt: &impl Abort, alloc: Global, len: usize, then: Turn, error: Option<RunError>) {
-    let reading = turns_behind(rt, alloc, len, then);
+    let reading = turns_after_one_call(rt, alloc, len, then);
     assert_ending(rt, alloc, (&reading, WHOLE), error, answered(len));
 }
 
@@ -85,7 +85,7 @@ fn readers_fail_or_end_after_each_byte(rt: HostRuntime) {
 
 /// Returns the behaviour of a reader or writer for its calls: `len` calls move one byte each, the next call does as
 /// `then` states, and a further call would move all bytes.
-fn single_turns_behind(rt: &impl Abort, alloc: Global, len: usize, then: Turn) -> Vec<Turn> {
+fn turns_after_single_bytes(rt: &impl Abort, alloc: Global, len: usize, then: Turn) -> Vec<Turn> {
     let mut turns = Vec::new(alloc);
     for _ in 0..len {
         turns.push(Turn::Moves(1)).expect(rt, "refused");
@@ -95,8 +95,8 @@ fn single_turns_behind(rt: &impl Abort, alloc: Global, len: usize, then: Turn) -
     turns
 }
 
-/// Asserts that a run with this behaviour of reader and writer ends with a write error, after `len` bytes of the
-/// answers.
+/// Runs the program with a reader and a writer that behave as scripted in `reading` and `writing`, and asserts that the
+/// run ends with a write error after `len` bytes of the answers were written.
 fn assert_writer(rt: &impl Abort, alloc: Global, len: usize, reading: &[Turn], writing: &[Turn]) {
     let error = Some(RunError::Write);
     assert_ending(rt, alloc, (reading, writing), error, answers(len));
@@ -105,9 +105,9 @@ fn assert_writer(rt: &impl Abort, alloc: Global, len: usize, reading: &[Turn], w
 /// Asserts that a run ends with a write error if its writer fails, as `then` states, after `len` bytes, which it
 /// accepts by one call or by one call for each byte.
 fn assert_failing_writer(rt: &impl Abort, alloc: Global, len: usize, then: Turn) {
-    let at_once = turns_behind(rt, alloc, len, then);
+    let at_once = turns_after_one_call(rt, alloc, len, then);
     assert_writer(rt, alloc, len, WHOLE, &at_once);
-    let one_by_one = single_turns_behind(rt, alloc, len, then);
+    let one_by_one = turns_after_single_bytes(rt, alloc, len, then);
     assert_writer(rt, alloc, len, LINES, &one_by_one);
 }
 

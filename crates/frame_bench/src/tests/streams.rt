@@ -54,8 +54,8 @@ struct Source<'a> {
 impl Read for Source<'_> {
     fn read(&mut self, piece: &mut [u8]) -> io::Result<usize> {
         let count = self.turns.next(self.rest.len().min(piece.len()))?;
-        let (front, rest) = self.rest.split_at(count);
-        piece[..count].copy_from_slice(front);
+        let (chunk, rest) = self.rest.split_at(count);
+        piece[..count].copy_from_slice(chunk);
         self.rest = rest;
         Ok(count)
     }
@@ -284,7 +284,7 @@ fn moves_single_bytes(rt: HostRuntime) {
 }
 
 #[test]
-fn tells_each_failure(rt: HostRuntime) {
+fn reports_each_failure(rt: HostRuntime) {
     assert!(rt; RunError::Read.text() == "frame_bench: read failed");
     assert!(rt; RunError::Write.text() == "frame_bench: write failed");
     assert!(rt; RunError::OutOfMemory.text() == "frame_bench: out of memory");

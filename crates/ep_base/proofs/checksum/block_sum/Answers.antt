@@ -22,7 +22,7 @@ loop-piece-preserved c =
       record {
         even_fits = omega (arith, known.even_fits, and_le_r word 71777214294589695, cut.2);
         odd_fits = omega (arith, known.odd_fits, and_le_r (word / 256) 71777214294589695, cut.2);
-        whole = omega (arith, known.whole, cut.2);
+        words = omega (arith, known.words, cut.2);
         both = omega (arith, known.both, even_and_odd word fits);
         same =
             sum_with_piece 8 before (256 * even + odd) behind piece c.in-Some.after.now c.loop-piece.rest.now refl cut

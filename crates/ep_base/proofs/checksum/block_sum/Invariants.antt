@@ -7,7 +7,7 @@ abbrev pub invariant-loop-piece : goal.invariant-loop-piece
 invariant-loop-piece l = (even : ℕ) × record {
   even_fits : 8 * even + 71777214294589695 * length l.rest ≤ 71777214294589695 * 2048;
   odd_fits : 8 * l.odd + 71777214294589695 * length l.rest ≤ 71777214294589695 * 2048;
-  whole : length l.rest % 8 ≡ 0;
+  words : length l.rest % 8 ≡ 0;
   both : l.both ≡ (256 * l.odd + even) % 18446744073709551616;
   same : residue (256 * even + l.odd + word_sum l.rest) ≡ residue (word_sum l.block);
 }

@@ -2,7 +2,7 @@ use Rattle.std.proofs.Common.{◌++◌, length, ap, arith}
 use Rattle.std.proofs.lemmas.List.{length-append}
 use Rattle.ep_base.proofs.TableLemmas.{first_row-as_none}
 use Rattle.ep_packet.specs.IpHeaders.{ip_headers_parts, payload_len_rows, written_headers}
-use Rattle.ep_build.specs.BuiltFrames.{built_frame, held_ip, link_with_type, link_part_bytes}
+use Rattle.ep_build.specs.BuiltFrames.{built_frame, ip_frame_headers, link_with_type, link_part_bytes}
 use Rattle.ep_build.specs.declared.err.build_write_error.BuildWriteError.TheVariants as error
 use Rattle.ep_build.proofs.PlacingLemmas.{fills, packet_at}
 use Rattle.ep_build.proofs.SizeLemmas.{headers_len, link_len}
@@ -14,7 +14,7 @@ returns-clause-filled g c =
     let headers = g.Headers.IsIpHeaders.headers c.args.headers.now in
     let linked = g.Headers.IsIpHeaders.headers c.link.new.self in
     let payload = c.args.payload.now in
-    let held = held_ip c.args.link.now headers c.args.last in
+    let held = ip_frame_headers c.args.link.now headers c.args.last in
     let front = link_part_bytes (link_with_type c.args.link.now c.in-Ok.ether_type) in
     let written = written_headers linked (ip_headers_parts linked) in
     let whole = is_ip_frame c.args.link.now headers linked c.args.last c.in-Ok.ether_type payload c.in-Ok.ensures.1
@@ -31,11 +31,11 @@ returns-clause-filled g c =
       link_len c.args.link.now c.in-Ok.ether_type c.link_fits.ensures,
       headers_len linked c.headers_len.ensures.fits,
     ))
-    (packet_at front written payload (built_frame held payload) _ _ _ _ _ c.place_headers-behind.ensures.bytes
+    (packet_at front written payload (built_frame held payload) _ _ _ _ _ c.place_headers-ip_end.ensures.bytes
     c.put.ensures whole)
 
 pub returns-clause-fragment : goal.returns-clause-fragment
 returns-clause-fragment g c =
     let headers = g.Headers.IsIpHeaders.headers in
     fragment_back c.args.link.now (headers c.args.headers.now) (headers c.link.new.self) c.args.last c.args.payload.now
-    c.in-Ok.ensures.1 c.link_fits.ensures c.headers_len.ensures.fits c.place_headers-behind.ensures.fits
+    c.in-Ok.ensures.1 c.link_fits.ensures c.headers_len.ensures.fits c.place_headers-ip_end.ensures.fits

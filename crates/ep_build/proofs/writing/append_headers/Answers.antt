@@ -7,12 +7,12 @@ use Rattle.ep_build.proofs.writing.append_headers.Goals as goal
 
 pub append_with_type-requires : goal.append_with_type-requires
 append_with_type-requires g c =
-    omega (arith, c.requires.room, link_len c.args.link.now c.args.ether_type c.link_fits.ensures)
+    omega (arith, c.requires.capacity, link_len c.args.link.now c.args.ether_type c.link_fits.ensures)
 
-pub append-requires-clause-room : goal.append-requires-clause-room
-append-requires-clause-room g c = omega (
+pub append-requires-clause-capacity : goal.append-requires-clause-capacity
+append-requires-clause-capacity g c = omega (
   arith,
-  c.requires.room,
+  c.requires.capacity,
   link_len c.args.link.now c.args.ether_type c.link_fits.ensures,
   ap length c.append_with_type.ensures.items,
   length-append c.args.buf.now.items (link_part_bytes (link_with_type c.args.link.now c.args.ether_type)),

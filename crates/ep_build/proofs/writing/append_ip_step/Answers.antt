@@ -1,7 +1,7 @@
 use Rattle.std.proofs.Common.{sym, subst}
 use Rattle.std.specs.Prelude.{OnOk}
 use Rattle.ep_build.specs.BuiltFragments.{IsFragmentReadBack}
-use Rattle.ep_build.specs.BuiltFrames.{held_ip}
+use Rattle.ep_build.specs.BuiltFrames.{ip_frame_headers}
 use Rattle.ep_build.specs.Steps.{part_headers}
 use Rattle.ep_build.specs.declared.ip_part.IpPart.{IpPart}
 use Rattle.ep_build.proofs.WritingLemmas.{Appends}
@@ -9,7 +9,7 @@ use Rattle.ep_build.proofs.writing.append_ip_step.Goals as goal
 
 pub returns-in-Plain4-clause-ok : goal.returns-in-Plain4-clause-ok
 returns-in-Plain4-clause-ok c = subst
-    (λ (ip : IpPart). OnOk c.write_ip.result (Appends (held_ip c.args.link (part_headers ip) c.args.last)
+    (λ (ip : IpPart). OnOk c.write_ip.result (Appends (ip_frame_headers c.args.link (part_headers ip) c.args.last)
     c.args.payload.now c.args.buf.now.items c.write_ip.new.buf.items))
     (sym c.in-Plain4.is) c.write_ip.ensures.ok
 
@@ -21,7 +21,7 @@ returns-in-Plain4-clause-fragment c = subst
 
 pub returns-in-Plain6-clause-ok : goal.returns-in-Plain6-clause-ok
 returns-in-Plain6-clause-ok c = subst
-    (λ (ip : IpPart). OnOk c.write_ip-in-Plain6.result (Appends (held_ip c.args.link (part_headers ip) c.args.last)
+    (λ (ip : IpPart). OnOk c.write_ip-in-Plain6.result (Appends (ip_frame_headers c.args.link (part_headers ip) c.args.last)
     c.args.payload.now c.args.buf.now.items c.write_ip-in-Plain6.new.buf.items))
     (sym c.in-Plain6.is) c.write_ip-in-Plain6.ensures.ok
 
@@ -33,7 +33,7 @@ returns-in-Plain6-clause-fragment c = subst
 
 pub returns-in-Any-clause-ok : goal.returns-in-Any-clause-ok
 returns-in-Any-clause-ok c = subst
-    (λ (ip : IpPart). OnOk c.write_ip-in-Any.result (Appends (held_ip c.args.link (part_headers ip) c.args.last)
+    (λ (ip : IpPart). OnOk c.write_ip-in-Any.result (Appends (ip_frame_headers c.args.link (part_headers ip) c.args.last)
     c.args.payload.now c.args.buf.now.items c.write_ip-in-Any.new.buf.items))
     (sym c.in-Any.is) c.write_ip-in-Any.ensures.ok
 

@@ -20,7 +20,7 @@ returns-then-is_err-clause-full c = omega (
 
 pub append_with_type-requires : goal.append_with_type-requires
 append_with_type-requires c = record {
-  room = omega (
+  capacity = omega (
     arith,
     on_ok c.reserve.result _ c.if-is_err.ensures.negation c.reserve.ensures.ok,
     c.header_len.ensures.value,

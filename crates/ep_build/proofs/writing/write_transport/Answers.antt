@@ -19,11 +19,11 @@ pub returns-then-is_err-clause-full : goal.returns-then-is_err-clause-full
 returns-then-is_err-clause-full g c wanting = omega (
   arith,
   on_err c.reserve.result _ (sym c.if-is_err.ensures.value) c.reserve.ensures.full,
-  c.in_ok-ether_type.ensures.whole,
+  c.in_ok-ether_type.ensures.size_is,
 )
 
-pub append_headers-requires-clause-room : goal.append_headers-requires-clause-room
-append_headers-requires-clause-room g c = omega (
+pub append_headers-requires-clause-capacity : goal.append_headers-requires-clause-capacity
+append_headers-requires-clause-capacity g c = omega (
   arith,
   on_ok c.reserve.result _ c.if-is_err.ensures.negation c.reserve.ensures.ok,
   c.in_ok-ether_type.ensures.parts,

@@ -1,8 +1,8 @@
 use Rattle.ep_defrag.proofs.EqualLemmas.{alike_from_same, same_from_alike, touch_from_fill}
 use Rattle.ep_defrag.proofs.laws.equal_buffers.Goals as goal
 
-pub returns-clause-held : goal.returns-clause-held
-returns-clause-held c a b fragments others number held held' =
+pub returns-clause-contents : goal.returns-clause-contents
+returns-clause-contents c a b fragments others number held held' =
     let equal = c.comparisons.ensures.equal_buffers a b in (
       λ same. alike_from_same a b fragments others held held' (equal.0 same),
       λ alike. equal.1 (same_from_alike a b fragments others number held held' alike.0 alike.1),

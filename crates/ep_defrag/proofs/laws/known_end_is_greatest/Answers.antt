@@ -12,5 +12,5 @@ returns-clause-end c accepted end fit known =
 pub returns-clause-data : goal.returns-clause-data
 returns-clause-data c accepted fit = length-assembled accepted ∙ end_is_greatest 65535 accepted fit
 
-pub returns-clause-held : goal.returns-clause-held
-returns-clause-held c buffer accepted held = data_len buffer accepted held
+pub returns-clause-data_len : goal.returns-clause-data_len
+returns-clause-data_len c buffer accepted held = data_len buffer accepted held

@@ -2,32 +2,32 @@ use Rattle.std.proofs.Common.{sym, ◌∙◌, of_calls}
 use Rattle.ep_defrag.proofs.TakingLemmas.{frame_answer, frame_holds, frame_memory, frame_limit}
 use Rattle.ep_defrag.proofs.pool_run.answer_next.Goals as goal
 
-pub returns-then-is_out_of_memory-clause-memory : goal.returns-then-is_out_of_memory-clause-memory
-returns-then-is_out_of_memory-clause-memory g c = λ table held.
+pub returns-then-failed_to_allocate-clause-memory : goal.returns-then-failed_to_allocate-clause-memory
+returns-then-failed_to_allocate-clause-memory g c = λ table held.
     rw c.in-Frame.is
     (frame_memory g.CustomChannelId.PartialEq.eq c.args.pool.now c.process_sliced_packet-answer.new.self _ _
     c.process_sliced_packet-answer.result _ c.process_sliced_packet-answer.ensures
-    (sym c.is_out_of_memory.ensures ∙ c.if-is_out_of_memory.true) table held)
+    (sym c.failed_to_allocate.ensures ∙ c.if-failed_to_allocate.true) table held)
 
-pub returns-else-is_out_of_memory-clause-answer : goal.returns-else-is_out_of_memory-clause-answer
-returns-else-is_out_of_memory-clause-answer g c = λ table held.
+pub returns-else-failed_to_allocate-clause-answer : goal.returns-else-failed_to_allocate-clause-answer
+returns-else-failed_to_allocate-clause-answer g c = λ table held.
     rw c.in-Frame.is
     (frame_answer g.CustomChannelId.PartialEq.eq c.args.pool.now c.process_sliced_packet-answer.new.self _ _
     c.process_sliced_packet-answer.result _ c.process_sliced_packet-answer.ensures
-    (sym c.is_out_of_memory.ensures ∙ c.if-is_out_of_memory.false) table held)
+    (sym c.failed_to_allocate.ensures ∙ c.if-failed_to_allocate.false) table held)
 
-pub returns-else-is_out_of_memory-clause-holds : goal.returns-else-is_out_of_memory-clause-holds
-returns-else-is_out_of_memory-clause-holds g c = λ decide decided table held.
+pub returns-else-failed_to_allocate-clause-holds : goal.returns-else-failed_to_allocate-clause-holds
+returns-else-failed_to_allocate-clause-holds g c = λ decide decided table held.
     rw c.in-Frame.is
     (frame_holds g.CustomChannelId.PartialEq.eq c.args.pool.now c.process_sliced_packet-answer.new.self _ _
     c.process_sliced_packet-answer.result _ c.process_sliced_packet-answer.ensures
-    (sym c.is_out_of_memory.ensures ∙ c.if-is_out_of_memory.false) table held)
+    (sym c.failed_to_allocate.ensures ∙ c.if-failed_to_allocate.false) table held)
 
-pub returns-else-is_out_of_memory-clause-no_memory : goal.returns-else-is_out_of_memory-clause-no_memory
-returns-else-is_out_of_memory-clause-no_memory g c = sym c.is_out_of_memory.ensures ∙ c.if-is_out_of_memory.false
+pub returns-else-failed_to_allocate-clause-no_memory : goal.returns-else-failed_to_allocate-clause-no_memory
+returns-else-failed_to_allocate-clause-no_memory g c = sym c.failed_to_allocate.ensures ∙ c.if-failed_to_allocate.false
 
-pub returns-else-is_out_of_memory-clause-limit : goal.returns-else-is_out_of_memory-clause-limit
-returns-else-is_out_of_memory-clause-limit g c =
+pub returns-else-failed_to_allocate-clause-limit : goal.returns-else-failed_to_allocate-clause-limit
+returns-else-failed_to_allocate-clause-limit g c =
     frame_limit g.CustomChannelId.PartialEq.eq c.args.pool.now c.process_sliced_packet-answer.new.self _ _
     c.process_sliced_packet-answer.result _ c.process_sliced_packet-answer.ensures
 

@@ -30,7 +30,7 @@ loop-at-preserved c =
           ∙ sym (answers_after-push [] sofar next)
           ∙ ap (answers_after []) (sym more);
       counted = search rules;
-      room = search rules;
+      capacity = search rules;
       number = search rules;
     }
 

@@ -9,6 +9,6 @@ invariant-loop-at l = record {
   held : HoldsFragments l.buffer (accepted_after [] (take l.at l.fragments));
   answered : l.answers.items ≡ answers_after [] (take l.at l.fragments);
   counted : vec_len l.answers ≡ l.at;
-  room : length l.fragments ≤ vec_capacity l.answers;
+  capacity : length l.fragments ≤ vec_capacity l.answers;
   number : ip_number_of l.buffer ≡ l.fn.ip_number;
 }

@@ -7,5 +7,5 @@ returns c = record {
   strict = frame_tells;
   first = λ entry bytes error refused.
       (first_is_strict entry bytes error refused, first_not_long entry bytes error refused);
-  behind = stops_are_strict;
+  stop = stops_are_strict;
 }

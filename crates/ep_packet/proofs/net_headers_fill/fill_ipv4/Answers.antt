@@ -30,6 +30,6 @@ returns-in-Ok-clause-ok c =
     let place = behind_headers bytes (ipv4_part packet) payload.result is payload.ensures in (
       packet,
       is,
-      fills_read bytes (ipv4_part packet) c.write_ipv4.new.net payload.result _ is (c.write_ipv4.ensures ok.0)
+      fills_read bytes (ipv4_part packet) c.store_ipv4.new.net payload.result _ is (c.store_ipv4.ensures ok.0)
           payload.ensures (omega (arith, total, place)),
     )

@@ -30,6 +30,6 @@ returns-clause-ok c =
     λ i. record { number = number; fragmented = false; source = source i; bytes = content } in (
       packet,
       is,
-      fills_read bytes (ipv6_part packet) c.write_ipv6.new.net payload 40 is c.write_ipv6.ensures same
+      fills_read bytes (ipv6_part packet) c.store_ipv6.new.net payload 40 is c.store_ipv6.ensures same
           (omega arith),
     )

@@ -16,9 +16,9 @@ use Rattle.ep_packet.proofs.net_headers_fill.fill_ipv6_extensions.Goals as goal
 
 pub overflow_sub-offset : goal.overflow_sub-offset
 overflow_sub-offset c =
-    let read = c.in-Ok-write_ipv6_extensions.ensures.ok in
+    let read = c.in-Ok-store_ipv6_extensions.ensures.ok in
     let whole = chain_content c.args.slice.now c.in-Ok.cut.1.now c.in-Ok.ensures.ok.0 c.in-Ok.cut.0 read.0
-    c.in-Ok-write_ipv6_extensions.ip_number.0 c.in-Ok-write_ipv6_extensions.payload.now c.in-Ok.ensures.ok.1 read.2 in
+    c.in-Ok-store_ipv6_extensions.ip_number.0 c.in-Ok-store_ipv6_extensions.payload.now c.in-Ok.ensures.ok.1 read.2 in
     omega (arith, whole)
 
 pub after_header-requires : goal.after_header-requires
@@ -30,13 +30,13 @@ after_header-requires c =
     let same = ap (λ (e : LenError). e.layer_start_offset) c.in-Err-Len.error-is in
     omega (arith, within, same, c.in-Ok.ensures.within)
 
-pub returns-in-Ok-write_ipv6_extensions-clause-ok : goal.returns-in-Ok-write_ipv6_extensions-clause-ok
-returns-in-Ok-write_ipv6_extensions-clause-ok c =
+pub returns-in-Ok-store_ipv6_extensions-clause-ok : goal.returns-in-Ok-store_ipv6_extensions-clause-ok
+returns-in-Ok-store_ipv6_extensions-clause-ok c =
     let bytes = c.args.slice.now in
     let header = c.in-Ok.cut.0 in
     let content = c.in-Ok.cut.1.now in
     let cut = c.in-Ok.ensures.ok in
-    let found = c.in-Ok-write_ipv6_extensions in
+    let found = c.in-Ok-store_ipv6_extensions in
     let read = found.ensures.ok in
     let number = found.ip_number.0 in
     let rest = found.payload.now in

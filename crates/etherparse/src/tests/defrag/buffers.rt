@@ -224,8 +224,8 @@ fn above_the_limit(rt: HostRuntime) {
 #[test]
 fn used_again(rt: HostRuntime) {
     let mut used = new_buffer(rt.alloc());
-    let whole = bytes_of(rt.alloc(), &[Rising(100, 64)]).expect(&rt, "no memory");
-    same(&rt, &used.add(IpFragOffset::ZERO, false, &whole), &Ok(()));
+    let data = bytes_of(rt.alloc(), &[Rising(100, 64)]).expect(&rt, "no memory");
+    same(&rt, &used.add(IpFragOffset::ZERO, false, &data), &Ok(()));
     let (bytes, sections) = used.take_bufs();
     let mut buffer = IpDefragBuf::new(IpNumber::TCP, bytes, sections);
     same(&rt, &buffer.add(offset(&rt, 1), true, PAYLOAD), &Ok(()));

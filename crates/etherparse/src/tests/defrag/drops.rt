@@ -5,7 +5,7 @@ ghost use Rattle.std.specs.Prelude.{◌≡◌, ◌≤◌, ℕ, nat_le, List, [],
 ghost use Rattle.std.specs.List.{All};
 ghost use Rattle.etherparse.specs.Types.IpFragId.{IpFragId};
 ghost use Rattle.etherparse.specs.Calls.{Call, drops_streams, answers_to};
-ghost use Rattle.etherparse.specs.BuiltCuts.{BuiltCut, IsBuiltCut, cut_call, cut_fragment, frames_to, answers_to_frames, cut_answers, whole_of};
+ghost use Rattle.etherparse.specs.BuiltCuts.{BuiltCut, IsBuiltCut, cut_call, cut_fragment, frames_to, answers_to_frames, cut_answers, complete_payload_of};
 
 use super::names::completed_payload;
 use super::pool::WHOLE;
@@ -23,7 +23,7 @@ fn drops_of_older_streams()
         frames_to ⟦<u8 as PartialEq>⟧.eq name calls ≡ map cut_call cuts →
         answers_to_frames ⟦<u8 as PartialEq>⟧.eq name calls
         (answers_to limit ⟦<u8 as PartialEq>⟧.eq nat_le calls)
-        ≡ cut_answers (whole_of name payload) [] (map cut_fragment cuts) }
+        ≡ cut_answers (complete_payload_of name payload) [] (map cut_fragment cuts) }
 {
     laws::defrag::built_cuts_are_reassembled::<u64, u8, u64>();
 }

@@ -5,7 +5,7 @@ ghost use Rattle.std.specs.Prelude.{◌≡◌, ◌<◌, ℕ, nat_le, List, map, 
 ghost use Rattle.std.specs.List.{All, HoldsAt};
 ghost use Rattle.etherparse.specs.Types.FrameAnswer.{FrameAnswer};
 ghost use Rattle.etherparse.specs.Calls.{Call, table_after, accepted_at};
-ghost use Rattle.etherparse.specs.FrameCalls.{ReadCall, calls_pool, AreReadAs, pool_calls, frame_answers_to, read_answer, IfPoolHandsOut, FrameCallMayNeedMemory};
+ghost use Rattle.etherparse.specs.FrameCalls.{ReadCall, calls_pool, AreReadAs, pool_calls, frame_answers_to, read_answer, IfFramePayloadReturned, FrameCallMayNeedMemory};
 ghost use Rattle.etherparse.specs.PayloadCuts.{IsCut};
 ghost use Rattle.etherparse.specs.Pools.{HoldsTable};
 
@@ -33,7 +33,7 @@ fn run_with_limits(
         slice_get reads at ≡ Some (calls_pool brought) → slice_get run.0.items at ≡ Some answer →
         (payload : List ℕ) → All (IsCut payload) (accepted_at
         (table_after 65535 ⟦<u8 as PartialEq>⟧.eq nat_le (pool_calls (take at reads))) brought) →
-        IfPoolHandsOut (read_answer answer) (λ handed. handed.bytes ≡ payload)) }
+        IfFramePayloadReturned (read_answer answer) (λ returned. returned.bytes ≡ payload)) }
     ensures stopped { IfErr result (λ stop. 0 < stop.at →
         (reads : List (ReadCall _ _ _)) → AreReadAs (take stop.at calls.entry.items) reads →
         HoldsAt (FrameCallMayNeedMemory 65535 (table_after 65535 ⟦<u8 as PartialEq>⟧.eq nat_le (pool_calls reads)))

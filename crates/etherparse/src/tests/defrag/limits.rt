@@ -29,13 +29,13 @@ enum ExpectedAnswer {
     TooBig(u16, usize, u16),
 }
 
-/// Returns whether the answer of a reassembly pool to a fragment is the expected one, `said`.
+/// Returns whether the answer of a reassembly pool to a fragment is the expected one.
 fn is_answer(
     rt: &impl Abort,
     answer: &Result<Option<IpDefragPayloadVec>, IpDefragError>,
-    said: ExpectedAnswer,
+    expected: ExpectedAnswer,
 ) -> bool {
-    match (answer, said) {
+    match (answer, expected) {
         (Ok(None), ExpectedAnswer::Nothing) => true,
         (Ok(Some(payload)), ExpectedAnswer::Whole) => {
             payload.ip_number == IpNumber(253) && payload.payload.as_slice() == WHOLE
@@ -76,15 +76,15 @@ fn as_a_run(rt: HostRuntime) {
         ExpectedAnswer::Whole,
     ];
     same(&rt, &answered.len(), &wanted.len());
-    for (answer, said) in answered.iter().zip(wanted) {
+    for (answer, expected) in answered.iter().zip(wanted) {
         let is_wanted = match answer {
-            PoolAnswer::Frame(answer) => is_answer(&rt, answer, said),
+            PoolAnswer::Frame(answer) => is_answer(&rt, answer, expected),
             PoolAnswer::Dropped | PoolAnswer::Returned => false,
         };
         same(&rt, &is_wanted, &true);
     }
-    let behind = SlicedPacket::from_ip(AFTER_LIMIT).expect(&rt, "refused");
-    let answer = pool.process_sliced_packet(&behind, 2, 0);
+    let packet = SlicedPacket::from_ip(AFTER_LIMIT).expect(&rt, "refused");
+    let answer = pool.process_sliced_packet(&packet, 2, 0);
     same(
         &rt,
         &is_answer(&rt, &answer, ExpectedAnswer::TooBig(2, 8, 16)),

@@ -5,7 +5,7 @@ ghost use Rattle.std.specs.Prelude.{◌≡◌, ◌<◌, ℕ, nat_le, List, map, 
 ghost use Rattle.std.specs.List.{All, HoldsAt};
 ghost use Rattle.etherparse.specs.Types.PoolAnswer.{PoolAnswer};
 ghost use Rattle.etherparse.specs.Types.PoolCall.{PoolCall};
-ghost use Rattle.etherparse.specs.Calls.{answers_to, table_after, accepted_at, IfHandedOut, CallMayNeedMemory};
+ghost use Rattle.etherparse.specs.Calls.{answers_to, table_after, accepted_at, IfPayloadReturned, CallMayNeedMemory};
 ghost use Rattle.etherparse.specs.PayloadCuts.{IsCut};
 ghost use Rattle.etherparse.specs.Pools.{plain_call, plain_answer, HoldsTable};
 
@@ -96,8 +96,8 @@ fn streams_by_vlan(rt: HostRuntime) {
     completes_payload(&rt, &mut pool, VLAN_2_LAST, 1, OTHER);
 }
 
-/// Drops the incomplete datagrams with a timestamp below `limit` from a reassembly pool, and asserts that the
-/// timestamps of `streams` datagrams are tested for that.
+/// Drops the incomplete datagrams with a timestamp below `limit` from a reassembly pool, and asserts that the condition
+/// is called with the timestamps of exactly `streams` datagrams.
 fn drops(rt: &impl Abort, pool: &mut IpDefragPool<u64, u8>, limit: u64, streams: u32) {
     let asked = Cell::new(0u32);
     pool.retain(|timestamp| {
@@ -200,7 +200,7 @@ pub(super) fn run_with_limits(
         slice_get calls.entry.items at ≡ Some call → slice_get run.0.items at ≡ Some answer →
         (payload : List ℕ) → All (IsCut payload) (accepted_at
         (table_after 65535 ⟦<Halved as PartialEq>⟧.eq nat_le (map plain_call (take at calls.entry.items)))
-        (plain_call call)) → IfHandedOut (plain_answer answer) (λ handed. handed.bytes ≡ payload)) }
+        (plain_call call)) → IfPayloadReturned (plain_answer answer) (λ returned. returned.bytes ≡ payload)) }
     ensures stopped { IfErr result (λ stop. 0 < stop.at → HoldsAt (λ call. CallMayNeedMemory 65535
         (table_after 65535 ⟦<Halved as PartialEq>⟧.eq nat_le (map plain_call (take stop.at calls.entry.items)))
         (plain_call call)) calls.entry.items stop.at) }

@@ -146,10 +146,10 @@ fn payloads_of_a_type(rt: HostRuntime) {
     reads_type(&rt, TAG, FOUR_TAGS, (3, 3, 0), fourth);
     let third = of_type(0x8100, slice, b"\x00\x03\x08\x00");
     reads_type(&rt, MACSEC, TAGS_IN_MACSEC, (3, 2, 0), third);
-    let cut = of_type(0x1234, macsec, b"\x01\x02\x03");
-    reads_type(&rt, MACSEC, SHORT_MACSEC, (1, 0, 0), cut);
-    let behind_tag = of_type(0x1234, macsec, b"\x01\x02");
-    reads_type(&rt, MACSEC, TAG_IN_MACSEC, (2, 1, 0), behind_tag);
+    let limited = of_type(0x1234, macsec, b"\x01\x02\x03");
+    reads_type(&rt, MACSEC, SHORT_MACSEC, (1, 0, 0), limited);
+    let after_tag = of_type(0x1234, macsec, b"\x01\x02");
+    reads_type(&rt, MACSEC, TAG_IN_MACSEC, (2, 1, 0), after_tag);
     let unknown = Entry::EtherType(EtherType(0x1234));
     let alone = of_type(0x1234, slice, b"\x01\x02");
     reads_type(&rt, unknown, b"\x01\x02", (0, 0, 0), alone);
@@ -190,8 +190,8 @@ fn payloads_of_udp(rt: HostRuntime) {
     reads(&rt, Entry::Ethernet, FRAME, udp, PayloadSlice::Udp(PAYLOAD));
     reads(&rt, IPV4, packet, udp, PayloadSlice::Udp(PAYLOAD));
     reads(&rt, Entry::Ip, packet, udp, PayloadSlice::Udp(PAYLOAD));
-    let behind = PayloadSlice::Udp(b"\x01\x02");
-    reads(&rt, Entry::Ip, EVERY_KIND, (0, 0, 92), behind);
+    let udp_payload = PayloadSlice::Udp(b"\x01\x02");
+    reads(&rt, Entry::Ip, EVERY_KIND, (0, 0, 92), udp_payload);
     reads(&rt, TAG, TAGGED, (1, 1, 20), PayloadSlice::Udp(b""));
 }
 

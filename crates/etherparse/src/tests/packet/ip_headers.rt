@@ -83,13 +83,13 @@ fn second_of_a_kind(rt: HostRuntime) {
     let (_, extensions) = headers.ipv6().expect(&rt, "IPv6");
     same(&rt, &extensions.fragment.as_ref(), &Some(&fragment));
     same(&rt, &headers.header_len(), &48);
-    let behind = IpPayloadSlice {
+    let expected = IpPayloadSlice {
         ip_number: IpNumber(44),
         fragmented: false,
         len_source: LenSource::Ipv6HeaderPayloadLen,
         payload: &FRAGMENT_TWICE[48..],
     };
-    same(&rt, &payload, &behind);
+    same(&rt, &payload, &expected);
 }
 
 /// Asserts that IP headers, with the payload length set to 8, are written as `expected` without its last 8 bytes, the

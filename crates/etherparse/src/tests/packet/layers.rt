@@ -112,12 +112,12 @@ fn cooked_captures(rt: HostRuntime) {
 }
 
 /// Returns a `NetSlice` under its older name `InternetSlice`: both name one type.
-fn older_slice_name(net: NetSlice<'_>) -> InternetSlice<'_> {
+fn as_internet_slice(net: NetSlice<'_>) -> InternetSlice<'_> {
     net
 }
 
 /// Returns `NetHeaders` under their older name `IpHeader`: both name one type.
-fn older_header_name(net: NetHeaders) -> IpHeader {
+fn as_ip_header(net: NetHeaders) -> IpHeader {
     net
 }
 
@@ -126,9 +126,9 @@ fn older_names(rt: HostRuntime) {
     let packet = Ipv4Slice::from_slice(AUTHENTICATED).expect(&rt, "refused");
     same(
         &rt,
-        &older_slice_name(NetSlice::from(packet)).is_ipv4(),
+        &as_internet_slice(NetSlice::from(packet)).is_ipv4(),
         &true,
     );
     let header = NetHeaders::from(arp_request(&rt));
-    same(&rt, &older_header_name(header).is_arp(), &true);
+    same(&rt, &as_ip_header(header).is_arp(), &true);
 }

@@ -1,5 +1,5 @@
 use Rattle.std.proofs.Common.{◌≡◌, Some, rules}
-use Rattle.etherparse.specs.BuiltFrames.{held_transport}
+use Rattle.etherparse.specs.BuiltFrames.{transport_frame_headers}
 use Rattle.etherparse.specs.Steps.{ip_link, ip_step_headers}
 use Rattle.etherparse_c.specs.Building.{route_headers}
 use Rattle.etherparse_c.specs.TaggedBuilding.{tagged_link}
@@ -13,6 +13,6 @@ returns-then-route-eq4 g c =
     let links : tagged_link tagged ≡ Some (ip_link step) = search rules in
     let leads : route_headers tagged.route ≡ Some (ip_step_headers step) = search rules in
     built_is_answer (tagged_link tagged) (route_headers tagged.route)
-    (λ part headers. held_transport part headers (g.Behind.TransportPart.header c.args.behind)) (ip_link step)
-    (ip_step_headers step) c.args.payload.now c.args.buffer.now c.write_transport.new.buffer c.write_transport.new.written
-    c.write_transport.result links leads c.write_transport.ensures
+    (λ part headers. transport_frame_headers part headers (g.Transport.TransportPart.header c.args.transport_part))
+    (ip_link step) (ip_step_headers step) c.args.payload.now c.args.buffer.now c.write_transport.new.buffer
+    c.write_transport.new.written c.write_transport.result links leads c.write_transport.ensures

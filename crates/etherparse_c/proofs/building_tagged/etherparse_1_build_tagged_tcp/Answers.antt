@@ -12,7 +12,7 @@ returns-in-Ok c =
     ap transport.Tcp c.in-Ok.ensures.1 ∙ ap (with_options options) c.tcp_header-header.ensures in
     inl (
       c.in-Ok.ensures.0,
-      subst (λ (behind : TransportHeader).
-          IsTaggedAnswer c.args.route.now behind c.args.payload.now c.args.buffer.now c.build_tagged.new.buffer
-          c.build_tagged.new.written c.build_tagged.result) header c.build_tagged.ensures,
+      subst (λ (transport_header : TransportHeader).
+          IsTaggedAnswer c.args.route.now transport_header c.args.payload.now c.args.buffer.now
+          c.build_tagged.new.buffer c.build_tagged.new.written c.build_tagged.result) header c.build_tagged.ensures,
     )

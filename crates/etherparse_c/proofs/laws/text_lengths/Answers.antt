@@ -1,5 +1,5 @@
-use Rattle.etherparse_c.proofs.TextLengthLemmas.{text_told_fits}
+use Rattle.etherparse_c.proofs.TextLengthLemmas.{texts_fit}
 use Rattle.etherparse_c.proofs.laws.text_lengths.Goals as goal
 
 pub returns : goal.returns
-returns c = text_told_fits
+returns c = texts_fit

@@ -11,7 +11,7 @@ returns-then-describe_plain c =
     let read = c.frames_read_laxly.ensures ethernet c.args.bytes.now found.0 found.1 in
     read_laxly (entry_of c.args.entry c.args.ether_type) ethernet c.args.bytes.now read.0 c.describe_plain.new.described
     (ap (λ (n : ℕ). entry_of n c.args.ether_type) first)
-    (c.lax_places.ensures.places ethernet c.args.bytes.now read.0 c.describe_plain.new.described read.1
+    (c.lax_offsets.ensures.places ethernet c.args.bytes.now read.0 c.describe_plain.new.described read.1
     (found.2 ∙ sym read.2))
 
 pub returns-then-describe_plain_ip : goal.returns-then-describe_plain_ip
@@ -21,5 +21,5 @@ returns-then-describe_plain_ip c =
     let read = c.frames_read_laxly.ensures ip c.args.bytes.now found.0 found.1 in
     read_laxly (entry_of c.args.entry c.args.ether_type) ip c.args.bytes.now read.0 c.describe_plain_ip.new.described
     (ap (λ (n : ℕ). entry_of n c.args.ether_type) fourth)
-    (c.lax_places.ensures.places ip c.args.bytes.now read.0 c.describe_plain_ip.new.described read.1
+    (c.lax_offsets.ensures.places ip c.args.bytes.now read.0 c.describe_plain_ip.new.described read.1
     (found.2 ∙ sym read.2))

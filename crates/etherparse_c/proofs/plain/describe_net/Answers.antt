@@ -1,6 +1,6 @@
 use Rattle.etherparse.specs.Frame.{net_kind}
 use Rattle.etherparse_c.specs.Plain.{plain_payload}
-use Rattle.etherparse_c.proofs.PlainLemmas.{plain_is_told, plain_part}
+use Rattle.etherparse_c.proofs.PlainLemmas.{plain_is_described, plain_part}
 use Rattle.etherparse_c.proofs.plain.describe_net.Goals as goal
 
 pub returns : goal.returns
@@ -13,6 +13,7 @@ returns c =
       net = has.layer;
       transport = does.0;
       holds = plain_part (net_kind c.args.ether_type) c.args.slice.now has.layer (plain_payload ip) does.0 has.is
-          has.shown.payload does.1;
-      described = plain_is_told c.args.offset has.layer does.0 ip c.args.described.now c.describe_ip.new.described has.shown does.2;
+          has.fields.payload does.1;
+      described = plain_is_described c.args.offset has.layer does.0 ip c.args.described.now
+          c.describe_ip.new.described has.fields does.2;
     }

@@ -14,7 +14,7 @@ returns c =
     let bytes = c.args.bytes.now in
     let ok = c.in-Ok.ensures.ok in
     let frame = c.in-Ok.frame in
-    let behind = c.in-Some.behind in
+    let untagged = c.in-Some.untagged in
     let found = c.in-Some.ensures in
     let tags = found.0 in
     let does = c.describe_net.ensures done in
@@ -24,19 +24,20 @@ returns c =
     let payload = ethernet2_slice_payload frame in
     let old = record c.args.described.now {
       link = part 1 0 14;
-      link_exts = c.place_vlans.new.slots;
-      link_ext_count = c.place_vlans.new.count;
+      link_exts = c.describe_vlans.new.slots;
+      link_ext_count = c.describe_vlans.new.count;
       refusal = c.no_refusal-described.result;
     } in
-    let held = found.1.holds (begins_none behind.ether_type behind.slice.now net transport does.holds) (Some net) transport
-    does.holds in
+    let layers_inside = found.1.holds
+    (begins_none untagged.ether_type untagged.slice.now net transport does.holds) (Some net) transport does.holds in
     let inside : IsInside slices most_link_exts (Some header.ether_type) payload tags (Some net) transport =
     subst (λ (t : EtherType). IsInside slices most_link_exts (Some t) payload tags (Some net) transport)
     c.ether_type.ensures
     (subst (λ (b : List ℕ). IsInside slices most_link_exts (Some c.ether_type.result) b tags (Some net) transport)
-    c.payload_slice.ensures held) in (
+    c.payload_slice.ensures layers_inside) in (
       plain_layers (Some (ethernet2 header payload)) tags net transport,
       plain_frame bytes ok.0 frame tags net transport ok.2 inside,
-      plain_described (Some (ethernet2 header payload)) tags net transport behind.offset old c.describe_net.new.described
-          found.1.uncut found.1.place refl found.2 found.3 c.no_refusal-described.ensures does.described,
+      plain_described (Some (ethernet2 header payload)) tags net transport untagged.offset old
+          c.describe_net.new.described
+          found.1.unlimited found.1.offset refl found.2 found.3 c.no_refusal-described.ensures does.described,
     )

@@ -3,8 +3,8 @@ use Rattle.etherparse_c.proofs.pooling.drop_older.Goals as goal
 
 pub returns : goal.returns
 returns c = record {
-  holds = λ table held.
-      c.retain.ensures.holds table held (nat_le c.args.timestamp)
+  holds = λ table holds.
+      c.retain.ensures.holds table holds (nat_le c.args.timestamp)
       (λ timestamp answer met. search (rules, of_calls));
   limit = c.retain.ensures.answered.limit;
   waiting = refl;

@@ -5,7 +5,7 @@ use Rattle.etherparse.specs.IpPayload.{IpPayload, ip_payload_of}
 use Rattle.etherparse.specs.Layers.{net_layer_of, net_payload}
 use Rattle.etherparse.specs.Readings.{slices}
 use Rattle.etherparse.specs.Types.LenSource.TheVariants as source
-use Rattle.etherparse_c.proofs.PlainLemmas.{has_none, has_payload, net_is_told}
+use Rattle.etherparse_c.proofs.PlainLemmas.{has_none, has_payload, net_is_described}
 use Rattle.etherparse_c.proofs.sliced_net.describe_layer.Goals as goal
 
 pub returns-in-Some : goal.returns-in-Some
@@ -18,7 +18,7 @@ returns-in-Some c =
     let does = c.describe_transport.ensures done in (
       does.0,
       subst (λ (p : Option IpPayload). IsTransportAfterNet slices p does.0) (sym same) does.1,
-      net_is_told c.args.offset layer does.0 payload.source payload.bytes c.net_layer_part-header.result
+      net_is_described c.args.offset layer does.0 payload.source payload.bytes c.net_layer_part-header.result
           c.ip_layer_part-described.result c.args.described.now c.describe_transport.new.described (has_payload layer payload same)
           c.net_layer_part-header.ensures.part c.ip_layer_part-described.ensures does.2,
     )
@@ -31,7 +31,7 @@ returns-in-None c =
     sym c.ip_payload_ref.ensures ∙ ap (λ o. option_map ip_payload_of (option_copied o)) c.in-None.is in (
       None,
       subst (λ (p : Option IpPayload). IsTransportAfterNet slices p None) (sym none) refl,
-      net_is_told c.args.offset layer None source.ArpAddrLengths [] c.net_layer_part-header.result
+      net_is_described c.args.offset layer None source.ArpAddrLengths [] c.net_layer_part-header.result
           c.ip_layer_part-described.result c.args.described.now c.describe_transport_layer.new.described (has_none layer none)
           c.net_layer_part-header.ensures.part c.ip_layer_part-described.ensures c.describe_transport_layer.ensures,
     )

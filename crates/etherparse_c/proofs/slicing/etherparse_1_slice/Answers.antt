@@ -10,7 +10,7 @@ returns-then-describe_plain c =
     let found = c.describe_plain.ensures c.if-describe_plain.true in
     sliced (entry_of c.args.entry c.args.ether_type) ethernet c.args.bytes.now found.0 c.describe_plain.new.described
     (ap (λ (n : ℕ). entry_of n c.args.ether_type) first)
-    (c.frame_places.ensures.places ethernet c.args.bytes.now found.0 c.describe_plain.new.described found.1 found.2)
+    (c.frame_offsets.ensures.places ethernet c.args.bytes.now found.0 c.describe_plain.new.described found.1 found.2)
 
 pub returns-then-describe_plain_ip : goal.returns-then-describe_plain_ip
 returns-then-describe_plain_ip c =
@@ -18,4 +18,4 @@ returns-then-describe_plain_ip c =
     let found = c.describe_plain_ip.ensures c.if-describe_plain_ip.true in
     sliced (entry_of c.args.entry c.args.ether_type) ip c.args.bytes.now found.0 c.describe_plain_ip.new.described
     (ap (λ (n : ℕ). entry_of n c.args.ether_type) fourth)
-    (c.frame_places.ensures.places ip c.args.bytes.now found.0 c.describe_plain_ip.new.described found.1 found.2)
+    (c.frame_offsets.ensures.places ip c.args.bytes.now found.0 c.describe_plain_ip.new.described found.1 found.2)

@@ -1,6 +1,6 @@
 use Rattle.std.proofs.Common.{◌≡◌, [], ◌∷◌, true, ap, rules, ◌∙◌}
-use Rattle.etherparse.specs.BuiltFrames.{held_transport}
-use Rattle.etherparse.specs.Steps.{ipv4_headers_between, transport_held}
+use Rattle.etherparse.specs.BuiltFrames.{transport_frame_headers}
+use Rattle.etherparse.specs.Steps.{ipv4_headers_between, transport_step_frame}
 use Rattle.etherparse.specs.Tcp.{default_tcp_header}
 use Rattle.etherparse.specs.Types.TcpHeader.{TcpHeader}
 use Rattle.etherparse.specs.Types.TransportHeader.TheVariants as header
@@ -13,7 +13,7 @@ pub returns : goal.returns
 returns c =
     let with_syn : TcpHeader → TcpHeader = λ tcp. record tcp { syn = true } in
     let with_options : TcpHeader → TcpHeader = λ tcp. record tcp { options = 2 ∷ 4 ∷ 5 ∷ 180 ∷ 1 ∷ 3 ∷ 3 ∷ 7 ∷ [] } in
-    let plain : transport_held header.Tcp c.tcp.result ≡ held_transport
+    let plain : transport_step_frame header.Tcp c.tcp.result ≡ transport_frame_headers
     ethernet_header
     (ipv4_headers_between (192 ∷ 0 ∷ 2 ∷ 1 ∷ []) (192 ∷ 0 ∷ 2 ∷ 2 ∷ []) 64)
     (header.Tcp (record default_tcp_header {
@@ -22,10 +22,10 @@ returns c =
       sequence_number = c.args.sequence_number;
       window_size = 65535;
     })) = search rules in
-    let same : transport_held header.Tcp c.unwrap.result ≡ syn_headers c.args.sequence_number =
-    ap (transport_held header.Tcp) (unwrapped _ _ _ _ c.unwrap.ensures c.options.ensures).1
-    ∙ ap (held_with_tcp with_options) (ap (transport_held header.Tcp) c.syn.ensures ∙ ap (held_with_tcp with_syn) plain)
+    let same : transport_step_frame header.Tcp c.unwrap.result ≡ syn_headers c.args.sequence_number =
+    ap (transport_step_frame header.Tcp) (unwrapped _ _ _ _ c.unwrap.ensures c.options.ensures).1
+    ∙ ap (held_with_tcp with_options) (ap (transport_step_frame header.Tcp) c.syn.ensures ∙ ap (held_with_tcp with_syn) plain)
     in
-    appends_known (transport_held header.Tcp c.unwrap.result) (syn_headers c.args.sequence_number) [] c.args.buf.now
+    appends_known (transport_step_frame header.Tcp c.unwrap.result) (syn_headers c.args.sequence_number) [] c.args.buf.now
     c.write.new.buf c.write.result same
     c.write.ensures.ok c.write.ensures.err c.write.ensures.refused c.write.ensures.full

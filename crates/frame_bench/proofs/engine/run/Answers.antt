@@ -7,7 +7,7 @@ use Rattle.line_io.specs.Lines.{line_feed}
 use Rattle.line_io.specs.WatchedWords.{AppendsPrefix, has_failed, inner_of}
 use Rattle.line_io.proofs.ResultLemmas.{at_exit}
 use Rattle.frame_bench.proofs.StreamLemmas.{AdvancesTo-none, Moves-advanced, Moves-begun}
-use Rattle.frame_bench.proofs.StreamLemmas.{Moves-ended, Moves-ended_front, Moves-part}
+use Rattle.frame_bench.proofs.StreamLemmas.{Moves-ended, Moves-ended_prefix, Moves-part}
 use Rattle.frame_bench.proofs.engine.run.Goals as goal
 
 -- A test that does not hold is false.
@@ -92,8 +92,8 @@ returns-clause-err g c =
     let contents_second = contents (inner_of c.pieces.writer) in
     let contents_third = contents (inner_of c.write_all.new.self) in
     let last = c.as_slice.result.now in
-    let front = λ (more : AppendsPrefix contents_second contents_third last).
-    Moves-ended_front c.pieces.session.line.items last c.pieces.session.pool (remaining (inner_of c.args.reader.now))
+    let prefix = λ (more : AppendsPrefix contents_second contents_third last).
+    Moves-ended_prefix c.pieces.session.line.items last c.pieces.session.pool (remaining (inner_of c.args.reader.now))
     (remaining (inner_of c.pieces.reader)) (contents (inner_of c.args.writer.now)) contents_second contents_third
     c.pieces.invariant.0 (rw c.as_slice.ensures.value c.in_ok-finish.ensures) more in
-    on_err_weaker c.write_all.result front c.write_all.ensures.front
+    on_err_weaker c.write_all.result prefix c.write_all.ensures.prefix

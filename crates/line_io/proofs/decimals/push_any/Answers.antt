@@ -1,5 +1,5 @@
 use Rattle.std.proofs.Common.{◌-◌, drop, take, arith}
-use Rattle.line_io.proofs.DecimalLemmas.{digits-whole}
+use Rattle.line_io.proofs.DecimalLemmas.{digits-all}
 use Rattle.line_io.proofs.ResultLemmas.{OnOk-appended}
 use Rattle.line_io.proofs.decimals.push_any.Goals as goal
 
@@ -9,5 +9,5 @@ returns-clause-text c =
     let start = c.write_digits-start.result in
     OnOk-appended c.extend_from_slice.result c.args.output.now.items c.extend_from_slice.new.self.items
     (take (20 - start) (drop start digits)) _ c.extend_from_slice.ensures.items
-    (digits-whole c.args.number start digits (omega (arith, c.write_digits-start.array_long))
+    (digits-all c.args.number start digits (omega (arith, c.write_digits-start.array_long))
     c.write_digits-start.ensures.text)

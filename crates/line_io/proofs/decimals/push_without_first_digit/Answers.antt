@@ -1,5 +1,5 @@
 use Rattle.std.proofs.Common.{◌-◌, ◌+◌, drop, take, arith}
-use Rattle.line_io.proofs.DecimalLemmas.{digits-behind_first}
+use Rattle.line_io.proofs.DecimalLemmas.{digits-after_first}
 use Rattle.line_io.proofs.ResultLemmas.{OnOk-appended}
 use Rattle.line_io.proofs.decimals.push_without_first_digit.Goals as goal
 
@@ -9,5 +9,5 @@ returns-clause-text c =
     let start = c.write_digits-start.result in
     OnOk-appended c.extend_from_slice.result c.args.output.now.items c.extend_from_slice.new.self.items
     (take (20 - (start + 1)) (drop (start + 1) digits)) _ c.extend_from_slice.ensures.items
-    (digits-behind_first c.args.number start digits (omega (arith, c.write_digits-start.array_long))
+    (digits-after_first c.args.number start digits (omega (arith, c.write_digits-start.array_long))
     c.write_digits-start.ensures.text)

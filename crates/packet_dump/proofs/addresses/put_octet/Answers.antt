@@ -12,4 +12,4 @@ returns-clause-text c =
     rw (← octet_digits-are c.args.octet c.ranges.octet.fits)
     (four_parts (take at text) (take (at + 1) (set text at 46)) _ _ _ (46 ∷ []) _ _ _
     (take-set_at text at (at + 1) 46 refl within)
-    c.put_digit-behind_first.ensures.text c.put_digit-behind_second.ensures.text c.put_digit.ensures.text)
+    c.put_digit-after_first.ensures.text c.put_digit-after_second.ensures.text c.put_digit.ensures.text)

@@ -1,7 +1,7 @@
 use Rattle.std.proofs.Common.{ℕ, List, ◌++◌, [], ap, refl, subst, sym, ◌∙◌}
 use Rattle.std.proofs.lemmas.List.{append-nil}
 use Rattle.std.proofs.lemmas.Result.{on_ok_weaker}
-use Rattle.packet_dump.specs.PacketContents.{HoldsBehind}
+use Rattle.packet_dump.specs.PacketContents.{HoldsAfterOpening}
 use Rattle.packet_dump.specs.PacketLines.{parts_start, parts_text}
 use Rattle.packet_dump.specs.PoolLines.{arrival_of}
 use Rattle.packet_dump.proofs.PoolLemmas.{not_given}
@@ -24,7 +24,7 @@ returns-else-asks_frames-clause-line c =
         told.0,
         told.1,
         [],
-        (subst (λ s. HoldsBehind s opening bytes told.0) (sym none.0) told.2, told.3),
+        (subst (λ s. HoldsAfterOpening s opening bytes told.0) (sym none.0) told.2, told.3),
         not_given options.reassemble options (parts_start options.time parts) before (arrival_of parts) opening bytes
             none.1,
         refl,
@@ -40,6 +40,6 @@ returns-else-asks_frames-clause-counts c =
     on_ok_weaker c.push_lax.result
     (λ found. (
       found.0,
-      subst (λ s. HoldsBehind s c.args.opening c.args.bytes.now found.0) (sym none.0) found.1,
+      subst (λ s. HoldsAfterOpening s c.args.opening c.args.bytes.now found.0) (sym none.0) found.1,
       found.2,
     )) c.push_lax.ensures.counts

@@ -28,7 +28,7 @@ returns-clause-line c =
     let old = c.args.output.now.items in
     let content = packet (lax_layers_of read) in
     let shown = sym c.shows_read.ensures ∙ c.if-not-shows_read.false in
-    let told = c.in_ok-push_told.ensures in
+    let told = c.in_ok-push_wanted_details.ensures in
     let start = parts_start options.time parts in
     let layers = packet_text (lax_layers_of read) in
     let ending = end_text options.verbose (shown_of parts.shown)
@@ -37,7 +37,7 @@ returns-clause-line c =
     let together : (((old ++ start) ++ layers) ++ told.0) ++ ending ≡ old ++ (start ++ layers ++ told.0 ++ ending) =
     simp append_assoc in
     let payload = ap
-    (λ (b : List ℕ). c.push_told.new.output.items
+    (λ (b : List ℕ). c.push_wanted_details.new.output.items
     ++ end_text options.verbose (shown_of parts.shown) (bytes_text options.hex b))
     c.bytes_of.ensures in
     on_ok_weaker c.push_end.result

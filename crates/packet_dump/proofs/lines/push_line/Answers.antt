@@ -3,8 +3,8 @@ use Rattle.std.proofs.lemmas.List.{append-nil, take_all}
 use Rattle.std.proofs.lemmas.Result.{on_ok_weaker}
 use Rattle.capture_reader.specs.Readers.{shown_of}
 use Rattle.packet_dump.specs.Details.{IsDetailed}
-use Rattle.packet_dump.specs.Openings.{bytes_behind, opening_of}
-use Rattle.packet_dump.specs.PacketContents.{HoldsBehind, other_link}
+use Rattle.packet_dump.specs.Openings.{bytes_after_opening, opening_of}
+use Rattle.packet_dump.specs.PacketContents.{HoldsAfterOpening, other_link}
 use Rattle.packet_dump.specs.PacketLines.{parts_start, parts_text, tells_details}
 use Rattle.packet_dump.specs.PoolLines.{GivesWhere, arrival_of}
 use Rattle.packet_dump.specs.Summaries.{counted, has_cooked, plain_of}
@@ -36,7 +36,7 @@ returns-clause-line c =
     let behind = drop opening.skipped bytes in
     let whole : take (length bytes - opening.skipped) behind ≡ behind =
     take_all (length bytes - opening.skipped) behind (omega (arith, length-drop opening.skipped bytes)) in
-    let read = whole ∙ sym (ap (λ (o : Option Opening). bytes_behind o bytes) there) in
+    let read = whole ∙ sym (ap (λ (o : Option Opening). bytes_after_opening o bytes) there) in
     on_ok_weaker c.push_behind.result
     (λ pushed before held.
     let told = pushed before held in
@@ -47,7 +47,7 @@ returns-clause-line c =
         line.0,
         line.1,
         line.2,
-        inl (opening, there, subst (λ (b : List ℕ). HoldsBehind options.strict opening b line.0) whole line.3.0),
+        inl (opening, there, subst (λ (b : List ℕ). HoldsAfterOpening options.strict opening b line.0) whole line.3.0),
         subst (λ (b : List ℕ). IsDetailed (tells_details options line.0) b line.0 line.1) read line.3.1,
         inl (
           opening,
@@ -82,7 +82,7 @@ returns-clause-counts c =
     on_ok_weaker c.push_behind.result
     (λ found. (
       found.0,
-      inl (opening, there, subst (λ (b : List ℕ). HoldsBehind options.strict opening b found.0) whole found.1),
+      inl (opening, there, subst (λ (b : List ℕ). HoldsAfterOpening options.strict opening b found.0) whole found.1),
       subst (λ o. plain_of c.push_behind.new.summary ≡ counted (has_cooked o) shown found.0 (plain_of c.args.summary.now))
           (sym there) found.2,
     )) c.push_behind.ensures.counts

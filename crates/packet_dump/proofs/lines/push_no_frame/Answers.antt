@@ -1,12 +1,12 @@
 use Rattle.std.proofs.Common.{[], refl, subst, sym}
 use Rattle.std.proofs.lemmas.Result.{on_ok_weaker}
-use Rattle.packet_dump.specs.PacketContents.{HoldsBehind, refusal}
+use Rattle.packet_dump.specs.PacketContents.{HoldsAfterOpening, refusal}
 use Rattle.packet_dump.proofs.lines.push_no_frame.Goals as goal
 
 pub returns-then-options-clause-line : goal.returns-then-options-clause-line
 returns-then-options-clause-line c =
     let content = refusal c.args.error.now in
-    let holds = subst (λ s. HoldsBehind s c.args.opening c.args.bytes.now content) (sym c.if-options.true)
+    let holds = subst (λ s. HoldsAfterOpening s c.args.opening c.args.bytes.now content) (sym c.if-options.true)
     c.requires.refuses in
     on_ok_weaker c.push_refused.result (λ pushed. (content, [], (holds, refl), pushed)) c.push_refused.ensures.line
 
@@ -17,7 +17,7 @@ returns-else-options-clause-line c =
       told.0,
       told.1,
       (
-        subst (λ s. HoldsBehind s c.args.opening c.args.bytes.now told.0) (sym c.if-options.false) told.2,
+        subst (λ s. HoldsAfterOpening s c.args.opening c.args.bytes.now told.0) (sym c.if-options.false) told.2,
         told.3,
       ),
       told.4,
@@ -26,7 +26,7 @@ returns-else-options-clause-line c =
 pub returns-then-options-clause-counts : goal.returns-then-options-clause-counts
 returns-then-options-clause-counts c =
     let content = refusal c.args.error.now in
-    let holds = subst (λ s. HoldsBehind s c.args.opening c.args.bytes.now content) (sym c.if-options.true)
+    let holds = subst (λ s. HoldsAfterOpening s c.args.opening c.args.bytes.now content) (sym c.if-options.true)
     c.requires.refuses in
     on_ok_weaker c.push_refused.result (λ same. (content, holds, same)) c.push_refused.ensures.counts
 
@@ -35,6 +35,6 @@ returns-else-options-clause-counts c =
     on_ok_weaker c.push_lax.result
     (λ found. (
       found.0,
-      subst (λ s. HoldsBehind s c.args.opening c.args.bytes.now found.0) (sym c.if-options.false) found.1,
+      subst (λ s. HoldsAfterOpening s c.args.opening c.args.bytes.now found.0) (sym c.if-options.false) found.1,
       found.2,
     )) c.push_lax.ensures.counts

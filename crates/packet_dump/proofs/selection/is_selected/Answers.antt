@@ -2,7 +2,7 @@ use Rattle.std.proofs.Common.{◌≡◌, ◌-◌, ℕ, List, Some, arith, drop, 
 use Rattle.std.proofs.Common.{sym, ◌∙◌}
 use Rattle.std.proofs.lemmas.List.{take_all}
 use Rattle.packet_dump.specs.Openings.{opening_of}
-use Rattle.packet_dump.specs.PacketContents.{HoldsBehind, other_link}
+use Rattle.packet_dump.specs.PacketContents.{HoldsAfterOpening, other_link}
 use Rattle.packet_dump.proofs.selection.is_selected.Goals as goal
 
 pub returns-in_default : goal.returns-in_default
@@ -24,7 +24,7 @@ returns c =
       inl (
         opening,
         there,
-        subst (λ (b : List ℕ). HoldsBehind c.args.options.now.strict opening b told.0) whole told.1,
+        subst (λ (b : List ℕ). HoldsAfterOpening c.args.options.now.strict opening b told.0) whole told.1,
       ),
       told.2,
     )

@@ -1,6 +1,6 @@
 use Rattle.std.proofs.Common.{arith, subst, sym, ◌∙◌}
 use Rattle.etherparse.specs.Bytes.{AreBytes}
-use Rattle.packet_dump.specs.PacketContents.{HoldsBehind}
+use Rattle.packet_dump.specs.PacketContents.{HoldsAfterOpening}
 use Rattle.packet_dump.proofs.SelectionLemmas.{all_wanted, some_content}
 use Rattle.packet_dump.proofs.selection.selects_behind.Goals as goal
 
@@ -21,7 +21,7 @@ pub returns-then-options : goal.returns-then-options
 returns-then-options c =
     let told = c.selects_frame.ensures in (
       told.0,
-      subst (λ s. HoldsBehind s c.args.opening c.args.bytes.now told.0) (sym c.if-options.true) told.1,
+      subst (λ s. HoldsAfterOpening s c.args.opening c.args.bytes.now told.0) (sym c.if-options.true) told.1,
       told.2,
     )
 
@@ -29,6 +29,6 @@ pub returns-else-options : goal.returns-else-options
 returns-else-options c =
     let told = c.selects_lax.ensures in (
       told.0,
-      subst (λ s. HoldsBehind s c.args.opening c.args.bytes.now told.0) (sym c.if-options.false) told.1,
+      subst (λ s. HoldsAfterOpening s c.args.opening c.args.bytes.now told.0) (sym c.if-options.false) told.1,
       told.2,
     )

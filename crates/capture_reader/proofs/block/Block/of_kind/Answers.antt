@@ -1,30 +1,30 @@
 use Rattle.std.proofs.Common.{arith}
 use Rattle.ep_base.specs.Bytes.{AreBytes}
-use Rattle.capture_reader.proofs.FrameLemmas.{framed_short, whole_block}
+use Rattle.capture_reader.proofs.FrameLemmas.{complete_block, framed_short}
 use Rattle.capture_reader.proofs.block.Block.of_kind.Goals as goal
 
 pub returns-clause-ok : goal.returns-clause-ok
 returns-clause-ok c =
     let fits : AreBytes c.args.bytes.now = λ i. omega (arith, c.type_inv.bytes i) in
-    (whole_block c.args.order c.args.bytes.now c.in-Ok.framing c.args.interfaces.now c.in-Ok-content.content fits
+    (complete_block c.args.order c.args.bytes.now c.in-Ok.framing c.args.interfaces.now c.in-Ok-content.content fits
     c.in-Ok.ensures.ok c.in-Ok-content.ensures.ok).0
 
 pub returns-clause-after : goal.returns-clause-after
 returns-clause-after c =
     let fits : AreBytes c.args.bytes.now = λ i. omega (arith, c.type_inv.bytes i) in
-    (whole_block c.args.order c.args.bytes.now c.in-Ok.framing c.args.interfaces.now c.in-Ok-content.content fits
+    (complete_block c.args.order c.args.bytes.now c.in-Ok.framing c.args.interfaces.now c.in-Ok-content.content fits
     c.in-Ok.ensures.ok c.in-Ok-content.ensures.ok).1
 
 pub returns-clause-shown : goal.returns-clause-shown
 returns-clause-shown c =
     let fits : AreBytes c.args.bytes.now = λ i. omega (arith, c.type_inv.bytes i) in
-    (whole_block c.args.order c.args.bytes.now c.in-Ok.framing c.args.interfaces.now c.in-Ok-content.content fits
+    (complete_block c.args.order c.args.bytes.now c.in-Ok.framing c.args.interfaces.now c.in-Ok-content.content fits
     c.in-Ok.ensures.ok c.in-Ok-content.ensures.ok).2
 
 pub returns-clause-fits : goal.returns-clause-fits
 returns-clause-fits c =
     let fits : AreBytes c.args.bytes.now = λ i. omega (arith, c.type_inv.bytes i) in
-    (whole_block c.args.order c.args.bytes.now c.in-Ok.framing c.args.interfaces.now c.in-Ok-content.content fits
+    (complete_block c.args.order c.args.bytes.now c.in-Ok.framing c.args.interfaces.now c.in-Ok-content.content fits
     c.in-Ok.ensures.ok c.in-Ok-content.ensures.ok).3
 
 pub returns-clause-short : goal.returns-clause-short

@@ -1,5 +1,5 @@
 use Rattle.std.proofs.Common.{arith}
-use Rattle.capture_reader.proofs.SaysLemmas.{says_other}
+use Rattle.capture_reader.proofs.ContentLemmas.{other_content}
 use Rattle.capture_reader.proofs.block.Framing.content.Goals as goal
 
 pub section-requires : goal.section-requires
@@ -50,4 +50,4 @@ returns-in-ObsoletePacket-clause-err c = rw c.in-ObsoletePacket.is c.obsolete.en
 pub returns-in-Other-clause-ok : goal.returns-in-Other-clause-ok
 returns-in-Other-clause-ok c =
     let frame = c.args.self.now in
-    rw c.in-Other.is (says_other c.args.interfaces.now frame.order frame.len c.args.body.now)
+    rw c.in-Other.is (other_content c.args.interfaces.now frame.order frame.len c.args.body.now)

@@ -7,7 +7,7 @@ use Rattle.capture_reader.proofs.reader.CaptureReader.next_block.Goals as goal
 
 pub returns-in-Ok-clause-ok : goal.returns-in-Ok-clause-ok
 returns-in-Ok-clause-ok c = record {
-  stands = c.requires;
+  next_is_block = c.requires;
   is = rw (c.as_slice.ensures.value, c.rest.ensures) at c.in-Ok.ensures.ok;
   within = rw c.rest.ensures at c.in-Ok.ensures.within;
   fits = c.in-Ok.ensures.fits;

@@ -1,7 +1,7 @@
 use Rattle.std.proofs.Common.{◌-◌, refl, ap, subst, sym}
 use Rattle.ep_base.specs.Tables.{Refuses}
 use Rattle.capture_reader.specs.BlockContents.{section_of}
-use Rattle.capture_reader.specs.Captures.{front, in_section, inside, long_rows}
+use Rattle.capture_reader.specs.Captures.{in_section, inside, long_header, long_rows}
 use Rattle.capture_reader.specs.Numbers.{word32_at}
 use Rattle.capture_reader.specs.Readers.{Answers, reader_rest, stage_of}
 use Rattle.capture_reader.proofs.ReaderLemmas.{front_refused, refused_part}
@@ -20,7 +20,7 @@ returns-in-Ok c =
     let fits = rw c.rest.ensures at c.in-Ok.ensures.fits in
     let parts = rw c.rest.ensures at c.in-Ok.ensures.parts in
     let long = rw c.rest.ensures at c.in-Ok.ensures.long in
-    part_steps self _ (in_section section) (inside section len (len - 12)) (front number len) 8
+    part_steps self _ (in_section section) (inside section len (len - 12)) (long_header number len) 8
     (ap (λ s. stage_of s self.interfaces.items) c.requires.blocks) fits refl parts long refl refl refl refl refl
 
 pub returns-in-Err : goal.returns-in-Err

@@ -10,7 +10,7 @@ use Rattle.ep_build.proofs.ip_part.IpHeadersIsIpHeaders.append.Goals as goal
 pub unwrap-requires : goal.unwrap-requires
 unwrap-requires c =
     headers_succeed c.args.self.now c.requires.leads.0 _ _ c.write.result c.requires.leads.1 c.ip_header_fits.ensures
-    c.requires.room c.write.ensures.leading c.write.ensures.full
+    c.requires.capacity c.write.ensures.leading c.write.ensures.full
 
 pub returns-clause-items : goal.returns-clause-items
 returns-clause-items c =

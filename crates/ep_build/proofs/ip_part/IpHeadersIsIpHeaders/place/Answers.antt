@@ -14,7 +14,7 @@ returns-in-Ipv4-clause-bytes c = subst
     c.args.at c.place_authentication.result)
     (sym c.in-Ipv4.is)
     (headers_at (ip_header_bytes (with_checksum (plain_ipv4 c.in-Ipv4.header))) (ipv4_parts c.in-Ipv4.extensions)
-    _ _ _ _ _ _ c.place-behind.ensures.bytes c.place_authentication.ensures)
+    _ _ _ _ _ _ c.place-header_end.ensures.bytes c.place_authentication.ensures)
 
 pub returns-in-Ipv6-clause-bytes : goal.returns-in-Ipv6-clause-bytes
 returns-in-Ipv6-clause-bytes c = subst
@@ -22,4 +22,4 @@ returns-in-Ipv6-clause-bytes c = subst
     c.args.at c.place_extensions.result)
     (sym c.in-Ipv6.is)
     (headers_at (ip_header_bytes (with_checksum (plain_ipv6 c.in-Ipv6.header))) (ipv6_parts c.in-Ipv6.extensions)
-    _ _ _ _ _ _ c.place-behind-in-Ipv6.ensures.bytes c.place_extensions.ensures)
+    _ _ _ _ _ _ c.place-header_end-in-Ipv6.ensures.bytes c.place_extensions.ensures)

@@ -13,7 +13,7 @@ unwrap-requires c =
     let bytes = ipv4_bytes (record c.args.self.now { header_checksum = ipv4_checksum c.args.self.now }) in
     let len : length bytes ≡ ip_headers_len (plain_ipv4 c.args.self.now) =
     sym (ap length (append-nil bytes)) ∙ headers_len (plain_ipv4 c.args.self.now) c.write.ensures.fits in
-    succeeds c.write.result _ _ c.write.ensures.full (omega (arith, c.requires.room, len))
+    succeeds c.write.result _ _ c.write.ensures.full (omega (arith, c.requires.capacity, len))
 
 pub returns-clause-items : goal.returns-clause-items
 returns-clause-items c =

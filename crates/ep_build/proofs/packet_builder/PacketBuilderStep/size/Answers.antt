@@ -1,6 +1,6 @@
 use Rattle.std.proofs.Common.{◌≡◌, ◌+◌, ap, ◌∙◌, arith}
 use Rattle.ep_build.specs.BuiltFrames.{built_size}
-use Rattle.ep_build.specs.Steps.{part_headers, transport_held}
+use Rattle.ep_build.specs.Steps.{part_headers, transport_step_frame}
 use Rattle.ep_build.proofs.SizeLemmas.{transport_size}
 use Rattle.ep_build.proofs.packet_builder.PacketBuilderStep.size.Goals as goal
 
@@ -8,7 +8,7 @@ pub returns-clause-frame : goal.returns-clause-frame
 returns-clause-frame g c = λ payload same.
     let step = c.args.self.now in
     let kind = g.Transport.IsTransport.kind in
-    let held = transport_held kind step in
+    let held = transport_step_frame kind step in
     let whole = transport_size step.before.0 (part_headers step.before.1) (kind step.last) payload
     c.link_fits.ensures c.header_len-2.ensures.fits c.transport_len.ensures.bytes in
     let sized : built_size held c.args.payload_size

@@ -19,5 +19,5 @@ returns-else-not-more_fragments-clause-data c =
 pub returns-in_err-reserve-clause-in_place : goal.returns-in_err-reserve-clause-in_place
 returns-in_err-reserve-clause-in_place c = search rules
 
-pub returns-in_err-reserve-clause-lacks_room : goal.returns-in_err-reserve-clause-lacks_room
-returns-in_err-reserve-clause-lacks_room c = search rules
+pub returns-in_err-reserve-clause-lacks_capacity : goal.returns-in_err-reserve-clause-lacks_capacity
+returns-in_err-reserve-clause-lacks_capacity c = search rules

@@ -14,8 +14,8 @@ returns-in-Err g c =
     c.take-buffer.ensures.holds c.self.view_is c.in-Err.error
     (rw (← c.self.view_is) (c.in-Err.ensures.refuses.why [] c.take-buffer.ensures.holds))
 
-pub returns-then-is_whole : goal.returns-then-is_whole
-returns-then-is_whole g c =
+pub returns-then-payload_complete : goal.returns-then-payload_complete
+returns-then-payload_complete g c =
     begins_whole g.CustomChannelId.PartialEq.eq g.met.CustomChannelId.Eq.laws c.args.self.now _ c.args.id
     c.args.fragment.now c.args.timestamp c.requires c.take-buffer.result
     c.take-buffer.ensures.holds c.self.view_is c.add.new.buffer c.payload_of.result

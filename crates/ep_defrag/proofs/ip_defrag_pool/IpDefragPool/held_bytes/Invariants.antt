@@ -6,4 +6,4 @@ use Rattle.ep_defrag.proofs.ip_defrag_pool.IpDefragPool.held_bytes.Given as goal
 -- The sum is that of the bytes of the streams so far, up to the greatest number.
 abbrev pub invariant-loop-stream : goal.invariant-loop-stream
 invariant-loop-stream g l =
-    l.held ≡ min (sum_by (λ stream. length (data_of stream.now.buffer)) l.yielded) 18446744073709551615
+    l.total ≡ min (sum_by (λ stream. length (data_of stream.now.buffer)) l.yielded) 18446744073709551615

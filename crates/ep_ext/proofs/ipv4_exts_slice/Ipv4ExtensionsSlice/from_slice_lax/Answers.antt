@@ -3,7 +3,7 @@ use Rattle.std.specs.Option.{option_map}
 use Rattle.ep_base.specs.Bytes.{AreBytes}
 use Rattle.ep_base.specs.Readings.{slices}
 use Rattle.ep_ext.specs.ExtensionParts.{auth_refusal, authentication}
-use Rattle.ep_ext.specs.FrontChains.{IsLaxChain}
+use Rattle.ep_ext.specs.ChainPrefixes.{IsLaxChain}
 use Rattle.ep_ext.specs.IpAuthSlices.{ip_auth_slice_bytes, ip_auth_slice_header}
 use Rattle.ep_base.proofs.BytesLemmas.{front_within, rest_of}
 use Rattle.ep_ext.specs.Chains.{ipv4, ExtensionChain, chain_of}

@@ -39,7 +39,7 @@ loop-offset-preserved c =
     ] in
     let ok = c.in-Ok.ensures.ok in
     headers_more c.args.number.0 c.args.slice.now c.loop-offset.next.0 c.loop-offset.rest.now c.loop-offset.self ok.0
-    c.in-Ok.behind.now _ _ c.loop-offset.invariant
+    c.in-Ok.after.now _ _ c.loop-offset.invariant
     (sym c.is_extension.ensures ∙ c.loop-offset-test.true) start (sym c.has.ensures ∙ c.if-has.false) ok.3 ok.2 ok.1
 
 pub returns-in-Err-clause-err : goal.returns-in-Err-clause-err

@@ -5,7 +5,7 @@ use Rattle.ep_base.specs.Bytes.{AreBytes}
 use Rattle.ep_base.specs.declared.err.ipv6_exts.HeaderError.TheVariants as content
 use Rattle.ep_base.specs.declared.err.ipv6_exts.HeaderSliceError.TheVariants as header_error
 use Rattle.ep_base.proofs.BytesLemmas.{rest_of}
-use Rattle.ep_ext.specs.FrontChains.{chain_stop}
+use Rattle.ep_ext.specs.ChainPrefixes.{chain_stop}
 use Rattle.ep_ext.specs.Ipv6ExtensionSlices.{extension_slice_bytes, extension_slice_part, ipv6_slice_bytes, ipv6_slice_number}
 use Rattle.ep_ext.proofs.FrontLemmas.{front_answered, front_ends, front_fragments, front_misplaced, front_more, front_nothing, front_refused, front_within}
 use Rattle.ep_ext.proofs.RefusalLemmas.{part_at_start}
@@ -45,8 +45,8 @@ returns-then-offset-gt0 c =
       number = c.headers_before-ahead.ensures.number;
     }
 
-pub headers_before-front-requires : goal.headers_before-front-requires
-headers_before-front-requires c =
+pub headers_before-before_error-requires : goal.headers_before-before_error-requires
+headers_before-before_error-requires c =
     let here = c.loop-offset in
     record {
       fragments = front_fragments c.args.number.0 c.args.slice.now here.next.0 here.rest.now here.fragmented
@@ -74,8 +74,9 @@ returns-in-Err c =
     let front = front_refused first bytes number rest here.fragmented c.in-Err.error c.with_offset.result here.invariant
     (sym c.is_extension.ensures ∙ c.loop-offset-test.true) start c.in-Err.ensures.err c.with_offset.ensures in
     let is = front_answered first bytes number rest here.fragmented (Some c.with_offset.result) fits front
-    (ipv6_slice_bytes c.headers_before-front.result) c.headers_before-front.ensures.bytes (ipv6_slice_number c.headers_before-front.result)
-    c.headers_before-front.ensures.number in
+    (ipv6_slice_bytes c.headers_before-before_error.result) c.headers_before-before_error.ensures.bytes
+    (ipv6_slice_number c.headers_before-before_error.result)
+    c.headers_before-before_error.ensures.number in
     let told = ap Some c.error_with_layer.ensures in
     record {
       bytes = is.0;
@@ -83,7 +84,7 @@ returns-in-Err c =
       only = λ chain stop other.
           let same = is.2 chain stop other in
           (same.0, told ∙ ap (option_map chain_stop) same.1);
-      number = c.headers_before-front.ensures.number;
+      number = c.headers_before-before_error.ensures.number;
     }
 
 pub loop-offset-preserved : goal.loop-offset-preserved

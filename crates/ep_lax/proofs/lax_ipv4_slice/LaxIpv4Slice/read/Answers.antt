@@ -17,8 +17,8 @@ limit_by_length_field-content-requires-clause-header c =
     let front = ipv4_header_slice_bytes c.in-Ok.header in
     omega (arith, ap length ok.1, length-append front ok.0, c.header_len-header_len.ensures.bytes)
 
-pub after_header-stop-requires : goal.after_header-stop-requires
-after_header-stop-requires c = λ error same.
+pub error_in_packet-stop-requires : goal.error_in_packet-stop-requires
+error_in_packet-stop-requires c = λ error same.
     let n = c.header_len-header_len.result in
     let cutting = c.limit_by_length_field-content.ensures in
     let content = c.limit_by_length_field-content.result.payload.now in
@@ -53,5 +53,5 @@ returns-clause-ok c =
           (lax_cut_of c.limit_by_length_field-content.result cutting.0) cutting.1 c.protocol.result.0
           (ap (λ (number : IpNumber). number.0) c.protocol.ensures) chain (option_map auth_refusal read.3)
           c.from_slice_lax-refused.ensures.chain fragmenting.result fragmenting.ensures
-          (option_map auth_refusal c.after_header-stop.result) c.after_header-stop.ensures,
+          (option_map auth_refusal c.error_in_packet-stop.result) c.error_in_packet-stop.ensures,
     )

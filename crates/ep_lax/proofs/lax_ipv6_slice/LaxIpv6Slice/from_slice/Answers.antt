@@ -3,7 +3,7 @@ use Rattle.std.specs.Option.{option_map}
 use Rattle.ep_base.specs.Bytes.{AreBytes}
 use Rattle.ep_base.specs.declared.err.layer.Layer.{Layer}
 use Rattle.ep_base.specs.declared.err.ipv6_exts.HeaderSliceError.{HeaderSliceError}
-use Rattle.ep_ext.specs.FrontChains.{chain_stop}
+use Rattle.ep_ext.specs.ChainPrefixes.{chain_stop}
 use Rattle.ep_ip.specs.Ipv6.{RefusesIpv6Header}
 use Rattle.ep_lax.specs.declared.lax_ipv6_slice.LaxIpv6Slice.{LaxIpv6Slice}
 use Rattle.ep_lax.specs.LaxIp.{IsLaxIpv6}

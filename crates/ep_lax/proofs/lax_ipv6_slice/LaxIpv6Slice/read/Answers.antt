@@ -17,8 +17,8 @@ limit_by_length_field-content-requires-clause-header c =
     let header = c.in-Ok.header in
     omega (arith, ap length ok.1, length-append (ipv6_header_slice_bytes header) ok.0, header.bytes.whole)
 
-pub after_header-stop-requires : goal.after_header-stop-requires
-after_header-stop-requires c = λ error same.
+pub error_in_packet-stop-requires : goal.error_in_packet-stop-requires
+error_in_packet-stop-requires c = λ error same.
     let cutting = c.limit_by_length_field-content.ensures in
     let content = c.limit_by_length_field-content.result.payload.now in
     let read = c.from_slice_lax-refused.result in
@@ -56,5 +56,5 @@ returns-clause-ok c =
           c.next_header.result.0 (ap (λ (number : IpNumber). number.0) c.next_header.ensures) chain stopped.0 stopped.1
           c.is_fragmenting_payload.result c.is_fragmenting_payload.ensures end
           (c.payload_source-len_source.ensures cut refl refl),
-      c.after_header-stop.ensures stopped.0 stopped.2,
+      c.error_in_packet-stop.ensures stopped.0 stopped.2,
     )

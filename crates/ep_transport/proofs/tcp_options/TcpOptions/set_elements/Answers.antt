@@ -26,7 +26,7 @@ loop-element-preserved c =
       copied = λ short.
           let copied : c.loop-element.bytes.items ≡ before =
           c.loop-element.invariant.copied (omega (arith, short, c.saturating_add-len.ensures)) in
-          c.append_if_fits.ensures.room
+          c.append_if_fits.ensures.appended
           (omega (arith, short, c.saturating_add-len.ensures, c.loop-element.invariant.counted, one, ap length copied))
           ∙ ap (λ (bytes : List ℕ). bytes ++ option) copied ∙ sym next;
     }

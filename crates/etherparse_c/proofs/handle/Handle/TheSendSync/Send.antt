@@ -6,14 +6,14 @@ use Rattle.std.proofs.alloc.Global.TheSendSync as heap
 use denote.RawPtr.{Ptr}
 use Rattle.std.specs.Prelude.{Option, Some, None}
 use Rattle.std.specs.declared.alloc.Global.{Global}
-use Rattle.etherparse_c.specs.Pointing.{points_to}
+use Rattle.etherparse_c.specs.PoolOwnership.{owns_pool}
 use Rattle.etherparse_c.specs.contracts.handle.Handle.{the_row, the_type}
 use Rattle.etherparse_c.specs.contracts.pool.Pool.{the_row as pool_row}
 use Rattle.etherparse_c.specs.declared.pool.Pool.{Pool}
 use Rattle.etherparse_c.proofs.pool.Pool.TheSendSync as pool
 use Rattle.etherparse_c.proofs.SentLemmas.{box_keyless}
 
-pool_keyless : (pool : Option Pool) (alloc : Global) (at : Ptr) → Keyless (points_to pool alloc at)
+pool_keyless : (pool : Option Pool) (alloc : Global) (at : Ptr) → Keyless (owns_pool pool alloc at)
 pool_keyless None alloc at = tt
 pool_keyless (Some it) alloc at = box_keyless pool_row pool.the_send alloc at it
 

@@ -22,7 +22,7 @@ use Rattle.std.specs.Prelude.{Some, is_some, true}
 use Rattle.std.proofs.alloc.Global.TheLaws as heap_laws
 use Rattle.std.specs.contracts.impls.GlobalAllocator.TheImpl.{ghosts}
 use Rattle.etherparse_c.specs.contracts.pool.Pool.{the_row}
-use Rattle.etherparse_c.proofs.HeldStepLemmas.{Handle, Heap, both, handle_out, loose_good, loose_in, there}
+use Rattle.etherparse_c.proofs.PointerStepLemmas.{Handle, Heap, both, handle_out, raw_box_fits, raw_box_in, some_value}
 use Rattle.etherparse_c.specs.contracts.handle.Handle.into_raw_box.{ended, clauses}
 use Rattle.etherparse_c.specs.contracts.handle.Handle.into_raw_box.Key.{name as #self}
 use Rattle.etherparse_c.proofs.handle.Handle.into_raw_box.Statement.{statement}
@@ -37,15 +37,15 @@ into_raw_box_spec 𝓤 𝓛 𝓜 𝓡 wired =
     let start : (w : Val) → z.0.4.0 ≡ w ∷ [] → ent 𝓤 (Run (w ∷ [])) (Run (z.0.4.0 ++ [])) =
     λ w ws. subst (λ (us : List Val). ent 𝓤 (Run (w ∷ [])) (Run us)) (sym (λ i. ws i ++ [])) (id⊢ 𝓤 (Run (w ∷ []))) in
     qed 𝓛 ((‵ ftrue ⊛ ‵ (owns (types_at ended.signature.params z.0.0) z.0.3 z.0.4)) ∷ raw ((c z.0.0 z.0.3).requires z.1) ∷ []) ∵ split ! $
-    move ! (2 ∷ []) $ heard ! (is_some v.pool ≡ true) (λ is. let pool = there v.pool is in move ! (1 ∷ []) $ fsplit ! $ handle_out ! v pool.0 pool.1 z.0.4.0 (λ b o h e ws fits.
-    let w : Val = both (vptr b o) h in let typed = loose_good the_row Heap LZ ghosts b o h fits in
+    move ! (2 ∷ []) $ heard ! (is_some v.pool ≡ true) (λ is. let pool = some_value v.pool is in move ! (1 ∷ []) $ fsplit ! $ handle_out ! v pool.0 pool.1 z.0.4.0 (λ b o h e ws fits.
+    let w : Val = both (vptr b o) h in let typed = raw_box_fits the_row Heap LZ ghosts b o h fits in
     suffices ! (Run (w ∷ [])) (start w ws) $
     enter ! 𝓣.C 𝓣.Λ fn (w ∷ []) Post $ alloc_all ! (λ l. pass_all ! refl (typed, tt) $
     sets ! (of_opd ! (get_in ! (fld ! refl (stop !)) (sub ! 0 refl (whole !)))) refl (tt, tt) $
     sets ! (of_opd ! (get_in ! (fld ! refl (stop !)) (sub ! 1 refl (whole !)))) refl fits $
     sets ! (of_opd ! (get ! refl)) refl (tt, tt) $
     sets ! (agg ! (and_then ! (get ! refl) (and_then ! (get ! refl) (no_more !)))) refl typed $
-    loose_in the_row Heap LZ ghosts ! b o h v.alloc pool.0 $
+    raw_box_in the_row Heap LZ ghosts ! b o h v.alloc pool.0 $
     use0 𝓛 (raw (fact 𝓤 (Some pool.0 ≡ v.pool))) (fact_i 𝓤 (Some pool.0 ≡ v.pool) (emp 𝓤) (sym pool.1)) $ nothing ! $ nothing ! $ fjoin ! $
     returns ! (look_at ! 0 refl) $ free_all ! refl $ keep ! (4 ∷ 0 ∷ 2 ∷ 1 ∷ []) $
     by ! (leaves 𝓛 ended hs c z w (record { at = block_ptr b o; alloc = v.alloc; value = pool.0 }) _ (tt, tt))))))

@@ -22,7 +22,7 @@ use Rattle.std.specs.Prelude.{Some}
 use Rattle.std.proofs.alloc.Global.TheLaws as heap_laws
 use Rattle.std.specs.contracts.impls.GlobalAllocator.TheImpl.{ghosts}
 use Rattle.etherparse_c.specs.contracts.pool.Pool.{the_row}
-use Rattle.etherparse_c.proofs.HeldStepLemmas.{Heap, RawBox, both, handle_in, loose_good, loose_out}
+use Rattle.etherparse_c.proofs.PointerStepLemmas.{Heap, RawBox, both, handle_in, raw_box_fits, raw_box_out}
 use Rattle.etherparse_c.specs.contracts.handle.Handle.of.{ended, clauses}
 use Rattle.etherparse_c.specs.contracts.handle.Handle.of.Key.{name as #self}
 use Rattle.etherparse_c.proofs.handle.Handle.of.Statement.{statement}
@@ -37,8 +37,8 @@ of_spec 𝓤 𝓛 𝓜 𝓡 wired =
     let start : (w : Val) → z.0.4.0 ≡ w ∷ [] → ent 𝓤 (Run (w ∷ [])) (Run (z.0.4.0 ++ [])) =
     λ w ws. subst (λ (us : List Val). ent 𝓤 (Run (w ∷ [])) (Run us)) (sym (λ i. ws i ++ [])) (id⊢ 𝓤 (Run (w ∷ []))) in
     qed 𝓛 ((‵ ftrue ⊛ ‵ (owns (types_at ended.signature.params z.0.0) z.0.3 z.0.4)) ∷ raw ((c z.0.0 z.0.3).requires z.1) ∷ []) ∵ split ! $
-    move ! (1 ∷ []) $ fsplit ! $ loose_out the_row Heap LZ ghosts ! v z.0.4.0 (λ b o h e ws fits.
-    let w : Val = both (vptr b o) h in let typed = loose_good the_row Heap LZ ghosts b o h fits in
+    move ! (1 ∷ []) $ fsplit ! $ raw_box_out the_row Heap LZ ghosts ! v z.0.4.0 (λ b o h e ws fits.
+    let w : Val = both (vptr b o) h in let typed = raw_box_fits the_row Heap LZ ghosts b o h fits in
     suffices ! (Run (w ∷ [])) (start w ws) $
     enter ! 𝓣.C 𝓣.Λ fn (w ∷ []) Post $ alloc_all ! (λ l. pass_all ! refl (typed, tt) $
     sets ! (of_opd ! (get_in ! (fld ! refl (stop !)) (sub ! 0 refl (whole !)))) refl (tt, tt) $

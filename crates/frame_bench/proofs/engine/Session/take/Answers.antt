@@ -16,11 +16,11 @@ pub lines-preserved : goal.lines-preserved
 lines-preserved c =
     let known = c.lines.invariant in
     let end = c.in-Some.end.now in
-    let behind = c.in-Some.behind.now in
+    let after = c.in-Some.after.now in
     let ended = c.in_ok-end_line.ensures in
-    let parts : c.args.piece.now ≡ (known.0 ++ (end ++ line_feed ∷ [])) ++ behind =
-    known.1 ∙ ap (λ t. known.0 ++ t) (c.in-Some.ensures.some.1 ∙ sym (append_assoc end (line_feed ∷ []) behind))
-    ∙ sym (append_assoc known.0 (end ++ line_feed ∷ []) behind) in (
+    let parts : c.args.piece.now ≡ (known.0 ++ (end ++ line_feed ∷ [])) ++ after =
+    known.1 ∙ ap (λ t. known.0 ++ t) (c.in-Some.ensures.some.1 ∙ sym (append_assoc end (line_feed ∷ []) after))
+    ∙ sym (append_assoc known.0 (end ++ line_feed ∷ []) after) in (
       known.0 ++ (end ++ line_feed ∷ []),
       parts,
       λ before held.

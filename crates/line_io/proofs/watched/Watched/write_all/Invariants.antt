@@ -5,9 +5,9 @@ use Rattle.line_io.proofs.watched.Watched.write_all.Given as goal
 
 abbrev pub invariant-parts : goal.invariant-parts
 invariant-parts g l =
-    (front : List ℕ)
-    × Appends (g.W.Write.contents (inner_of l.initial.self)) (g.W.Write.contents (inner_of l.self)) front
-    × (l.fn.bytes ≡ front ++ l.rest) × (has_failed l.self ≡ false) × KeepsReads l.initial.self l.self
+    (written : List ℕ)
+    × Appends (g.W.Write.contents (inner_of l.initial.self)) (g.W.Write.contents (inner_of l.self)) written
+    × (l.fn.bytes ≡ written ++ l.rest) × (has_failed l.self ≡ false) × KeepsReads l.initial.self l.self
 
 abbrev pub decreases-parts : goal.decreases-parts
 decreases-parts g l = length l.rest

@@ -2,7 +2,7 @@
 use Rattle.std.proofs.Common.{◌≡◌, Bool, Option, None, ap, rules, sym, ◌∙◌}
 use Rattle.packet_dump.specs.Options.{Item}
 use Rattle.packet_dump.proofs.ValueLemmas.{value_in-none, value_in-some}
-use Rattle.packet_dump.specs.OptionSteps.{State, behind_item, behind_value, more, reading_state}
+use Rattle.packet_dump.specs.OptionSteps.{State, input_or_item_step, more, reading_state, value_step}
 use Rattle.packet_dump.specs.declared.options.Awaited.TheVariants.{Input}
 use Rattle.packet_dump.proofs.OptionLemmas.{no_input, set_item}
 use Rattle.packet_dump.proofs.options.Reading.push_value.Goals as goal
@@ -21,6 +21,6 @@ returns c =
     let apart : option ≡ Input → ⊥ = search rules in
     let plain = no_input option text said.0 said.1 apart in
     let set = set_item option text said.0 state _ said.1 said.2 plain in
-    ap (λ (o : Option Item). behind_value state option text o) (value_in-some option text said.0 said.1)
-    ∙ ap (λ (b : Bool). behind_item state text said.0 b) plain
+    ap (λ (o : Option Item). value_step state option text o) (value_in-some option text said.0 said.1)
+    ∙ ap (λ (b : Bool). input_or_item_step state text said.0 b) plain
     ∙ ap (λ (s : State). more (record s { awaited = None })) (sym (c.add_filter.ensures ∙ set))

@@ -30,8 +30,8 @@ returns c = λ before awaits.
       record {
         streams = c.give_back.ensures.streams (with_frame before layers at)
             (frame_pooled c.one_more_call.ensures old _ c.unlist.new.names carried at answer c.args.name
-            c.number_at-stood.result c.number_behind-stands.result takes enough c.requires.named before
-            awaits.holds.streams awaits.later refl c.number_at-stood.ensures c.number_behind-stands.ensures
+            c.number_at-stood.result c.number_after-stands.result takes enough c.requires.named before
+            awaits.holds.streams awaits.later refl c.number_at-stood.ensures c.number_after-stands.ensures
             c.unlist.ensures c.in_ok-list.ensures);
         became = frame_became before carried at answer (fates_of old) (fates_of c.give_back.new.self)
             awaits.holds.became answered c.give_back.ensures.counted;

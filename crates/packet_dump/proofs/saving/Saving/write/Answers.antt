@@ -6,22 +6,22 @@ use Rattle.packet_dump.proofs.saving.Saving.write.Goals as goal
 
 pub returns-in-Ok-clause-flushes : goal.returns-in-Ok-clause-flushes
 returns-in-Ok-clause-flushes g c =
-    let holds = g.F.Write.contents (inner_of c.args.file.now) in
-    let then_holds = g.F.Write.contents (inner_of c.write_all.new.self) in
+    let out_1 = g.F.Write.contents (inner_of c.args.file.now) in
+    let out_2 = g.F.Write.contents (inner_of c.write_all.new.self) in
     λ options wanted closed items saved saves. (
       c.args.self.now.bytes.items,
-      subst (Appends holds then_holds) c.as_slice.ensures.value c.in-Ok.ensures.all,
+      subst (Appends out_1 out_2) c.as_slice.ensures.value c.in-Ok.ensures.all,
       saves,
     )
 
 pub returns-in-Err-clause-flushes : goal.returns-in-Err-clause-flushes
 returns-in-Err-clause-flushes g c =
-    let holds = g.F.Write.contents (inner_of c.args.file.now) in
-    let then_holds = g.F.Write.contents (inner_of c.write_all.new.self) in
-    let front = subst (AppendsPrefix holds then_holds) c.as_slice.ensures.value c.in-Err.ensures.front in
+    let out_1 = g.F.Write.contents (inner_of c.args.file.now) in
+    let out_2 = g.F.Write.contents (inner_of c.write_all.new.self) in
+    let prefix = subst (AppendsPrefix out_1 out_2) c.as_slice.ensures.value c.in-Err.ensures.prefix in
     λ options wanted closed items saved saves. (
-      front.0,
-      front.2,
-      saves_failed options wanted closed c.args.self.now.state items saved c.args.self.now.bytes.items front.0 front.1
-          c.requires.busy front.3 saves,
+      prefix.0,
+      prefix.2,
+      saves_failed options wanted closed c.args.self.now.state items saved c.args.self.now.bytes.items prefix.0 prefix.1
+          c.requires.busy prefix.3 saves,
     )

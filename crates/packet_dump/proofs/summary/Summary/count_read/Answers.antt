@@ -4,7 +4,7 @@ use Rattle.capture_reader.specs.Readers.{shown_of}
 use Rattle.etherparse.specs.LaxPackets.{lax_layers_of}
 use Rattle.etherparse.specs.StrictFrames.{layers_in}
 use Rattle.packet_dump.specs.PacketContents.{packet}
-use Rattle.packet_dump.specs.Summaries.{PlainSummary, is_cut, plain_of, with_read, with_stop}
+use Rattle.packet_dump.specs.Summaries.{PlainSummary, is_truncated, plain_of, with_read, with_stop}
 use Rattle.packet_dump.specs.declared.summary.LayerCounts.{LayerCounts}
 use Rattle.packet_dump.proofs.SummaryLemmas.{counted_unwanted, counted_wanted}
 use Rattle.packet_dump.proofs.summary.Summary.count_read.Goals as goal
@@ -21,7 +21,7 @@ returns c =
     let bytes = plain_of c.count_packet.new.self in
     on_ok_weaker c.count_stop.result
     (λ stopped. stopped
-    ∙ ap (λ (p : PlainSummary). with_stop (is_cut shown) read.net.inside.stop p)
+    ∙ ap (λ (p : PlainSummary). with_stop (is_truncated shown) read.net.inside.stop p)
     (ap (λ (k : LayerCounts). record bytes { layers = k }) c.count.ensures
     ∙ ap (λ (p : PlainSummary). with_read c.args.cooked (layers_in read) p) c.count_packet.ensures)
     ∙ counted_wanted c.args.cooked shown (packet read) (plain_of c.args.self.now) c.if-not-self.false)

@@ -2,7 +2,7 @@ use Rattle.std.proofs.Common.{ap, false, ◌∙◌}
 use Rattle.std.proofs.lemmas.Result.{on_ok_weaker}
 use Rattle.capture_reader.specs.Readers.{shown_of}
 use Rattle.packet_dump.specs.PacketContents.{refusal}
-use Rattle.packet_dump.specs.Summaries.{PlainRefusals, PlainSummary, is_cut, plain_of, with_cause, with_refused}
+use Rattle.packet_dump.specs.Summaries.{PlainRefusals, PlainSummary, is_truncated, plain_of, with_cause, with_refused}
 use Rattle.packet_dump.proofs.SummaryLemmas.{counted_unwanted, counted_wanted}
 use Rattle.packet_dump.proofs.summary.Summary.count_refusal.Goals as goal
 
@@ -19,5 +19,5 @@ returns c =
     on_ok_weaker c.count.result
     (λ refused. ap (λ (r : PlainRefusals). record caused { refused = r }) refused
     ∙ ap (λ (p : PlainSummary). with_refused error p)
-    (c.count_cause.ensures ∙ ap (λ (p : PlainSummary). with_cause (is_cut shown) p) c.count_packet.ensures)
+    (c.count_cause.ensures ∙ ap (λ (p : PlainSummary). with_cause (is_truncated shown) p) c.count_packet.ensures)
     ∙ counted_wanted false shown (refusal error) (plain_of c.args.self.now) c.if-not-self.false) c.count.ensures

@@ -3,12 +3,12 @@ use Rattle.std.proofs.lemmas.Result.{on_ok_weaker}
 use Rattle.capture_reader.specs.Readers.{shown_of}
 use Rattle.etherparse.specs.Types.Layer.{Layer}
 use Rattle.etherparse.specs.Types.SliceError.{SliceError}
-use Rattle.packet_dump.specs.Summaries.{PlainRefusals, PlainSummary, is_cut, plain_of, with_stop, with_stopped}
+use Rattle.packet_dump.specs.Summaries.{PlainRefusals, PlainSummary, is_truncated, plain_of, with_stop, with_stopped}
 use Rattle.packet_dump.proofs.summary.Summary.count_stop.Goals as goal
 
 pub returns-in-Some : goal.returns-in-Some
 returns-in-Some c =
-    let cut = is_cut (shown_of c.args.shown.now) in
+    let cut = is_truncated (shown_of c.args.shown.now) in
     let stop = c.in-Some.stop in
     let old = plain_of c.args.self.now in
     let caused = plain_of c.count_cause.new.self in

@@ -18,7 +18,7 @@ returns c =
     let facts = c.in_ok-header.header.tag in
     let tag = facts.slice.now in
     let whole : IsWhole tag =
-    record { fixed = facts.fixed; version = facts.version; room = facts.room; whole = facts.whole } in
+    record { fixed = facts.fixed; version = facts.version; room = facts.holds_type; whole = facts.whole } in
     let n = c.header_len-header_len.result in
     let end = c.match-payload_len.end in
     let ends : EndsAt tag n (length bytes) end = elim c.match-payload_len.branch [
@@ -51,7 +51,7 @@ returns-then-slice-end c =
     let facts = c.in_ok-header.header.tag in
     let tag = facts.slice.now in
     let whole : IsWhole tag =
-    record { fixed = facts.fixed; version = facts.version; room = facts.room; whole = facts.whole } in
+    record { fixed = facts.fixed; version = facts.version; room = facts.holds_type; whole = facts.whole } in
     let n = c.header_len-header_len.result in
     let end = c.match-payload_len.end in
     let ends : EndsAt tag n (length bytes) end = elim c.match-payload_len.branch [

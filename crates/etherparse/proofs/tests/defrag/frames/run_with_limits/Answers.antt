@@ -5,24 +5,24 @@ use Rattle.etherparse.proofs.tests.defrag.frames.run_with_limits.Goals as goal
 pub returns-clause-answers : goal.returns-clause-answers
 returns-clause-answers c =
     IfOk-weaker c.run_frames.result _ _
-    (λ run told reads read. told reads read nat_le (λ value timestamp answer met. search (rules, of_calls)))
+    (λ run stated reads read. stated reads read nat_le (λ value timestamp answer met. search (rules, of_calls)))
     c.run_frames.ensures.answers
 
 pub returns-clause-holds : goal.returns-clause-holds
 returns-clause-holds c =
     IfOk-weaker c.run_frames.result _ _
-    (λ run told reads read. told reads read nat_le (λ value timestamp answer met. search (rules, of_calls)))
+    (λ run stated reads read. stated reads read nat_le (λ value timestamp answer met. search (rules, of_calls)))
     c.run_frames.ensures.holds
 
 pub returns-clause-cuts : goal.returns-clause-cuts
 returns-clause-cuts c =
     IfOk-weaker c.run_frames.result _ _
-    (λ run told reads read. told reads read nat_le (λ value timestamp answer met. search (rules, of_calls)))
+    (λ run stated reads read. stated reads read nat_le (λ value timestamp answer met. search (rules, of_calls)))
     c.run_frames.ensures.cuts
 
 pub returns-clause-stopped : goal.returns-clause-stopped
 returns-clause-stopped c =
     IfErr-weaker c.run_frames.result _ _
-    (λ stop told behind reads read.
-    told behind reads read nat_le (λ value timestamp answer met. search (rules, of_calls)))
+    (λ stop stated not_first reads read.
+    stated not_first reads read nat_le (λ value timestamp answer met. search (rules, of_calls)))
     c.run_frames.ensures.stopped

@@ -1,5 +1,0 @@
-use Rattle.std.proofs.Common.{rules}
-use Rattle.ep_defrag.proofs.ip_defrag_sections.is_whole.Goals as goal
-
-pub returns-else-is_some : goal.returns-else-is_some
-returns-else-is_some c = search rules
