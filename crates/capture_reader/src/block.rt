@@ -88,8 +88,9 @@ impl Block {
     /// Number of bytes before the body of a pcapng block: 8, its type and its length field.
     pub const HEADER_LEN: usize = 8;
 
-    /// Parses the pcapng block at the start of `bytes`. `order` and `interfaces` are the byte order of the section so
-    /// far and the interfaces that it has described; a section header states its own byte order.
+    /// Parses the pcapng block at the start of `bytes`. `order` is the byte order of the current section, and
+    /// `interfaces` are the interfaces that the section has described so far. A Section Header Block starts a new
+    /// section: its own byte-order magic is used instead of `order`.
     pub fn from_slice(
         order: ByteOrder,
         interfaces: &[Interface],
@@ -405,7 +406,7 @@ impl Framing {
     }
 
     /// Returns the packet that starts at byte `start` of a pcapng block's body and has `kept` captured bytes. Returns
-    /// an error if these are more than 256 KiB, or more than the body has.
+    /// an error if `kept` is above 256 KiB, or if the body is too short for the captured bytes and their padding.
     #[inline(always)]
     fn packet(&self, known: Known, start: usize, kept: u32, body: &[u8]) -> Result<Content, Refusal>
         requires { start ≤ 20 }

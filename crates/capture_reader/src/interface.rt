@@ -135,8 +135,8 @@ struct InterfaceOptions<'a> {
 }
 
 impl<'a> InterfaceOptions<'a> {
-    /// Parses the options of a pcapng Interface Description Block, which are all of `bytes` up to the end-of-options
-    /// marker.
+    /// Parses the options of a pcapng Interface Description Block from the start of `bytes`, up to the end-of-options
+    /// marker, the end of `bytes` or an incomplete option.
     fn parse(order: ByteOrder, bytes: &'a [u8]) -> InterfaceOptions<'a>
         ensures resolution { option_copied result.resolution ≡ value_of 9 (options_of order bytes.now) }
         ensures offset { option_copied result.offset ≡ value_of 14 (options_of order bytes.now) }
@@ -201,8 +201,8 @@ impl<'a> InterfaceOptions<'a> {
     }
 }
 
-/// Returns the value of the first pcapng option with the code `wanted`: `found`, if an earlier option had it, otherwise
-/// `value` if the code of the current option is `wanted`.
+/// Returns the value of the first pcapng option with the code `wanted` so far: `found` if an earlier option had that
+/// code; else `value`, the value of the current option, if its `code` is `wanted`; else `None`.
 fn first_of<'a>(
     found: Option<&'a [u8]>,
     wanted: u16,

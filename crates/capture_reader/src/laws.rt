@@ -1,4 +1,4 @@
-//! Laws of captures, most of them for any bytes. Each law is the contract of a function with an empty body.
+//! Laws of the pcap and pcapng formats and of their types. Each law is the contract of a function with an empty body.
 
 ghost use Rattle.std.specs.Prelude.{◌≡◌, ◌↔◌, ℕ, None, List, IsTrue};
 ghost use Rattle.ep_base.specs.Bytes.{AreBytes};

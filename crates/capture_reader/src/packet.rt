@@ -46,7 +46,7 @@ impl Record {
     /// Length of a pcap record header in bytes: 16.
     pub const LEN: usize = 16;
 
-    /// Record header that a reader of pcap captures has before its first packet; all fields are 0.
+    /// Record header that a capture reader has stored before it has read a packet; all fields are 0.
     pub const NONE: Record = Record {
         seconds: 0,
         fraction: 0,
@@ -54,8 +54,8 @@ impl Record {
         kept: 0,
     };
 
-    /// Parses the pcap record header at the start of `bytes`. Returns an error if the packet after it is incomplete or
-    /// has more than 256 KiB.
+    /// Parses the pcap record header at the start of `bytes`, which must also contain the captured bytes of the packet.
+    /// Returns an error if the header or the packet is incomplete, or the packet has more than 256 KiB.
     #[inline]
     pub fn from_slice(order: ByteOrder, bytes: &[u8]) -> Result<Record, Refusal>
         ensures ok { IfOk result (λ one. IsRecord order bytes.now

@@ -9,7 +9,7 @@ use crate::block::{Block, MOST_BLOCK, kind_of};
 use crate::byte_order::ByteOrder;
 use crate::refusal::Refusal;
 
-/// Maximum number of bytes that are skipped at a time of a pcapng block longer than 320 KiB: 65,536 (64 KiB).
+/// Maximum number of bytes that one call of `advance` skips in a pcapng block longer than 320 KiB: 65,536 (64 KiB).
 pub(crate) const MOST_STRETCH: u32 = 65_536;
 
 /// Returns true if `bytes` start with a long pcapng block: longer than 320 KiB, and of a type whose content is skipped.

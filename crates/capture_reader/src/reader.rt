@@ -34,13 +34,14 @@ pub enum State {
     },
 }
 
-/// Result of a capture reader's call of `advance`, which reads one file header, packet record or block (or a part of a
-/// long block).
+/// Result of `CaptureReader::advance`, which reads one file header, packet record or pcapng block (or one part of a
+/// block longer than 320 KiB).
 #[derive(Clone, Copy, Debug, PartialEq, Eq)]
 pub enum Advance {
     /// The capture reader has read a packet, which is available until the next call of `advance` or `take`.
     Packet,
-    /// The capture reader has read a file header, or a block (or part of a block) that is no packet.
+    /// The capture reader has read a file header, a pcapng block without a packet, or one part of a block longer than
+    /// 320 KiB.
     Other,
     /// All bytes that the capture reader was given are read, and the capture is complete if it ends here.
     MayEnd,
@@ -48,8 +49,8 @@ pub enum Advance {
     Cut(CaptureError),
 }
 
-/// Reads a pcap or pcapng capture that arrives in chunks. It keeps the last chunk, the bytes before it of an incomplete
-/// record or block, and the interface descriptions of the current pcapng section.
+/// Reader of a pcap or pcapng capture that arrives in chunks. It keeps the last chunk, the bytes of earlier chunks that
+/// were still unread when that chunk arrived, and the interface descriptions of the current pcapng section.
 #[derive(Drop)]
 pub struct CaptureReader {
     state: State,
@@ -61,8 +62,8 @@ pub struct CaptureReader {
     last: usize,
     /// Index in the capture reader's buffer at which the next file header, packet record or block starts.
     end: usize,
-    /// Offset in the capture, in bytes, at which the next file header, packet record or block (or part of a long block)
-    /// starts.
+    /// Offset in the capture, in bytes, at which the next file header, packet record or pcapng block (or the next part
+    /// of a block longer than 320 KiB) starts.
     offset: u64,
     /// Record header of the packet that was read last, in a pcap capture.
     record: Record,
@@ -120,7 +121,7 @@ impl CaptureReader {
     }
 
     /// Gives the next chunk of the capture to the reader; all chunks together have fewer than 2^64 bytes. Allocates if
-    /// the buffer or the list of interfaces has to grow. If that fails, the chunk is not taken.
+    /// the buffer or the list of interfaces has to grow. If an allocation fails, the reader has not taken the chunk.
     pub fn take(&mut self, chunk: &[u8]) -> Result<(), AllocError>
         requires { reader_offset self.old + reader_unread self.old + length chunk.now < 2 ^ 64 }
         ensures ok { OnOk result ((taken : List ℕ) (items : List Item) → Reads self.old taken items →
@@ -150,8 +151,10 @@ impl CaptureReader {
         Ok(())
     }
 
-    /// Reads the next file header, packet record or block (or part of a long block) of the capture if all of it was
-    /// taken. Returns an error if the bytes are rejected whatever follows them, and then changes nothing.
+    /// Reads the next file header, packet record or pcapng block (or the next part of a block longer than 320 KiB) of
+    /// the capture. Returns an error, and changes nothing, if the given bytes are invalid whatever bytes follow them.
+    /// Otherwise, if bytes are missing, reads nothing and returns `Advance::Cut`, or `Advance::MayEnd` if no unread
+    /// bytes are left and the capture may end here.
     pub fn advance(&mut self) -> Result<Advance, CaptureError>
         ensures reads { (taken : List ℕ) (items : List Item) → Reads self.old taken items →
             AdvancesTo self.new taken items result }
@@ -164,8 +167,8 @@ impl CaptureReader {
         self.step()
     }
 
-    /// Reads the next file header, packet record or block (or part of a long block) of the capture, as the reader's
-    /// state requires.
+    /// Reads the next file header, packet record or pcapng block (or the next part of a block longer than 320 KiB), as
+    /// the reader's state requires.
     fn step(&mut self) -> Result<Advance, CaptureError>
         ensures { Answers self.old self.new result }
     {

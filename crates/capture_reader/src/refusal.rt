@@ -5,8 +5,8 @@ use thiserror::Error;
 /// Reason for which bytes are rejected as a pcap or pcapng capture.
 #[derive(Clone, Copy, Debug, PartialEq, Eq, Error)]
 pub enum Refusal {
-    /// A file header, packet record or block (or part of a long block) is incomplete: at least `required_len` bytes of
-    /// it are needed, and `len` are present.
+    /// A file header, packet record or pcapng block is incomplete: at least `required_len` bytes of it are needed, and
+    /// `len` are present. If a block longer than 320 KiB is skipped in parts, both numbers refer to one part.
     #[error("cut: {required_len} bytes are needed, and {len} are there")]
     Cut { required_len: usize, len: usize },
     /// The first four bytes (`magic`, read as a big endian number) start neither a pcap nor a pcapng capture.
@@ -24,7 +24,8 @@ pub enum Refusal {
     /// The length field of a pcapng block is not a multiple of 4, or is too small for the block's content.
     #[error("no such block has {len} bytes")]
     BlockLength { len: u32 },
-    /// A pcapng block is longer than 320 KiB. (A capture reader skips longer blocks if their type is not read.)
+    /// A pcapng block is longer than 320 KiB. (A capture reader skips such a block without this error, unless it is a
+    /// section header, an interface description or a packet.)
     #[error("a block of {len} bytes is too long")]
     BlockTooLong { len: u32 },
     /// The length fields before (`len`) and after (`trailing`) the body of a pcapng block differ.
@@ -52,8 +53,8 @@ pub enum Refusal {
 #[derive(Clone, Copy, Debug, PartialEq, Eq, Error)]
 #[error("at byte {offset}: {refusal}")]
 pub struct CaptureError {
-    /// Offset in the capture, in bytes, of the file header, packet record or block (or part of a long block) that is
-    /// rejected.
+    /// Offset in the capture, in bytes, of the file header, packet record or pcapng block that is rejected. If a block
+    /// longer than 320 KiB is skipped in parts, it is the offset of the rejected part.
     pub offset: u64,
     /// Reason for which the bytes at `offset` are rejected.
     pub refusal: Refusal,

@@ -25,7 +25,7 @@ pub struct Known {
 }
 
 impl Known {
-    /// Properties of the last packet before any packet was read: all fields are 0 or `None`.
+    /// Properties that a capture reader has stored before it has read a packet: all fields are 0 or `None`.
     pub const NONE: Known = Known {
         link_type: 0,
         interface: None,

@@ -7,9 +7,9 @@ ghost use Rattle.capture_writer.specs.Written.{packet_bytes};
 
 use crate::write_error::{WriteError, WriteRefusal};
 
-/// States that a capture with written packets is read in exactly one way: byte for byte, with their original lengths,
-/// their link type and their timestamps in whole nanoseconds. Interface numbers are not kept. Writing one more packet
-/// only appends its record.
+/// States that reading a capture file of written packets gives the packets that were written, and nothing else: with
+/// equal bytes, original lengths and link types, and equal timestamps in whole nanoseconds. Interface numbers are not
+/// kept. Writing one more packet only appends its record.
 pub fn read_back()
     ensures shown { (link : ℕ) (packets : List PlainShown) → link < 2 ^ 16 → AreWritten link packets →
         Shows (capture_bytes link packets) (map back_of packets) }

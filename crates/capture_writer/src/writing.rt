@@ -130,7 +130,7 @@ fn push_record(output: &mut Vec<u8>, packet: &Packet<'_>) -> Result<(), AllocErr
     Ok(())
 }
 
-/// Appends a 16 bit number in little-endian order to the output, which must have the capacity.
+/// Appends a 16 bit number in little-endian order to the output, which must have capacity for two more bytes.
 #[inline]
 #[tactic(auto, unfolding(capture_reader::specs::Numbers::word16))]
 fn push_half(output: &mut Vec<u8>, half: u16)
@@ -142,7 +142,7 @@ fn push_half(output: &mut Vec<u8>, half: u16)
     output.extend_from_slice(&half.to_le_bytes()).unwrap();
 }
 
-/// Appends a 32 bit number in little-endian order to the output, which must have the capacity.
+/// Appends a 32 bit number in little-endian order to the output, which must have capacity for four more bytes.
 #[inline]
 #[tactic(auto, unfolding(capture_reader::specs::Numbers::word32))]
 fn push_word(output: &mut Vec<u8>, word: u32)

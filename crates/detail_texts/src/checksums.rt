@@ -128,15 +128,15 @@ fn push_message_ipv6(
     push_verdict(output, name, &sum)
 }
 
-/// Appends whether the checksum of an ICMPv4 message is valid. It has no pseudo-header.
+/// Appends whether the checksum of an ICMPv4 message is valid. This checksum covers no pseudo-header.
 fn push_icmpv4(output: &mut Vec<u8>, bytes: &[u8]) -> Result<(), AllocError>
     ensures { OnOk result (output.new.items ≡ output.old.items ++ icmpv4_text bytes.now) }
 {
     push_verdict(output, b" icmpv4", &sum_of(bytes))
 }
 
-/// Appends `name` (of a layer) and whether the layer's checksum is valid, as ` udp checksum right`. It is valid if
-/// `sum`, over all its 16 bit words and the pseudo-header, is 0xFFFF.
+/// Appends `name` (of a layer) and whether the layer's checksum is valid, as ` udp checksum right`. The checksum is
+/// valid if `sum`, the one's complement sum of the layer's 16 bit words and of its pseudo-header, if any, is 0xFFFF.
 fn push_verdict(output: &mut Vec<u8>, name: &[u8], sum: &Sum16BitWords) -> Result<(), AllocError>
     ensures { OnOk result (output.new.items
         ≡ output.old.items ++ verdict_text name.now ((65535 - sum.now) == 0)) }

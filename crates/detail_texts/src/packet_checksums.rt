@@ -14,9 +14,9 @@ use ep_lax::{LaxIpPayloadSlice, LaxNetSlice, LaxSlicedPacket};
 use ep_transport::TransportSlice;
 use std::alloc::AllocError;
 
-/// Appends whether the checksum of a packet's transport layer is valid. Appends nothing without a transport layer, for
-/// UDP with checksum 0 and ICMPv6 over IPv4, if bytes of the packet are missing, if no length field limits the IP
-/// payload, or if there is an IPv6 routing header.
+/// Appends whether the checksum of a packet's transport layer is valid. Appends nothing without a transport layer; for
+/// ICMPv6 over IPv4, and UDP with checksum 0 over IPv4; if bytes of the packet are missing; if no length field limits
+/// the IP payload; or if there is an IPv6 routing header.
 pub fn push_checksum(output: &mut Vec<u8>, packet: &LaxSlicedPacket<'_>) -> Result<(), AllocError>
     ensures { OnOk result (output.new.items ≡ output.old.items ++ packet_checksum_text packet.now) }
 {
@@ -26,8 +26,8 @@ pub fn push_checksum(output: &mut Vec<u8>, packet: &LaxSlicedPacket<'_>) -> Resu
     push_inner(output, &packet.net, &packet.transport)
 }
 
-/// Appends whether the checksum of the transport layer is valid, whose pseudo-header has the addresses of `net`.
-/// Appends nothing if there is no transport layer.
+/// Appends whether the checksum of the transport layer is valid. The addresses for its pseudo-header are those of
+/// `net`. Appends nothing if there is no transport layer.
 fn push_inner(
     output: &mut Vec<u8>,
     net: &Option<LaxNetSlice<'_>>,
@@ -42,8 +42,8 @@ fn push_inner(
     }
 }
 
-/// Appends whether the checksum of a transport layer is valid, whose pseudo-header has the addresses of `net`. Appends
-/// nothing if no length field limits the IP payload, or if there is an IPv6 routing header.
+/// Appends whether the checksum of a transport layer is valid. The addresses for its pseudo-header are those of `net`.
+/// Appends nothing if no length field limits the IP payload, or if there is an IPv6 routing header.
 fn push_net_checksum(
     output: &mut Vec<u8>,
     net: &Option<LaxNetSlice<'_>>,

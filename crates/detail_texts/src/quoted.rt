@@ -23,7 +23,7 @@ pub fn quoted_packet<'a>(transport: &TransportSlice<'a>) -> Option<&'a [u8]>
     }
 }
 
-/// Returns the ICMP payload if `quoted` (it is a quoted packet), and `None` otherwise.
+/// Returns the payload of an ICMP message if `quoted` is true (the payload is a quoted packet), and `None` otherwise.
 fn payload_if(quoted: bool, payload: &[u8]) -> Option<&[u8]>
     ensures { option_copied result ≡ payload_if quoted payload.now }
 {

@@ -9,8 +9,8 @@ use std::marker::Model;
 /// bit words one by one.
 const LONG: usize = 128;
 
-/// Maximum number of bytes that are summed for the checksum in one block: 256 words of 64 bits. The 256 bytes at one
-/// byte position of these words add up to less than 2^16.
+/// Maximum number of bytes in one block of a checksum sum: 256 words of 64 bits. A word has eight byte positions, and
+/// the 256 bytes at one position add up to less than 2^16.
 const BLOCK: usize = 2048;
 
 /// Mask that keeps the lower byte of each of the four 16 bit parts of a 64 bit word.
@@ -22,10 +22,10 @@ const LOWER_BYTES: u64 = 0x00ff_00ff_00ff_00ff;
 /// have an odd number of bytes.
 #[derive(Clone, Debug, Drop)]
 pub struct Sum16BitWords {
-    /// One's complement sum in 64 bits of the numbers added so far. A carry out of the highest bit is added to the
-    /// lowest one, so that the sum never overflows. The sum of 16 bit words is its residue modulo 65535, since 2^64 - 1
-    /// is a multiple of 65535. `Debug` prints the 64 bit sum: slices and 16 bytes are added as big-endian 64 bit words,
-    /// 2 and 4 bytes as 16 and 32 bit words.
+    /// One's complement sum in 64 bits of the numbers added so far: a carry out of the highest bit is added to the
+    /// lowest one, so that the sum never overflows. Modulo 65535 this 64 bit sum equals the sum of the 16 bit words,
+    /// since 2^64 - 1 is a multiple of 65535. `Debug` prints the 64 bit sum, to which slices and 16 bytes are added as
+    /// big-endian 64 bit words, 2 and 4 bytes as 16 and 32 bit words.
     sum: u64,
 }
 
@@ -124,8 +124,8 @@ impl Sum16BitWords {
         u16::MAX - folded(self.sum)
     }
 
-    /// Returns the checksum as a UDP header contains it (RFC 768): the one's complement of the sum, or 65535 if this is
-    /// 0.
+    /// Returns the checksum as a UDP header contains it (RFC 768): the one's complement of the sum, but 65535 instead
+    /// of 0.
     #[inline]
     pub fn ones_complement_with_no_zero(&self) -> u16
         ensures { result ≡ no_zero (65535 - self.now) }
@@ -188,9 +188,9 @@ fn add_long(sum: u64, bytes: &[u8]) -> u64
 
 /// Sums the 64 bit words of at most 2048 bytes for the checksum.
 ///
-/// The bytes at the odd positions 1 to 7 of the words are summed in parallel, in 16 bits each, so that no carry has to
-/// be propagated between words. The sums of the bytes at even positions are the difference to the wrapping sum of the
-/// words. Words are read in little-endian order, as the machine loads them.
+/// The bytes at the odd positions 1, 3, 5 and 7 of the words are summed in parallel, in 16 bits each, so that no carry
+/// has to be propagated between words. The wrapping sum of the words, less these sums, leaves the sums of the bytes at
+/// the even positions. Words are read in little-endian order, as the machine loads them.
 #[inline]
 fn block_sum(block: &[u8]) -> u64
     requires short { length block.now ≤ 2048 }
@@ -209,8 +209,8 @@ fn block_sum(block: &[u8]) -> u64
     joined(both.wrapping_sub(odd << 8), odd)
 }
 
-/// Combines the byte sums at the even and at the odd positions of little-endian 64 bit words into one sum for the
-/// checksum. Each parameter has four byte sums of 16 bits.
+/// Combines the sums of the bytes at even and at odd positions of little-endian 64 bit words into one sum for the
+/// checksum. Each parameter contains four sums of 16 bits, one for each of its byte positions.
 #[inline]
 fn joined(even: u64, odd: u64) -> u64
     ensures { residue result ≡ residue (256 * even + odd) }

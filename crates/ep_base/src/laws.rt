@@ -27,8 +27,8 @@ pub fn sum_is_a_residue()
     ensures zero { (bytes : List ℕ) → (ones_sum bytes ≡ 0) ↔ All (λ byte. byte ≡ 0) bytes }
 {}
 
-/// States that the one's complement sum of two concatenated byte sequences is that of their two sums, if the first
-/// sequence has an even number of bytes.
+/// States that the one's complement sum of two concatenated byte sequences is the one's complement addition of their
+/// two sums, if the first sequence has an even number of bytes.
 pub fn sum_of_parts()
     ensures { (front back : List ℕ) → length front % 2 ≡ 0
         → ones_sum (front ++ back) ≡ ones_add (ones_sum front) (ones_sum back) }
@@ -42,8 +42,8 @@ pub fn order_of_sums()
     ensures nothing { (bytes : List ℕ) → ones_add 0 (ones_sum bytes) ≡ ones_sum bytes }
 {}
 
-/// States that exchanging two byte sequences of even length, one after the other at the start of the bytes, does not
-/// change their one's complement sum.
+/// States that exchanging two adjacent byte sequences of even length at the start of the bytes does not change the
+/// one's complement sum of all bytes.
 pub fn order_of_parts()
     ensures { (a b back : List ℕ) → length a % 2 ≡ 0 → length b % 2 ≡ 0
         → ones_sum ((a ++ b) ++ back) ≡ ones_sum ((b ++ a) ++ back) }

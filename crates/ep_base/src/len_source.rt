@@ -22,8 +22,8 @@ pub enum LenSource {
 }
 
 impl LenSource {
-    /// Converts the length source of a layer inside a payload to that of the entire packet. `Slice`, the end of the
-    /// payload, becomes `outer`, the source that limits the payload. Any other source stays.
+    /// Converts the length source of a layer in a payload to its length source in the entire packet. `Slice` (the end
+    /// of the payload) becomes `outer`, the source of the length of the payload in the packet. Any other source stays.
     #[inline]
     pub fn limited_by(self, outer: LenSource) -> LenSource
         ensures { result ≡ limited_by outer self }

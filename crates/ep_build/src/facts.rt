@@ -1,5 +1,5 @@
-//! Ranges of header fields, which their Rust types guarantee, for the proofs. The functions have no effect, and their
-//! contracts hold for every value.
+//! Proofs that header fields fit their widths on the wire, which the Rust types of the fields guarantee. The functions
+//! have no effect, and their contracts hold for every value.
 
 ghost use Rattle.std.specs.Prelude.{◌≡◌, length};
 ghost use Rattle.ep_base.specs.Bytes.{AreBytes};
@@ -20,8 +20,9 @@ use ep_link::{Ethernet2Header, LinuxSllHeader, SingleVlanHeader, VlanHeader};
 use ep_packet::IpHeaders;
 use ep_transport::{Icmpv4Header, Icmpv6Header, TcpHeader, TransportHeader, UdpHeader};
 
-/// Proves that each field of a link header and its VLAN tags fits its width on the wire; of a Linux cooked capture
-/// header, each field that writing does not fill in. It has no effect at run time.
+/// Proves that each field of a link header and its VLAN tags fits its width on the wire. In a Linux cooked capture
+/// header these are only the packet type, the sender address and its length; the other fields are filled in when the
+/// frame is written. It has no effect at run time.
 #[inline]
 pub(crate) fn link_fits(link: &LinkPart)
     ensures { FitsLink link.now }
@@ -48,8 +49,9 @@ pub(crate) fn ip_header_fits(headers: &IpHeaders)
     }
 }
 
-/// Proves that each field of a UDP or TCP header fits its width on the wire, and that an ICMP header is encoded in the
-/// number of bytes that its type has. It has no effect at run time.
+/// Proves that each field of a UDP or TCP header fits its width on the wire, and that an ICMP header is encoded in 20
+/// bytes for the ICMPv4 variants `TimestampRequest` and `TimestampReply`, and in 8 bytes for all others. It has no
+/// effect at run time.
 #[inline]
 pub(crate) fn transport_fits(transport: &TransportHeader)
     ensures { FitsTransport transport.now }
@@ -175,8 +177,8 @@ fn tcp_fits(header: &TcpHeader)
     are_bytes(header.options.as_slice());
 }
 
-/// Proves that an ICMPv4 header is encoded in the number of bytes that its type has. The encoding is computed only for
-/// the proof.
+/// Proves that an ICMPv4 header is encoded in 20 bytes for the variants `TimestampRequest` and `TimestampReply`, and in
+/// 8 bytes for all others. The encoding is computed only for the proof.
 #[inline]
 pub(crate) fn icmpv4_fits(header: &Icmpv4Header)
     ensures { length (icmpv4_bytes header.now) ≡ icmpv4_len (icmpv4_kind header.now.icmp_type) }

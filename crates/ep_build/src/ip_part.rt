@@ -1,5 +1,5 @@
-//! The IP headers of a frame being built, in the form in which the caller passed them: for a header alone, the space of
-//! extension headers is not initialized.
+//! The IP headers of a frame being built, in the form in which the caller passed them. If the caller passed an IPv4 or
+//! IPv6 header alone, no space for extension headers is initialized.
 
 ghost use Rattle.std.specs.Prelude.{◌≡◌, ◌+◌, ◌≤◌, ◌++◌, ℕ, length, None, MatchResult, true, false};
 ghost use Rattle.std.specs.Prelude.{vec_capacity, vec_len};
@@ -55,9 +55,10 @@ pub(crate) trait IsIpHeaders {
     /// The IP headers as an `IpHeaders`, for contracts.
     ghost headers: { Self → IpHeaders };
 
-    /// Sets the next header values so that they lead through all extension headers to `last`, the protocol number of
-    /// the IP payload, and the length field for a payload of `len` bytes. Returns the ether type of the IP version. A
-    /// length above the maximum of the length field is an error.
+    /// Sets the next header values and the length field of the IP headers. The next header values then lead through all
+    /// extension headers to `last` (the protocol number of the IP payload), and the length field counts a payload of
+    /// `len` bytes. Returns the ether type of the IP version. A length above the maximum of the length field is an
+    /// error.
     fn link(&mut self, last: IpNumber, len: usize) -> Result<EtherType, ValueTooBigError<usize>>
         ensures { MatchResult result
             (λ ether_type. (first_row (payload_len_rows (headers self.old) len) ≡ None)
@@ -81,8 +82,8 @@ pub(crate) trait IsIpHeaders {
         ensures bound { result ≤ 9268 }
         ensures fits { FitsIpHeader (headers self.now) };
 
-    /// Appends the bytes of the IP header and its extension headers, whose next header values must lead through all of
-    /// them in the order of RFC 8200, 4.1. The buffer must have the capacity.
+    /// Appends the bytes of the IP header and its extension headers, whose next header values must lead through all
+    /// extension headers in the order of RFC 8200, 4.1. The buffer must have the capacity for these bytes.
     fn append(&self, buf: &mut Vec<u8>)
         requires leads { (last : ℕ) × LeadThrough (headers self.now) (ip_headers_parts (headers self.now)) last }
         requires capacity { vec_len buf.old + ip_headers_len (headers self.now) ≤ vec_capacity buf.old }

@@ -14,10 +14,10 @@ ghost use Rattle.ep_build.specs.declared.link_part.LinkPart.{LinkPart};
 
 use crate::err::{BuildSliceWriteError, BuildWriteError};
 
-/// States that a frame built from IP headers that mark a fragment, and from the fragment's payload, is read back as
-/// that fragment by both parsers. This requires that the header fields fit their widths, that the payload is not too
-/// long, that its protocol number is not that of an extension header, and that a Linux cooked capture header has a
-/// known packet type. If the payload consists of bytes, so does the frame.
+/// States that `SlicedPacket` and `PacketHeaders` read a fragment back from the frame built from its IP headers and its
+/// payload. This requires that the header fields fit their widths, that the payload is not too long, that its protocol
+/// number is not that of an extension header, and that a Linux cooked capture header has a known packet type. If each
+/// element of the payload is a byte (below 256), so is each element of the frame.
 pub fn built_fragments()
     ensures read_back { (part : LinkPart) (headers : IpHeaders) (last : IpNumber) (payload : List ℕ) → FitsLink part
         → FitIpHeaders headers → last.0 < 2 ^ 8 → IsBuildable (ip_frame_headers part headers last) (length payload)

@@ -40,7 +40,7 @@ impl LinkPart {
     }
 
     /// Appends the link header and its VLAN tags, with `ether_type` as the ether type of the network layer after them.
-    /// The buffer must have the capacity.
+    /// The buffer must have the capacity for these headers.
     #[inline]
     pub(crate) fn append_with_type(&self, ether_type: EtherType, buf: &mut Vec<u8>)
         requires capacity { vec_len buf.old + length (link_part_bytes (link_with_type self.now ether_type))
@@ -89,7 +89,7 @@ impl LinkPart {
 }
 
 /// Appends an Ethernet II header and its one or two VLAN tags, with the given ether type of the network layer after
-/// them. The buffer must have the capacity.
+/// them. The buffer must have the capacity for these headers.
 fn write_tagged(
     header: &Ethernet2Header,
     tags: &VlanHeader,

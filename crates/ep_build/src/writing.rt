@@ -62,7 +62,7 @@ pub(crate) fn write_ip<Headers: IsIpHeaders>(
 }
 
 /// Appends the frame of a link header, IP headers and a payload of protocol number `last` to a buffer. It is inlined
-/// and takes its arguments owned, so that a frame of a plain IPv4 or IPv6 header has no space for other headers.
+/// and takes its arguments owned, so that an IPv4 or IPv6 header passed alone needs no space for extension headers.
 #[inline(always)]
 pub(crate) fn append_ip_step(
     link: LinkPart,
@@ -89,7 +89,7 @@ pub(crate) fn append_ip_step(
 }
 
 /// Appends the frame of a link header, IP headers, a transport header and a payload to a buffer. It is inlined and
-/// takes its arguments owned, so that a frame of a plain IPv4 or IPv6 header has no space for other headers.
+/// takes its arguments owned, so that an IPv4 or IPv6 header passed alone needs no space for extension headers.
 #[inline(always)]
 pub(crate) fn append_transport_step(
     link: LinkPart,
@@ -229,8 +229,8 @@ fn set_length(transport: &mut TransportHeader, len: usize)
     }
 }
 
-/// Appends a link header and IP headers, whose lengths and next header values are set already, to a buffer, which must
-/// have the capacity.
+/// Appends a link header and IP headers to a buffer, which must have the capacity for them. The lengths and next header
+/// values of the headers must be set already.
 #[inline]
 fn append_headers<Headers: IsIpHeaders>(
     link: &LinkPart,

@@ -40,8 +40,8 @@ pub enum FrameCall<'a, Timestamp, CustomChannelId, V> {
         /// device.
         channel_id: CustomChannelId,
     },
-    /// Drops streams (datagrams that are incomplete): `run_frames` passes this value and the timestamp of each stream
-    /// to its function `keep`, and drops the streams for which it returns false.
+    /// Drop of streams (incomplete datagrams). `run_frames` calls its argument `keep` with this value and the timestamp
+    /// of each stream, and drops each stream for which `keep` returns false.
     Drop(V),
     /// Gives a reassembled payload back to the reassembly pool, which uses its memory for later streams.
     Return(IpDefragPayloadVec),
@@ -57,11 +57,12 @@ pub enum FrameAnswer {
     Pool(PoolAnswer),
 }
 
-/// Makes a list of calls one after the other on a new reassembly pool with a limit of 65535 bytes per payload. It
-/// returns the result of each call, in order, and the pool. A frame is sliced from the header that its `entry` names.
-/// If slicing fails, the result of the call is the slicing error, and the pool does not see the frame. A drop keeps the
-/// streams for which `keep`, called with the value of the drop and the timestamp of the stream, returns true. A stream
-/// is the fragments of one IP datagram.
+/// Performs a list of calls in order on a new reassembly pool with a limit of 65535 bytes per payload. Returns the
+/// result of each call, in order, and the pool. Each frame is sliced, starting with the header that its `entry` names.
+/// If slicing fails, the result of the call is the slicing error, and the pool does not get the frame.
+///
+/// A stream is the fragments of one IP datagram. A call `Drop(value)` drops each stream for which `keep`, called with
+/// `value` and the timestamp of the stream, returns false.
 ///
 /// The results for a stream don't depend on other streams. Every open stream can still be completed
 /// ([`two_frames_complete`](crate::laws::two_frames_complete)).
@@ -127,8 +128,8 @@ pub fn run_frames<
     Ok((answers, pool))
 }
 
-/// Makes one call on the reassembly pool and returns its result, a slicing error of the frame included. It returns
-/// `Err` only if an allocation failed.
+/// Performs one call on the reassembly pool and returns its result. If the frame of the call can't be sliced, the
+/// result is the slicing error. Returns `Err` only if an allocation failed.
 fn answer_frame<
     Timestamp: Drop,
     CustomChannelId: Eq + Hash + Drop,

@@ -105,8 +105,8 @@ impl IpDefragBuf {
         is_payload_complete(self.end, &self.sections)
     }
 
-    /// Returns the reassembled bytes and the list of the filled ranges, both as vectors with their capacity, and
-    /// consumes the buffer.
+    /// Returns the reassembled bytes and the list of the byte ranges that fragments filled, and consumes the buffer.
+    /// Both vectors keep their capacity.
     pub fn take_bufs(self) -> (Vec<u8>, Vec<IpFragRange>)
         ensures data { result.0.items ≡ data_of self }
         ensures sections { result.1.items ≡ sections_of self }
@@ -116,7 +116,8 @@ impl IpDefragBuf {
         (self.bytes, self.sections)
     }
 
-    /// Returns a copy of the reassembly buffer: equal bytes, filled ranges, end and protocol number. It allocates.
+    /// Returns a copy of the reassembly buffer: its bytes, the byte ranges that fragments filled, the end of the
+    /// payload and the protocol number are equal. It allocates.
     pub fn clone(&self) -> Result<IpDefragBuf, AllocError>
         ensures same { IfOk result (λ copy. IsUnchanged self.now copy) }
         ensures holds { IfOk result (λ copy. (accepted : List IpFragment) →
@@ -203,8 +204,8 @@ impl IpDefragBuf {
         Ok(())
     }
 
-    /// Greatest end of the accepted fragments, in bytes from the start of the payload. It is the length of the bytes
-    /// reassembled so far.
+    /// Greatest end of the fragments accepted so far, in bytes from the start of the payload; 0 without fragments. A
+    /// fragment ends at its offset in bytes plus its length.
     #[inline]
     fn reach(&self) -> u16
         ensures { result ≡ length (data_of self.now) }
@@ -212,8 +213,9 @@ impl IpDefragBuf {
         self.bytes.len() as u16
     }
 
-    /// Stores the bytes of a fragment that was checked, merges its range into the filled ranges and, if it is final,
-    /// sets the end of the payload. It changes nothing if an allocation fails.
+    /// Adds a fragment that [`checked_range`] accepted, and whose bytes fill `range`: stores the bytes, merges `range`
+    /// into `sections` and, if no more fragments follow, sets the end of the payload. If an allocation fails, the
+    /// content of the buffer stays unchanged.
     fn accept(
         &mut self,
         range: IpFragRange,
@@ -247,8 +249,12 @@ impl IpDefragBuf {
     }
 }
 
-/// Returns the byte range of a fragment in the payload. It returns an error if the fragment ends above 65535, has a
-/// wrong length, or contradicts the known end or `reach`, the greatest end of the accepted fragments.
+/// Returns the byte range of a fragment in the payload. Returns an error if the fragment ends above 65535, if more
+/// fragments follow and its length is not a multiple of 8, or if its end conflicts with earlier fragments.
+///
+/// If the end of the payload is known (`known_end`), a fragment that ends after it conflicts, and so does a final
+/// fragment that ends elsewhere. If it is not known, a final fragment conflicts if it ends below `reach`, the greatest
+/// end of the accepted fragments.
 fn checked_range(
     known_end: Option<u16>,
     reach: u16,

@@ -6,8 +6,8 @@ ghost use Rattle.ep_defrag.specs.Buffers.{extended, overwritten};
 use crate::ip_frag_range::IpFragRange;
 use std::alloc::AllocError;
 
-/// Reserves capacity for the payload bytes up to position `end`. A growing vector at least doubles its capacity, so
-/// fragments in order seldom move the bytes; the new capacity is at most twice `end`.
+/// Reserves capacity for the payload bytes up to position `end`. A vector that has to grow at least doubles its
+/// capacity, to at most twice `end`, so that fragments that arrive in order seldom cause a reallocation.
 #[inline]
 pub(crate) fn reserve_to(bytes: &mut Vec<u8>, end: u16) -> Result<(), AllocError>
     ensures items { bytes.new.items ≡ bytes.old.items }
@@ -25,8 +25,8 @@ pub(crate) fn reserve_to(bytes: &mut Vec<u8>, end: u16) -> Result<(), AllocError
     bytes.reserve_exact(end.max(2 * old_capacity) - bytes.len())
 }
 
-/// Writes the bytes of a fragment at their range of the payload, and fills a gap between the end of the bytes so far
-/// and the fragment with zeros. Each byte is written only once.
+/// Writes the bytes of a fragment to the vector `bytes` at `range`, over any bytes that are already there. If the
+/// vector ends before the fragment starts, the gap is filled with zeros. Each byte is written only once.
 pub(crate) fn write_fragment(bytes: &mut Vec<u8>, range: IpFragRange, payload: &[u8])
     requires len { range.end ≡ range.start + length payload.now }
     requires capacity { range.end ≤ vec_capacity bytes.old }

@@ -34,7 +34,8 @@ pub enum IpDefragError {
         /// End of the rejected fragment: the position after its last byte, in bytes from the start of the payload.
         conflicting_end: u16,
     },
-    /// An allocation for the bytes of the fragment, for the filled ranges or for its stream fails.
+    /// An allocation fails: for the bytes of the fragment, for the list of byte ranges that fragments filled, or for a
+    /// new stream of the reassembly pool.
     AllocationFailure {
         /// End of the fragment in bytes from the start of the payload. The buffer may already hold more bytes.
         len: usize,

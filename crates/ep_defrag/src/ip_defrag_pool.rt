@@ -40,15 +40,18 @@ struct OpenStream<Timestamp> {
 /// returned, or when [`retain`](IpDefragPool::retain) or [`remove`](IpDefragPool::remove) drops it.
 ///
 /// A pool has a limit in bytes for the payload of each stream. A fragment that ends above the limit is rejected, so no
-/// stream holds more bytes ([`data_within_limit`](crate::laws::data_within_limit)) and no stream has more than limit /
-/// 8 + 1 filled ranges ([`sections_within_limit`](crate::laws::sections_within_limit)). The limit bounds the cost of a
-/// stream of hostile traffic. The number of streams is bounded only by calls of [`retain`](IpDefragPool::retain) and
-/// [`remove`](IpDefragPool::remove).
+/// stream holds more bytes ([`data_within_limit`](crate::laws::data_within_limit)), and no stream has more than limit /
+/// 8 + 1 separate ranges of received bytes ([`sections_within_limit`](crate::laws::sections_within_limit)). The limit
+/// bounds the cost of a stream of hostile traffic. The number of streams is bounded only by calls of
+/// [`retain`](IpDefragPool::retain) and [`remove`](IpDefragPool::remove).
 ///
 /// Streams are found by their identifiers in a hash map. Its hash has a fixed seed, so a sender who chooses identifiers
-/// can choose keys that collide, and a look-up takes time in proportion to their number. The memory of a stream that
-/// ended is used again by later streams. At most as many vectors of each type are kept as streams were open at once, up
-/// to the doubling of `Vec`. Only dropping the pool frees them.
+/// can choose keys that collide, and a look-up takes time in proportion to their number.
+///
+/// The memory of a stream that ended is used again by later streams. For them the pool keeps vectors of two types,
+/// payload bytes and byte ranges. Of each type it keeps at most the greatest number of streams that were open at once,
+/// rounded up to the capacity of the list of these vectors, which grows by doubling (`Vec`). Only dropping the pool
+/// frees them.
 #[derive(Drop)]
 pub struct IpDefragPool<Timestamp, CustomChannelId: Eq + Hash> {
     alloc: Global,
@@ -194,8 +197,8 @@ impl<Timestamp: Drop, CustomChannelId: Eq + Hash + Drop> IpDefragPool<Timestamp,
         Ok(self.complete_stream(&id))
     }
 
-    /// Begins a stream with its first fragment. It returns the payload at once if this fragment alone is complete, and
-    /// `Ok(None)` otherwise.
+    /// Begins a stream with its first fragment. It returns the payload at once if this fragment alone is the complete
+    /// payload, and `Ok(None)` otherwise.
     fn begin_stream(
         &mut self,
         id: IpFragId<CustomChannelId>,
@@ -341,8 +344,8 @@ fn is_too_long(limit: u16, fragment: &Fragment) -> bool
     usize::from(limit) < usize::from(fragment.offset.byte_offset()) + fragment.payload.len()
 }
 
-/// Returns the reassembled payload for a vector of bytes. The protocol number and the limiting length field are taken
-/// from the identifier of its stream.
+/// Returns the reassembled payload with the bytes `payload`. Its protocol number and its length source (the length
+/// field of the IP version) are taken from `id`, the identifier of its stream.
 fn payload_of<CustomChannelId>(
     id: &IpFragId<CustomChannelId>,
     payload: Vec<u8>,

@@ -16,9 +16,9 @@ pub(crate) fn is_payload_complete(end: Option<u16>, sections: &[IpFragRange]) ->
     end.is_some() && matches!(sections, [section] if section.start == 0)
 }
 
-/// Finds the filled ranges that overlap or touch a new range, and returns them as a range of indices. If there are
-/// none, both ends are the index at which the new range is to be inserted. It needs no search if the new range starts
-/// in the last filled range or after it, as for fragments in order.
+/// Finds the byte ranges in `sections` that overlap or touch a new range, and returns their indices as a range. If
+/// there are none, both ends of the returned range are the index at which the new range is to be inserted. There is no
+/// search if the new range starts in or after the last range of `sections`, as it does for fragments in order.
 pub(crate) fn neighbours(sections: &[IpFragRange], range: IpFragRange) -> Range<usize>
     requires separate { AreSeparate sections.now }
     requires ordered { range.start ≤ range.end }
@@ -41,8 +41,9 @@ pub(crate) fn neighbours(sections: &[IpFragRange], range: IpFragRange) -> Range<
     from..to
 }
 
-/// Finds the index after the last filled range that overlaps or touches `range`; the first of them has the index
-/// `from`. Up to two of them, the usual case, are found without a search.
+/// Returns the index after the last range in `sections` that overlaps or touches `range`. The first such range has the
+/// index `from`; if there is none, `from` is returned. Up to two such ranges, the usual case, are found without a
+/// search.
 fn find_end_of_neighbours(sections: &[IpFragRange], range: IpFragRange, from: usize) -> usize
     requires separate { AreSeparate sections.now }
     requires ordered { range.start ≤ range.end }
@@ -63,8 +64,7 @@ fn find_end_of_neighbours(sections: &[IpFragRange], range: IpFragRange, from: us
     sections.partition_point(|section| section.start <= range.end)
 }
 
-/// Returns true if there is no filled range at index `at`, or if the filled range there starts above the end of
-/// `range`.
+/// Returns true if `sections` has no range at index `at`, or if the range there starts above the end of `range`.
 #[inline]
 fn starts_after(sections: &[IpFragRange], range: IpFragRange, at: usize) -> bool
     ensures yes { IsTrue result → at < length sections.now →
@@ -75,8 +75,8 @@ fn starts_after(sections: &[IpFragRange], range: IpFragRange, at: usize) -> bool
     at >= sections.len() || range.end < sections[at].start
 }
 
-/// Adds a range to the filled ranges. The filled ranges that overlap or touch it, with the indices `near`, are replaced
-/// by their union with it.
+/// Adds a range to `sections`, the byte ranges that fragments filled. The ranges that overlap or touch the new one have
+/// the indices `near`; they and the new one are replaced by their union.
 pub(crate) fn join(sections: &mut Vec<IpFragRange>, range: IpFragRange, near: Range<usize>)
     requires separate { AreSeparate sections.old.items }
     requires ordered { range.start ≤ range.end }
@@ -96,8 +96,8 @@ pub(crate) fn join(sections: &mut Vec<IpFragRange>, range: IpFragRange, near: Ra
     take_out(sections, near.start + 1, near.end);
 }
 
-/// Removes the filled ranges with the indices from `from` up to, but not including, `to`. Mostly there are none, and
-/// calling `drain` then would cost more than the rest of the merge.
+/// Removes the ranges with the indices from `from` up to, but not including, `to`. If there are none, the usual case,
+/// it does not call `drain`, which would cost more than the rest of the merge.
 fn take_out(sections: &mut Vec<IpFragRange>, from: usize, to: usize)
     requires order { from ≤ to }
     requires within { to ≤ vec_len sections.old }

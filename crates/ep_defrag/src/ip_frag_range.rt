@@ -20,8 +20,8 @@ impl IpFragRange {
         self.start <= position && position <= self.end
     }
 
-    /// Returns whether [`merge`](IpFragRange::merge) makes one range of the two: a start or end of one is between start
-    /// and end of the other, both included.
+    /// Returns whether [`merge`](IpFragRange::merge) merges this range and `other`: a start or end of one range is
+    /// between the start and the end of the other, both included.
     fn merges_with(&self, other: IpFragRange) -> bool
         ensures { result ≡ merges self.now other }
     {

@@ -47,17 +47,19 @@ pub fn merge_is_union()
         touches position range ≡ (touches position a || touches position b)) }
 {}
 
-/// States that a cut (a consecutive part of a payload, as a fragment carries it) is never rejected after other cuts of
-/// this payload, if the payload is no longer than the limit of the buffer or pool (65535 for a buffer), and the cut is
-/// final or its length is a multiple of 8. A final cut ends at the end of the payload, so not below any earlier cut.
+/// States that a fragment is never rejected if it and all earlier fragments are cuts (consecutive parts) of one
+/// payload. The payload must be no longer than the limit of the buffer or pool (65535 for a buffer), and the fragment
+/// must be final or have a length that is a multiple of 8. A final cut ends at the end of the payload, so not below any
+/// earlier cut.
 pub fn cut_fits()
     ensures { (limit : ℕ) (payload : List ℕ) (cuts : List IpFragment) (cut : IpFragment) → length payload ≤ limit
         → All (IsCut payload) cuts → IsCut payload cut
         → IsTrue (is_final cut) ⊎ (length cut.bytes % 8 ≡ 0) → FitsWithin limit cuts cut }
 {}
 
-/// States that if all fragments are consecutive parts of one payload, they are complete exactly if a final fragment is
-/// among them and they cover each position of the payload. The reassembled bytes are then this payload.
+/// States when fragments of one payload are complete, if each has the bytes of the payload at its offset, and a final
+/// one ends at the end of the payload: exactly if a final fragment is among them and together they cover each position
+/// of the payload. The reassembled bytes are then this payload.
 pub fn complete_cuts_are_the_payload()
     ensures complete { (payload : List ℕ) (cuts : List IpFragment) → All (IsCut payload) cuts →
         IsComplete cuts ↔ (Any (λ cut. IsTrue (is_final cut)) cuts
@@ -89,9 +91,9 @@ pub fn data_within_limit<Timestamp, CustomChannelId: Eq + Hash>()
         (λ stream. length (data_of stream.buffer) ≤ limit_of pool) }
 {}
 
-/// States that the bytes of a payload that is reassembled within a limit form at most limit / 8 + 1 filled ranges,
-/// since each range begins where a fragment does, at a multiple of 8. This holds for each stream of a reassembly pool
-/// and the limit of the pool.
+/// States that a reassembly buffer has at most limit / 8 + 1 separate byte ranges, if it accepted only fragments that
+/// end within a limit. Each range begins where a fragment begins, at a multiple of 8. In a reassembly pool this holds
+/// for the buffer of each stream, with the limit of the pool.
 pub fn sections_within_limit<Timestamp, CustomChannelId: Eq + Hash>()
     ensures buffer { (limit : ℕ) (buffer : IpDefragBuf) (accepted : List IpFragment) →
         HoldsFragments buffer accepted → FitInTurnWithin limit accepted →
@@ -104,7 +106,8 @@ pub fn sections_within_limit<Timestamp, CustomChannelId: Eq + Hash>()
 {}
 
 /// States that one more fragment completes any incomplete payload: a final fragment from offset 0 to the greatest end
-/// of the accepted fragments, whatever its bytes are. It is within the limit of the pool (65535 for a buffer).
+/// of the accepted fragments, whatever its bytes are. This fragment is not rejected; in particular, it does not end
+/// above the limit of the pool (65535 for a buffer).
 pub fn one_fragment_completes()
     ensures { (limit : ℕ) (accepted : List IpFragment) (bytes : List ℕ) → FitInTurnWithin limit accepted →
         length bytes ≡ reach_of accepted →
@@ -121,19 +124,20 @@ pub fn two_fragments_complete()
         CompleteInTurn limit accepted (opening_fragment front) (final_fragment accepted back) }
 {}
 
-/// States that in a pool with a limit below 8 bytes no payload is ever completed by fragments that frames can carry.
-/// The final fragment would have to start at offset 0, and a packet with offset 0 and no more-fragments flag is not
-/// fragmented.
+/// States that a pool with a limit below 8 bytes per payload never completes a payload from fragments of frames.
+/// Fragment offsets are multiples of 8, so the final fragment would have to start at offset 0, but a packet with offset
+/// 0 and no more-fragments flag is not a fragment.
 pub fn small_limits_complete_nothing()
     ensures { (limit : ℕ) (accepted : List IpFragment) → limit < 8 → FitInTurnWithin limit accepted →
         All (λ fragment. IsTrue (is_part fragment)) accepted → IsFalse (is_complete accepted) }
 {}
 
-/// States that no stream gets stuck in a reassembly pool whose limit is at least 8. If some frame can carry a fragment
-/// of the stream (the fragments of one IP datagram), at most two more frames complete its payload, whatever bytes they
-/// have. The payload returned is the accepted bytes, overwritten by the bytes of these two frames. This holds for the
-/// pool that `run_calls`, `run_calls_with_limit` and `run_frames` return, and for each call of `process_sliced_packet`,
-/// since their contracts name the table that the pool holds.
+/// States that no stream (the fragments of one IP datagram) gets stuck in a reassembly pool whose limit is at least 8
+/// bytes. If some frame can carry a fragment of the stream, at most two more frames complete its payload, whatever
+/// bytes they have. The returned payload is the accepted bytes, overwritten by the bytes of these two frames.
+///
+/// The law applies to the pool that `run_calls`, `run_calls_with_limit` or `run_frames` returns, and to each call of
+/// `process_sliced_packet`, since their contracts state which fragments the pool holds of each stream.
 pub fn two_frames_complete<Timestamp, CustomChannelId: Eq + Hash>()
     // If some frame carries a fragment of a stream, frames can carry each of its fragments of at most 32768 bytes that
     // is followed by more fragments or does not begin the payload.
@@ -151,8 +155,8 @@ pub fn two_frames_complete<Timestamp, CustomChannelId: Eq + Hash>()
 {}
 
 /// States that the results that a reassembly pool returns for a stream (the fragments of one IP datagram) don't depend
-/// on other streams. If two lists of calls on a new pool agree in the calls that concern the stream, its results are
-/// equal, whatever the limit.
+/// on other streams. If two lists of calls, on two new pools with equal limits, agree in the calls that concern the
+/// stream, the results of these calls are equal.
 pub fn streams_are_alone<Timestamp, CustomChannelId: Eq, V>()
     ensures { (limit : ℕ) (keep : V → Timestamp → Bool) (name : IpFragId CustomChannelId)
         (a b : List (Call Timestamp CustomChannelId V)) →
@@ -161,8 +165,9 @@ pub fn streams_are_alone<Timestamp, CustomChannelId: Eq, V>()
         ≡ answers_of CustomChannelId.eq name b (answers_to limit CustomChannelId.eq keep b) }
 {}
 
-/// States that a call at the end of a list of calls on a reassembly pool changes each stream (the fragments of one IP
-/// datagram) as the call alone does. The contracts of single calls therefore determine the result of the whole list.
+/// States that the last call of a list of calls on a reassembly pool changes each stream (the fragments of one IP
+/// datagram) as this call alone does, made on the pool after all earlier calls. The contracts of single calls therefore
+/// determine the result of the whole list.
 pub fn one_more_call<Timestamp, CustomChannelId: Eq, V>()
     ensures { (limit : ℕ) (keep : V → Timestamp → Bool) (calls : List (Call Timestamp CustomChannelId V))
         (call : Call Timestamp CustomChannelId V) (name : IpFragId CustomChannelId) →
@@ -170,11 +175,14 @@ pub fn one_more_call<Timestamp, CustomChannelId: Eq, V>()
         ≡ table_with limit CustomChannelId.eq keep (table_after limit CustomChannelId.eq keep calls) call name }
 {}
 
-/// States that if all fragments of a stream (the fragments of one IP datagram) are consecutive parts of one payload
-/// that is no longer than the limit of the pool, and each part is final or its length is a multiple of 8, none is
-/// rejected, and the pool returns no other payload for the stream. This holds in any order and with any repeats. The
-/// payload is returned if the fragments cover it and a final fragment is among them. No drop may remove the stream
-/// while it is incomplete; it is enough that each drop keeps the timestamps of the stream's own fragments.
+/// States that a reassembly pool reassembles a payload from its consecutive parts, in any order and with any repeats.
+/// If all fragments of a stream (the fragments of one IP datagram) are parts of one payload, none is rejected, and the
+/// pool returns no other payload for the stream. It returns the payload if the fragments cover it and a final fragment
+/// is among them.
+///
+/// The payload must be no longer than the limit of the pool, and each part must be final or have a length that is a
+/// multiple of 8. No drop may remove the stream while it is incomplete; it is enough that each drop keeps the
+/// timestamps of the stream's own fragments.
 pub fn cuts_are_reassembled<Timestamp, CustomChannelId: Eq, V>()
     ensures only { (limit : ℕ) (keep : V → Timestamp → Bool) (name : IpFragId CustomChannelId)
         (calls : List (Call Timestamp CustomChannelId V)) (payload : List ℕ) → length payload ≤ limit →
@@ -221,7 +229,7 @@ pub fn constants()
 
 /// States that two byte ranges are equal if their starts and ends are equal. Two reassembly buffers are equal if their
 /// bytes, filled ranges, ends and protocol numbers are equal. Two errors (`IpDefragError` or `RunStop`) are equal if
-/// they are identical. The orders compare the fields as declared.
+/// they are identical. `cmp` compares the fields in the order of their declaration.
 pub fn comparisons()
     ensures equal_ranges { (a b : IpFragRange) →
         IsTrue (⟦<IpFragRange as PartialEq>⟧.eq a b) ↔ ((a.start ≡ b.start) × (a.end ≡ b.end)) }
@@ -287,26 +295,26 @@ pub fn names<CustomChannelId: Eq>()
         ⟦<IpFragId<CustomChannelId> as PartialEq>⟧.eq a b ≡ same_stream CustomChannelId.eq a b }
 {}
 
-/// States that the hash of a stream identifier is the hash that std's `FoldHasher` computes for regrouped writes.
-/// Different writes are regrouped into different writes, so two identifiers collide only if `FoldHasher` computes equal
-/// hashes of two different regrouped lists.
+/// States that the hash of a stream identifier is the hash that std's `FoldHasher` computes if the parts of the
+/// identifier are written to it in other groups. Different lists of writes become different lists of groups, so two
+/// identifiers collide only if `FoldHasher` computes equal hashes of two different lists of groups.
 pub fn name_hashes()
     ensures std { (writes : HashWrites) → hash_of writes ≡ std_hash (given_for writes) }
     ensures injective { (a b : HashWrites) → All AreBytes a → All AreBytes b → given_for a ≡ given_for b → a ≡ b }
 {}
 
 /// States that frames that the builder made from consecutive parts (cuts) of one payload are reassembled to this
-/// payload, in any order and with any repeats. The payload must not be longer than the limit of the pool, each part
-/// must be final or have a length that is a multiple of 8, and all frames must have one stream identifier. The pool
-/// returns the payload exactly at the frames that complete the parts passed since it was last returned, and nothing at
-/// the others.
+/// payload, in any order and with any repeats. The payload must be no longer than the limit of the pool, each part must
+/// be final or have a length that is a multiple of 8, and all frames must have one stream identifier. The pool returns
+/// the payload at each frame that completes it; only the parts passed since the payload was last returned count. At all
+/// other frames of the stream it returns nothing.
 ///
-/// Other calls may be made between them: frames without a fragment, frames of other streams, returned buffers and
-/// drops. No drop may remove the stream while it is incomplete; it is enough that each drop keeps the timestamps of the
-/// stream's own fragments. The stream must get no other fragments.
+/// Other calls may be made between these frames: frames without a fragment, frames of other streams, returned buffers
+/// and drops. No drop may remove the stream while it is incomplete; it is enough that each drop keeps the timestamps of
+/// the stream's own fragments. The stream must get no other fragments.
 ///
-/// A built frame is written by the builder's step of IP headers, and the pool is given the layers of its bytes. No part
-/// is rejected: a final one ends at the end of the payload, so not below any earlier part.
+/// Each frame is written by the builder's step of IP headers, and is sliced before it is passed to the pool. No part is
+/// rejected: a final part ends at the end of the payload, so not below any earlier part.
 pub fn built_cuts_are_reassembled<Timestamp, CustomChannelId: Eq, V>()
     ensures alone { (limit : ℕ) (keep : V → Timestamp → Bool) (name : IpFragId CustomChannelId) (payload : List ℕ)
         (cuts : List (BuiltCut Timestamp CustomChannelId)) → length payload ≤ limit →

@@ -8,16 +8,16 @@ use std::hash::{FoldHasher, Hasher};
 /// Greatest number of bytes that the hasher collects before it passes them on to std's hasher.
 const MOST_WAITING: u64 = 3;
 
-/// Start of the hasher's 64-bit word of pending bytes after a number below 256 was written: the digit 2, and 8 bits for
-/// this number.
+/// Base value of the hasher's 64-bit word of pending bytes after a number below 256 was written. The number is set in
+/// its lowest 8 bits.
 const NUMBER_WAITS: u64 = 0x200;
 
-/// Bit of the hasher's 64-bit word of pending bytes that marks two bytes written by one call, unlike two calls with one
-/// byte each.
+/// Bit 40, set in the hasher's 64-bit word of pending bytes if its lowest two bytes were written by one call. It
+/// distinguishes them from two calls with one byte each.
 const WRITTEN_AT_ONCE: u64 = 1 << 40;
 
-/// Bit of the hasher's 64-bit word of pending bytes that marks that the next number of eight bytes is passed to std's
-/// hasher unchanged.
+/// Highest bit of the hasher's 64-bit word of pending bytes, set if the next write to std's hasher after this word is a
+/// number of eight bytes that is passed on unchanged.
 const NUMBER_FOLLOWS: u64 = 1 << 63;
 
 /// Hashes the stream identifiers of a reassembly pool with std's [`FoldHasher`], but with fewer multiplications.
@@ -27,10 +27,10 @@ const NUMBER_FOLLOWS: u64 = 1 << 63;
 /// variant. Up to three bytes are passed to std's hasher as one number of eight bytes. All other writes are passed on
 /// unchanged. An identifier thus takes 7 or 16 consecutive multiplications instead of 14 or 38.
 ///
-/// The word of pending bytes starts with the digit 1, or with the digit 2 and a number. One bit marks two bytes written
-/// by one call, and the highest bit marks that a number of eight bytes follows unchanged, so different writes become
-/// different writes to std's hasher ([`name_hashes`](crate::laws::name_hashes)). Numbers of eight bytes from 256 on
-/// take two multiplications each.
+/// The pending bytes are the lowest bytes of a 64-bit word. The word starts as 1, or as 0x200 plus a number below 256,
+/// and is shifted up by each write. A further bit is set if one call wrote two bytes, and the highest bit if a number
+/// of eight bytes follows unchanged. So different writes become different writes to std's hasher
+/// ([`name_hashes`](crate::laws::name_hashes)). Numbers of eight bytes from 256 on take two multiplications each.
 ///
 /// One factor of each multiplication is a constant, and the other holds at most three bytes after a length. A change of
 /// these bytes changes the product by at least 2^39, and the next three bytes can undo only 2^24; four bytes could be
@@ -41,8 +41,9 @@ const NUMBER_FOLLOWS: u64 = 1 << 63;
 #[derive(Clone, Copy)]
 pub(crate) struct NameHasher {
     state: FoldHasher,
-    /// 64-bit word of the bytes that were written and are not yet hashed: the digit 1, or 2 and a number below 256,
-    /// followed by the bytes, with a mark for two written by one call. The last write is the lowest.
+    /// 64-bit word of the bytes that were written and are not yet hashed; the last write is in the lowest bits. Above
+    /// the bytes is the value 1, or 0x200 plus a number below 256. A further bit is set for two bytes that were written
+    /// by one call (`WRITTEN_AT_ONCE`).
     waiting: u64,
     /// Number of bytes that were written and are not yet hashed, 0 to 3.
     count: u64,
@@ -81,7 +82,7 @@ impl NameHasher {
         }
     }
 
-    /// Appends a number of one or two bytes (`bytes`) to the bytes that are not yet passed to std's hasher.
+    /// Appends a number with a width of `bytes` bytes to the pending bytes, which are not yet passed to std's hasher.
     #[inline(always)]
     fn append_bytes(&mut self, bytes: u64, number: u64)
         requires { bytes ≤ 3 }

@@ -15,8 +15,8 @@ use ep_packet::SlicedPacket;
 use std::alloc::{AllocError, Global};
 use std::hash::Hash;
 
-/// One call on a reassembly pool in a list that `run_calls` makes: a sliced packet, a drop of streams, or the return of
-/// a payload's memory.
+/// One call on a reassembly pool, in a list of calls that `run_calls` performs: a sliced packet, a drop of streams, or
+/// the return of a payload's memory.
 #[derive(Debug, Drop)]
 pub enum PoolCall<'a, Timestamp, CustomChannelId, V> {
     /// A sliced packet whose fragment, if it carries one, is added to its stream in the reassembly pool.
@@ -30,8 +30,8 @@ pub enum PoolCall<'a, Timestamp, CustomChannelId, V> {
         /// device.
         channel_id: CustomChannelId,
     },
-    /// Drops streams (datagrams that are incomplete): `run_calls` passes this value and the timestamp of each stream to
-    /// its function `keep`, and drops the streams for which it returns false.
+    /// Drop of streams (incomplete datagrams). `run_calls` calls its argument `keep` with this value and the timestamp
+    /// of each stream, and drops each stream for which `keep` returns false.
     Drop(V),
     /// Gives a reassembled payload back to the reassembly pool, which uses its memory for later streams.
     Return(IpDefragPayloadVec),
@@ -76,8 +76,8 @@ pub fn run_calls<
     run_calls_with_limit(alloc, MAX_IP_DEFRAG_LEN_U16, calls, keep)
 }
 
-/// Makes a list of calls one after the other, as [`run_calls`] does, on a new reassembly pool with a limit of `max`
-/// bytes per payload ([`IpDefragPool::with_limit`]). Every open stream can still be completed, if `max` is at least 8.
+/// Performs a list of calls in order, as [`run_calls`] does, on a new reassembly pool with a limit of `max` bytes per
+/// payload ([`IpDefragPool::with_limit`]). Every open stream can still be completed, if `max` is at least 8.
 pub fn run_calls_with_limit<
     Timestamp: Drop,
     CustomChannelId: Eq + Hash + Drop,
@@ -106,7 +106,7 @@ pub fn run_calls_with_limit<
     Ok((answers, pool))
 }
 
-/// Makes one call on the reassembly pool and returns its result. It returns `Err` only if an allocation failed.
+/// Performs one call on the reassembly pool and returns its result. Returns `Err` only if an allocation failed.
 pub(crate) fn answer_next<
     Timestamp: Drop,
     CustomChannelId: Eq + Hash + Drop,

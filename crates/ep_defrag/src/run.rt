@@ -27,9 +27,9 @@ pub struct RunStop {
 /// each fragment, in order. The buffer uses the memory of the vectors `bytes` and `sections`, and the payload may have
 /// up to 65535 bytes.
 ///
-/// Whatever fragments were accepted, one more fragment can complete the payload, and so can two that frames can carry
-/// ([`one_fragment_completes`](crate::laws::one_fragment_completes),
-/// [`two_fragments_complete`](crate::laws::two_fragments_complete)).
+/// Whatever fragments were accepted, the payload can still be completed: by one more fragment
+/// ([`one_fragment_completes`](crate::laws::one_fragment_completes)), or by two more fragments that frames can carry
+/// ([`two_fragments_complete`](crate::laws::two_fragments_complete)).
 ///
 /// # Errors
 ///

@@ -8,7 +8,7 @@ use crate::ip_frag_range::IpFragRange;
 use ep_base::IpNumber;
 use std::alloc::{AllocError, Global};
 
-/// Least number of vectors for which a list of kept vectors has capacity, once the list is allocated.
+/// Minimum capacity, in vectors, of a list of kept vectors when it is allocated.
 const FEWEST_PLACES: usize = 4;
 
 /// Vectors of completed or dropped datagrams, kept so that their memory is used again. Their contents have no meaning.

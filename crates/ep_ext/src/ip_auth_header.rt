@@ -84,8 +84,8 @@ impl IpAuthHeader {
         }
     }
 
-    /// Creates a zeroed IP authentication header that the caller then overwrites in its final place, so that the
-    /// 1016-byte buffer of the header is never moved.
+    /// Creates a zeroed IP authentication header without integrity check value. The caller stores it and then
+    /// overwrites it in place, so that the 1016-byte buffer of the header is never moved.
     #[inline(always)]
     pub(crate) fn blank() -> IpAuthHeader {
         IpAuthHeader {
@@ -182,8 +182,8 @@ impl IpAuthHeader {
         buf.extend_from_slice(self.to_bytes().as_slice())
     }
 
-    /// Returns the first 12 bytes of an IP authentication header: these fields, with reserved bytes of 0.
-    /// `words_less_2` is its length field: the length of the header in 4-byte words, minus 2.
+    /// Returns the first 12 bytes of an IP authentication header with the given fields, and reserved bytes of 0.
+    /// `words_less_2` is the value of its length field: the length of the header in 4-byte words, minus 2.
     #[inline]
     fn fixed_bytes(next_header: u8, words_less_2: u8, spi: u32, sequence_number: u32) -> [u8; 12]
         ensures bytes { result ≡ next_header ∷ words_less_2 ∷ 0 ∷ 0 ∷ []

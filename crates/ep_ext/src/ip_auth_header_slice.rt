@@ -8,7 +8,7 @@ use crate::ip_auth_header::IpAuthHeader;
 use ep_base::err::{Layer, LenError};
 use ep_base::{IpNumber, LenSource};
 
-/// Bytes of exactly one IP authentication header: their number is the length that its length field states.
+/// Bytes of exactly one IP authentication header: the slice is as long as the length field of the header states.
 #[derive(Clone, Copy, Debug, PartialEq, Eq)]
 pub(crate) struct IpAuthBytes<'a> {
     slice: &'a [u8],

@@ -38,7 +38,8 @@ impl Model for IpAuthIcv {
 }
 
 impl IpAuthIcv {
-    /// Creates an integrity check value with a copy of the bytes: at most 1016, a multiple of 4.
+    /// Creates an integrity check value with a copy of `slice`. The length of `slice` must be a multiple of 4, and at
+    /// most 1016 bytes.
     #[inline]
     pub(crate) fn copy_of(slice: &[u8]) -> IpAuthIcv
         requires bound { length slice.now ≤ 1016 }
@@ -62,8 +63,8 @@ impl IpAuthIcv {
         }
     }
 
-    /// Overwrites an integrity check value in place with a copy of the bytes, which avoids a move of its 1016-byte
-    /// buffer. The bytes are at most 1016, a multiple of 4.
+    /// Overwrites an integrity check value in place with a copy of `slice`, which avoids a move of its 1016-byte
+    /// buffer. The length of `slice` must be a multiple of 4, and at most 1016 bytes.
     #[inline]
     pub(crate) fn fill(&mut self, slice: &[u8])
         requires bound { length slice.now ≤ 1016 }

@@ -94,9 +94,9 @@ impl Ipv4Extensions {
         }
     }
 
-    /// Appends the authentication header, if present, to the buffer. It is an error if there is an authentication
-    /// header and `first`, the protocol field of the IPv4 header, is not its number (51), or if the buffer has to grow
-    /// and the allocation fails. An error leaves the buffer unchanged.
+    /// Appends the authentication header, if present, to the buffer. Returns an error if the header is present but
+    /// `first` (the protocol field of the IPv4 header) is not 51, or if the buffer has to grow and the allocation
+    /// fails. An error leaves the buffer unchanged.
     pub fn write(&self, buf: &mut Vec<u8>, first: IpNumber) -> Result<(), HeaderWriteError>
         ensures ok { OnOk result (buf.new.items ≡ buf.old.items ++ parts_bytes (ipv4_parts self.now)) }
         ensures err { OnErr result (buf.new.items ≡ buf.old.items) }

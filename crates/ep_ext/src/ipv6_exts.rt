@@ -55,9 +55,9 @@ impl Clone for Ipv6Extensions {
 
 impl Ipv6Extensions {
     /// Parses the IPv6 extension headers at the start of the slice; `number` is the next header field of the IPv6
-    /// header. Returns owned headers, the IP number of the payload, and the bytes after the headers. A second header of
-    /// a type is left in the payload, but Destination Options are read once more after a routing header. Hop-by-Hop
-    /// Options after any other header are an error.
+    /// header. Returns owned headers, the IP number of the payload, and the bytes after the headers. Parsing ends
+    /// before a second header of one type, which is then part of the payload; but Destination Options may occur once
+    /// before and once after a routing header. Hop-by-Hop Options that are not the first header are an error.
     #[inline]
     pub fn from_slice(
         number: IpNumber,
@@ -183,8 +183,8 @@ impl Ipv6Extensions {
         Ok((next, rest))
     }
 
-    /// Returns true if this value already has an IPv6 extension header of the type with this IP number. After a routing
-    /// header, the number of Destination Options (60) refers to the options after that header.
+    /// Returns true if this value already has an IPv6 extension header of the type with this IP number. If there is a
+    /// routing header, 60 (Destination Options) refers only to the Destination Options after it.
     #[inline]
     fn has(&self, number: IpNumber) -> bool
         ensures { result ≡ has_kind self.now number.0 }

@@ -30,9 +30,9 @@ impl Ipv6Extensions {
             + auth_len(&self.auth)
     }
 
-    /// Sets the next header field of each IPv6 extension header to the IP number of the header after it, in the order
-    /// of RFC 8200, 4.1, and that of the last header to `last`, the payload's IP number. Returns the next header value
-    /// for the IPv6 header: the IP number of the first extension header, or `last` without any.
+    /// Sets the next header fields of the IPv6 extension headers, in the order of RFC 8200, 4.1: each to the IP number
+    /// of the header after it, and the last one to `last`, the payload's IP number. Returns the next header value for
+    /// the IPv6 header: the IP number of the first extension header, or `last` if there is none.
     pub fn set_next_headers(&mut self, last: IpNumber) -> IpNumber
         ensures linked { self.new ≡ ipv6_linked self.old last }
         ensures first { result ≡ ipv6_first self.old last }
@@ -100,8 +100,8 @@ fn auth_len(header: &Option<IpAuthHeader>) -> usize
     }
 }
 
-/// Sets the next header field of an IPv6 options or routing header, if present, to `next`. Returns the next header
-/// value for the header before it: its own IP number `number`, or `next` if it is absent.
+/// Sets the next header field of an IPv6 options or routing header, if present, to `next`. Returns the value for the
+/// next header field of the preceding header: `number` (the IP number of `header`), or `next` if `header` is `None`.
 fn link_raw(header: &mut Option<Ipv6RawExtHeader>, number: IpNumber, next: IpNumber) -> IpNumber
     ensures linked { header.new ≡ option_map (raw_leading_to next) header.old }
     ensures first { result ≡ number_before header.old number.0 next }
@@ -115,8 +115,8 @@ fn link_raw(header: &mut Option<Ipv6RawExtHeader>, number: IpNumber, next: IpNum
     }
 }
 
-/// Sets the next header field of an IP authentication header, if present, to `next`. Returns the next header value for
-/// the header before it: 51 (authentication header), or `next` if it is absent.
+/// Sets the next header field of an IP authentication header, if present, to `next`. Returns the value for the next
+/// header field of the preceding header: 51, or `next` if the authentication header is absent.
 fn link_auth(header: &mut Option<IpAuthHeader>, next: IpNumber) -> IpNumber
     ensures linked { header.new ≡ option_map (ip_auth_leading_to next) header.old }
     ensures first { result ≡ number_before header.old authentication_number next }
@@ -130,8 +130,8 @@ fn link_auth(header: &mut Option<IpAuthHeader>, next: IpNumber) -> IpNumber
     }
 }
 
-/// Sets the next header field of an IPv6 fragment header, if present, to `next`. Returns the next header value for the
-/// header before it: 44 (fragment header), or `next` if it is absent.
+/// Sets the next header field of an IPv6 fragment header, if present, to `next`. Returns the value for the next header
+/// field of the preceding header: 44, or `next` if the fragment header is absent.
 fn link_fragment(header: &mut Option<Ipv6FragmentHeader>, next: IpNumber) -> IpNumber
     ensures linked { header.new ≡ option_map (fragment_leading_to next) header.old }
     ensures first { result ≡ number_before header.old fragment_number next }
@@ -146,7 +146,8 @@ fn link_fragment(header: &mut Option<Ipv6FragmentHeader>, next: IpNumber) -> IpN
 }
 
 /// Sets the next header field of the Destination Options header after an IPv6 routing header, if present, to `next`.
-/// Returns the next header value for the header before it: 60 (Destination Options), or `next` if it is absent.
+/// Returns the value for the next header field of the preceding header: 60, or `next` if the Destination Options header
+/// is absent.
 fn link_final(routing_exts: &mut Option<Ipv6RoutingExtensions>, next: IpNumber) -> IpNumber
     ensures linked { routing_exts.new ≡ option_map (final_leading_to next) routing_exts.old }
     ensures first { result ≡ number_before (final_by routing_exts.old) destination_options_number next }
@@ -161,8 +162,8 @@ fn link_final(routing_exts: &mut Option<Ipv6RoutingExtensions>, next: IpNumber) 
     }
 }
 
-/// Sets the next header field of an IPv6 routing header, if present, to `next`. Returns the next header value for the
-/// header before it: 43 (routing header), or `next` if it is absent.
+/// Sets the next header field of an IPv6 routing header, if present, to `next`. Returns the value for the next header
+/// field of the preceding header: 43, or `next` if the routing header is absent.
 fn link_routing(routing_exts: &mut Option<Ipv6RoutingExtensions>, next: IpNumber) -> IpNumber
     ensures linked { routing_exts.new ≡ option_map (routing_alone_leading_to next) routing_exts.old }
     ensures first { result ≡ number_before routing_exts.old routing_number next }

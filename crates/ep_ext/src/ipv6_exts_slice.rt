@@ -78,9 +78,9 @@ impl<'a> Ipv6ExtensionsSlice<'a> {
     }
 
     /// Parses the chain of IPv6 extension headers at the start of the slice, up to the first invalid or truncated one;
-    /// `number` is the next header field of the IPv6 header. Returns the valid headers, the IP number of the bytes
-    /// after them, these bytes, and `None`. If an invalid header ended the parsing, these bytes begin with it, and its
-    /// error and layer are returned instead of `None`; an offset in the error counts from the start of the slice.
+    /// `number` is the next header field of the IPv6 header. Returns the valid headers, the IP number of the remaining
+    /// bytes, the remaining bytes, and `None`. If a header is invalid or truncated, the remaining bytes begin with that
+    /// header, and the fourth value is its error and layer; an offset in the error counts from the start of the slice.
     pub fn from_slice_lax(
         number: IpNumber,
         slice: &'a [u8],
@@ -192,7 +192,7 @@ impl<'a> IntoIterator for Ipv6ExtensionsSlice<'a> {
 }
 
 /// Pairs the error of an invalid IPv6 extension header with the layer of that header: the layer that a length error
-/// contains, otherwise that of an extension header or authentication header.
+/// contains, `Ipv6ExtHeader` for misplaced Hop-by-Hop Options, or `IpAuthHeader` for an invalid authentication header.
 fn error_with_layer(error: HeaderSliceError) -> (HeaderSliceError, Layer)
     ensures { result ≡ chain_stop error }
 {

@@ -17,8 +17,8 @@ use ep_base::err::ipv6_exts::{ExtsWalkError, HeaderWriteError};
 use ep_base::{IpNumber, ip_number};
 use std::alloc::AllocError;
 
-/// IPv6 extension headers that a walk along the next header fields has visited, as one flag for each header; `any` is
-/// set with the first one.
+/// Visited flags of the IPv6 extension headers in a walk along the next header fields: one flag for each header, and
+/// `any`, which is set once any header is visited.
 #[derive(Clone, Copy, Default)]
 pub(crate) struct VisitedHeaders {
     pub(crate) any: bool,
@@ -31,8 +31,8 @@ pub(crate) struct VisitedHeaders {
 }
 
 impl VisitedHeaders {
-    /// Sets the visited flag of this IPv6 extension header. Destination Options count as those after the routing header
-    /// once the routing header is visited.
+    /// Sets the visited flag of the IPv6 extension header `header`. For Destination Options, this is
+    /// `final_destination_options` if the routing header is already visited, otherwise `destination_options`.
     fn mark(&mut self, header: &HeaderRef<'_>)
         ensures { self.new ≡ marked self.old (header_ref_part header.now) }
     {
@@ -127,8 +127,8 @@ impl Ipv6Extensions {
     }
 
     /// Appends the IPv6 extension headers to the buffer in the order that their next header fields give, from `first`,
-    /// the next header field of the IPv6 header. It is an error if the fields do not lead to all headers, or if the
-    /// allocation fails: the buffer grows at most once. An error leaves the buffer unchanged.
+    /// the next header field of the IPv6 header. Returns an error if the fields do not lead to all headers, or if the
+    /// allocation fails. An error leaves the buffer unchanged. The buffer grows at most once.
     pub fn write(&self, buf: &mut Vec<u8>, first: IpNumber) -> Result<(), HeaderWriteError>
         ensures ok { OnOk result ((parts : List ExtensionPart) × (last : ℕ) × WalksAll self.now first.0 parts last
             × FitParts parts × (buf.new.items ≡ buf.old.items ++ parts_bytes parts)) }
@@ -156,8 +156,8 @@ impl Ipv6Extensions {
         Ok(())
     }
 
-    /// Returns the IPv6 extension header with this IP number, or `None` if it is absent, already visited (by `marks`),
-    /// or a Hop-by-Hop Options header after other headers.
+    /// Returns the IPv6 extension header with this IP number, or `None` if there is no such header or it is already
+    /// visited according to `marks`. Hop-by-Hop Options are returned only if no header is visited yet.
     fn find_unvisited<'a>(
         &'a self,
         marks: &VisitedHeaders,
@@ -195,9 +195,9 @@ impl Ipv6Extensions {
         None
     }
 
-    /// Returns the Destination Options header that comes next in a walk over IPv6 extension headers: the one after the
-    /// routing header if `marks` has the routing header as visited, else the one before it. `None` if that header is
-    /// absent or visited.
+    /// Returns the Destination Options header that comes next in a walk over IPv6 extension headers:
+    /// `final_destination_options` if the routing header is visited according to `marks`, otherwise
+    /// `destination_options`. Returns `None` if that header is absent or already visited.
     fn find_destination<'a>(&'a self, marks: &VisitedHeaders) -> Option<HeaderRef<'a>>
         ensures { option_map header_ref_part result ≡ header_at self.now marks.now destination_options_number }
     {
@@ -220,8 +220,8 @@ impl Ipv6Extensions {
         }
     }
 
-    /// Returns the IP number of the first IPv6 extension header, in the order of RFC 8200, 4.1, that a walk did not
-    /// visit (by `marks`), or `None` if all headers are visited.
+    /// Returns the IP number of the first IPv6 extension header, in the order of RFC 8200, 4.1, that is not visited
+    /// according to `marks`, or `None` if all headers are visited.
     fn first_unvisited(&self, marks: &VisitedHeaders) -> Option<IpNumber>
         ensures { option_map number_of result ≡ missing_at self.now marks.now }
     {

@@ -35,9 +35,9 @@ impl Ipv6RawExtHeader {
     /// Length in bytes of an IPv6 options or routing header with the longest payload: 2048.
     pub const MAX_LEN: usize = 2048;
 
-    /// Creates an IPv6 options or routing header from its next header and a copy of the payload, the bytes after its
-    /// first 2. It is an error if the payload has not 6 to 2046 bytes, or if the length of the header (2 bytes more) is
-    /// not a multiple of 8.
+    /// Creates an IPv6 options or routing header from its next header and a copy of `payload`, which starts at byte 2
+    /// of the header. Returns an error if `payload` has fewer than 6 or more than 2046 bytes, or if its length plus 2
+    /// is not a multiple of 8.
     #[inline]
     pub fn new_raw(
         next_header: IpNumber,
@@ -77,8 +77,8 @@ impl Ipv6RawExtHeader {
         }
     }
 
-    /// Creates a zeroed IPv6 options or routing header that the caller then overwrites in its final place, so that the
-    /// 2046-byte buffer of the header is never moved.
+    /// Creates an IPv6 options or routing header of 8 zero bytes. The caller stores it and then overwrites it in place,
+    /// so that the 2046-byte buffer of the header is never moved.
     #[inline(always)]
     pub(crate) fn blank() -> Ipv6RawExtHeader {
         Ipv6RawExtHeader {

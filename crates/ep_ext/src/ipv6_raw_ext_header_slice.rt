@@ -8,7 +8,7 @@ use crate::ipv6_raw_ext_header::Ipv6RawExtHeader;
 use ep_base::err::{Layer, LenError};
 use ep_base::{IpNumber, LenSource};
 
-/// Bytes of exactly one IPv6 options or routing header: their number is the length that its length field states.
+/// Bytes of exactly one IPv6 options or routing header: the slice is as long as the length field of the header states.
 #[derive(Clone, Copy, Debug, PartialEq, Eq)]
 pub(crate) struct RawExtensionBytes<'a> {
     slice: &'a [u8],

@@ -4,13 +4,13 @@ ghost use Rattle.std.specs.Prelude.{◌≡◌, ◌≤◌, ◌+◌, ◌*◌, ◌%
 
 use std::marker::Model;
 
-/// Owned payload of an IPv6 options or routing header, all bytes after its first 2: 6 bytes and at most 255 units of 8
+/// Owned payload of an IPv6 options or routing header (all bytes after the first 2): 6 bytes and at most 255 units of 8
 /// bytes.
 #[derive(Clone, Debug, PartialEq, Eq, Drop)]
 pub(crate) struct Ipv6RawExtPayload {
     /// Payload bytes of an IPv6 options or routing header, padded with zeros to the maximum length of 2046 bytes.
     bytes: [u8; 2046],
-    /// Number of 8-byte units in the payload of an IPv6 options or routing header, after its first 6 bytes. It is equal
+    /// Number of 8-byte units after the first 6 bytes of the payload of an IPv6 options or routing header. It is equal
     /// to the header's length field.
     units: u8,
 }
@@ -40,8 +40,8 @@ impl Model for Ipv6RawExtPayload {
 }
 
 impl Ipv6RawExtPayload {
-    /// Creates the payload of an IPv6 options or routing header with a copy of the bytes: 6 to 2046, and 2 less than a
-    /// multiple of 8.
+    /// Creates the payload of an IPv6 options or routing header with a copy of `slice`. The length of `slice` must be 6
+    /// to 2046 bytes, and 2 less than a multiple of 8.
     #[inline]
     pub(crate) fn copy_of(slice: &[u8]) -> Ipv6RawExtPayload
         requires least { 6 ≤ length slice.now }
@@ -66,8 +66,8 @@ impl Ipv6RawExtPayload {
         }
     }
 
-    /// Overwrites the payload of an IPv6 options or routing header in place with a copy of the bytes, which avoids a
-    /// move of its 2046-byte buffer. The bytes are 6 to 2046, and 2 less than a multiple of 8.
+    /// Overwrites the payload of an IPv6 options or routing header in place with a copy of `slice`, which avoids a move
+    /// of its 2046-byte buffer. The length of `slice` must be 6 to 2046 bytes, and 2 less than a multiple of 8.
     #[inline]
     pub(crate) fn fill(&mut self, slice: &[u8])
         requires least { 6 ≤ length slice.now }
@@ -91,8 +91,8 @@ impl Ipv6RawExtPayload {
         &self.bytes[..6 + 8 * self.units as usize]
     }
 
-    /// Number of 8-byte units in the payload of the IPv6 options or routing header, after its first 6 bytes. It is
-    /// equal to the header's length field.
+    /// Number of 8-byte units after the first 6 bytes of the payload of the IPv6 options or routing header. It is equal
+    /// to the header's length field.
     #[inline]
     pub(crate) fn units(&self) -> u8
         ensures { 6 + 8 * result ≡ length self.now }

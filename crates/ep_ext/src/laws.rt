@@ -32,27 +32,27 @@ use crate::{
     Ipv6FragmentHeaderSlice, Ipv6RawExtHeader, Ipv6RawExtHeaderSlice, Ipv6RoutingExtensions,
 };
 
-/// States that any bytes either begin with one valid IP authentication header, and then its fields and the bytes after
-/// it are unique, or are rejected with exactly one error.
+/// States that any bytes either begin with a valid IP authentication header, whose fields and length the bytes
+/// determine, or are rejected with exactly one error.
 pub fn ip_auth()
     ensures { (bytes : List ℕ) → AreBytes bytes → IsDecided (IsIpAuth bytes) (RefusesIpAuth bytes) }
 {}
 
-/// States that any bytes either begin with one valid IPv6 options or routing header, and then its fields and the bytes
-/// after it are unique, or are rejected with exactly one error.
+/// States that any bytes either begin with a valid IPv6 options or routing header, whose fields and length the bytes
+/// determine, or are rejected with exactly one error.
 pub fn raw_extension()
     ensures { (bytes : List ℕ) → AreBytes bytes → IsDecided (IsRawExtension bytes) (RefusesRawExtension bytes) }
 {}
 
-/// States that any bytes either begin with one valid IPv6 fragment header, and then its fields and the bytes after it
-/// are unique, or are rejected with exactly one error.
+/// States that any bytes either begin with a valid IPv6 fragment header, whose fields and length the bytes determine,
+/// or are rejected with exactly one error.
 pub fn fragment_header()
     ensures { (bytes : List ℕ) → AreBytes bytes → IsDecided (IsFragmentHeader bytes) (RefusesFragmentHeader bytes) }
 {}
 
-/// States that a length error of an extension header, or of a chain of them, reports exactly how many bytes are
-/// available and how many are required. If the missing bytes are appended, the check that failed does not fail again.
-/// All length errors of a chain name the end of the slice as the limit.
+/// States that a length error of an extension header, or of a chain of extension headers, reports exactly how many
+/// bytes are available and how many are required. Once at least the missing bytes (`required_len` minus `len`) are
+/// appended, the check that failed does not fail again. The `len_source` of a chain's length error is `Slice`.
 pub fn missing_bytes()
     ensures ip_auth { ReportsMissing (λ bytes error. RefusesIpAuth bytes (auth_error.Len error)) }
     ensures raw_extension { ReportsMissing RefusesRawExtension }
@@ -64,9 +64,9 @@ pub fn missing_bytes()
         → IsShortAt (length bytes) error × (error.len_source ≡ source.Slice) }
 {}
 
-/// States that if bytes that begin with a valid extension header (or chain of headers) are truncated and then rejected,
-/// the error is a length error. Its offset plus `len` is the truncated length, `required_len` is more than `len`, the
-/// offset plus `required_len` is at most the original length, and the end of the slice is named as the limit.
+/// States that if bytes begin with a valid extension header or chain of extension headers, and a prefix of the bytes is
+/// rejected, the error is a length error. Its offset plus `len` is the length of the prefix, `required_len` is more
+/// than `len`, the offset plus `required_len` is at most the original length, and `len_source` is `Slice`.
 pub fn truncation()
     ensures ip_auth { ReportsTruncation IsIpAuth RefusesIpAuth auth_error.Len (λ read. slice_end) }
     ensures raw_extension { ReportsTruncation IsRawExtension RefusesRawExtension (λ (error : LenError). error)

@@ -175,8 +175,8 @@ impl<'a> Ipv4HeaderSlice<'a> {
         IpFragOffset::try_new(flags_and_offset & 0x1fff).unwrap()
     }
 
-    /// Fragment offset of the IPv4 header in units of 8 bytes. Equal to [`Ipv4HeaderSlice::fragment_offset`]; this is
-    /// its name in the Rust crate etherparse.
+    /// Fragment offset of the IPv4 header in units of 8 bytes. Equal to [`Ipv4HeaderSlice::fragment_offset`], under the
+    /// name that the Rust crate etherparse uses.
     #[inline]
     pub fn fragments_offset(&self) -> IpFragOffset
         ensures { result ≡ (ipv4_header_slice_header self.now).fragment_offset }
@@ -271,8 +271,8 @@ impl<'a> Ipv4HeaderSlice<'a> {
         }
     }
 
-    /// Decodes all fields and options, and overwrites the IPv4 header `place` with them. Its fields are written one by
-    /// one, so no header is moved.
+    /// Decodes all fields and options, and overwrites the fields of the IPv4 header `place` one by one. Unlike
+    /// assigning the result of `to_header`, this copies no complete header.
     #[inline]
     pub fn header_into(&self, place: &mut Ipv4Header)
         ensures { place.new ≡ ipv4_header_slice_header self.now }

@@ -34,7 +34,7 @@ impl Model for Ipv4Options {
     } };
 }
 
-/// Error for IPv4 options with an invalid number of bytes (contained in it): above 40, or not a multiple of 4.
+/// Error for IPv4 options whose number of bytes is above 40, or not a multiple of 4. It contains this number.
 #[derive(Clone, Debug, PartialEq, Eq, Hash, Drop, Error)]
 #[error("BadOptionsLen {0}")]
 pub struct BadOptionsLen(pub usize);

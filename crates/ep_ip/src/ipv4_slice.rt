@@ -104,8 +104,8 @@ impl<'a> Ipv4Slice<'a> {
         self.extensions.clone().unwrap()
     }
 
-    /// Payload of the IPv4 packet after an authentication header, up to the end that the total length sets: its bytes,
-    /// its protocol number, and whether it is a fragment.
+    /// Payload of the IPv4 packet after the authentication header (if present), up to the end that the total length
+    /// sets: its bytes, its protocol number, and whether it is a fragment.
     #[inline]
     pub fn payload(&self) -> &IpPayloadSlice<'a>
         ensures { ip_payload_of result.now ≡ ipv4_slice_payload self.now }

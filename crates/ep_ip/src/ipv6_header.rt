@@ -20,7 +20,8 @@ pub struct Ipv6Header {
     /// Flow label of an IPv6 header: 20 bits, the lower 4 bits of byte 1 and bytes 2 and 3.
     pub flow_label: Ipv6FlowLabel,
     /// Payload length of an IPv6 header, bytes 4 and 5: length in bytes of everything after this header, extension
-    /// headers included. If it is 0, the parsers of packets take all bytes up to the end of the slice.
+    /// headers included. If it is 0, packet parsers such as `Ipv6Slice::from_slice` extend the packet to the end of the
+    /// slice.
     pub payload_length: u16,
     /// Next header of an IPv6 header: protocol number of the extension header or payload directly after it, byte 6.
     pub next_header: IpNumber,

@@ -60,9 +60,9 @@ impl<'a> Ipv6HeaderSlice<'a> {
         })
     }
 
-    /// Parses the IPv6 header at the start of the slice. Returns it with the bytes after it that belong to the packet,
-    /// extension headers included, and with the source of their length: the payload length (RFC 8200, 3), or the slice
-    /// if the payload length is 0 and bytes follow the header.
+    /// Parses the IPv6 header at the start of the slice. Returns the header, the other bytes of the packet (extension
+    /// headers included), and what limits these bytes: the payload length (RFC 8200, 3), or the end of the slice if the
+    /// payload length is 0 and bytes follow the header.
     pub fn from_packet_slice(
         slice: &'a [u8],
     ) -> Result<(Ipv6HeaderSlice<'a>, &'a [u8], LenSource), SliceError>
@@ -81,8 +81,8 @@ impl<'a> Ipv6HeaderSlice<'a> {
         Ok((header, content, len_source))
     }
 
-    /// Parses the IPv6 header at the start of the slice. Returns it with the bytes after it: as many bytes as the
-    /// payload length states, or all if it is 0.
+    /// Parses the IPv6 header at the start of the slice. Returns the header and the bytes after it, up to the end that
+    /// the payload length sets, or to the end of the slice if the payload length is 0.
     fn parse_limited(slice: &'a [u8]) -> Result<(Ipv6HeaderSlice<'a>, &'a [u8]), SliceError>
         ensures ok { IfOk result (λ read. (left : List ℕ)
             × (slice.now ≡ (ipv6_header_slice_bytes read.0 ++ read.1.now) ++ left)
@@ -110,7 +110,7 @@ impl<'a> Ipv6HeaderSlice<'a> {
         Ok((header, &slice[Ipv6Header::LEN..packet_len]))
     }
 
-    /// Returns the limit on `content`, the bytes of the packet after the IPv6 header: the end of the slice if the
+    /// Returns what limits the bytes of the packet after the IPv6 header (`content`): the end of the slice if the
     /// payload length is 0 and `content` is not empty, else the payload length.
     fn payload_source(&self, content: &[u8]) -> LenSource
         ensures { result ≡ ipv6_payload_source (ipv6_header_slice_header self.now) content.now }

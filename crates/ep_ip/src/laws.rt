@@ -1,5 +1,5 @@
 //! Theorems (laws) about IPv4 and IPv6 headers and packets, and the values of their constants. Each law is the contract
-//! of a function that does nothing else.
+//! of a function without effect.
 
 ghost use Rattle.std.specs.Prelude.{◌≡◌, ◌≤◌, ◌↔◌, length, ℕ, true, false, List, [], ◌∷◌, replicate};
 ghost use Rattle.ep_base.specs.Bytes.{AreBytes};
@@ -44,8 +44,8 @@ pub fn ipv6_header()
 {}
 
 /// States that any bytes either parse as exactly one IPv6 packet (header, the bytes after it up to the end that the
-/// payload length sets, or all if it is 0, and trailing bytes), or are rejected with exactly one error. Extension
-/// headers are not parsed.
+/// payload length sets, and trailing bytes), or are rejected with exactly one error. A payload length of 0 leaves no
+/// trailing bytes. Extension headers are not parsed.
 pub fn ipv6_packet()
     ensures { (bytes : List ℕ) → AreBytes bytes → IsDecided (IsIpv6Packet bytes) (RefusesIpv6Packet bytes) }
 {}
@@ -88,9 +88,10 @@ pub fn error_offsets()
         → RefusesIpv6 reading bytes (ipv6_error.Len error) → error.layer_start_offset ≤ length bytes }
 {}
 
-/// States that in a length error for an IP header or packet whose `len_source` is the slice, `layer_start_offset + len`
-/// is the number of input bytes, and `required_len` is above `len`. If `required_len - len` or more bytes are appended,
-/// the check that failed passes. An IPv6 payload whose length source is the slice has no trailing bytes.
+/// States how many bytes are missing if an IP header or packet is rejected with a length error whose `len_source` is
+/// `Slice`: `layer_start_offset + len` is the number of input bytes, and `required_len` is above `len`. With
+/// `required_len - len` or more bytes appended to the input, parsing does not fail at this check again. An IPv6 packet
+/// has no trailing bytes if the length source of its payload is `Slice`.
 pub fn missing_bytes()
     ensures ipv4_header { ReportsMissing (λ bytes error. RefusesIpv4Header bytes (ipv4_header_error.Len error)) }
     ensures ipv4_packet { ReportsMissing (λ bytes error. RefusesIpv4Packet bytes (ipv4_error.Len error)) }
@@ -105,10 +106,11 @@ pub fn missing_bytes()
         → IsOfAvailableBytes packet.payload.source → packet.left ≡ [] }
 {}
 
-/// States that if an IP header or packet is truncated and then rejected, the error is a length error for the missing
-/// bytes. `layer_start_offset + len` is the truncated length, `required_len` is above `len`, and `layer_start_offset +
-/// required_len` is at most the original length. Its `len_source` is the slice, with one exception: for an IPv6 packet
-/// with the payload length 0 that is truncated right after its IPv6 header, it is the payload length.
+/// States that if a valid IP header or packet is truncated and then rejected, the error is a length error for the
+/// missing bytes. In this error, `layer_start_offset + len` is the truncated length, `required_len` is above `len`, and
+/// `layer_start_offset + required_len` is at most the original length. Its `len_source` is `Slice`, with one exception:
+/// if an IPv6 packet has the payload length 0 and is truncated right after its IPv6 header, `len_source` is
+/// `Ipv6HeaderPayloadLen`.
 pub fn truncation()
     ensures ipv4_header { ReportsTruncation IsIpv4Header RefusesIpv4Header ipv4_header_error.Len (λ read. slice_end) }
     ensures ipv6_header { ReportsTruncation IsIpv6Header RefusesIpv6Header ipv6_header_error.Len (λ read. slice_end) }
@@ -124,8 +126,9 @@ pub fn truncation()
         → ReportsTruncation (IsIp reading) (RefusesIp reading) ip_error.Len (ip_truncation_limit 0) }
 {}
 
-/// States that for bytes that begin with version 4 (or 6), the parser for both IP versions and the parser for IPv4 (or
-/// IPv6) accept the same packets, with equal parts.
+/// States that the parser for both IP versions agrees with the parsers for a single version. It accepts bytes of
+/// version 4 if and only if the IPv4 parser accepts them, bytes of version 6 if and only if the IPv6 parser accepts
+/// them, and returns equal parts.
 pub fn open_version()
     ensures ipv4 { (reading : Reading) (bytes : List ℕ) → version_of bytes ≡ 4 → (part : IpPart)
         → IsIp reading bytes part ↔ ((packet : IpPacket Ipv4Header) × IsIpv4 reading bytes packet

@@ -56,17 +56,18 @@ pub fn more_bytes()
         × ShowsPrefix (shown_headers read) read.net.inside.stop (shown_headers longer) longer.net.inside.stop }
 {}
 
-/// States that if a packet that strict slicing accepts is truncated, and lax slicing accepts the truncated packet, it
-/// finds the first headers of the full packet. It finds all of them unless it stops at an error.
+/// States that lax slicing of a truncated packet finds the first headers of the full packet, if strict slicing accepts
+/// the full packet and lax slicing accepts the truncated one. It finds all headers of the full packet unless it stops
+/// at an error.
 pub fn prefix_shows_headers()
     ensures { (entry : Entry) (prefix rest : List ℕ) (layers : Layers) (read : LaxLayers) → AreBytes (prefix ++ rest)
         → IsFrame entry (prefix ++ rest) layers → IsLax entry prefix read
         → AreFirst (shown_headers read) read.net.inside.stop (frame_headers layers) }
 {}
 
-/// States that bytes that lax slicing accepts begin with the wire formats of the headers it finds, one after another,
-/// reserved bits included. Each header determines its own length, so a header of a truncated packet has the same bytes
-/// in the full packet.
+/// States that the headers that lax slicing finds are the first bytes of the packet, one after another, in their wire
+/// formats and with their reserved bits. The length of a header depends only on its own bytes. So a header that is
+/// found in a truncated packet has the same bytes in the full packet.
 pub fn header_bytes()
     ensures { (entry : Entry) (bytes : List ℕ) (read : LaxLayers) → IsLax entry bytes read
         → BeginWith (shown_headers read) bytes }

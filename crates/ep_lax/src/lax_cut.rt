@@ -30,8 +30,8 @@ pub(crate) struct LimitedSlice<'a> {
 }
 
 /// Returns the bytes of `slice` after a header of `header_len` bytes, limited by the layer's length field. A field
-/// below its minimum or above the available bytes is ignored. `outer` is true if bytes of the layer are missing
-/// already; then they are missing from a payload with an ignored field, too.
+/// below its minimum or above the available bytes is ignored. With an ignored field, the payload is incomplete if the
+/// field is above the available bytes, or if `outer` is true: bytes of the layer are already known to be missing.
 #[inline(always)]
 pub(crate) fn limit_by_length_field<'a>(
     slice: &'a [u8],

@@ -165,7 +165,8 @@ impl<'a> LaxIpv4Slice<'a> {
 }
 
 /// Converts the error of an authentication header, if any, into an error of its IPv4 packet. In a length error, the
-/// length of the IPv4 header is added to the offset, and `len_source` replaces the end of the slice as the limit.
+/// length of the IPv4 header (`header_len`) is added to the offset, and the length source `LenSource::Slice` is
+/// replaced by `len_source`.
 #[inline]
 fn error_in_packet(
     refused: Option<ip_auth::HeaderSliceError>,
@@ -183,7 +184,8 @@ fn error_in_packet(
 }
 
 /// Converts the error of an authentication header into an error of its IPv4 packet. In a length error, the length of
-/// the IPv4 header is added to the offset, and `len_source` replaces the end of the slice as the limit.
+/// the IPv4 header (`header_len`) is added to the offset, and the length source `LenSource::Slice` is replaced by
+/// `len_source`.
 #[inline]
 fn with_further_offset(
     error: ip_auth::HeaderSliceError,

@@ -209,8 +209,8 @@ impl<'a> LaxIpv6Slice<'a> {
     }
 
     /// Converts the error of an IPv6 extension header, if any, into an error of its IPv6 packet, and keeps its layer.
-    /// In a length error, the length of the IPv6 header is added to the offset, and `len_source` replaces the end of
-    /// the slice as the limit.
+    /// In a length error, the length of the IPv6 header is added to the offset, and the length source
+    /// `LenSource::Slice` is replaced by `len_source`.
     #[inline]
     fn error_in_packet(
         refused: Option<(ipv6_exts::HeaderSliceError, Layer)>,
@@ -231,7 +231,7 @@ impl<'a> LaxIpv6Slice<'a> {
     }
 
     /// Converts the error of an IPv6 extension header into an error of its IPv6 packet. In a length error, the length
-    /// of the IPv6 header is added to the offset, and `len_source` replaces the end of the slice as the limit.
+    /// of the IPv6 header is added to the offset, and the length source `LenSource::Slice` is replaced by `len_source`.
     #[inline]
     fn with_further_offset(
         error: ipv6_exts::HeaderSliceError,

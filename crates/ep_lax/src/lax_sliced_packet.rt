@@ -136,8 +136,8 @@ impl<'a> LaxSlicedPacket<'a> {
         }
     }
 
-    /// Slices a packet into this value, which replaces all its layers; `entry` names the header that the bytes start
-    /// with. Reusing one value in a hot loop moves no layers. An error leaves the value without layers.
+    /// Slices a packet into this value, whose layers are all replaced. `entry` names the header that the bytes start
+    /// with. Reusing one value in a hot loop avoids moving the layers. After an error the value has no layers.
     #[inline(always)]
     pub fn slice_into(&mut self, entry: Entry, bytes: &'a [u8]) -> Result<(), SliceError>
         ensures ok { IfOk result (λ _. IsLax entry bytes.now (lax_layers_of self.new)) }

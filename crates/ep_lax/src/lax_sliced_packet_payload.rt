@@ -28,10 +28,10 @@ use ep_link::{DoubleVlanSlice, LinkSlice, VlanSlice};
 use ep_transport::TransportSlice;
 
 impl<'a> LaxSlicedPacket<'a> {
-    /// Returns the bytes after the link header and all VLAN and MACsec tags, and whether bytes of them are missing;
-    /// `None` without a link layer, or if their ether type is unknown. After tags, the source of the length is the
-    /// MACsec short length, if it limits the bytes, else the end of the slice. The bytes are returned even if no
-    /// network layer was read from them.
+    /// Returns the bytes after the link header and all VLAN and MACsec tags, with their ether type, and whether some of
+    /// them are missing. Returns `None` if the packet has neither a link layer nor a tag, or if the ether type is
+    /// unknown. After tags, the source of the length is the MACsec short length, if it limits the bytes, else the end
+    /// of the slice. The bytes are returned even if no network layer was read from them.
     pub fn ether_payload(&self) -> Option<LaxEtherPayloadSlice<'a>>
         ensures { option_map lax_ether_payload_of result ≡ lax_ether_payload_in (lax_layers_of self.now) }
     {
@@ -193,8 +193,8 @@ impl<'a> LaxSlicedPacket<'a> {
         }
     }
 
-    /// Returns the payload after the last VLAN or MACsec tag, or after the link header without tags; empty without a
-    /// link layer.
+    /// Returns the payload after the last VLAN or MACsec tag. If there are no tags, it is the payload after the link
+    /// header, or empty if there is no link layer.
     fn payload_after_link_exts(&self) -> &'a [u8]
         ensures { let layers = layers_in (lax_layers_of self.now) in
             result.now ≡ payload_after_exts (link_payload layers.link) layers.link_exts }
@@ -264,8 +264,8 @@ fn transport_len(transport: &Option<TransportSlice<'_>>) -> usize
     }
 }
 
-/// Returns true if bytes of a UDP payload are missing. `stated` is the UDP length field, `available` the number of
-/// available bytes with the UDP header, and `outer` is true if bytes of the IP payload are missing.
+/// Returns true if bytes of a UDP payload are missing. `stated` is the UDP length field, and `available` the number of
+/// available bytes, both including the UDP header. `outer` is true if bytes of the IP payload are missing.
 fn is_missing(stated: usize, available: usize, outer: bool) -> bool
     ensures { result ≡ is_missing 8 stated outer available }
 {

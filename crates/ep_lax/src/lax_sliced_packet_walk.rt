@@ -48,7 +48,7 @@ struct Inside<'a> {
 
 /// Slices the bytes after a link header, with this ether type and at `offset` in the packet. Appends at most three VLAN
 /// and MACsec tags to `link_exts`, which must be empty. Overwrites the network layer, the transport layer, and the
-/// error at which slicing stopped. An unknown ether type has no layers.
+/// error at which slicing stopped. If the ether type is unknown, no layers are found.
 #[inline(always)]
 pub(crate) fn fill_inside<'a>(
     link_exts: &mut ArrayVec<LaxLinkExtSlice<'a>, 3>,
@@ -115,8 +115,9 @@ fn fill_extensions<'a>(
     Ok(inside)
 }
 
-/// Slices the network layer by its ether type (IPv4, IPv6 or ARP), and the transport layer in it. Overwrites both, and
-/// the error at which slicing stopped; another ether type clears all three.
+/// Slices the network layer by its ether type (IPv4, IPv6 or ARP), and the transport layer in it. Overwrites the
+/// network layer, the transport layer, and the error at which slicing stopped. For any other ether type, all three
+/// become `None`.
 #[inline(always)]
 fn fill_net<'a>(
     net: &mut Option<LaxNetSlice<'a>>,

@@ -49,45 +49,45 @@ use crate::{
     SingleVlanHeader, SingleVlanSlice, VlanHeader, VlanSlice,
 };
 
-/// States that any bytes either have exactly one reading as an Ethernet II frame (header and payload), or are rejected
+/// States that any bytes either parse in exactly one way as an Ethernet II frame (header and payload), or are rejected
 /// with exactly one error, and never both.
 pub fn ethernet2()
     ensures { (bytes : List ℕ) → AreBytes bytes → IsDecided (IsEthernet2 bytes) (RefusesEthernet2 bytes) }
 {}
 
-/// States that any bytes either have exactly one reading as a packet of a Linux cooked capture (SLL v1 header and
+/// States that any bytes either parse in exactly one way as a packet of a Linux cooked capture (SLL v1 header and
 /// payload), or are rejected with exactly one error, and never both.
 pub fn linux_sll()
     ensures { (bytes : List ℕ) → AreBytes bytes → IsDecided (IsLinuxSll bytes) (RefusesLinuxSll bytes) }
 {}
 
-/// States that any bytes either have exactly one reading as a VLAN tag and its payload, or are rejected with exactly
+/// States that any bytes either parse in exactly one way as a VLAN tag and its payload, or are rejected with exactly
 /// one error, and never both.
 pub fn vlan()
     ensures { (bytes : List ℕ) → AreBytes bytes → IsDecided (IsVlan bytes) (RefusesVlan bytes) }
 {}
 
-/// States that any bytes either have exactly one reading as two successive VLAN tags and a payload, or are rejected
+/// States that any bytes either parse in exactly one way as two successive VLAN tags and a payload, or are rejected
 /// with exactly one error, and never both.
 pub fn double_vlan()
     ensures { (bytes : List ℕ) → AreBytes bytes → IsDecided (IsDoubleVlan bytes) (RefusesDoubleVlan bytes) }
 {}
 
-/// States that any bytes either start with a MACsec tag, whose fields and length are unique, or are rejected with
-/// exactly one error, and never both.
+/// States that any bytes either start with a MACsec tag, whose fields and length the bytes determine, or are rejected
+/// with exactly one error, and never both.
 pub fn macsec_header()
     ensures { (bytes : List ℕ) → AreBytes bytes → IsDecided (IsMacsecHeader bytes) (RefusesMacsecHeader bytes) }
 {}
 
-/// States that any bytes either have exactly one reading as a MACsec tag, payload and trailing bytes, or are rejected
+/// States that any bytes either parse in exactly one way as a MACsec tag, payload and trailing bytes, or are rejected
 /// with exactly one error, and never both.
 pub fn macsec()
     ensures { (bytes : List ℕ) → AreBytes bytes → IsDecided (IsMacsec bytes) (RefusesMacsec bytes) }
 {}
 
-/// States for each ether type whether a link extension (VLAN or MACsec tag with its payload) follows it. If so, any
-/// bytes either have exactly one reading as this extension and trailing bytes, or are rejected with exactly one error,
-/// and never both. If not, no bytes are read as an extension or rejected as one.
+/// States that each ether type either announces a link extension (VLAN or MACsec tag with its payload) or does not. If
+/// it does, any bytes either parse in exactly one way as that extension and trailing bytes, or are rejected with
+/// exactly one error, and never both. If it does not, no bytes are accepted or rejected as an extension.
 pub fn link_extension()
     ensures cases { (type : EtherType) → BeginsLinkExtension type ⊎ (¬ BeginsLinkExtension type) }
     ensures decided { (type : EtherType) (bytes : List ℕ) → AreBytes bytes → BeginsLinkExtension type
@@ -98,23 +98,24 @@ pub fn link_extension()
         → RefusesLinkExtension type bytes error → BeginsLinkExtension type }
 {}
 
-/// States that bytes read as a link extension (VLAN or MACsec tag) consist of the tag, its payload and the trailing
+/// States that bytes parsed as a link extension (VLAN or MACsec tag) consist of the tag, its payload and the trailing
 /// bytes. The reserved bits of the tag may have any value.
 pub fn link_extension_bytes()
     ensures { (type : EtherType) (bytes : List ℕ) (part : LinkExtension × List ℕ) → IsLinkExtension type bytes part
         → (tag : List ℕ) × EncodesTag part.0 tag × (bytes ≡ (tag ++ extension_payload part.0) ++ part.1) }
 {}
 
-/// States that bytes read as a link extension (VLAN or MACsec tag) have the length of the tag, which its fields
-/// determine, plus the lengths of the payload and of the trailing bytes.
+/// States that the length of bytes parsed as a link extension (VLAN or MACsec tag) is the sum of three lengths: of the
+/// tag, of its payload and of the trailing bytes. The fields of the tag determine the tag's length.
 pub fn link_extension_len()
     ensures { (type : EtherType) (bytes : List ℕ) (part : LinkExtension × List ℕ) → IsLinkExtension type bytes part
         → length bytes
         ≡ link_ext_header_len (extension_header part.0) + length (extension_payload part.0) + length part.1 }
 {}
 
-/// States for each link layer, VLAN and MACsec tags and ARP that a length error reports exactly how many bytes are
-/// available, and that it does not recur once at least the missing number of bytes is appended.
+/// States that a length error of a link layer, VLAN or MACsec tag or ARP packet reports exactly how many bytes are
+/// available. Once at least the missing bytes (`required_len` minus `len`) are appended, the check that failed does not
+/// fail again.
 pub fn missing_bytes()
     ensures ethernet2 { ReportsMissing RefusesEthernet2 }
     ensures linux_sll { ReportsMissing (λ bytes error. RefusesLinuxSll bytes (sll_error.Len error)) }
@@ -126,10 +127,10 @@ pub fn missing_bytes()
         → ReportsMissing (λ bytes error. RefusesLinkExtension type bytes (macsec_error.Len error)) }
 {}
 
-/// States for each link layer, VLAN and MACsec tags and ARP: a rejected prefix of valid bytes is rejected with a length
-/// error. The error's offset plus `len` is the length of the prefix, `required_len` is greater than `len`, and offset
-/// plus `required_len` is at most the length of the valid bytes. The length source is the end of the slice, except for
-/// an ARP packet if the prefix has at least 8 bytes: then it is the address lengths of the packet.
+/// States for each link layer, VLAN and MACsec tags and ARP packets: if a prefix of valid bytes is rejected, the error
+/// is a length error. Its offset plus `len` is the length of the prefix, `required_len` is greater than `len`, and
+/// offset plus `required_len` is at most the length of the valid bytes. Its `len_source` is `ArpAddrLengths` if the
+/// prefix is of an ARP packet and has at least 8 bytes, otherwise `Slice`.
 pub fn truncation()
     ensures ethernet2 { ReportsTruncation IsEthernet2 RefusesEthernet2 (λ (error : LenError). error) (λ frame. slice_end) }
     ensures linux_sll { ReportsTruncation IsLinuxSll RefusesLinuxSll sll_error.Len (λ packet. slice_end) }
@@ -290,8 +291,8 @@ pub fn link_ext_defaults() -> (LinkExtHeader, LinkExtSlice<'static>)
     (LinkExtHeader::default(), LinkExtSlice::default())
 }
 
-/// States that any bytes either start with an ARP packet, whose fields and length are unique, or are rejected with
-/// exactly one error, and never both.
+/// States that any bytes either start with an ARP packet, whose fields and length the bytes determine, or are rejected
+/// with exactly one error, and never both.
 pub fn arp()
     ensures { (bytes : List ℕ) → AreBytes bytes → IsDecided (IsArp bytes) (RefusesArp bytes) }
 {}

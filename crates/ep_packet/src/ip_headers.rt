@@ -61,7 +61,7 @@ impl IpHeaders {
     /// Greatest length in bytes of an IP header with its extension headers: IPv6 with all of them at their maximum.
     pub const MAX_LEN: usize = 9268;
 
-    /// Returns an empty IPv4 header without extension headers, which the caller overwrites.
+    /// Returns a default IPv4 header without extension headers, which the caller overwrites.
     #[inline(always)]
     fn blank() -> IpHeaders
         ensures { result ≡ blank_headers }
@@ -69,8 +69,8 @@ impl IpHeaders {
         IpHeaders::Ipv4(Ipv4Header::default(), Ipv4Extensions { auth: None })
     }
 
-    /// Copies the IP headers of `source` into `self`, which has to be an empty IPv4 header before. The space of absent
-    /// extension headers is not copied.
+    /// Copies the IP headers of `source` into `self`, which must be the default IPv4 header of [`IpHeaders::blank`]
+    /// before the call. Only extension headers that are present are copied, not the unused space of absent ones.
     #[inline(never)]
     fn copy_from(&mut self, source: &IpHeaders)
         requires { self.old ≡ blank_headers }
@@ -130,7 +130,8 @@ impl IpHeaders {
     }
 
     /// Returns the protocol number of the IP payload: the next header of the last extension header, or of the IP header
-    /// without any. It is an error if the next header values do not lead through all extension headers.
+    /// if it has no extension headers. It is an error if the next header values do not lead through all extension
+    /// headers.
     pub fn next_header(&self) -> Result<IpNumber, ExtsWalkError>
         ensures ok { IfOk result (λ last. (parts : List ExtensionPart) × LeadThrough self.now parts last.0) }
         ensures only { (parts : List ExtensionPart) (last : ℕ) → LeadThrough self.now parts last
@@ -169,8 +170,9 @@ impl IpHeaders {
         }
     }
 
-    /// Sets the IPv4 total length or the IPv6 payload length for a payload of `len` bytes. It also counts the extension
-    /// headers, and in IPv4 the header. A length above the maximum is an error, and changes nothing.
+    /// Sets the IPv4 total length or the IPv6 payload length for a payload of `len` bytes after the extension headers.
+    /// The length field also counts the extension headers, and in IPv4 the IPv4 header. If it would exceed 65535,
+    /// returns an error and changes nothing.
     pub fn set_payload_len(&mut self, len: usize) -> Result<(), ValueTooBigError<usize>>
         ensures { MatchResult result
             (λ _. (len + ip_extensions_len self.old ≤ most_after_header self.old)
@@ -216,10 +218,10 @@ impl IpHeaders {
         }
     }
 
-    /// Appends the bytes of the IP header, with its computed checksum, and of the extension headers in the order in
-    /// which the next header values link them. It is an error if these do not lead through all extension headers. On an
-    /// error the buffer is unchanged. It allocates at most once, and only if the buffer has to grow. Each written field
-    /// fits its width on the wire.
+    /// Appends the bytes of the IP header and of its extension headers, in the order in which the next header values
+    /// link them. An IPv4 header gets its computed checksum. It is an error if the next header values do not lead
+    /// through all extension headers, or if the buffer cannot grow; the buffer is then unchanged. It allocates at most
+    /// once, and only if the buffer has to grow. Each written field fits its width on the wire.
     pub fn write(&self, buf: &mut Vec<u8>) -> Result<(), HeadersWriteError>
         ensures ok { OnOk result ((parts : List ExtensionPart) × (last : ℕ) × LeadThrough self.now parts last
             × FitParts parts × (buf.new.items ≡ buf.old.items ++ written_headers self.now parts)) }
@@ -273,8 +275,8 @@ impl IpHeaders {
     }
 
     /// Appends the bytes of the extension headers after the IP header, in the order in which the next header values
-    /// link them. It is an error if these don't lead through all of them, or if the buffer cannot grow; the buffer is
-    /// then unchanged.
+    /// link them. It is an error if the next header values don't lead through all extension headers, or if the buffer
+    /// cannot grow; the buffer is then unchanged.
     fn write_extensions(&self, buf: &mut Vec<u8>) -> Result<(), HeadersWriteError>
         ensures ok { OnOk result ((parts : List ExtensionPart) × (last : ℕ) × LeadThrough self.now parts last
             × FitParts parts × (buf.new.items ≡ buf.old.items ++ parts_bytes parts)) }

@@ -38,10 +38,10 @@ impl IpHeaders {
     ghost use Rattle.ep_ip.specs.IpPackets.{ipv4_part, ipv6_part};
     ghost use Rattle.ep_packet.specs.IpHeaders.{AreOfPart, HasBytes, of_slice_error};
 
-    /// Decodes the IP header at the start of the slice, of the version in its first byte, and its extension headers.
-    /// Returns them with the payload after them, limited by the header's length field, or by the slice if an IPv6
-    /// payload length is 0. A second IPv6 extension header of one kind is left in the payload; a hop-by-hop options
-    /// header that is not the first is an error.
+    /// Decodes the IP header (version 4 or 6) at the start of the slice and its extension headers. Returns these
+    /// headers and the payload after them, limited by the length field of the IP header, or by the slice if an IPv6
+    /// payload length is 0. A second IPv6 extension header of the same kind is left in the payload; a hop-by-hop
+    /// options header that is not the first is an error.
     #[inline(always)]
     pub fn from_slice(slice: &[u8]) -> Result<(IpHeaders, IpPayloadSlice<'_>), HeadersSliceError>
         ensures ok { IfOk result (λ read. (part : IpPart) × IsIp headers slice.now part × AreOfPart part read) }
@@ -82,9 +82,9 @@ impl IpHeaders {
         read_ipv4(slice)
     }
 
-    /// Decodes the IPv6 header at the start of the slice and its extension headers. Returns them with the payload after
-    /// them, limited by the payload length, or by the slice if that is 0. A second extension header of one kind is left
-    /// in the payload; a hop-by-hop options header that is not the first is an error.
+    /// Decodes the IPv6 header at the start of the slice and its extension headers. Returns these headers and the
+    /// payload after them, limited by the payload length field, or by the slice if that field is 0. A second extension
+    /// header of the same kind is left in the payload; a hop-by-hop options header that is not the first is an error.
     #[inline(always)]
     pub fn from_ipv6_slice(
         slice: &[u8],
@@ -174,8 +174,8 @@ pub(crate) fn payload_of_ipv4<'a>(packet: &Ipv4Slice<'a>) -> IpPayloadSlice<'a>
     }
 }
 
-/// Decodes the IPv6 header at the start of the slice and its extension headers, and returns them with their payload.
-/// For a packet without extension headers it doesn't touch the space of those.
+/// Decodes the IPv6 header at the start of the slice and its extension headers, and returns them with their payload. If
+/// the packet has no extension headers, the space for extension headers in the result is not touched.
 #[inline(always)]
 fn read_ipv6(slice: &[u8]) -> Result<(IpHeaders, IpPayloadSlice<'_>), ipv6::SliceError>
     ensures ok { IfOk result (λ read. (packet : IpPacket Ipv6Header) × IsIpv6 headers slice.now packet
@@ -239,8 +239,8 @@ pub(crate) fn is_extension(number: IpNumber) -> bool
         || number == ip_number::IPV6_DESTINATION_OPTIONS
 }
 
-/// Decodes the IPv6 header at the start of the slice. Returns it with the bytes after it, limited by its payload length
-/// (or by the slice, if that is 0), and the source of that limit.
+/// Decodes the IPv6 header at the start of the slice. Returns the header, the bytes after it (limited by the payload
+/// length field, or by the slice if that field is 0), and the source of that limit.
 pub(crate) fn parse_limited(
     slice: &[u8],
 ) -> Result<(Ipv6Header, &[u8], LenSource), ipv6::SliceError>
@@ -273,7 +273,7 @@ pub(crate) fn unsupported(version_number: u8) -> HeadersSliceError
     }))
 }
 
-/// Converts an error of slicing IPv4 headers into an error of IP headers of unknown version.
+/// Converts an error of slicing an IPv4 packet into the error type that IPv4 and IPv6 headers share.
 pub(crate) fn of_ipv4_error(error: ipv4::SliceError) -> HeadersSliceError
     ensures { result ≡ of_slice_error (of_ipv4_error error) }
 {
@@ -291,7 +291,7 @@ pub(crate) fn of_ipv4_error(error: ipv4::SliceError) -> HeadersSliceError
     }
 }
 
-/// Converts an error of slicing IPv6 headers into an error of IP headers of unknown version.
+/// Converts an error of slicing an IPv6 packet into the error type that IPv4 and IPv6 headers share.
 pub(crate) fn of_ipv6_error(error: ipv6::SliceError) -> HeadersSliceError
     ensures { result ≡ of_slice_error (of_ipv6_error error) }
 {

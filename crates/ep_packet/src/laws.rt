@@ -63,10 +63,10 @@ pub fn header_lens()
         → length bytes ≡ transport_len transport }
 {}
 
-/// States how many bytes a length error reports as missing, if its limit is the end of the slice (`Slice` or
-/// `ArpAddrLengths`), its layer is no ICMP timestamp message, and no MACsec tag has a short length above 0. Then the
-/// offset plus `len` is the number of bytes that there are, and `required_len` is more than `len` (`counts`). Once at
-/// least `required_len` less `len` bytes are appended, this check does not fail again (`not_again`).
+/// States how many bytes a length error reports as missing. The offset of the layer plus `len` is the length of the
+/// slice, and `required_len` is more than `len` (`counts`). If at least `required_len` minus `len` bytes are appended,
+/// an error that differs at most in `len` does not occur (`not_again`). Both hold if the length source is `Slice` or
+/// `ArpAddrLengths`, the layer is no ICMP timestamp message, and no MACsec tag has a short length above 0.
 pub fn missing_bytes()
     ensures counts { (reading : Reading) (entry : Entry) (bytes : List ℕ) (error : LenError)
         → RefusesFrameIn reading entry bytes (slice_error.Len error) → HasNoShortLength entry bytes

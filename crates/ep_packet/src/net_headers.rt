@@ -51,7 +51,7 @@ impl NetHeaders {
     ghost use Rattle.ep_packet.specs.NetHeaders.{are_ip, are_ipv4, are_ipv6, are_arp, ip_in, ipv4_in_net, ipv6_in_net};
     ghost use Rattle.ep_packet.specs.NetHeaders.{arp_in_net, net_headers_len, net_headers_of};
 
-    /// Returns an empty IPv4 header without extension headers, which the caller overwrites.
+    /// Returns a default IPv4 header without extension headers, which the caller overwrites.
     #[inline(always)]
     fn blank() -> NetHeaders
         ensures { result ≡ net_headers_of blank_headers }
@@ -59,8 +59,9 @@ impl NetHeaders {
         NetHeaders::Ipv4(Ipv4Header::default(), Ipv4Extensions { auth: None })
     }
 
-    /// Copies the network layer headers of `source` into `self`, which has to be an empty IPv4 header before. The space
-    /// of absent extension headers is not copied.
+    /// Copies the network layer headers of `source` into `self`, which must be the default IPv4 header of
+    /// [`NetHeaders::blank`] before the call. Only extension headers that are present are copied, not the unused space
+    /// of absent ones.
     #[inline(never)]
     fn copy_from(&mut self, source: &NetHeaders)
         requires { self.old ≡ net_headers_of blank_headers }

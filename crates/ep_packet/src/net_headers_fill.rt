@@ -1,6 +1,6 @@
-//! Decoding IP headers into the network layer of a `PacketHeaders`. Headers are large: a value that already contains
-//! headers of the same IP version is overwritten only at headers that are or were present. Any other value is replaced
-//! completely.
+//! Decoding IP headers into the network layer of a `PacketHeaders`. If this layer already contains headers of the same
+//! IP version, only headers that are or were present are overwritten, since the space of all extension headers is
+//! large. Otherwise the whole layer is replaced.
 
 ghost use Rattle.std.specs.Prelude.{◌≡◌, IfOk, IfErr, List, ℕ, Some, None};
 ghost use Rattle.ep_base.specs.IpPayload.{ip_payload_of};
@@ -198,8 +198,8 @@ fn fill_ipv6_extensions<'a>(
     }
 }
 
-/// Copies an IPv6 header into `net`, and decodes the extension headers at the start of `content` into it. Returns the
-/// protocol number of the payload, whether the packet is a fragment, and the bytes of the payload.
+/// Sets `net` to `header` and the extension headers decoded from the start of `content`. Returns the protocol number of
+/// the payload, whether the packet is a fragment, and the bytes of the payload.
 #[inline]
 fn store_ipv6_extensions<'a>(
     net: &mut Option<NetHeaders>,

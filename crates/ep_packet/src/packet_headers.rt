@@ -183,8 +183,8 @@ impl<'a> PacketHeaders<'a> {
         ids
     }
 
-    /// Returns a packet of empty headers, which the caller overwrites. They are IPv4 and TCP, as in most packets, so
-    /// that their space is initialized once.
+    /// Returns a packet with default IPv4 and TCP headers, which the caller overwrites. Most packets have these
+    /// headers, so that their space is initialized once.
     #[inline(always)]
     fn blank() -> PacketHeaders<'a> {
         PacketHeaders {
@@ -196,8 +196,9 @@ impl<'a> PacketHeaders<'a> {
         }
     }
 
-    /// Decodes the packet whose first protocol is `entry` into `self`, whatever it contained. After an error the
-    /// content of `self` is unspecified: headers decoded so far, and headers of the previous packet.
+    /// Decodes the packet whose first protocol is `entry` into `self`, which may contain a previous packet. After an
+    /// error the content of `self` is unspecified: headers decoded so far may be mixed with headers of the previous
+    /// packet.
     #[inline(always)]
     fn fill(&mut self, entry: Entry, bytes: &'a [u8]) -> Result<(), SliceError>
         ensures ok { OnOk result ((layers : Layers) × IsFrameIn headers entry bytes.now layers
@@ -211,7 +212,7 @@ impl<'a> PacketHeaders<'a> {
     }
 
     /// Decodes a packet like [`PacketHeaders::fill`], but is not inlined. The functions that return an owned packet are
-    /// inlined and call it, so that a hot loop zeroes the packet once per frame, and moves it at most once.
+    /// inlined and call this one, so that a hot loop zeroes the packet once per frame, and moves it at most once.
     #[inline(never)]
     fn fill_outlined(&mut self, entry: Entry, bytes: &'a [u8]) -> Result<(), SliceError>
         ensures ok { OnOk result ((layers : Layers) × IsFrameIn headers entry bytes.now layers
@@ -224,8 +225,8 @@ impl<'a> PacketHeaders<'a> {
         self.fill(entry, bytes)
     }
 
-    /// Decodes the packet whose first protocol is `entry` into `self`. [`PacketHeaders::fill`] calls it, and adds the
-    /// contract clauses that follow from those here.
+    /// Decodes the packet whose first protocol is `entry` into `self`. [`PacketHeaders::fill`] calls this function, and
+    /// has two more contract clauses (`only` and `bytes`), which follow from the two here.
     #[inline(always)]
     fn fill_frame(&mut self, entry: Entry, bytes: &'a [u8]) -> Result<(), SliceError>
         ensures ok { OnOk result ((layers : Layers) × IsFrameIn headers entry bytes.now layers

@@ -183,9 +183,9 @@ impl<'a> SlicedPacket<'a> {
         self.transport = None;
     }
 
-    /// Slices a packet whose first protocol is `entry` into `self`, replacing the layers it had; it must have no link
-    /// extensions. After an error its layers are unspecified. Only the code for Ethernet is inlined: with that of all
-    /// first protocols the function would be too large.
+    /// Slices a packet whose first protocol is `entry` into `self`, replacing its link, network and transport layer;
+    /// `link_exts` must be empty before the call. After an error the layers of `self` are unspecified. Only the code
+    /// for Ethernet is inlined: with the code for all first protocols the function would be too large.
     #[inline(always)]
     fn fill(&mut self, entry: Entry, slice: &'a [u8]) -> Result<(), SliceError>
         requires { self.old.link_exts.items ≡ [] }
@@ -286,8 +286,8 @@ impl<'a> SlicedPacket<'a> {
     }
 
     /// Returns the payload after the link layer and link extensions, with its ether type, whether or not a network
-    /// layer was sliced in it; `None` if the type is unknown, or without a link layer. The payload ends with the short
-    /// length of a MACsec tag before it, or else with the slice.
+    /// layer was sliced in it; `None` if the type is unknown, or without a link layer. The payload is limited by the
+    /// short length of a MACsec tag before it (if above 0), or else by the end of the slice.
     pub fn ether_payload(&self) -> Option<EtherPayloadSlice<'a>>
         ensures { option_map ether_payload_of result ≡ ether_payload_in (layers_of self.now) }
     {

@@ -1,8 +1,8 @@
 //! Slicing of a packet from the outside in, layer by layer.
 //!
-//! On `Ok` a function has written each layer that it has a mutable reference to: `net` and `transport` whatever they
-//! were before, `link_exts` only if it was empty. On `Err` their content is unspecified. All functions but
-//! `clear_layers` are inlined into the caller, so that no layer is moved when it is returned.
+//! On `Ok` a function has set each layer that is passed to it as a mutable reference. `net` and `transport` may have
+//! any value before the call, but `link_exts` must be empty. On `Err` the content of these layers is unspecified. All
+//! functions but `clear_layers` are inlined into the caller, so that no layer is moved when it is returned.
 
 ghost use Rattle.std.specs.Prelude.{◌≡◌, ◌+◌, ◌<◌, ◌^◌, [], length, IfOk, IfErr, None, Some};
 ghost use Rattle.std.specs.Option.{option_map};

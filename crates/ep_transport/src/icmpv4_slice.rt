@@ -185,8 +185,8 @@ impl<'a> Icmpv4Slice<'a> {
         }
     }
 
-    /// Decodes the header of the ICMPv4 message into an owned header. Equal to `to_header`; this is its name in the
-    /// Rust crate etherparse.
+    /// Decodes the header of the ICMPv4 message into an owned header. Equal to `to_header`, under the name that the
+    /// Rust crate etherparse uses.
     #[inline]
     pub fn header(&self) -> Icmpv4Header
         ensures { result ≡ icmpv4_slice_header self.now }

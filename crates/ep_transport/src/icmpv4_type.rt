@@ -33,8 +33,8 @@ pub enum Icmpv4Type {
     },
     /// ICMPv4 redirect (type 5).
     Redirect {
-        /// Code of an ICMPv4 redirect, 0 to 3: the datagrams to redirect (0: to the network, 1: to the host, 2 and 3:
-        /// likewise, but only those of a type of service).
+        /// Code of an ICMPv4 redirect, 0 to 3: the datagrams to redirect (0: for the network, 1: for the host, 2: for
+        /// the type of service and network, 3: for the type of service and host).
         code: u8,
         /// IPv4 address of the gateway in an ICMPv4 redirect, bytes 4 to 7.
         gateway: [u8; 4],

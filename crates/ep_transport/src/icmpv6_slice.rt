@@ -138,8 +138,8 @@ impl<'a> Icmpv6Slice<'a> {
         }
     }
 
-    /// Decodes the header of the ICMPv6 message into an owned header. Equal to `to_header`; this is its name in the
-    /// Rust crate etherparse.
+    /// Decodes the header of the ICMPv6 message into an owned header. Equal to `to_header`, under the name that the
+    /// Rust crate etherparse uses.
     #[inline]
     pub fn header(&self) -> Icmpv6Header
         ensures { result ≡ icmpv6_slice_header self.now }
@@ -147,7 +147,8 @@ impl<'a> Icmpv6Slice<'a> {
         self.to_header()
     }
 
-    /// Bytes 4 to 7 of the ICMPv6 message as a big-endian number: the MTU or the pointer.
+    /// Bytes 4 to 7 of the ICMPv6 message as a big-endian number: the MTU of a packet too big message, or the pointer
+    /// of a parameter problem.
     #[inline]
     fn number(&self) -> u32
         ensures { result ≡ long_at (icmpv6_slice_bytes self.now) 4 }

@@ -1,5 +1,5 @@
-//! Theorems (laws) about UDP, TCP, ICMPv4 and ICMPv6. Each law is the contract of a function without an effect; only
-//! `constants` returns values, the default headers.
+//! Theorems (laws) about UDP, TCP, ICMPv4 and ICMPv6. Each law is the contract of a function without effect; of these
+//! functions only `constants` returns values, the default headers.
 
 ghost use Rattle.std.specs.Prelude.{◌≡◌, ◌%◌, ◌≤◌, ◌⊎◌, ◌++◌, ◌↔◌, ℕ, Bool, IsTrue, List, length, take, drop, map, Option, Result, Ok};
 ghost use Rattle.std.specs.Int.{w16, to_be_bytes};
@@ -60,8 +60,8 @@ pub fn tcp()
     ensures { (bytes : List ℕ) → AreBytes bytes → IsDecided (IsTcp bytes) (RefusesTcp bytes) }
 {}
 
-/// States that any bytes of a TCP option list either parse as exactly one option and exactly one remainder, or are at
-/// the end of the list (no bytes left, or kind 0), or are rejected with exactly one error.
+/// States that any unread bytes of a TCP option list either parse as exactly one next option and the bytes after it, or
+/// are the end of the list (no bytes left, or kind 0), or are rejected with exactly one error.
 pub fn tcp_option()
     ensures { (bytes : List ℕ) → AreBytes bytes → IsDecided (IsNextOption bytes) (RefusesOption bytes) }
 {}
@@ -98,18 +98,18 @@ pub fn transport()
         (RefusesTransportPart reading number fragmented bytes) }
 {}
 
-/// States that any IP payload either has exactly one transport layer or none, with exactly one sequence of trailing
-/// bytes (after the end that the UDP length field sets), or is rejected with exactly one error. It holds for the
-/// slicing parser and for the header-decoding parser.
+/// States that parsing the transport layer of any IP payload has exactly one result: a transport layer (or none) with
+/// its trailing bytes, or an error. It holds for the slicing parser, where trailing bytes are those after the end that
+/// the UDP length field sets, and for the header-decoding parser, which has no trailing bytes.
 pub fn transport_with_trailing_bytes()
     ensures { (reading : Reading) (number : ℕ) (fragmented : Bool) (bytes : List ℕ) → AreBytes bytes
         → IsDecided (IsTransportWithTrailingBytes reading number fragmented bytes)
         (RefusesTransportPart reading number fragmented bytes) }
 {}
 
-/// States that a transport layer that the header-decoding parser rejects is rejected by the slicing parser with the
-/// same error. The slicing parser rejects an invalid UDP length field in addition, and nothing else. An IP protocol
-/// other than UDP, TCP, ICMPv4 and ICMPv6 is never rejected.
+/// States that the slicing parser rejects each transport layer that the header-decoding parser rejects, with the same
+/// error. Besides these, the slicing parser rejects only an invalid UDP length field. Neither parser rejects the
+/// payload of an IP protocol other than UDP, TCP, ICMPv4 and ICMPv6.
 pub fn transport_of_headers()
     ensures refused { (number : ℕ) (fragmented : Bool) (bytes : List ℕ) (error : HeaderSliceError)
         → RefusesTransportPart headers number fragmented bytes error
@@ -121,10 +121,11 @@ pub fn transport_of_headers()
         → HasNoHeader number → ¬ RefusesTransportPart reading number fragmented bytes error }
 {}
 
-/// States that in a length error for a transport layer whose `len_source` is the slice, `layer_start_offset + len` is
-/// the number of input bytes, and `required_len` is above `len`. If `required_len - len` or more bytes are appended,
-/// the check that failed passes. ICMPv4 timestamp messages are excepted, because they must have exactly 20 bytes. The
-/// only other `len_source` is the UDP length field.
+/// States how many bytes are missing if a transport layer is rejected with a length error whose `len_source` is
+/// `Slice`: `layer_start_offset + len` is the number of input bytes, and `required_len` is above `len`. With
+/// `required_len - len` or more bytes appended to the input, parsing does not fail at this check again. ICMPv4
+/// timestamp messages are excepted, because they must have exactly 20 bytes. The only other `len_source` is
+/// `UdpHeaderLen`.
 pub fn missing_bytes()
     ensures udp_header { ReportsMissing RefusesUdpHeader }
     ensures udp { ReportsMissing RefusesUdp }
@@ -138,10 +139,10 @@ pub fn missing_bytes()
         → (error.len_source ≡ source.Slice) ⊎ (error.len_source ≡ source.UdpHeaderLen) }
 {}
 
-/// States that if a transport layer is truncated and then rejected, the error is a length error for the missing bytes.
-/// `layer_start_offset + len` is the truncated length, `required_len` is above `len`, and `layer_start_offset +
-/// required_len` is at most the original length. Its `len_source` is the slice. ICMPv4 timestamp messages, which must
-/// have exactly 20 bytes, are included.
+/// States that if a valid transport layer is truncated and then rejected, the error is a length error for the missing
+/// bytes. In this error, `layer_start_offset + len` is the truncated length, `required_len` is above `len`,
+/// `layer_start_offset + required_len` is at most the original length, and `len_source` is `Slice`. This also holds for
+/// ICMPv4 timestamp messages, which must have exactly 20 bytes.
 pub fn truncation()
     ensures udp_header { ReportsTruncation IsUdpHeader RefusesUdpHeader (λ (error : LenError). error) (λ read. slice_end) }
     ensures udp { ReportsTruncation IsUdp RefusesUdp (λ (error : LenError). error) (λ datagram. slice_end) }
@@ -161,9 +162,10 @@ pub fn transport_bytes()
         → IsTransportPart reading number fragmented bytes part → AreTransport bytes part }
 {}
 
-/// States that a UDP datagram or TCP segment with its computed checksum has the one's complement sum 65535 together
-/// with its pseudo header, as a receiver verifies. It holds for any even number of bytes in place of the pseudo header,
-/// and for the bytes of a received TCP segment with its reserved bits. Pseudo headers have an even length.
+/// States that receivers accept computed checksums: the one's complement sum of a pseudo header and a UDP datagram or
+/// TCP segment with its computed checksum is 65535. It holds for any even number of bytes in place of the pseudo
+/// header, and pseudo headers have an even length. It also holds if the checksum is computed from the bytes of a
+/// received TCP segment, whose reserved bits may be set.
 pub fn checksums()
     ensures udp { (pseudo : List ℕ) (header : UdpHeader) (payload : List ℕ) → length pseudo % 2 ≡ 0
         → ones_sum (pseudo ++ (udp_bytes

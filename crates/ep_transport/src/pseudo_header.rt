@@ -9,8 +9,8 @@ use ep_base::IpNumber;
 use ep_base::checksum::Sum16BitWords;
 use ep_base::err::{ValueTooBigError, ValueType};
 
-/// Returns an error if `bytes`, the payload or message of a transport checksum, has more than `max_allowed` bytes and
-/// its length thus does not fit the pseudo header.
+/// Returns an error if `bytes` (a transport payload, or an entire TCP segment) has more than `max_allowed` bytes.
+/// Header and payload are then too long for the length field of the pseudo header.
 #[inline]
 pub(crate) fn check_len(
     bytes: &[u8],

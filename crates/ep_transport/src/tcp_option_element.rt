@@ -19,9 +19,9 @@ pub enum TcpOptionElement {
     WindowScale(u8),
     /// TCP option SACK-permitted: selective acknowledgments may be sent (kind 4; the option has 2 bytes).
     SelectiveAcknowledgementPermitted,
-    /// TCP option selective acknowledgment (SACK): 1 to 4 blocks received after the acknowledgment number, each with
-    /// the sequence number of its first byte and of the byte after its last (kind 5; the option has 10, 18, 26 or 34
-    /// bytes). `None` is an absent block.
+    /// TCP option selective acknowledgment (SACK): 1 to 4 blocks of data received after the acknowledgment number (kind
+    /// 5; the option has 10, 18, 26 or 34 bytes). A block is the sequence number of its first byte, and the sequence
+    /// number after its last byte. `None` is an absent block.
     SelectiveAcknowledgement((u32, u32), [Option<(u32, u32)>; 3]),
     /// TCP option timestamps: timestamp value of the sender, and timestamp echo reply (kind 8; the option has 10
     /// bytes).
@@ -36,8 +36,8 @@ pub enum TcpOptionReadError {
     UnexpectedEndOfSlice {
         /// Kind of the truncated TCP option, its first byte.
         option_id: u8,
-        /// Number of bytes that the truncated TCP option needs from its first byte on: its length, or 2 if the length
-        /// byte of a selective acknowledgment is missing.
+        /// Full length of the truncated TCP option in bytes: the fixed length of its kind, or the length byte of a
+        /// selective acknowledgment. It is 2 if the length byte of a selective acknowledgment is missing.
         expected_len: u8,
         /// Number of bytes from the start of the truncated TCP option to the end of the option list.
         actual_len: usize,
@@ -56,8 +56,8 @@ pub enum TcpOptionReadError {
 }
 
 impl TcpOptionElement {
-    /// Appends the wire bytes of the TCP option (kind, length and data) if all of them fit into 40 bytes. Returns the
-    /// number of these bytes, whether they fit or not.
+    /// Appends the wire bytes of the TCP option (kind, length and data) to the option list `bytes` if the list then has
+    /// at most 40 bytes. Returns the length of the option in bytes, even if it is not appended.
     pub(crate) fn append_if_fits(&self, bytes: &mut ArrayVec<u8, 40>) -> usize
         ensures len { result ≡ length (option_bytes self.now) }
         ensures fits { FitsOption self.now }
@@ -94,8 +94,8 @@ impl TcpOptionElement {
     }
 }
 
-/// Appends the wire bytes `option` of a TCP option to the option list `bytes` if all of them fit into 40 bytes. Returns
-/// the length of `option`, whether it fits or not.
+/// Appends the wire bytes `option` of a TCP option to the option list `bytes` if the list then has at most 40 bytes.
+/// Returns the length of `option` in bytes, even if it is not appended.
 #[inline(always)]
 fn append_bytes_if_fit(bytes: &mut ArrayVec<u8, 40>, option: &[u8]) -> usize
     ensures len { result ≡ length option.now }

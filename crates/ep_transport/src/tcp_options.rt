@@ -86,9 +86,10 @@ impl TcpOptions {
         Ok(TcpOptions::copy_of(slice))
     }
 
-    /// Encodes the TCP options `elements`, and pads them with zero bytes to a multiple of 4. Fails above 40 bytes; the
-    /// length in the error is at most `usize::MAX`. Parsing reads the options back, except that in a selective
-    /// acknowledgment, present blocks are moved before absent ones (`laws::tcp_options_read_back`).
+    /// Encodes the TCP options `elements`, and pads them with zero bytes to a multiple of 4. Fails if the encoded
+    /// options exceed 40 bytes; the error contains their length, limited to `usize::MAX`. Parsing reads the options
+    /// back, except that in a selective acknowledgment, present blocks are moved before absent ones
+    /// (`laws::tcp_options_read_back`).
     pub fn try_from_elements(
         elements: &[TcpOptionElement],
     ) -> Result<TcpOptions, TcpOptionWriteError>

@@ -117,8 +117,8 @@ fn read_option(options: &[u8]) -> Result<(TcpOptionElement, &[u8]), TcpOptionRea
     }
 }
 
-/// Returns an error if the TCP option at the start of `options` is truncated, or its length byte is not `size`, the
-/// length of its kind.
+/// Returns an error if the TCP option at the start of `options` is truncated (fewer than `size` bytes are left), or its
+/// length byte is not `size`. All options of this `kind` have `size` bytes.
 #[inline]
 fn check_size(options: &[u8], kind: u8, size: u8) -> Result<(), TcpOptionReadError>
     requires { 1 < size }

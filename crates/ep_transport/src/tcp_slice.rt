@@ -293,8 +293,8 @@ impl<'a> TcpSlice<'a> {
         }
     }
 
-    /// Decodes the header of the TCP segment with its options, and overwrites `place` with it. The fields are written
-    /// one by one, so no header is moved.
+    /// Decodes the header of the TCP segment with its options, and overwrites the fields of `place` one by one. Unlike
+    /// assigning the result of `to_header`, this copies no complete header.
     #[inline]
     pub fn header_into(&self, place: &mut TcpHeader)
         ensures { place.new ≡ tcp_slice_header self.now }

@@ -43,9 +43,9 @@ pub enum TransportHeader {
 }
 
 impl TransportHeader {
-    /// Parses the transport header at the start of `slice`, the payload of an IP packet with the protocol `number`, and
-    /// returns it with the bytes after it; the UDP length field does not limit them. Returns `None` for a fragment, and
-    /// for a protocol other than UDP, TCP, ICMPv4 and ICMPv6.
+    /// Parses the transport header at the start of `slice` (the payload of an IP packet with the protocol `number`),
+    /// and returns the header with all bytes after it; the UDP length field is not checked. Returns `None` for a
+    /// fragment, and for a protocol other than UDP, TCP, ICMPv4 and ICMPv6.
     pub fn from_ip_number(
         number: IpNumber,
         fragmented: bool,
@@ -101,10 +101,11 @@ impl TransportHeader {
         Ok(None)
     }
 
-    /// Parses the transport header at the start of `slice`, the payload of an IP packet with the protocol `number`,
-    /// into `place`, and returns the bytes after it. For a fragment, and for a protocol other than UDP, TCP, ICMPv4 and
-    /// ICMPv6, `place` becomes `None`, and all bytes are returned. A TCP header overwrites the fields of a previous TCP
-    /// header in `place`, so hot loops move no header. On an error `place` is unchanged.
+    /// Parses the transport header at the start of `slice` (the payload of an IP packet with the protocol `number`)
+    /// into `place`, and returns all bytes after the header. For a fragment, and for a protocol other than UDP, TCP,
+    /// ICMPv4 and ICMPv6, `place` becomes `None`, and all bytes are returned. If `place` already contains a TCP header,
+    /// a new TCP header is decoded into its fields, which saves hot loops copies of complete headers. On an error
+    /// `place` is unchanged.
     pub fn read_into<'a>(
         place: &mut Option<TransportHeader>,
         number: IpNumber,
@@ -153,9 +154,9 @@ impl TransportHeader {
         TransportHeader::fill_without_tcp(place, number, slice)
     }
 
-    /// Parses the UDP, ICMPv4 or ICMPv6 header at the start of an IP payload into `place`, which becomes `None` for
-    /// another protocol; TCP is not accepted. Not inlined, since the caller would then zero stack space for these
-    /// headers with each TCP segment.
+    /// Parses the UDP, ICMPv4 or ICMPv6 header at the start of an IP payload into `place`, and returns the bytes after
+    /// it. For another protocol `place` becomes `None`, and all bytes are returned; `number` must not be TCP. Not
+    /// inlined: otherwise the caller would zero stack space for these headers with each TCP segment.
     #[inline(never)]
     fn fill_without_tcp<'a>(
         place: &mut Option<TransportHeader>,
@@ -379,8 +380,8 @@ impl TransportHeader {
     }
 }
 
-/// Decodes the header of a TCP segment into `place`. If `place` contains a TCP header, its fields are overwritten one
-/// by one, so no header is moved.
+/// Decodes the header of a TCP segment into `place`. If `place` already contains a TCP header, its fields are
+/// overwritten one by one, which copies no complete header.
 fn store_tcp(place: &mut Option<TransportHeader>, segment: &TcpSlice<'_>)
     ensures { place.new ≡ Some (Tcp (tcp_slice_header segment.now)) }
 {
@@ -391,8 +392,8 @@ fn store_tcp(place: &mut Option<TransportHeader>, segment: &TcpSlice<'_>)
     replace_by_tcp(place, segment);
 }
 
-/// Replaces the content of `place` by the decoded header of a TCP segment. Not inlined, since the caller would then
-/// zero stack space for a second header with each segment.
+/// Replaces the content of `place` by the decoded header of a TCP segment. Not inlined: otherwise the caller would zero
+/// stack space for a second header with each segment.
 #[inline(never)]
 fn replace_by_tcp(place: &mut Option<TransportHeader>, segment: &TcpSlice<'_>)
     ensures { place.new ≡ Some (Tcp (tcp_slice_header segment.now)) }

@@ -21,8 +21,8 @@ pub struct UdpHeader {
     pub source_port: u16,
     /// UDP destination port, bytes 2 and 3 of the header.
     pub destination_port: u16,
-    /// Length of UDP header and payload in bytes, bytes 4 and 5 of the header. If it is 0, slicing extends the datagram
-    /// to the end of the slice.
+    /// Length of UDP header and payload in bytes, bytes 4 and 5 of the header. If it is 0, slicing parsers such as
+    /// `UdpSlice::from_slice` extend the datagram to the end of the slice.
     pub length: u16,
     /// Checksum of a UDP datagram, bytes 6 and 7 of the header; 0 if the sender computed none.
     pub checksum: u16,
@@ -86,8 +86,8 @@ impl UdpHeader {
     }
 
     /// Computes the checksum of the UDP datagram (this header and `payload`) in a packet with the IPv4 header
-    /// `ip_header`; the content of `checksum` is ignored, and 0 is returned as 65535. Fails if the payload is above
-    /// 65527 bytes.
+    /// `ip_header`; the content of `checksum` is ignored. A computed checksum of 0 is returned as 65535. Fails if the
+    /// payload is above 65527 bytes.
     pub fn calc_checksum_ipv4(
         &self,
         ip_header: &Ipv4Header,
@@ -102,8 +102,8 @@ impl UdpHeader {
     }
 
     /// Computes the checksum of the UDP datagram (this header and `payload`) sent from the IPv4 address `source` to
-    /// `destination`; the content of `checksum` is ignored, and 0 is returned as 65535. Fails if the payload is above
-    /// 65527 bytes.
+    /// `destination`; the content of `checksum` is ignored. A computed checksum of 0 is returned as 65535. Fails if the
+    /// payload is above 65527 bytes.
     pub fn calc_checksum_ipv4_raw(
         &self,
         source: [u8; 4],
@@ -121,8 +121,8 @@ impl UdpHeader {
     }
 
     /// Computes the checksum of the UDP datagram (this header and `payload`) in a packet with the IPv6 header
-    /// `ip_header`; the content of `checksum` is ignored, and 0 is returned as 65535. Fails if the payload is above
-    /// 4294967287 bytes.
+    /// `ip_header`; the content of `checksum` is ignored. A computed checksum of 0 is returned as 65535. Fails if the
+    /// payload is above 4294967287 bytes.
     pub fn calc_checksum_ipv6(
         &self,
         ip_header: &Ipv6Header,
@@ -137,8 +137,8 @@ impl UdpHeader {
     }
 
     /// Computes the checksum of the UDP datagram (this header and `payload`) sent from the IPv6 address `source` to
-    /// `destination`; the content of `checksum` is ignored, and 0 is returned as 65535. Fails if the payload is above
-    /// 4294967287 bytes.
+    /// `destination`; the content of `checksum` is ignored. A computed checksum of 0 is returned as 65535. Fails if the
+    /// payload is above 4294967287 bytes.
     pub fn calc_checksum_ipv6_raw(
         &self,
         source: [u8; 16],

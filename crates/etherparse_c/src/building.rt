@@ -159,7 +159,7 @@ impl TransportPart for Echo {
     }
 }
 
-/// Writes a frame to the start of the caller's buffer: an Ethernet II header, if wanted, an IP header, a transport
+/// Writes a frame to the start of the caller's buffer: an optional Ethernet II header, an IP header, a transport
 /// header, and the payload. Returns the status for C (0 if the frame is written). Each branch is one inlined chain of
 /// builder calls, so that no builder state is copied.
 #[inline(always)]
@@ -263,8 +263,8 @@ fn icmpv6_echo(is_reply: u8, id: u16, seq: u16) -> Icmpv6Type
     }
 }
 
-/// Converts the result of writing a frame to the status for C: 0 if it is written, 3 if the buffer is too small, 4 if
-/// the payload is too long. Stores in `written` the frame's length (with 0 and 3), or 0 (with 4).
+/// Converts the result of writing a frame to the status for C: 0 if the frame is written, 3 if the buffer is too small,
+/// 4 if the payload is too long. With status 0 and 3, stores the frame's length in `written`; with status 4, stores 0.
 #[inline]
 pub(crate) fn store_written(filled: Filled, written: &mut usize) -> u32
     ensures { MatchResult filled

@@ -103,9 +103,9 @@ pub extern "C" fn etherparse_1_build_tagged_icmp_echo(
 /// Writes the frame of one fragment of an IP datagram to the start of the caller's `buffer`, and its length to
 /// `written`; `payload` has the bytes of this fragment only.
 ///
-/// Returns the status: 0 if the frame is written; 2 if `route`, the fields of the headers, is invalid (IP version, tags
-/// or VLAN identifiers), the fragment offset is not a multiple of 8, or an IPv4 identification has more than 16 bits; 3
-/// if the buffer is too small, and `written` is the needed length; 4 if the payload is too long for the headers' length
+/// Returns the status: 0 if the frame is written; 2 if the IP version, the tags or the VLAN identifiers in `route` are
+/// invalid, or if the fragment offset is not a multiple of 8, or if an IPv4 identification has more than 16 bits; 3 if
+/// the buffer is too small, and `written` is the needed length; 4 if the payload is too long for the headers' length
 /// fields. With any status but 0 the buffer is unchanged.
 #[unsafe(no_mangle)]
 pub extern "C" fn etherparse_1_build_fragment(
@@ -143,7 +143,7 @@ pub extern "C" fn etherparse_1_build_fragment(
     numbers::UNKNOWN_CHOICE
 }
 
-/// Writes a frame to the start of the caller's buffer: an Ethernet II header with up to two VLAN tags, if wanted, an IP
+/// Writes a frame to the start of the caller's buffer: an optional Ethernet II header with up to two VLAN tags, an IP
 /// header, a transport header, and the payload. Returns the status for C (0 if the frame is written).
 #[inline(always)]
 fn build_tagged<Transport: TransportPart>(
@@ -190,8 +190,8 @@ fn write_ip(step: IpStep, number: u8, payload: &[u8], buffer: &mut [u8], written
     )
 }
 
-/// Returns the VLAN tags to build from C's fields, or `None` if there are not one or two tags, or an identifier is
-/// above 4095.
+/// Converts the VLAN fields that C passes to one or two VLAN tags. Returns `None` if the number of tags is neither 1
+/// nor 2, or if the VLAN identifier of one of these tags is above 4095.
 fn route_tags(tagged: &TaggedRoute) -> Option<VlanHeader>
     ensures { result ≡ route_tags tagged.now }
 {

@@ -47,8 +47,8 @@ pub(crate) fn describe(described: &mut Packet, packet: &SlicedPacket<'_>)
 }
 
 /// Writes the headers of a packet (link header, tags, network and transport header) to the struct that C reads, and
-/// returns the offset of the payload in the frame. Link to network header are passed; the transport header is derived
-/// from its slice.
+/// returns the offset of the payload in the frame. The caller passes finished descriptions of the link header, the tags
+/// and the network header, and the slice of the transport header, which is described here.
 #[inline(always)]
 pub(crate) fn describe_headers(
     described: &mut Packet,

@@ -21,8 +21,8 @@ use crate::pool_answer::PoolAnswer;
 use crate::state::State;
 use etherparse::Entry;
 
-/// States that the described offsets of a valid frame are right: at each offset that C gets are the bytes of that
-/// header, and the last payload ends within the frame.
+/// States that the header offsets that C gets for a valid frame are right. The bytes at the offset of each described
+/// header are the bytes of that header, and the payload of the innermost layer ends within the frame.
 pub fn frame_offsets()
     ensures places { (entry : Entry) (bytes : List ℕ) (layers : Layers) (packet : Packet)
         → IsFrame entry bytes layers → packet ≡ description layers → Describes entry bytes layers packet }
@@ -33,8 +33,8 @@ pub fn frame_offsets()
     header_lens();
 }
 
-/// States that the described offsets of a laxly sliced packet are right: at each offset that C gets are the bytes of
-/// that header, and the last payload ends within the packet's bytes.
+/// States that the header offsets that C gets for a laxly sliced packet are right. The bytes at the offset of each
+/// described header are the bytes of that header, and the innermost layer's payload ends within the packet's bytes.
 pub fn lax_offsets()
     ensures places { (entry : Entry) (bytes : List ℕ) (read : LaxLayers) (packet : Packet)
         → IsLax entry bytes read → packet ≡ lax_description read → DescribesLax entry bytes read packet }

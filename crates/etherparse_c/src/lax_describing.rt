@@ -95,16 +95,18 @@ fn lax_end(packet: &LaxSlicedPacket<'_>) -> LenSource
     lax_transport_end(&packet.transport).limited_by(net_end(&packet.net).limited_by(outer))
 }
 
-/// Returns what limits the bytes after the VLAN and MACsec tags of a lax packet: the short length of the innermost
-/// MACsec tag whose short length matches its bytes, or `Slice`, the end of the input.
+/// Returns the length source of the bytes after the VLAN and MACsec tags of a lax packet: `MacsecShortLength` if the
+/// short length of any MACsec tag is not 0 and equals the length of the tag's sliced payload (plus 2 for the ether type
+/// of an unmodified payload), or else `Slice` (the end of the input).
 fn tags_end(packet: &LaxSlicedPacket<'_>) -> LenSource
     ensures { result ≡ tags_end source.Slice (layers_in (lax_layers_of packet.now)).link_exts }
 {
     lax_exts_len_source(packet.link_exts.as_slice())
 }
 
-/// Returns what limits the bytes after these VLAN and MACsec tags: the short length of the innermost MACsec tag whose
-/// short length matches its bytes, or `Slice`, the end of the input.
+/// Returns the length source of the bytes after a packet's VLAN and MACsec tags: `MacsecShortLength` if the short
+/// length of any MACsec tag is not 0 and equals the length of the tag's sliced payload (plus 2 for the ether type of an
+/// unmodified payload), or else `Slice` (the end of the input).
 fn lax_exts_len_source(extensions: &[LaxLinkExtSlice<'_>]) -> LenSource
     ensures { result ≡ tags_end source.Slice (map lax_extension_of extensions.now) }
 {
@@ -117,9 +119,9 @@ fn lax_exts_len_source(extensions: &[LaxLinkExtSlice<'_>]) -> LenSource
     end
 }
 
-/// Returns what limits the payload of a MACsec tag: its short length, if it is not 0 and equals the number of bytes
-/// that are present of the payload (and, if the payload is unmodified, of the ether type before it), or else `outer`,
-/// which limits the bytes that contain the tag.
+/// Returns the length source of a MACsec tag's payload: `MacsecShortLength` if the tag's short length is not 0 and
+/// equals the length of the sliced payload (plus 2 for the ether type of an unmodified payload), or else `outer`, the
+/// length source of the bytes that contain the tag.
 fn macsec_end(packet: &LaxMacsecSlice<'_>, outer: LenSource) -> LenSource
     ensures { result ≡ tag_end outer
         (macsec (lax_macsec_slice_header packet.now) (lax_macsec_slice_payload packet.now)) }

@@ -10,10 +10,10 @@ use crate::slicing::{describe_error, describe_no_layers, entry_of};
 use crate::{laws, numbers};
 use etherparse::LaxSlicedPacket;
 
-/// Slices a packet laxly into its layers up to the first invalid one: it may be truncated, and its length fields may
-/// not match its bytes. `entry` is its first header: 0 Ethernet II, 1 Linux cooked capture, 2 the payload of
-/// `ether_type`, 3 IP of either version; `ether_type` is read for 2 only. Overwrites `packet`. A valid frame is
-/// described as by strict slicing (`etherparse_1_slice`).
+/// Slices a packet laxly into its layers up to the first invalid layer. The packet may be truncated, and its length
+/// fields may not match its bytes. `entry` is the number of the packet's first header: 0 Ethernet II, 1 Linux cooked
+/// capture, 2 the header that `ether_type` identifies, 3 IP of either version. `ether_type` is used only if `entry` is
+/// 2. Overwrites `packet`. A valid frame is described as by strict slicing (`etherparse_1_slice`).
 ///
 /// Returns the status: 0 if `packet` describes the valid layers (with `entry` 2 possibly none), with the error of the
 /// next layer in `packet.refusal` if that layer is invalid; 1 if `entry` is 0, 1 or 3 and the first header is rejected,

@@ -2,7 +2,8 @@
 //! numbers.
 //!
 //! Only reassembly pools keep a pointer or state between calls. An exported function can be misused only by passing a
-//! pointer that is not what its type states. `bindings/c/etherparse.h` declares all of them and documents the numbers.
+//! pointer that does not point to what its type states. `bindings/c/etherparse.h` declares all exported functions, and
+//! documents the numbers.
 #![tactic(auto)]
 
 mod building;

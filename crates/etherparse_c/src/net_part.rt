@@ -20,7 +20,7 @@ use etherparse::{
 };
 
 /// Returns kind, offset and length of the network layer for C: the IP header with its extension headers, or the ARP
-/// packet; kind and length are 0 if there is none. It is at `offset` in the frame.
+/// packet. Kind and length are 0 without a network layer. `offset` is the layer's offset in the frame.
 #[inline(always)]
 pub(crate) fn net_part(net: &Option<NetSlice<'_>>, offset: usize) -> Part
     ensures { let layer = option_map net_layer_of net.now in
@@ -51,8 +51,8 @@ pub(crate) fn net_layer_part(net: &NetSlice<'_>, offset: usize) -> Part
     }
 }
 
-/// Returns kind, offset and length of the network layer of a laxly sliced packet for C; kind and length are 0 if there
-/// is none. It is at `offset` in the frame.
+/// Returns kind, offset and length of the network layer of a laxly sliced packet for C. Kind and length are 0 without a
+/// network layer. `offset` is the layer's offset in the packet.
 #[inline(always)]
 pub(crate) fn lax_net_part(net: &Option<LaxNetSlice<'_>>, offset: usize) -> Part
     ensures { let layer = option_map lax_net_layer_of net.now in

@@ -13,8 +13,8 @@ pub struct Part {
     pub len: usize,
 }
 
-/// VLAN or MACsec tag between the link header and the network layer of a frame; all fields are 0 if the frame has fewer
-/// tags.
+/// One of the three places for VLAN or MACsec tags between the link header and the network layer of a frame. All fields
+/// are 0 if the frame has no tag for this place.
 #[repr(C)]
 #[derive(Clone, Copy)]
 pub struct LinkExt {
@@ -74,9 +74,9 @@ pub struct Refusal {
     /// Layer whose bytes do not have the needed length (`enum etherparse_layer`), for a length error; 0 for other
     /// errors.
     pub layer: u32,
-    /// Length field that limits the bytes available to the layer of a length error, or 0 if the end of the input or the
-    /// short length of a MACsec tag does (`enum etherparse_len_source`). For ARP, 5 states that the address lengths
-    /// determine `required_len`.
+    /// Length field that limits the bytes available to the layer of a length error (`enum etherparse_len_source`), or 0
+    /// if the end of the input or the short length of a MACsec tag limits them. 5 means that the address lengths of an
+    /// ARP packet determine `required_len`. 0 for other errors.
     pub len_source: u32,
     /// Value of the invalid header field, for error kinds that have one (such as the IP version); else 0.
     pub number: u32,
@@ -110,7 +110,7 @@ pub struct Packet {
     pub transport: Part,
     /// Payload of the innermost parsed layer, such as the payload of UDP.
     pub payload: Payload,
-    /// Error if the bytes are not a valid frame, or at which lax slicing stopped; all its fields are 0 if there is no
-    /// error.
+    /// Reason why the bytes are not a valid frame, or the error at which lax slicing stopped. All fields of `refusal`
+    /// are 0 if there is no error.
     pub refusal: Refusal,
 }

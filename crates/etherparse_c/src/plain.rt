@@ -1,9 +1,9 @@
 //! Faster description of plain frames, the common case: IP or ARP after Ethernet II and at most two VLAN tags, or IP
 //! without a link header. UDP and TCP after an IP header without extension headers are described while they are parsed,
-//! without building a `SlicedPacket`; the other layers by slices of the network and the transport layer.
+//! without building a `SlicedPacket`. Other layers are first sliced, and then described from their slices.
 //!
-//! Each function returns false or `None` if the bytes are another frame or no valid frame. The fields of the
-//! description that are written until then are meaningless.
+//! A function that parses or describes bytes returns false or `None` if they are invalid or not of the kind that the
+//! function handles. Fields of the description that it wrote before are then meaningless.
 
 ghost use Rattle.std.specs.Prelude.{◌≡◌, ◌≤◌, ◌⊎◌, IfSome, Option, Some, true};
 ghost use Rattle.etherparse.specs.EtherTypes.{ipv4_type, ipv6_type};
@@ -126,8 +126,9 @@ fn describe_net(described: &mut Packet, offset: usize, ether_type: EtherType, sl
     describe_ip(described, offset, &ip)
 }
 
-/// Parses an unfragmented IP packet without extension headers, IPv4 or IPv6 by the ether type; in IPv6 only one whose
-/// next header is UDP, TCP or ICMPv6. Returns `None` for any other ether type, other packets and invalid bytes.
+/// Parses an unfragmented IP packet without extension headers; the ether type states whether it is IPv4 or IPv6. An
+/// IPv6 packet is parsed only if its next header is UDP, TCP or ICMPv6. Returns `None` for any other ether type, other
+/// packets and invalid bytes.
 #[inline(always)]
 fn ip<'a>(ether_type: EtherType, slice: &'a [u8]) -> Option<PlainIp<'a>>
     ensures { IfSome result (HasPlainIp (net_kind ether_type) slice.now) }

@@ -50,10 +50,10 @@ pub extern "C" fn etherparse_1_pool_free(pool: OwnedPool) {
     let _ = pointer.into_raw_box().into_box();
 }
 
-/// Passes a frame, which may carry an IP fragment, to a reassembly pool. `timestamp` and `channel` are numbers of the
-/// caller: old streams can be dropped by timestamp, and fragments of different channels are never reassembled together.
-/// `entry` is the first header of the frame: 0 Ethernet II, 1 Linux cooked capture, 2 the payload of `ether_type`, 3 IP
-/// of either version.
+/// Passes a frame, which may carry an IP fragment, to a reassembly pool. The caller chooses the numbers `timestamp` and
+/// `channel`: old incomplete datagrams can be dropped by timestamp, and fragments of different channels are never
+/// reassembled together. `entry` is the number of the frame's first header: 0 Ethernet II, 1 Linux cooked capture, 2
+/// the header that `ether_type` identifies, 3 IP of either version.
 ///
 /// Returns the status: 6 if the frame completes a payload, which is copied to the start of `buffer`; 3 if it completes
 /// a payload that is longer than the buffer, and the pool keeps the payload until it is taken or discarded; 0 if it
@@ -86,9 +86,9 @@ pub extern "C" fn etherparse_1_pool_push(
     status
 }
 
-/// Copies the complete payload that a reassembly pool keeps, since an earlier buffer was too small for it, to the start
-/// of `buffer`. Returns status 6 if it is copied; 3 if it is longer than this buffer, and is kept; 0 if the pool keeps
-/// none. With any status but 6 the buffer is unchanged.
+/// Copies a complete payload from a reassembly pool to the start of `buffer`; the pool keeps a payload for which an
+/// earlier buffer was too small. Returns status 6 if the payload is copied; 3 if it is longer than `buffer`, and the
+/// pool still keeps it; 0 if the pool keeps no complete payload. With any status but 6 the buffer is unchanged.
 #[unsafe(no_mangle)]
 pub extern "C" fn etherparse_1_pool_take(
     alloc: Global,
@@ -138,8 +138,9 @@ pub extern "C" fn etherparse_1_pool_streams(alloc: Global, pool: &mut Pool) -> u
     count
 }
 
-/// Returns the number of payload bytes in a reassembly pool: for each incomplete datagram up to the greatest end of its
-/// fragments, and a complete payload that is not yet taken. Takes time linear in the number of datagrams.
+/// Returns the number of payload bytes in a reassembly pool. For each incomplete datagram it counts the bytes from the
+/// start of the payload to the greatest end of its fragments, gaps included; a complete payload that is not yet taken
+/// counts in full. Takes time linear in the number of datagrams.
 #[unsafe(no_mangle)]
 pub extern "C" fn etherparse_1_pool_bytes(alloc: Global, pool: &mut Pool) -> usize
     ensures { Changes pool.old pool.new (ReturnsNumber bytes_in result) }
@@ -208,8 +209,9 @@ struct TimedFrame<'a> {
     channel: u64,
 }
 
-/// Passes a frame to a reassembly pool and returns the status for C. It is 2 if C's number of the frame's first header
-/// is above 3; otherwise it is 8, and the frame is not processed, if the pool still keeps a complete payload.
+/// Passes a frame to a reassembly pool and returns the status for C: 2 if `entry`, the number of the frame's first
+/// header, is above 3; else 8 if the pool still keeps a complete payload, and the frame is not processed; else the
+/// status of the processed frame (0, 1, 3, 5, 6 or 7).
 fn push(
     state: &mut State,
     entry: u32,
@@ -232,8 +234,9 @@ fn push(
     push_frame(state, entry, frame, buffer, answer)
 }
 
-/// Slices a frame and passes it to a reassembly pool that keeps no complete payload. Returns the status for C: 6 or 3
-/// if a payload is complete, 0 if none is, 1 for an invalid frame, 7 for a rejected fragment, 5 if an allocation fails.
+/// Slices a frame and passes it to a reassembly pool that keeps no complete payload. Returns the status for C: 6 if the
+/// frame completes a payload, or 3 if it completes one that is longer than the buffer; 0 if it completes none; 1 for an
+/// invalid frame; 7 for a rejected fragment; 5 if an allocation fails.
 fn push_frame(
     state: &mut State,
     entry: Entry,

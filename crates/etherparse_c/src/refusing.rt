@@ -10,7 +10,8 @@ use etherparse::err::{
     Layer, LenError, ip, ip_auth, ipv4, ipv6, ipv6_exts, linux_sll, macsec, tcp,
 };
 
-/// Converts a slicing error to the numbers that C gets: its kind, and the lengths and layer or the invalid field value.
+/// Converts a slicing error to the numbers that C gets. For a length error these are kind, layer, offset, lengths and
+/// length source; for any other error, its kind and the value of the invalid header field, if it has one.
 pub(crate) fn refusal_part(error: &SliceError) -> Refusal
     ensures { result ≡ refusal_part error.now }
 {

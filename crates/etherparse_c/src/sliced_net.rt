@@ -2,8 +2,8 @@
 //! a link header) from their slices: ARP, IP with extension headers or fragmented, and IP payloads other than UDP and
 //! TCP.
 //!
-//! Each function that returns a `bool` returns false if the bytes are not such a layer. The fields of the description
-//! that are written until then are meaningless.
+//! Each function that returns a `bool` returns false if the bytes are no valid layer of the kind that the function
+//! describes. Fields of the description that the function wrote before are then meaningless.
 
 ghost use Rattle.std.specs.Prelude.{◌≡◌, ◌≤◌, ◌<◌, ◌^◌, ◌+◌, Option, Some, false, true};
 ghost use Rattle.std.specs.Option.{option_map};

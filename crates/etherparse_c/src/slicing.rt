@@ -11,9 +11,9 @@ use crate::{laws, numbers};
 use etherparse::err::packet::SliceError;
 use etherparse::{Entry, EtherType, SlicedPacket};
 
-/// Slices a frame strictly into its layers and describes them in `packet`, which is overwritten. `entry` is its first
-/// header: 0 Ethernet II, 1 Linux cooked capture, 2 the payload of `ether_type`, 3 IP of either version; `ether_type`
-/// is read for 2 only.
+/// Slices a frame strictly into its layers, and overwrites `packet` with their description. `entry` is the number of
+/// the frame's first header: 0 Ethernet II, 1 Linux cooked capture, 2 the header that `ether_type` identifies, 3 IP of
+/// either version. `ether_type` is used only if `entry` is 2.
 ///
 /// Returns the status: 0 if the bytes are a valid frame, which `packet` describes; 1 if they are not, with the error in
 /// `packet`; 2 if `entry` is above 3.
@@ -61,8 +61,8 @@ fn slice_from_entry(entry: u32, ether_type: u16, bytes: &[u8], packet: &mut Pack
     }
 }
 
-/// Converts C's number for the first header of a frame: 0 Ethernet II, 1 Linux cooked capture, 2 the payload of
-/// `ether_type`, 3 IP of either version; `None` for any other number.
+/// Converts C's number `entry` of a frame's first header: 0 Ethernet II, 1 Linux cooked capture, 2 the header that
+/// `ether_type` identifies, 3 IP of either version. Returns `None` for any other number.
 #[inline(always)]
 pub(crate) fn entry_of(entry: u32, ether_type: u16) -> Option<Entry>
     ensures { result ≡ entry_of entry ether_type }

@@ -7,13 +7,14 @@ use crate::numbers;
 use crate::packet::Packet;
 use crate::slicing::{entry_of, etherparse_1_slice};
 
-/// Slices consecutive frames in `bytes` strictly: frame i ends at `ends[i]` and starts at the end of the frame before
-/// it, or at 0. The description of frame i, or its error, is written to `packets[i]`; `sliced` is the number of written
-/// descriptions. The other packets are unchanged.
+/// Slices consecutive frames in `bytes` strictly: frame 0 is `bytes[..ends[0]]`, and frame i is
+/// `bytes[ends[i - 1]..ends[i]]`. The description of frame i, or its error, is written to `packets[i]`; `sliced` is the
+/// number of written elements of `packets`. The other elements are unchanged.
 ///
-/// Returns the status: 0 if all frames are sliced; 3 if there are fewer packets than ends, which is checked first, and
-/// none is sliced; 2 if `entry`, the number of the first header, is above 3, and none is sliced; 2 also if a frame ends
-/// before it starts or after the last byte, and only the frames before it are sliced.
+/// Returns the status: 0 if all frames, valid or not, are sliced; 3 if `packets` is shorter than `ends`, which is
+/// checked first; 2 if `entry` (the number of each frame's first header, as in `etherparse_1_slice`) is above 3. No
+/// frame is sliced with status 3 or such an `entry`. The status is also 2 if a frame's end is less than its start or
+/// greater than the length of `bytes`; only the frames that precede this frame are then sliced.
 #[unsafe(no_mangle)]
 pub extern "C" fn etherparse_1_slice_many(
     entry: u32,

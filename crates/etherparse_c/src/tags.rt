@@ -19,8 +19,8 @@ pub(crate) trait TagSlice {
     /// Decoded VLAN or MACsec tag of a slice, for contracts.
     ghost extension: { Self → LinkExtension };
 
-    /// Returns the description of a VLAN or MACsec tag for C: its kind, VLAN identifier and length; it is at `offset`
-    /// in the frame.
+    /// Returns the description of a VLAN or MACsec tag for C: its kind, VLAN identifier, offset and length. `offset` is
+    /// the tag's offset in the frame, in bytes.
     fn tag_part(&self, offset: usize) -> LinkExt
         ensures { result ≡ tag_part offset (extension self.now) };
 }

@@ -16,8 +16,8 @@ use etherparse::err::{
 use refusal_texts::push_reason_with;
 use std::alloc::{AllocError, Global};
 
-/// Writes the text of a slicing error and a terminating zero byte to the start of `buffer`, and their number of bytes
-/// to `written`. Allocates, and frees the memory before it returns.
+/// Writes the text of a slicing error and a terminating zero byte to the start of `buffer`, and the number of written
+/// bytes, including the zero byte, to `written`. Allocates, and frees the memory before it returns.
 ///
 /// Returns the status: 0 if the text is written; 2 if the numbers in `refusal` are not those of an error; 3 if the
 /// buffer is too small, and `written` is the needed length; 5 if an allocation fails. With any status but 0 the buffer
@@ -41,8 +41,8 @@ pub extern "C" fn etherparse_1_refusal_text(
     }
 }
 
-/// Returns the text of a slicing error with a terminating zero byte. `number` is the invalid field's value, and is
-/// printed in place of the error's own.
+/// Returns the text of a slicing error with a terminating zero byte. `number` is the value of the invalid header field;
+/// it is printed instead of the value that `error` contains.
 fn terminated_text(alloc: Global, error: &SliceError, number: u32) -> Result<Vec<u8>, AllocError>
     ensures { IfOk result (λ text. text.items ≡ reason_text_with error.now number ++ 0 ∷ []) }
 {
@@ -52,8 +52,9 @@ fn terminated_text(alloc: Global, error: &SliceError, number: u32) -> Result<Vec
     Ok(text)
 }
 
-/// Converts the numbers that C got for a slicing error back to the error, with the value of the invalid field set to 0,
-/// since C's number may be too large for that field. Returns `None` if the numbers are not those of an error.
+/// Converts C's numbers of a slicing error to the `SliceError`. The value of an invalid header field in the returned
+/// error is 0, since C's 32 bit value may not fit. Returns `None` if the error kind is unknown, or if it is a length
+/// error with an unknown layer or length source.
 fn error_of_numbers(refusal: &Refusal) -> Option<SliceError>
     ensures { result ≡ error_of_numbers refusal.now }
 {
@@ -84,8 +85,8 @@ fn len_error_of(refusal: &Refusal) -> Option<SliceError>
     }))
 }
 
-/// Converts C's kind of an invalid header field (2 to 14) back to the error, with the field's value set to 0; `None`
-/// for other kinds.
+/// Converts C's error kind (2 to 14: all kinds but a length error) to the error. The value of the invalid header field
+/// in the returned error, if it has one, is 0. Returns `None` for other kinds.
 fn content_error_of(kind: u32) -> Option<SliceError>
     ensures { result ≡ content_error_of kind }
 {
@@ -143,8 +144,8 @@ fn layer_of_number(number: u32) -> Option<Layer>
     }
 }
 
-/// Converts C's number (0 to 5) of a length source, the length field that limits bytes, to the library's value, or
-/// returns `None` for other numbers.
+/// Converts C's number (0 to 5) of a length source to the `LenSource`, or returns `None` for other numbers. A length
+/// source names the length field that limits the bytes of a layer.
 fn source_of_number(number: u32) -> Option<LenSource>
     ensures { result ≡ source_of_number number }
 {

@@ -12,7 +12,7 @@ use etherparse::{EtherType, Ethernet2Header, SingleVlanHeader, SingleVlanSlice, 
 /// Bytes after the Ethernet II header and VLAN tags of a frame, with their ether type.
 #[derive(Drop)]
 pub(crate) struct PayloadAfterVlans<'a> {
-    /// Offset of the bytes after the VLAN tags from the start of the frame.
+    /// Number of bytes from the start of the frame to the first byte after the Ethernet II header and the VLAN tags.
     pub(crate) offset: usize,
     /// Ether type of the bytes after the VLAN tags, such as IPv4.
     pub(crate) ether_type: EtherType,

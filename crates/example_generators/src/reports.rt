@@ -9,8 +9,8 @@ use etherparse::{
     IpHeaders, IpNumber, Ipv6Extensions, Ipv6Header, Ipv6RawExtHeader, PacketBuilder,
 };
 
-/// Builds the Ethernet frame of a UDP datagram with this payload over IPv6 with extension headers (ports 4000 to 53),
-/// and appends it to the buffer.
+/// Builds the Ethernet frame of a UDP datagram with this payload from port 4000 to port 53, over IPv6 with extension
+/// headers, and appends it to the buffer.
 pub fn write_report(payload: &[u8], buf: &mut Vec<u8>) -> Result<(), BuildWriteError>
     ensures { AppendsFrame report_headers payload.now buf.old buf.new result }
 {

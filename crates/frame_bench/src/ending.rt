@@ -35,8 +35,8 @@ impl Ending {
     }
 }
 
-/// Error that has a line of text for standard error. It is implemented by `RunError`: reading, writing or an allocation
-/// failed.
+/// Error that can be printed as a line to standard error. `RunError`, the error of a failed read, write or allocation,
+/// implements it.
 pub trait ErrorText {
     ghost text_of: { Self → List ℕ };
 

@@ -24,8 +24,8 @@ const PIECE_LEN: usize = 65_536;
 /// Reads request lines until the end of the reader, and writes one answer line for each. When it is called, neither the
 /// reader nor the writer may have failed, and the reader may not have ended.
 ///
-/// The reader is read in chunks of at most 64 KiB, as often as its limit of reads allows. The answers to the lines that
-/// end in a chunk are written before the next chunk is read.
+/// The reader is read in chunks of at most 64 KiB. Reading also ends after the maximum number of reads that was given
+/// to `Watched::new`. The answers to the lines that end in a chunk are written before the next chunk is read.
 ///
 /// # Errors
 ///
@@ -116,8 +116,9 @@ impl Session {
         Ok(())
     }
 
-    /// Appends the answer to the request line that ends with `end`, the last part of the line, after the parts that
-    /// earlier chunks had. A line that is within one chunk is not copied.
+    /// Appends the answer to a request line whose line feed was found. `end` is the part of the line in the current
+    /// chunk; if the line began in an earlier chunk, its start is in `self.line`. A line that is within one chunk is
+    /// not copied.
     fn end_line(&mut self, end: &[u8]) -> Result<(), AllocError>
         ensures line { OnOk result (self.new.line.items ≡ []) }
         ensures answer { OnOk result ((before : List (List ℕ)) → HoldsLines before self.old.pool → (answer : List ℕ)

@@ -51,9 +51,9 @@ pub fn decode(text: &[u8], bytes: &mut Vec<u8>) -> Result<bool, AllocError>
     Ok(decode_pairs(text, bytes.as_mut_slice()))
 }
 
-/// Decodes two hexadecimal digits into each byte of `bytes`, and returns whether all are digits. A byte that is not a
-/// digit makes a sum of at least 256. The bits of all sums are collected and checked once at the end, so that there is
-/// no branch for each digit.
+/// Decodes two hexadecimal digits of `text` into each byte of `bytes`, and returns whether `text` has digits only. The
+/// value of a pair, 16 times the first digit plus the second, is 256 or greater if one of them is not a digit. All
+/// values are combined by bitwise OR and checked once at the end, so that there is no branch for each digit.
 fn decode_pairs(text: &[u8], bytes: &mut [u8]) -> bool
     requires { length text.now ≡ 2 * length bytes.old }
     ensures decoded { IsTrue result → decode_of text.now ≡ Ok bytes.new }

@@ -90,8 +90,8 @@ pub fn drop_below(pool: &mut IpDefragPool<u64, u64>, timestamp: u64)
     );
 }
 
-/// Appends the reassembly pool's answer to a frame: `none`, a payload, or the error of a fragment. An allocation
-/// failure has no text and is returned as an error.
+/// Appends the reassembly pool's answer to a frame: `none`, a payload, or the error of a fragment. If the pool's answer
+/// is an allocation failure, appends nothing and returns an error.
 fn push_pool_answer(
     output: &mut Vec<u8>,
     answer: &Result<Option<IpDefragPayloadVec>, IpDefragError>,
@@ -118,8 +118,8 @@ fn push_payload(output: &mut Vec<u8>, payload: &IpDefragPayloadVec) -> Result<()
     hex_text::push(output, payload.payload.as_slice())
 }
 
-/// Appends the line for a fragment that the reassembly pool rejected: `err`, a word for the error, and its numbers. An
-/// allocation failure has no text and is returned as an error.
+/// Appends the line for a fragment that the reassembly pool rejected: `err`, a word for the error, and its numbers. If
+/// `error` is an allocation failure, appends nothing and returns an error.
 fn push_pool_error(output: &mut Vec<u8>, error: &IpDefragError) -> Result<(), AllocError>
     ensures memory { OnOk result (IsFalse (is_allocation_failure error.now)) }
     ensures text { OnOk result (output.new.items ≡ output.old.items ++ pool_error_text error.now) }

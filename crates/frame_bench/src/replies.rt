@@ -50,8 +50,8 @@ fn push_answer(
     }
 }
 
-/// Appends the answer to a parsed request, whose frame, if it has one, is in `bytes`. It changes or replaces the
-/// reassembly pool as the request demands.
+/// Appends the answer to a parsed request. For a `slice` or `frag` request, `bytes` is the frame. A `frag` or `drop`
+/// request can change the reassembly pool, and a `limit` request replaces it.
 fn push_reply(
     alloc: Global,
     output: &mut Vec<u8>,

@@ -17,7 +17,8 @@ use std::alloc::AllocError;
 pub enum Request {
     /// `slice`: print the layers of a frame whose bytes start with this header (Ethernet II, Linux SLL or IP).
     Slice(Entry),
-    /// `frag`: pass a frame to the reassembly pool, and print the payload that it completes, `none`, or its error.
+    /// `frag`: pass a frame to the reassembly pool. Print the payload that the frame completes, `none` if it completes
+    /// none, or the error if the frame is rejected.
     Fragment {
         /// Header that the bytes of the frame start with: Ethernet II, Linux SLL or IP.
         entry: Entry,

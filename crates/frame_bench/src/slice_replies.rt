@@ -175,8 +175,8 @@ pub fn push_refusal(output: &mut Vec<u8>, error: &SliceError) -> Result<(), Allo
     }
 }
 
-/// Appends the line for a slicing error of too few bytes: `err len`, the required and the actual length, the length's
-/// source, the layer, and the position of the layer in the frame.
+/// Appends the line for a slicing error of too few bytes: `err len`, the required and the actual number of bytes, the
+/// source of the actual number (the slice or a length field), the layer, and the layer's offset in the frame.
 fn push_len_error(output: &mut Vec<u8>, error: &LenError) -> Result<(), AllocError>
     ensures { OnOk result (output.new.items ≡ output.old.items ++ refusal_text (SliceError.Len error.now)) }
 {

@@ -1,5 +1,5 @@
-//! Tests of properties that no contract states: answers that are known from outside, and readers and writers that move
-//! few bytes or fail. Most answers from outside are in the folder `cases`, on whose files the built program is run.
+//! Tests of properties that no contract states: known answers to given request lines, and readers and writers that move
+//! few bytes or fail. Most known answers are in the folder `cases`; the built program is run on its files.
 
 mod decimals;
 mod failing;

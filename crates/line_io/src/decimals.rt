@@ -10,13 +10,13 @@ use std::alloc::AllocError;
 /// Number of decimal digits of the greatest 64 bit number.
 const MOST_DIGITS: usize = 20;
 
-/// Least number with more than ten decimal digits. If the buffer has space for ten digits (four for numbers below
-/// 10,000), the digits of smaller numbers are counted by comparisons and appended in one copy.
+/// Least number with more than ten decimal digits. Smaller numbers are appended in a faster way, if the buffer has
+/// space for ten digits (or for four, if the number is below 10,000).
 const SHORT_END: u64 = 10_000_000_000;
 
-/// Appends `text` and then `number` in decimal to `output`. Allocates only if the capacity of `output` is too small. If
-/// the capacity suffices for the text, and the compiler knows that its length is 1 to 11 bytes, the text is copied by a
-/// few moves of constant size instead of a call.
+/// Appends `text` and then `number` in decimal to `output`. Allocates only if the capacity of `output` is too small. A
+/// text whose length is known to the compiler and 1 to 11 bytes is copied by a few moves instead of a call, if the
+/// capacity suffices for the text.
 #[inline(always)]
 pub fn push_with_text(output: &mut Vec<u8>, text: &[u8], number: u64) -> Result<(), AllocError>
     ensures text { OnOk result (output.new.items ≡ output.old.items ++ (text.now ++ decimal number)) }
@@ -59,9 +59,9 @@ pub fn push_with_text(output: &mut Vec<u8>, text: &[u8], number: u64) -> Result<
     push_with_slice(output, text, number)
 }
 
-/// Appends a text of constant length `N` and then a number in decimal. All texts of a length share this function, so
-/// that callers contain only a call. It copies `text` first, since the compiler would otherwise assume that it may
-/// alias `output`.
+/// Appends a text of constant length `N` and then a number in decimal to `output`. The function is not inlined, so that
+/// callers stay small. It copies `text` to a local array first: otherwise the compiler would have to assume that
+/// writing to `output` may change `text`.
 #[inline(never)]
 fn push_with_array<const N: usize>(
     output: &mut Vec<u8>,
@@ -92,8 +92,8 @@ fn push_with_slice(output: &mut Vec<u8>, text: &[u8], number: u64) -> Result<(),
 }
 
 /// Appends a number in decimal, without leading zeros. Allocates only if the capacity of `output` is too small. It is
-/// faster than `write!`: a number below 10,000 with space for four digits, or one below 10^10 with space for ten, is
-/// appended by a few moves, and no branch of this case allocates.
+/// faster than `write!`: with space for ten more bytes in `output`, a number below 10^10 is appended by a few moves;
+/// for a number below 10,000, space for four bytes suffices. No branch of these cases allocates.
 pub fn push(output: &mut Vec<u8>, number: u64) -> Result<(), AllocError>
     ensures text { OnOk result (output.new.items ≡ output.old.items ++ decimal number) }
     ensures full { OnErr result (vec_capacity output.old < vec_len output.old + length (decimal number)) }

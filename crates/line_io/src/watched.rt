@@ -46,8 +46,8 @@ impl<T> Watched<T> {
 }
 
 impl<R: Read> Watched<R> {
-    /// Returns true if the wrapped reader is at its end (a read into a nonempty slice returned 0 bytes), or if no more
-    /// reads are allowed. `read` must not be called then.
+    /// Returns true if the wrapped reader is at its end (a read into a nonempty slice returned 0 bytes), or if the
+    /// maximum number of reads was made. `read` may only be called if this is false.
     pub fn ended(&self) -> bool
         ensures { result ≡ has_ended self.now }
     {

@@ -135,8 +135,8 @@ fn repeated(rt: HostRuntime) {
     );
 }
 
-/// Fragments of a payload of 48 bytes. The final fragment overwrites an earlier fragment with an equal end, and the
-/// last one fills the gap.
+/// Fragments of a payload of 48 bytes. The third one is final (without the more-fragments flag) and overwrites the
+/// second one; the fourth one fills the gap between the first two.
 const LAST_FILLS: [Step; 4] = [
     (0, true, b"abcdefghijklmnop"),
     (4, true, b"ABCDEFGHIJKLMNOP"),

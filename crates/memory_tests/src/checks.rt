@@ -26,8 +26,9 @@ pub fn full(rt: &(impl Abort + Print), alloc: Global, bytes: &[u8]) -> Vec<u8> {
     }
 }
 
-/// Makes one allocation, and prints so if it fails. Tests of calls that must not allocate end with it: if such a call
-/// allocated and hid the failure, no line would report the failed allocation, and the script `refuse.py` finds that.
+/// Makes one allocation, and prints so if it fails. Tests of calls that must not allocate end with this function.
+/// If such a call allocated and hid the failure, no line of the output would report the failed allocation, and the
+/// script `refuse.py` would find that.
 pub fn asks_once(rt: &(impl Abort + Print), alloc: Global) {
     same(rt, &full(rt, alloc, b"abc").len(), &3);
 }

@@ -10,7 +10,7 @@ use std::process::Abort;
 
 type Pool = IpDefragPool<u64, u8>;
 
-/// Returns the number of incomplete datagrams in a reassembly pool, counted by the calls of `retain`.
+/// Returns the number of incomplete datagrams in a reassembly pool: `retain` calls its closure once for each datagram.
 fn streams(pool: &mut Pool) -> u32 {
     let asked = Cell::new(0u32);
     pool.retain(|_timestamp| {
@@ -150,7 +150,7 @@ fn without_memory(rt: HostRuntime) {
 }
 
 /// Tests that a reassembly pool does not allocate for a fragment that ends above its limit, whether its datagram has
-/// begun or not. A new pool of another limit, which replaces the first one, does not allocate either.
+/// begun or not. Creating a pool with another limit does not allocate either.
 #[test]
 fn limits_without_memory(rt: HostRuntime) {
     let mut pool = IpDefragPool::with_limit(rt.alloc(), 8);

@@ -138,8 +138,9 @@ fn answers_within(rt: &(impl Abort + Print), alloc: Global) -> Result<Vec<PoolAn
     }
 }
 
-/// Tests a run whose pool has a limit of 16 bytes. A fragment that ends above it is rejected without an allocation, and
-/// counts among the calls.
+/// Tests that four calls in one list return their results on a pool for payloads of up to 16 bytes, or stop at a failed
+/// allocation. One fragment ends after byte 16: it is rejected without an allocation, and its error is one of the four
+/// results.
 #[test]
 fn of_calls_with_limit(rt: HostRuntime) {
     match answers_within(&rt, rt.alloc()) {

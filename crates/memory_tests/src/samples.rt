@@ -4,8 +4,9 @@ use etherparse::defrag::*;
 use etherparse::*;
 use std::process::Abort;
 
-/// Ethernet II frame with VLAN identifier 1 and an IPv4 fragment: the first 8 bytes of a payload of 16 bytes. The
-/// constants below it are its last 8 bytes, and both fragments of a payload with VLAN identifier 2.
+/// Ethernet II frame with VLAN identifier 1 and an IPv4 fragment: the first 8 bytes of a payload of 16 bytes.
+/// `VLAN_1_LAST` has its last 8 bytes; `VLAN_2_FIRST` and `VLAN_2_LAST` are the fragments of another payload, with VLAN
+/// identifier 2.
 pub const VLAN_1_FIRST: &[u8] =
     b"\x07\x08\x09\x0a\x0b\x0c\x01\x02\x03\x04\x05\x06\x81\x00\x00\x01\x08\x00\
       \x45\x00\x00\x1c\x00\x01\x20\x00\x14\x11\x03\x7d\xc0\xa8\x01\x01\xc0\xa8\x01\x02\
@@ -60,8 +61,8 @@ pub const VLAN_1_PAYLOAD: &[u8] =
 pub const VLAN_2_PAYLOAD: &[u8] =
     b"\x10\x11\x12\x13\x14\x15\x16\x17\x18\x19\x1a\x1b\x1c\x1d\x1e\x1f";
 
-/// Returns the identifier of a datagram in IPv4 fragments, from 192.168.1.1 to 192.168.1.2 with a UDP payload, for the
-/// given identification.
+/// Returns the key under which a reassembly pool stores the fragments of an IPv4 datagram: UDP from 192.168.1.1 to
+/// 192.168.1.2, with the given identification field.
 pub fn name(identification: u16) -> IpFragId<u8> {
     IpFragId {
         vlan_ids: ArrayVec::new(),

@@ -1,5 +1,5 @@
-//! Tests that a reassembly pool uses the memory of payloads that are given back, and of dropped datagrams, for later
-//! ones.
+//! Tests that a reassembly pool uses the memory of dropped datagrams, and of payloads that are given back, for later
+//! datagrams.
 
 use crate::checks::*;
 use crate::samples::*;
@@ -65,8 +65,8 @@ const LONG: Halves = (
     b"efghijkl",
 );
 
-/// Completes a payload of 64 bytes in a reassembly pool, and gives it back if `is_returned` is true. Asserts that a
-/// payload of 16 bytes which is completed after it has no bytes of the long one.
+/// Completes a payload of 64 bytes in a reassembly pool, and gives it back to the pool if `is_returned` is true. Then
+/// completes a payload of 16 bytes, and asserts that it has no bytes of the payload of 64 bytes.
 fn long_then_short(rt: &(impl Abort + Print), alloc: Global, is_returned: bool) {
     let mut pool = IpDefragPool::new(alloc);
     let long = completed(rt, &mut pool, 1, LONG);
@@ -88,8 +88,8 @@ fn given_back(rt: HostRuntime) {
     long_then_short(&rt, rt.alloc(), true);
 }
 
-/// Tests a second datagram after a payload that is not given back to the reassembly pool, so the second one makes the
-/// allocations that its memory would have saved.
+/// Tests that the reassembly of a second datagram allocates again if the payload of the first one was not given back to
+/// the reassembly pool.
 #[test]
 fn not_given_back(rt: HostRuntime) {
     long_then_short(&rt, rt.alloc(), false);
@@ -159,8 +159,8 @@ fn return_foreign_payload(rt: &(impl Abort + Print), alloc: Global, pool: &mut P
     });
 }
 
-/// Tests a reassembly pool whose list of spare vectors is full of given-back payloads. After four datagrams that were
-/// open at once, a second open datagram allocates nothing.
+/// Tests a reassembly pool that had four datagrams open at once, and to which payloads are then given back until its
+/// list of spare vectors is full. While one datagram is open, a second one begins without an allocation.
 #[test]
 fn full_of_vectors(rt: HostRuntime) {
     let mut pool = IpDefragPool::new(rt.alloc());
@@ -189,8 +189,8 @@ fn large_and_empty(rt: HostRuntime) {
     same(&rt, &short.payload.as_slice(), &b"abc".as_slice());
 }
 
-/// Tests a final fragment that only overwrites bytes which the reassembly pool holds: it returns the payload without an
-/// allocation.
+/// Tests a final fragment whose bytes only replace bytes that the reassembly pool already holds. The pool returns the
+/// complete payload and does not allocate.
 #[test]
 fn completes_in_place(rt: HostRuntime) {
     let mut pool = IpDefragPool::new(rt.alloc());

@@ -121,8 +121,8 @@ fn put_octet(text: &mut [u8; DOTTED_LEN], at: usize, octet: u8) -> usize
     put_digit(text, after_second, b'0' + octet % 10, true)
 }
 
-/// Writes a digit at position `at` of the text, and returns the position for the next digit: `at` itself if this digit
-/// is a leading zero (`is_kept` is false), which the next digit then overwrites. There is no branch on the digits.
+/// Writes a digit at position `at` of the text, and returns the position for the next digit: `at + 1`, or `at` if
+/// `is_kept` is false (the digit is a leading zero, and the next digit overwrites it). No branch depends on the digit.
 #[inline]
 fn put_digit(text: &mut [u8], at: usize, digit: u8, is_kept: bool) -> usize
     requires { at < length text.old }
@@ -171,9 +171,9 @@ fn push_groups(output: &mut Vec<u8>, groups: &[u16; 8]) -> Result<(), AllocError
     output.extend_from_slice(&text[..end])
 }
 
-/// Returns the index and the length of the first longest run of zero groups of an IPv6 address; the length is 0 if no
-/// group is 0. The groups are visited from the last to the first, so a run of equal length replaces the longest one
-/// found so far.
+/// Returns the index (0 to 7) of the first group and the number of groups of the longest run of zero groups of an IPv6
+/// address, or of the first such run if several are equally long. The number is 0 if no group is 0. The groups are
+/// visited from the last to the first, so a run of equal length replaces the longest run found so far.
 fn longest_run(groups: &[u16; 8]) -> (usize, usize)
     ensures value { result ≡ longest_zero_run groups.now }
     ensures bound { result.0 + result.1 ≤ 8 }

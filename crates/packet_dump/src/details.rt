@@ -34,8 +34,8 @@ pub fn push_interface(
     }
 }
 
-/// Appends the details of a packet's layers (TTL, TCP window ..), and the packet that an ICMP error quotes, with
-/// `--verbose`.
+/// Appends the details of a packet's layers (TTL, TCP window ..) and, for an ICMP error, the layers of the packet that
+/// the error quotes. Appends nothing without `--verbose` (`wanted` is false).
 pub fn push_wanted_details(
     output: &mut Vec<u8>,
     wanted: bool,
@@ -51,8 +51,8 @@ pub fn push_wanted_details(
     }
 }
 
-/// Appends the details of a packet's layers (TTL, TCP window ..), and then the layers of the packet that an ICMP error
-/// quotes, if it is one.
+/// Appends the details of a packet's layers (TTL, TCP window ..) and then, for an ICMP error, the layers of the packet
+/// that the error quotes.
 fn push_all(output: &mut Vec<u8>, read: &LaxSlicedPacket<'_>) -> Result<(), AllocError>
     ensures { OnOk result ((text : List ℕ) × AreDetails read.now text
         × (output.new.items ≡ output.old.items ++ text)) }
@@ -61,7 +61,7 @@ fn push_all(output: &mut Vec<u8>, read: &LaxSlicedPacket<'_>) -> Result<(), Allo
     push_quote_of(output, quoted_by(read))
 }
 
-/// Returns the bytes of the packet that an ICMP error quotes, or `None` if the packet is no ICMP error.
+/// Returns the bytes of the quoted packet if `read` is an ICMP error, or else `None`.
 fn quoted_by<'a>(read: &LaxSlicedPacket<'a>) -> Option<&'a [u8]>
     ensures { option_copied result ≡ quoted_by read.now }
 {
@@ -82,8 +82,8 @@ fn push_quote_of(output: &mut Vec<u8>, bytes: Option<&[u8]>) -> Result<(), Alloc
     }
 }
 
-/// Appends the layers of the IP packet that an ICMP error quotes, which starts at the first byte, or nothing if the
-/// bytes are no IP packet.
+/// Appends ` quotes` and the layers of the IP packet at the start of `bytes`, the bytes that an ICMP error quotes.
+/// Appends nothing if lax slicing rejects `bytes` as an IP packet.
 fn push_quote(output: &mut Vec<u8>, bytes: &[u8]) -> Result<(), AllocError>
     ensures { OnOk result ((text : List ℕ) × IsQuote bytes.now text
         × (output.new.items ≡ output.old.items ++ text)) }

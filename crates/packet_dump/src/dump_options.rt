@@ -32,8 +32,8 @@ pub enum Kind {
 }
 
 impl Kind {
-    /// Returns the kind of a laxly sliced packet for `--only`, or `None` if it has none, such as IP with another
-    /// protocol.
+    /// Returns the kind of a laxly sliced packet for `--only`, or `None` if it has none, such as an IP packet whose
+    /// protocol is not UDP, TCP or ICMP.
     pub fn of(read: &LaxSlicedPacket<'_>) -> Option<Kind>
         ensures { result ≡ content_kind (packet (lax_layers_of read.now)) }
     {
@@ -127,7 +127,8 @@ pub struct DumpOptions {
     pub timeout: u32,
     /// Maximum length of a reassembled IP payload, in bytes (`--limit`).
     pub limit: u16,
-    /// Maximum number of incomplete IP payloads that are kept for reassembly (`--streams`); one more evicts the oldest.
+    /// Maximum number of incomplete IP payloads that are kept for reassembly (`--streams`). One more evicts the payload
+    /// whose last accepted fragment is oldest.
     pub streams: u64,
 }
 
@@ -140,8 +141,8 @@ impl DumpOptions {
         self.strict || self.reassemble
     }
 
-    /// Returns whether `--quiet` and `--only` let the lines of packets of this kind be printed: without `--quiet`, if
-    /// `--only` names the kind or is missing. The filter options (`--host`, `--port` ..) are not considered here.
+    /// Returns whether the lines of packets of this kind are printed, by `--quiet` and `--only`: never with `--quiet`,
+    /// otherwise if `--only` names the kind or is not given. The filter options (`--host` ..) are not considered here.
     pub fn shows(&self, kind: Option<Kind>) -> bool
         ensures { result ≡ shows_line self.now kind }
     {

@@ -22,7 +22,7 @@ pub enum Ending {
     },
 }
 
-/// Returns the message for standard error if reading or writing failed or memory is exhausted, without its line feed.
+/// Returns the message for standard error, without a line feed, about a failed read, write or allocation.
 pub fn error_text(error: &RunError) -> &'static str
     ensures { result.now ≡ run_error_text error.now }
 {

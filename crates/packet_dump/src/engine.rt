@@ -23,9 +23,9 @@ const PIECE_LEN: usize = 65_536;
 /// Maximum number of reads of a capture: 2^47 reads of 64 KiB each, so that the number of bytes fits in 64 bits.
 pub const MOST_READS: u64 = 0x8000_0000_0000;
 
-/// Reads a capture from `reader` and writes a line for each shown packet to `writer`, until the capture ends, the
-/// wanted number of packets is read, or the capture is invalid; returns which of them. The caller passes a reader and a
-/// writer that have not failed before, and a reader that has not ended.
+/// Reads a capture from `reader` and writes a line for each shown packet to `writer`, until the capture ends, `--count`
+/// packets are read, or the capture is invalid. Returns why the run ended. `reader` and `writer` must not have failed
+/// before, and `reader` must not have ended.
 ///
 /// The capture is read in chunks of 64 KiB, and the lines of a chunk are written before the next chunk is read. The
 /// packets are counted in `summary`, if a summary is wanted. The packets that `--only` and the filter options select,

@@ -15,9 +15,9 @@ pub struct FilterError<'a> {
     pub error: WordError,
 }
 
-/// Parses up to six filter options (such as `--port 53`), each into its slot; unused slots are `None`. They are passed
-/// in reverse order of the command line, so they are parsed from the last: if several are invalid, the error is that of
-/// the first on the command line.
+/// Parses up to six filter options (such as `--port 53`); absent options are `None` in the result. If several are
+/// invalid, returns the error of the first invalid option of the command line: `texts` has the options in reverse order
+/// of the command line, and is parsed from `sixth` to `first`.
 pub fn words_of<'a>(texts: FilterTexts<'a>) -> Result<[Option<Word>; 6], FilterError<'a>>
     ensures ok { IfOk result (AreWords (filter_places texts.entry)) }
     ensures err { OnErr result ((words : List (Option Word)) → AreWords (filter_places texts.entry) words → ⊥) }
@@ -42,7 +42,7 @@ fn slot_of<'a>(text: Option<FilterText<'a>>) -> Result<Option<Word>, FilterError
     }
 }
 
-/// Parses a filter option, such as `--port 53`. On an error, returns its text with the error.
+/// Parses a filter option, such as `--port 53`. If the option's value is invalid, returns the value with the error.
 fn word_of<'a>(text: FilterText<'a>) -> Result<Option<Word>, FilterError<'a>>
     ensures ok { IfOk result (IsSlot (Some text.entry)) }
     ensures err { OnErr result ((slot : Option Word) → IsSlot (Some text.entry) slot → ⊥) }
@@ -56,7 +56,7 @@ fn word_of<'a>(text: FilterText<'a>) -> Result<Option<Word>, FilterError<'a>>
     }
 }
 
-/// Parses the value of a filter option: an address, a port, a network or a VLAN identifier, by its kind.
+/// Parses the value of a filter option as an address, a port, a network or a VLAN identifier, as `kind` requires.
 fn read(kind: FilterKind, text: &str) -> Result<Word, WordError>
     ensures ok { IfOk result (IsWordOf kind text.now) }
     ensures only { (word : Word) → IsWordOf kind text.now word → result ≡ Ok word }

@@ -7,9 +7,9 @@ ghost use Rattle.packet_dump.specs.Summaries.{AddsUp, AreReadPackets, ReadPacket
 ghost use Rattle.packet_dump.specs.Summaries.{parsed_count};
 ghost use Rattle.packet_dump.specs.declared.dump_options.DumpOptions.{DumpOptions};
 
-/// States that a summary counts every packet that was read, and that its rows agree. The packets are those with valid
-/// layers, the refused ones, and those of unsupported link types; the counts of errors add up to the refused and
-/// stopped packets.
+/// States that a summary counts every packet that was read, and that its counts add up. Packets with valid layers,
+/// refused packets and packets of unsupported link types add up to all packets. The counts of the single errors add up
+/// to all refused packets and to all stopped packets (with valid layers up to a truncated or invalid one).
 pub fn sums()
     ensures packets { (options : DumpOptions) (items : List Item) (packets : List ReadPacket) →
         AreReadPackets options at_start items packets → length packets ≡ packets_in items }

@@ -67,8 +67,8 @@ fn push_rest(output: &mut Vec<u8>, read: &LaxSlicedPacket<'_>) -> Result<(), All
     }
 }
 
-/// Appends why a layer is truncated or invalid. If it is a transport header, appends first the fields at its start that
-/// are known.
+/// Appends the error of a truncated or invalid layer. If that layer is a transport header, first appends the known
+/// fields at the header's start.
 fn push_stopped(
     output: &mut Vec<u8>,
     net: &Option<LaxNetSlice<'_>>,
@@ -128,8 +128,8 @@ pub fn push_incomplete(output: &mut Vec<u8>, incomplete: bool) -> Result<(), All
     Ok(())
 }
 
-/// Appends the ports and, for TCP, further fields at the start of a transport header that is not parsed, since it is
-/// truncated or invalid, or in a first fragment.
+/// Appends the ports and, for TCP, further fields at the start of a transport header that is not parsed: the header is
+/// truncated or invalid, or the packet is the first fragment of an IP payload.
 fn push_transport_start(
     output: &mut Vec<u8>,
     net: &Option<LaxNetSlice<'_>>,
@@ -203,8 +203,8 @@ pub fn push_protocol(output: &mut Vec<u8>, number: IpNumber) -> Result<(), Alloc
     push_name(output, number.name())
 }
 
-/// Returns the ether type of the payload after the link header and tags, if no network layer is parsed in that payload.
-/// `None` if one is, or if the ether type is unknown.
+/// Returns the ether type of the payload after the link header and tags, or `None` if a network layer is parsed in that
+/// payload or the ether type is unknown.
 fn open_type(read: &LaxSlicedPacket<'_>) -> Option<EtherType>
     ensures { result ≡ payload_ether_type_in (layers_in (lax_layers_of read.now)) }
 {

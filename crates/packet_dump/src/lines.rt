@@ -77,8 +77,9 @@ pub fn push_line(
     push_behind(output, pooling, summary, options, parts, opening, behind)
 }
 
-/// Appends the line of a packet whose link type is supported, and the further line of a reassembled payload or rejected
-/// fragment. A link header that the program parses itself is already skipped.
+/// Appends the line of a packet whose link type is supported and, with `--reassemble`, a second line if the packet's IP
+/// fragment completes a payload or is rejected; options such as `--only` may hide either. `bytes` is the packet after
+/// its first `opening.skipped` bytes: a link header (such as that of BSD loopback) that slicing does not parse, if any.
 fn push_behind(
     output: &mut Vec<u8>,
     pooling: &mut Pooling,
@@ -101,8 +102,8 @@ fn push_behind(
     }
 }
 
-/// Slices a packet strictly (for `--strict` or `--reassemble`) and appends its line, and the further line of a
-/// reassembled payload or rejected fragment.
+/// Slices a packet strictly (for `--strict` or `--reassemble`) and appends its line and, with `--reassemble`, a second
+/// line if the packet's IP fragment completes a payload or is rejected; options such as `--only` may hide either.
 fn push_checked(
     output: &mut Vec<u8>,
     pooling: &mut Pooling,
@@ -129,8 +130,9 @@ fn push_checked(
     }
 }
 
-/// Appends the line of a packet that strict slicing accepts, and the further line of a reassembled payload or rejected
-/// fragment. The line is printed from lax slicing, which yields equal layers.
+/// Appends the line of a packet that strict slicing accepts and, with `--reassemble`, a second line if the packet's IP
+/// fragment completes a payload or is rejected; options such as `--only` may hide either. The packet's line is printed
+/// from lax slicing, which yields equal layers.
 fn push_frame(
     output: &mut Vec<u8>,
     pooling: &mut Pooling,
@@ -157,8 +159,8 @@ fn push_frame(
     )
 }
 
-/// Passes a valid frame to the reassembly pool, with `--reassemble`, and appends the line of a reassembled payload or
-/// rejected fragment, if there is one.
+/// Passes a valid frame to the reassembly pool, and appends a line if the frame's IP fragment completes a payload or is
+/// rejected, unless the options hide the line. Does nothing without `--reassemble`.
 fn give_where(
     output: &mut Vec<u8>,
     pooling: &mut Pooling,
@@ -184,8 +186,8 @@ fn give_where(
     }
 }
 
-/// Appends the line of a packet that strict slicing rejects: with `--strict` the error, and else the layers that lax
-/// slicing finds.
+/// Appends the line of a packet that strict slicing rejects: with `--strict` the error of strict slicing, otherwise the
+/// valid layers that lax slicing finds, or its error if there are none.
 fn push_no_frame(
     output: &mut Vec<u8>,
     summary: &mut Summary,
@@ -257,8 +259,8 @@ fn push_read(
     }
 }
 
-/// Returns whether a laxly sliced packet has a valid layer: a link header (parsed by the library or by the program
-/// itself), a tag or a network layer.
+/// Returns whether a laxly sliced packet has a valid layer: a link header (Ethernet II or Linux cooked capture), a VLAN
+/// or MACsec tag, or a network layer. A BSD loopback header does not count.
 pub fn has_layer(opening: Opening, read: &LaxSlicedPacket<'_>) -> bool
     ensures { result ≡ has_layer opening (lax_layers_of read.now) }
 {
@@ -383,8 +385,8 @@ fn push_unread_link(output: &mut Vec<u8>, shown: &Shown<'_>) -> Result<(), Alloc
     push_len(output, shown.bytes)
 }
 
-/// Appends the start of a packet's line: the packet's number, its timestamp, and the fields of a link header that the
-/// program parses itself (Linux cooked captures).
+/// Appends the start of a packet's line: the packet's number, its timestamp, and the fields of a Linux cooked capture
+/// header if `packet_dump` parses the header itself, not the etherparse library.
 pub fn push_start(
     output: &mut Vec<u8>,
     form: TimeForm,

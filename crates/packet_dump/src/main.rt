@@ -292,8 +292,8 @@ fn dump(
 }
 
 /// Runs `packet_dump` on an opened input, with a summary and a new capture file of the selected packets (`--write`), if
-/// wanted, and returns the exit status. The new file is created after the input was opened, and only if no file has its
-/// name, so it is never the input.
+/// wanted, and returns the exit status. The new file is created after the input was opened, and only if no file of that
+/// name exists, so the input is never overwritten.
 fn dump_input<R: Read + Drop>(
     rt: &HostRuntime,
     options: DumpOptions,
@@ -418,8 +418,8 @@ fn summarized<W: Write>(
     writer.write_all(text.as_bytes())
 }
 
-/// Prints to standard error why a run on the capture file `path`, or on standard input, failed, if it did, and returns
-/// the exit status: 0 or 1. A failed read was already reported by the reader.
+/// Prints the error of a failed run to standard error, and returns the exit status: 0, or 1 if the run failed. `path`
+/// is the capture file, or `None` for standard input. A failed read is not printed: the reader already reported it.
 fn ended(rt: &impl Eprint, path: Option<&str>, outcome: Result<Ending, RunError>) -> ExitCode
     ensures { exit_status result ≡ status_of outcome }
 {
@@ -442,8 +442,9 @@ fn ended(rt: &impl Eprint, path: Option<&str>, outcome: Result<Ending, RunError>
     }
 }
 
-/// Prints to standard error why a run with `--write` failed, or why packets are missing in the new capture file, if so,
-/// and returns the exit status: 0 or 1. A failed write to that file was already reported by the writer.
+/// Prints to standard error why a run with `--write` failed, or why packets are missing in the new capture file
+/// `name`. Returns the exit status: 0, or 1 if the run failed or packets are missing. A failed write to the new file is
+/// not printed: the writer already reported it.
 fn saved(
     rt: &impl Eprint,
     path: Option<&str>,
@@ -466,7 +467,8 @@ fn saved(
     }
 }
 
-/// Returns a hint for the user about an input that is rejected as a capture, such as that it is compressed, or `None`.
+/// Returns a hint for the user if an input was rejected as a capture because it is compressed (gzip or zstd), or else
+/// `None`.
 fn hint(refusal: Refusal) -> Option<&'static str>
     ensures { option_copied result ≡ hint_text refusal }
 {

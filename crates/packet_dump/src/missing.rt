@@ -73,8 +73,8 @@ fn missing_in(net: &Option<LaxNetSlice<'_>>) -> usize
     }
 }
 
-/// Returns the number of bytes that the capture lacks of the last payload: by the UDP length field, if it is 8 or more,
-/// or else `outer`, the number that the IP payload lacks.
+/// Returns the number of bytes of a packet's last payload that the capture lacks. For UDP with a length field of 8 or
+/// more, this follows from that field; otherwise it is `outer`, the number of bytes that the IP payload lacks.
 fn missing_within(outer: usize, transport: &Option<TransportSlice<'_>>) -> usize
     requires { outer < 2 ^ 17 }
     ensures value { result ≡ missing_within outer (option_map transport_layer_of transport.now) }
@@ -141,8 +141,8 @@ pub fn push_missing_tcp_payload(
     }
 }
 
-/// Appends ` len 0 of N`, or ` len 0` if N is 0, with the length N of the TCP payload after a truncated TCP header of
-/// known length, if the IP payload is TCP.
+/// Appends ` len 0 of N`, or ` len 0` if N is 0, if the IP payload is a TCP segment with a truncated header of known
+/// length. N is the length of the TCP payload after the header; no byte of it is captured.
 fn push_payload_if_tcp(
     output: &mut Vec<u8>,
     missing: usize,
@@ -162,8 +162,9 @@ fn push_payload_if_tcp(
     }
 }
 
-/// Appends ` len 0 of N`, or ` len 0` if N is 0, with the length N of the TCP payload after a truncated TCP header of
-/// known length. `segment_len` is the full length of the segment, and `bytes` are its captured bytes.
+/// Appends ` len 0 of N`, or ` len 0` if N is 0, if the length of a truncated TCP header is known. N is the length of
+/// the TCP payload after the header. `segment_len` is the full length of the segment, and `bytes` are its captured
+/// bytes.
 fn push_tcp_payload_len(
     output: &mut Vec<u8>,
     segment_len: usize,

@@ -15,20 +15,20 @@ use etherparse::{Entry, EtherType};
 use line_io::decimals;
 use std::alloc::AllocError;
 
-/// Where the library starts to parse a packet: the number of bytes to skip (a link header that the program parses
-/// itself), and the layer after them.
+/// Start of parsing in a packet: the library `etherparse` gets the bytes after the first `skipped` ones, and begins at
+/// the layer `entry`. The skipped bytes, if any, are a link header that `packet_dump` itself parses.
 #[derive(Clone, Copy)]
 pub struct Opening {
     /// Layer of a packet at which the library starts to parse, such as Ethernet or IP.
     pub entry: Entry,
-    /// Number of bytes at the start of a packet that the library does not parse: a link header that the program parses
-    /// itself, or 0.
+    /// Number of bytes at the start of a packet that the library does not get, since `packet_dump` itself parses them:
+    /// the length of a BSD loopback or Linux cooked capture header, or 0.
     pub skipped: usize,
 }
 
 impl Opening {
-    /// Returns whether the packet starts with a Linux cooked capture header (version 1 or 2) that the program parses
-    /// itself.
+    /// Returns whether the packet starts with a Linux cooked capture header that the program parses itself: one of
+    /// version 2, or one of version 1 that the library does not parse.
     pub fn is_cooked(&self) -> bool
         ensures { result ≡ is_cooked self.now }
     {
@@ -57,8 +57,8 @@ pub fn opening_of(link_type: u16, bytes: &[u8]) -> Option<Opening>
     }
 }
 
-/// Returns the start of a packet that the library parses from the first byte on, where the layer `entry` (Ethernet, for
-/// example) begins.
+/// Returns the start of parsing in a packet without skipped bytes: the first byte, where the layer `entry` (Ethernet,
+/// for example) begins.
 fn opening_at_start(entry: Entry) -> Opening
     ensures { result ≡ opening_at_start entry }
 {
@@ -83,7 +83,8 @@ fn is_bare_ip(link_type: u16) -> bool
     link_type == 12 || link_type == 14 || link_type == 101 || link_type == 228 || link_type == 229
 }
 
-/// Returns the address family, the first 4 bytes of a BSD loopback packet, in either byte order; 0 if it is above 255.
+/// Returns the address family of a BSD loopback packet: its first 4 bytes as a big-endian number if that is at most
+/// 255, else as a little-endian number. Returns 0 if both numbers are above 255.
 fn loopback_family(bytes: &[u8]) -> u8
     requires { 4 ≤ length bytes.now }
     ensures { result ≡ loopback_family bytes.now }
@@ -104,8 +105,8 @@ fn is_ipv6_family(family: u8) -> bool
     family == 10 || family == 24 || family == 28 || family == 30
 }
 
-/// Returns where the library starts to parse a BSD loopback packet of this address family, after 4 bytes, or `None` if
-/// the family is neither IPv4 nor IPv6.
+/// Returns where the library starts to parse a BSD loopback packet of this address family: at the IPv4 or IPv6 header
+/// after the first 4 bytes. Returns `None` if the family is neither IPv4 nor IPv6.
 fn family_opening(family: u8) -> Option<Opening>
     ensures value { result ≡ family_opening family }
     ensures within { IfSome result (λ opening. opening.skipped ≤ 4) }
@@ -132,25 +133,27 @@ fn loopback_opening(bytes: &[u8]) -> Option<Opening>
     }
 }
 
-/// Returns whether the protocol field of a Linux cooked capture header is no ether type for this hardware type
-/// (ARPHRD): 770 (Frame Relay), 803 (radiotap) or 824 (netlink).
+/// Returns true for the hardware types (ARPHRD) whose Linux cooked capture headers have a protocol field that is not an
+/// ether type: 770 (Frame Relay), 803 (radiotap) and 824 (netlink).
 fn has_no_type(hardware: u16) -> bool
     ensures { result ≡ has_no_type hardware }
 {
     hardware == 770 || hardware == 803 || hardware == 824
 }
 
-/// Returns whether the program parses a Linux cooked capture header with this hardware type (ARPHRD) itself and takes
-/// its protocol field as an ether type. The library does so for Ethernet (1) and loopback (772), and parses the
-/// hardware types whose protocol field is no ether type.
+/// Returns whether the program, not the library, parses a Linux cooked capture header (version 1) with this hardware
+/// type (ARPHRD). The library parses the header for Ethernet (1), for loopback (772), and if the protocol field is not
+/// an ether type (770, 803 and 824). The program parses the header for all other types, and takes the protocol field as
+/// an ether type.
 fn reads_hardware(hardware: u16) -> bool
     ensures { result ≡ reads_hardware hardware }
 {
     !(hardware == 1 || hardware == 772 || has_no_type(hardware))
 }
 
-/// Returns whether the program parses the header of a Linux cooked capture packet itself: it is complete, its packet
-/// type is valid, and its hardware type is not left to the library (`reads_hardware`).
+/// Returns whether the program, not the library, parses the header of a Linux cooked capture packet (version 1). The
+/// header must be complete (16 bytes), with a valid packet type (0 to 7) and a hardware type that `reads_hardware`
+/// accepts.
 fn reads_sll(bytes: &[u8]) -> bool
     ensures value { result ≡ reads_sll bytes.now }
     ensures long { result ≡ true → 16 ≤ length bytes.now }
@@ -158,8 +161,8 @@ fn reads_sll(bytes: &[u8]) -> bool
     bytes.len() >= 16 && word_at(bytes, 0) <= 7 && reads_hardware(word_at(bytes, 2))
 }
 
-/// Returns where the library starts to parse a Linux cooked capture packet (version 1): at its header, or after the 16
-/// bytes of a header that the program parses itself.
+/// Returns where the library starts to parse a Linux cooked capture packet (version 1): after the header of 16 bytes if
+/// the program parses the header (`reads_sll`), else at the header.
 fn sll_opening(bytes: &[u8]) -> Opening
     ensures value { result ≡ sll_opening bytes.now }
     ensures within { result.skipped ≤ length bytes.now }
@@ -193,8 +196,8 @@ fn sll2_opening(bytes: &[u8]) -> Option<Opening>
     }
 }
 
-/// Appends the fields of a Linux cooked capture header (version 1 or 2) that the program parses itself; nothing for
-/// other packets.
+/// Appends the fields of a Linux cooked capture header (version 1 or 2) as text, if the program, not the library,
+/// parses the header. Appends nothing for other packets.
 pub fn push_skipped_header(
     output: &mut Vec<u8>,
     link_type: u16,
@@ -211,8 +214,8 @@ pub fn push_skipped_header(
     }
 }
 
-/// Appends the fields of a Linux cooked capture header (version 1) that the program parses itself: the direction of the
-/// packet, and the sender's address.
+/// Appends ` sll`, the direction of the packet and the sender's address, from the Linux cooked capture header (version
+/// 1) at the start of `bytes`.
 #[tactic(auto, unfolding(crate::specs::Openings::sll_header_text))]
 fn push_sll_header(output: &mut Vec<u8>, bytes: &[u8]) -> Result<(), AllocError>
     requires { 16 ≤ length bytes.now }

@@ -48,7 +48,8 @@ pub struct FilterText<'a> {
     pub text: &'a str,
 }
 
-/// Up to six filter options (such as `--port 53`) as text. `first` is the last one of the command line.
+/// Up to six filter options (such as `--port 53`) as text, in the reverse order of the command line: `first` is the
+/// option given last.
 #[derive(Clone, Copy)]
 pub struct FilterTexts<'a> {
     pub first: Option<FilterText<'a>>,
@@ -185,8 +186,8 @@ pub struct Joined<'a> {
     value: &'a str,
 }
 
-/// Returns the option and the value of an argument such as `--count=5`, or `None` if it is not an option, `=` and a
-/// value.
+/// Returns the option and the value of an argument such as `--count=5`, or `None` if the argument does not have the
+/// form `OPTION=VALUE` with an option that needs a value.
 fn joined_in<'a>(text: &'a str) -> Option<Joined<'a>>
     ensures { option_map joined_parts result ≡ joined_in text.now }
 {
@@ -196,7 +197,7 @@ fn joined_in<'a>(text: &'a str) -> Option<Joined<'a>>
     }
 }
 
-/// Returns an option with its value, or `None` if `word` is not an option that needs a value.
+/// Combines the option `word` with its value. Returns `None` if `word` is not an option that needs a value.
 fn option_with<'a>(word: Word, value: &'a str) -> Option<Joined<'a>>
     ensures { option_map joined_parts result ≡ option_with word value.now }
 {
@@ -269,8 +270,8 @@ impl<'a> Reading<'a> {
         }
     }
 
-    /// Parses one argument of the command line. Returns the request if it is `--help` or `--version`, after which other
-    /// arguments do not matter; `None` to go on.
+    /// Parses one argument of the command line. Returns the request if the argument is the option `--help` or
+    /// `--version`, since all arguments after it are ignored; otherwise returns `None`.
     fn push(&mut self, text: &'a str) -> Result<Option<Request<'a>>, UsageError<'a>>
         ensures { IsStepResult (step (reading_state self.old) text.now) (reading_state self.new) result }
     {
@@ -308,7 +309,8 @@ impl<'a> Reading<'a> {
         Ok(None)
     }
 
-    /// Parses the value of an option, such as the `5` of `--count 5`. Returns `None` to go on with the next argument.
+    /// Parses the value of an option, such as the `5` of `--count 5`. If the value is valid, always returns `None`, so
+    /// that parsing continues with the next argument.
     fn push_value(
         &mut self,
         option: Awaited,
@@ -326,8 +328,8 @@ impl<'a> Reading<'a> {
         Ok(None)
     }
 
-    /// Parses the value of `-r`, the name of the input: a file, even if its name begins with `-`, or `-` for standard
-    /// input. Fails if an input was named already.
+    /// Parses the value of `-r`, the name of the input file, which may begin with `-`; `-` alone means standard input.
+    /// Fails if an input was named already.
     fn push_input(&mut self, text: &'a str) -> Result<Option<Request<'a>>, UsageError<'a>>
         ensures { IsStepResult (named_by (reading_state self.old) text.now (input_in text.now)) (reading_state self.new)
             result }

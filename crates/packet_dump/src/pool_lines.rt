@@ -27,21 +27,21 @@ use etherparse::{IpNumber, LaxSlicedPacket, TransportSlice};
 use packet_filter::{Word, matches_reassembled};
 use std::alloc::{AllocError, Global};
 
-/// Parts of the further line of `--reassemble`, for a reassembled payload or a rejected fragment, after the line of the
-/// packet.
+/// Inputs for the additional line of a packet with `--reassemble`. The line describes the payload that the packet's
+/// fragment completed, or states why the reassembly pool rejected the fragment.
 #[derive(Clone, Copy)]
 struct Further<'a, 'b> {
     options: DumpOptions,
-    /// Start of the line: number and timestamp of the packet with the fragment, and the fields of a link header that
-    /// the program parses itself.
+    /// Start of the line as text: number and timestamp of the packet with the fragment, and the fields of a link header
+    /// that the program, not the library, parses.
     start: &'a [u8],
     /// Layers of the packet with the fragment.
     read: &'a LaxSlicedPacket<'b>,
 }
 
 impl Further<'_, '_> {
-    /// Returns whether the line of a reassembled payload or rejected fragment is printed: not with `--quiet`, and else
-    /// if `--only` selects its kind and all filter options match.
+    /// Returns whether the line of a reassembled payload or rejected fragment is printed: only without `--quiet`, if
+    /// `--only` selects its kind, and if all filter options match.
     fn shows(&self, kind: Option<Kind>, transport: &Option<TransportSlice<'_>>) -> bool
         ensures { result ≡ shows_payload self.now.options (layers_in (lax_layers_of self.now.read.now)) kind
             (option_map transport_layer_of transport.now) }
@@ -65,8 +65,9 @@ fn meets_payload(
         .all(|slot| slot_holds_of(slot, read, transport))
 }
 
-/// Returns whether a reassembled payload matches the filter primitive in a slot (such as `port 53`); an empty slot
-/// matches everything. Its ports are its own; its addresses and VLAN tags are those of the packet that completed it.
+/// Returns whether a reassembled payload matches one slot of the filter: a primitive such as `port 53`, or an empty
+/// slot, which matches everything. Ports are compared with `transport`, the transport layer of the payload; addresses
+/// and VLANs with `read`, the packet that completed the payload.
 fn slot_holds_of(
     slot: &Option<Word>,
     read: &LaxSlicedPacket<'_>,
@@ -81,8 +82,9 @@ fn slot_holds_of(
     }
 }
 
-/// Appends the further line for the reassembly pool's result of a fragment: the reassembled payload, or why the
-/// fragment is rejected; no line if the payload is still incomplete. If the pool could not allocate, returns an error.
+/// Appends the additional line for `answer`, the reassembly pool's result for the fragment of a packet: the reassembled
+/// payload, or why the fragment is rejected. Appends nothing if the payload is still incomplete, or if the options hide
+/// the line. Returns an error if an allocation failed, also one of the pool.
 pub fn push_answer(
     output: &mut Vec<u8>,
     options: &DumpOptions,
@@ -108,8 +110,9 @@ pub fn push_answer(
     push_answer_line(output, &further, answer)
 }
 
-/// Returns the start of a packet's line, which the line of its reassembled payload repeats: number, timestamp, and the
-/// link header that the program parses itself.
+/// Returns the start of a packet's line as text: its number, its timestamp, and the fields of a link header that the
+/// program, not the library, parses. The additional line of a reassembled payload or rejected fragment also starts with
+/// this text.
 fn start_of(alloc: Global, form: TimeForm, parts: &LineParts<'_>) -> Result<Vec<u8>, AllocError>
     ensures { IfOk result (λ start. start.items ≡ parts_start form parts.now) }
 {
@@ -118,8 +121,9 @@ fn start_of(alloc: Global, form: TimeForm, parts: &LineParts<'_>) -> Result<Vec<
     Ok(start)
 }
 
-/// Appends the further line for the reassembly pool's result of a fragment: the reassembled payload, or why the
-/// fragment is rejected; nothing if the payload is still incomplete.
+/// Appends the additional line for `answer`, the reassembly pool's result for the fragment of a packet: the reassembled
+/// payload, or why the fragment is rejected. Appends nothing if the payload is still incomplete, or if the options hide
+/// the line.
 fn push_answer_line(
     output: &mut Vec<u8>,
     further: &Further<'_, '_>,
@@ -190,7 +194,8 @@ fn push_part(
     push_closing(output, further.options.hex, bytes_of_part(bytes, transport))
 }
 
-/// Appends ` reassembled` and the transport layer of a reassembled payload, or else its protocol and length.
+/// Appends ` reassembled` and the transport layer of a reassembled payload, or the payload's protocol and length if it
+/// has no transport layer.
 fn push_reassembled(
     output: &mut Vec<u8>,
     number: IpNumber,
@@ -210,8 +215,8 @@ fn push_reassembled(
     }
 }
 
-/// Returns the payload of a reassembled payload's transport layer, for the hex dump, or all of `bytes` if there is no
-/// transport layer.
+/// Returns the bytes of a reassembled payload for the hex dump: the payload of its transport layer, or all of `bytes`
+/// if there is no transport layer.
 fn bytes_of_part<'a>(bytes: &'a [u8], transport: &Option<TransportSlice<'a>>) -> &'a [u8]
     ensures { result.now ≡ payload_in bytes.now (option_map transport_layer_of transport.now) }
 {
@@ -248,7 +253,7 @@ fn push_reassembled_refusal(output: &mut Vec<u8>, error: HeaderSliceError) -> Re
     push_refusal(output, &frame_error(error))
 }
 
-/// Converts the error of a transport header to the error type of a whole frame, which has a text.
+/// Converts the error of a transport header to the error type of a frame, so that the error can be printed.
 fn frame_error(error: HeaderSliceError) -> SliceError
     ensures { result ≡ frame_error error }
 {

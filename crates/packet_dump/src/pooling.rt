@@ -34,7 +34,8 @@ use std::collections::BTreeMap;
 pub struct Arrival {
     /// Number of the packet in the capture, counted from 1.
     pub number: u64,
-    /// Timestamp of the packet in nanoseconds, or the last known one if the packet has none.
+    /// Timestamp of the packet, or the last known one if the packet has none, in nanoseconds since 2^63 seconds before
+    /// 1970; 0 if none is known.
     pub instant: u128,
 }
 
@@ -48,7 +49,8 @@ pub struct Pooling {
     /// Streams (incomplete payloads) of the reassembly pool, by the number of the packet with their last accepted
     /// fragment: the first one is the oldest.
     names: BTreeMap<u64, IpFragId<u64>>,
-    /// Second of the capture, by packet timestamps, in which streams were last checked for expiry.
+    /// Timestamp of the packet at which streams were last checked for expiry, in whole seconds since 2^63 seconds
+    /// before 1970; 0 before the first check.
     swept: u128,
     /// Number of IP payloads that were reassembled so far.
     reassembled: u64,
@@ -157,8 +159,9 @@ impl Pooling {
         Ok(())
     }
 
-    /// Expires the streams (incomplete payloads) without an accepted fragment since `oldest` (nanoseconds). Does
-    /// nothing unless `second` is later than the second in which streams were last checked for expiry.
+    /// Expires the streams (incomplete payloads) whose last accepted fragment has a timestamp below `oldest`, in
+    /// nanoseconds. Does nothing unless `second`, the timestamp of the current packet in whole seconds, is later than
+    /// that of the last check.
     fn sweep(&mut self, second: u128, oldest: u128)
         ensures { (before : PoolHistory) → HoldsPooling before self.old →
             HoldsPooling (with_sweep before second oldest) self.new }
@@ -237,9 +240,10 @@ fn number_at(pool: &IpDefragPool<Arrival, u64>, name: &IpFragId<u64>) -> Option<
     }
 }
 
-/// Returns the packet number of a stream's last accepted fragment, after the reassembly pool processed one more
-/// fragment: that fragment's packet if it was accepted, the number before if it was rejected, `None` if the payload is
-/// complete. Saves a second lookup in the pool.
+/// Returns the packet number of a stream's last accepted fragment, after the reassembly pool returned `answer` for a
+/// further fragment of the stream. The result is `number` (the packet of the further fragment) if the fragment was
+/// accepted, `stood` (the packet number before) if it was rejected, and `None` if the payload is complete. Saves a
+/// second lookup in the pool.
 fn number_after(
     answer: &Result<Option<IpDefragPayloadVec>, IpDefragError>,
     stood: Option<u64>,
@@ -292,8 +296,8 @@ fn keep_open(names: &mut BTreeMap<u64, IpFragId<u64>>, pool: &IpDefragPool<Arriv
     );
 }
 
-/// Converts a timestamp from nanoseconds to whole seconds. A 64-bit division is used where the nanoseconds since 1970
-/// fit in 64 bits, since it is faster.
+/// Converts a timestamp from nanoseconds to whole seconds, both counted from 2^63 seconds before 1970. For times from
+/// 1970 until 2554 it uses a 64 bit division, which is faster than a 128 bit division.
 fn second_of(instant: u128) -> u128
     ensures { result ≡ instant / 1000000000 }
 {
@@ -304,8 +308,8 @@ fn second_of(instant: u128) -> u128
     }
 }
 
-/// Returns the timestamp (nanoseconds) before which a stream's last accepted fragment is too old, at a packet of time
-/// `this`: `--timeout` seconds earlier.
+/// Returns the timestamp `--timeout` seconds before `this`, the timestamp of the current packet, both in nanoseconds;
+/// at least 0. Streams whose last accepted fragment is older expire.
 fn oldest_from(options: &DumpOptions, this: u128) -> u128
     ensures { result ≡ oldest_from options.now this }
 {

@@ -17,8 +17,8 @@ pub fn push_refusal(output: &mut Vec<u8>, error: &SliceError) -> Result<(), Allo
     push_reason(output, error)
 }
 
-/// Appends ` stopped` and why the layers of a packet end early: the name of the next, invalid layer and the text of the
-/// error.
+/// Appends ` stopped` and why the layers of a packet end early: the name of the first layer that is truncated or
+/// invalid, and the text of the error.
 pub fn push_stop(output: &mut Vec<u8>, error: &SliceError) -> Result<(), AllocError>
     ensures { OnOk result (output.new.items ≡ output.old.items ++ stop_text error.now) }
 {

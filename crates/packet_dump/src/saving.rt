@@ -36,8 +36,8 @@ pub enum SaveFault {
 pub enum SaveState {
     /// No capture file is written: there is no option `--write`.
     Unasked,
-    /// Packets are written to the capture file. The number is the link type of its first packet, or `None` if there was
-    /// none yet.
+    /// Packets are written to the capture file. The value is the link type of the first packet added, or `None` if no
+    /// packet was added yet.
     Open(Option<u16>),
     /// No more packets are written to the capture file, for this reason.
     Stopped(SaveFault),

@@ -46,8 +46,8 @@ fn selects_behind(options: &DumpOptions, opening: Opening, bytes: &[u8]) -> bool
     }
 }
 
-/// Returns whether `--only` and the filter options select a packet with `--strict`, where only complete, valid frames
-/// have layers.
+/// Slices a packet strictly (`--strict`) and returns whether `--only` and the filter options select it. A packet that
+/// is not a complete, valid frame is of kind `refused`, and matches no filter option.
 fn selects_frame(options: &DumpOptions, opening: Opening, bytes: &[u8]) -> bool
     ensures { (content : Content) × HoldsStrictly opening bytes.now content
         × (result ≡ is_wanted options.now content) }

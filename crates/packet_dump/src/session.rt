@@ -24,7 +24,8 @@ use capture_reader::{Advance, CaptureError, CaptureReader};
 use capture_writer::laws::read_back;
 use std::alloc::{AllocError, Global};
 
-/// State of a run after all packets in the bytes read so far: whether and how the capture may end here.
+/// Reason why a run can process no further packet now: the bytes read so far contain no other complete packet, the
+/// number of packets of `--count` is reached, or the capture is invalid.
 #[derive(Clone, Copy)]
 pub enum CaptureState {
     /// The bytes read so far are a complete capture, which may end here or go on.
@@ -57,9 +58,9 @@ pub struct Session {
     options: DumpOptions,
     capture: CaptureReader,
     number: u64,
-    /// Timestamp of the first packet of the capture that has one, in nanoseconds.
+    /// Timestamp of the first packet of the capture that has one, in nanoseconds since 2^63 seconds before 1970.
     first: Option<u128>,
-    /// Timestamp of the last packet read that has one, in nanoseconds; 0 if none has.
+    /// Timestamp of the last packet read that has one, in nanoseconds since 2^63 seconds before 1970; 0 if none has.
     latest: u128,
     pooling: Pooling,
     /// Lines of packets that are built and not yet written.

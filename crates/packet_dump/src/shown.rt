@@ -7,7 +7,7 @@ ghost use Rattle.packet_dump.specs.Shown.{first_after, instant_in, latest_after}
 use capture_reader::Shown;
 use packet_times::instant_of;
 
-/// Returns the timestamp of a packet in nanoseconds, or `None` if it has none.
+/// Returns the timestamp of a packet in nanoseconds since 2^63 seconds before 1970, or `None` if it has none.
 pub fn instant_in(shown: &Shown<'_>) -> Option<u128>
     ensures { result ≡ instant_in (shown_of shown.now) }
 {
@@ -17,8 +17,8 @@ pub fn instant_in(shown: &Shown<'_>) -> Option<u128>
     }
 }
 
-/// Returns the first timestamp of a capture after another packet: `first`, or `this` (the timestamp of that packet) if
-/// no packet before had one.
+/// Returns the first timestamp of a capture once one more packet is read: `first`, if an earlier packet had a
+/// timestamp, or else `this`, the timestamp of the packet.
 pub fn first_after(first: Option<u128>, this: Option<u128>) -> Option<u128>
     ensures { result ≡ first_after first this }
 {
@@ -28,8 +28,8 @@ pub fn first_after(first: Option<u128>, this: Option<u128>) -> Option<u128>
     }
 }
 
-/// Returns the last timestamp of a capture after another packet: `this` (the timestamp of that packet), or `latest` if
-/// that packet has none.
+/// Returns the last timestamp of a capture once one more packet is read: `this`, the timestamp of the packet, or
+/// `latest`, the last one before, if the packet has none.
 pub fn latest_after(latest: u128, this: Option<u128>) -> u128
     ensures { result ≡ latest_after latest this }
 {

@@ -39,8 +39,8 @@ impl Network {
     }
 }
 
-/// Returns true if `bytes` equal `network` once all their bits after the first `bits` are set to 0. Slices of different
-/// lengths are not equal.
+/// Returns true if `bytes`, with all bits after the first `bits` set to 0, equal `network`. Slices of different lengths
+/// are not equal.
 fn has_prefix(bits: u8, bytes: &[u8], network: &[u8]) -> bool
     ensures { result ≡ bytes_eq (network_bytes bits bytes.now) network.now }
 {

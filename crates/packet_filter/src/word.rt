@@ -93,7 +93,8 @@ impl Word {
     }
 }
 
-/// Parses a network: an address and a prefix length with a slash between them. Returns `None` if the text is none.
+/// Parses a network: an address and a prefix length with a slash between them. Returns `None` if the text is not a
+/// network.
 fn network(text: &str) -> Option<Network>
     ensures some { IfSome result (IsPrefix text.now) }
     ensures only { (network : Network) → IsPrefix text.now network → result ≡ Some network }

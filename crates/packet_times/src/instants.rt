@@ -20,7 +20,7 @@ pub fn instant_of(time: Time) -> u128
     seconds_since_origin(time.offset) * SECOND + ticks_to_nanos(time.ticks, time.per_second)
 }
 
-/// Converts seconds relative to the start of 1970 to seconds since 2^63 seconds before it.
+/// Converts seconds since the start of 1970 (negative for earlier times) to seconds since 2^63 seconds before 1970.
 fn seconds_since_origin(offset: i64) -> u128
     ensures value { result ≡ seconds_since_origin offset }
     ensures bound { result < 2 ^ 64 }
@@ -33,8 +33,8 @@ fn seconds_since_origin(offset: i64) -> u128
     }
 }
 
-/// Converts ticks of a timestamp to nanoseconds; a second has `per_second` ticks, and 0 is treated as 1. For
-/// microseconds and nanoseconds, as in most captures, it avoids the slow 128 bit division.
+/// Converts ticks of a timestamp to nanoseconds, with `per_second` ticks in a second; a `per_second` of 0 is treated as
+/// 1. For ticks of a microsecond or a nanosecond, as in most captures, no slow 128 bit division is needed.
 fn ticks_to_nanos(ticks: u64, per_second: u64) -> u128
     ensures value { result ≡ ticks_to_nanos ticks per_second }
     ensures bound { result < 2 ^ 94 }

@@ -5,8 +5,9 @@ ghost use Rattle.packet_times.specs.Calendar.{IsDate, date_of, days_before};
 ghost use Rattle.packet_times.specs.declared.dates.Date.{Date};
 ghost use Rattle.packet_times.specs.declared.instants.TheConstants as instants;
 
-/// States that the number of days since the first day of the year 0 converts to a valid date, and that each valid date
-/// has such a number. 1970 starts with day 719,528, and the year 10,000 with day 3,652,425.
+/// States that each number of days since the first day of the year 0 converts to a valid date, and that the number of
+/// days up to a valid date converts back to that date. 1970 starts with day 719,528, and the year 10,000 with day
+/// 3,652,425.
 pub fn calendar()
     ensures dates { (days : ℕ) → IsDate (date_of days) }
     ensures counted { (date : Date) → IsDate date → date_of (days_before date) ≡ date }

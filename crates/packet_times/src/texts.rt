@@ -43,8 +43,8 @@ pub fn push_utc(output: &mut Vec<u8>, time: Time) -> Result<(), AllocError>
     }
 }
 
-/// Returns the whole seconds of an instant (nanoseconds since 2^63 seconds before 1970). For times from 1970 until 2554
-/// it avoids the slow 128 bit division.
+/// Converts an instant from nanoseconds to whole seconds, both counted from 2^63 seconds before 1970. For times from
+/// 1970 until 2554 it uses a 64 bit division, which is faster than a 128 bit division.
 fn seconds_of(instant: u128) -> u128
     ensures { result ≡ instant / 1000000000 }
 {
@@ -55,8 +55,8 @@ fn seconds_of(instant: u128) -> u128
     }
 }
 
-/// Returns the nanoseconds of an instant after its whole seconds, below 1,000,000,000. For times from 1970 until 2554
-/// it avoids the slow 128 bit division.
+/// Returns the nanoseconds of an instant after its last whole second, below 1,000,000,000. For times from 1970 until
+/// 2554 it uses a 64 bit division, which is faster than a 128 bit division.
 fn subsecond_nanos(instant: u128) -> u32
     ensures value { result ≡ instant % 1000000000 }
     ensures bound { result < 1000000000 }
@@ -187,7 +187,7 @@ fn seconds_in(span: u128) -> u64
     }
 }
 
-/// Returns the nanoseconds of a time span after its whole seconds, below 1,000,000,000.
+/// Returns the nanoseconds of a time span after its last whole second, below 1,000,000,000.
 fn nanos_in(span: u128) -> u32
     ensures value { result ≡ span % 1000000000 }
     ensures bound { result < 1000000000 }

@@ -21,7 +21,7 @@ pub fn push_reason(output: &mut Vec<u8>, error: &SliceError) -> Result<(), Alloc
 }
 
 /// Appends the text of an error of slicing a packet, with `number` in place of the field value that the error contains,
-/// if any. Numbers passed by C may be greater than that field can hold.
+/// if any. `number` may be greater than the field can hold, since C code may pass any number.
 pub fn push_reason_with(
     output: &mut Vec<u8>,
     error: &SliceError,

@@ -6,8 +6,8 @@ use crate::bench_error::BenchError;
 use etherparse::{EtherPayloadSlice, NetSlice, SlicedPacket};
 use std::alloc::Global;
 
-/// Returns the IP packet of each Ethernet frame that slicing accepts and that contains one. Bytes after the end that
-/// its length field states, such as Ethernet padding, are included.
+/// Returns the IP packet of each Ethernet frame that slicing accepts and that contains one. Bytes after the end of the
+/// packet (according to its IP length field), such as Ethernet padding, are included.
 pub fn ip_packets_of<'a>(alloc: Global, frames: &[&'a [u8]]) -> Result<Vec<&'a [u8]>, BenchError>
     ensures err { IfErr result (λ error. error ≡ BenchError.OutOfMemory) }
 {
@@ -42,7 +42,7 @@ fn ip_bytes<'a>(packet: &SlicedPacket<'a>) -> Option<&'a [u8]> {
     }
 }
 
-/// Returns the bytes of a payload that has an ether type, without the ether type.
+/// Returns the bytes of an `EtherPayloadSlice`, without its ether type, or `None` if there is no payload.
 fn payload_bytes(payload: Option<EtherPayloadSlice<'_>>) -> Option<&[u8]> {
     match payload {
         Some(payload) => Some(payload.payload),

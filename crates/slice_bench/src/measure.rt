@@ -26,8 +26,8 @@ pub struct Corpus<'a> {
     pub frame_parts: Vec<FrameParts<'a>>,
 }
 
-/// Measurement of the benchmark program: the library call that it makes on each frame or IP packet of the input file,
-/// or on the decoded headers of those of its first 1,000 frames that the builder supports.
+/// Measurement of the benchmark program. It makes library calls on each frame or IP packet of the input file, or builds
+/// frames from the decoded headers of the first 1,000 frames (except frames that the builder does not support).
 #[derive(Clone, Copy, Debug, PartialEq, Eq)]
 pub enum Measurement {
     /// Slices each Ethernet frame into a new value.

@@ -34,13 +34,14 @@ enum Format {
     Blocks,
 }
 
-/// The packet records or blocks of a generated capture, and the capture reader that reads them in every round with
-/// other timestamps, addresses and ports.
+/// The packet records (pcap) or blocks (pcapng) of a generated capture, without its file header, and the reader that
+/// reads them. They get new timestamps, addresses and ports each time they are read.
 #[derive(Drop)]
 struct Tape {
     format: Format,
     frames: Frames,
-    /// Index of the timestamp of each packet in the bytes of the generated capture after its file header.
+    /// Index of each packet's timestamp in `frames.bytes`. Index 0 is the first byte after the file header of the
+    /// capture.
     times: Vec<usize>,
     reader: CaptureReader,
 }
@@ -53,9 +54,9 @@ struct Report {
     word: Word,
 }
 
-/// Reads a generated capture in each round: pcap, pcapng, and pcap with a snap length of 96 bytes alternate. For each
-/// packet a line is formatted: number, time, ports, details, why it is rejected, and whether a filter accepts it.
-/// Returns the digest of the lines.
+/// Reads one generated capture in each round, in turn a pcap, a pcapng, and a pcap capture with a snap length of 96
+/// bytes. Formats a line for each packet: number, time, whether a filter accepts the packet, ports, details, and the
+/// parsing error, if any. Returns the digest of the lines.
 pub fn read_captures(alloc: Global, rounds: u32, seed: u64) -> Result<Digest, BenchError> {
     let mut numbers = Numbers::new(seed);
     let mut whole = Tape::drawn(alloc, &mut numbers, Format::Classic, usize::MAX)?;
@@ -149,8 +150,8 @@ impl Tape {
         Ok(())
     }
 
-    /// Reads all packets of the generated capture and reports each, after setting times, addresses and ports to values
-    /// derived from `number`.
+    /// Sets times, addresses and ports of the generated capture to values derived from `number`. Then reads all
+    /// packets, and appends a line for each packet to `report`.
     fn read(&mut self, number: u64, report: &mut Report) -> Result<(), BenchError> {
         self.frames.renew(number);
         let mut micros = number.wrapping_mul(37);
@@ -180,7 +181,8 @@ const SECTION_AND_INTERFACE: &[u8] = &[
     9, 0, 0, 0, 0, 0, 0, 0, 32, 0, 0, 0,
 ];
 
-/// Writes the timestamp of a packet into a generated capture at index `at`: `micros` microseconds after the start time.
+/// Writes a packet's timestamp at index `at` of a generated capture. The timestamp is the start time of the capture
+/// (`BEGIN`) plus `micros` microseconds.
 fn put_time(bytes: &mut [u8], at: usize, format: Format, micros: u64) {
     let (first, second) = match format {
         Format::Classic => {

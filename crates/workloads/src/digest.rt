@@ -2,9 +2,9 @@
 
 use etherparse::err::packet::SliceError;
 
-/// A digest of the results of a benchmark job, with the number of calls. It is the sum of all added numbers and the sum
-/// of its intermediate values, as in Fletcher's checksum, so that their order matters. It is cheap compared to a call
-/// of the library.
+/// A digest of the results of a benchmark job, with the number of calls. As in Fletcher's checksum there are two sums:
+/// one of all added numbers, and one of all values that the first sum had, so that the order of the numbers matters.
+/// Adding a number is cheap compared to a call of the library.
 #[derive(Drop)]
 pub struct Digest {
     calls: u64,
@@ -28,7 +28,7 @@ impl Digest {
         self.calls = self.calls.wrapping_add(1);
     }
 
-    /// Adds a number to the digest, as a field of a parsed packet.
+    /// Adds a number to the digest, for example a field of a parsed packet.
     #[inline]
     pub fn add(&mut self, number: u64) {
         self.sum = self.sum.wrapping_add(number);
@@ -47,8 +47,8 @@ impl Digest {
         }
     }
 
-    /// Adds bytes to the digest, as those of a built frame: eight at a time as a little endian number, the rest singly,
-    /// and then their count.
+    /// Adds bytes to the digest, for example a built frame: eight at a time as a little endian number, the last up to 7
+    /// bytes singly, and then the number of all bytes.
     pub fn add_bytes(&mut self, bytes: &[u8]) {
         let (mut sum, mut sums) = (self.sum, self.sums);
         let words = bytes.chunks_exact(8);

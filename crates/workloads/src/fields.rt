@@ -38,10 +38,11 @@ pub fn low_16(number: u64) -> u16 {
 /// both stays valid for any number.
 #[derive(Clone, Copy)]
 pub struct Balance {
-    /// Index in the frame of a 16 bit field whose one's complement another field contains.
+    /// Index of a 16 bit field that can be set to any number: from the start of the frame, or after `moved` from the
+    /// start of the vector that contains the frame.
     pub number: usize,
-    /// Index in the frame of the 16 bit field that contains the one's complement of another field, so that checksums
-    /// stay valid.
+    /// Index, from the same start, of the 16 bit field that is set to the one's complement of the field at `number`, so
+    /// that checksums stay valid.
     pub complement: usize,
 }
 
@@ -65,8 +66,8 @@ impl Balance {
         put_16(bytes, self.complement, 65_535 - number);
     }
 
-    /// Returns the positions of the two 16 bit fields moved by `by` bytes, or `NONE` unless both start below index
-    /// `len`.
+    /// Returns the positions of the two 16 bit fields moved by `by` bytes, or `NONE` unless both are less than `len`
+    /// before the move.
     pub fn moved(&self, by: usize, len: usize) -> Balance {
         if self.number < len && self.complement < len {
             Balance {

@@ -18,7 +18,8 @@ use std::alloc::Global;
 /// Maximum payload of an IPv4 fragment in an Ethernet frame, in bytes.
 const PIECE_LEN: usize = 1_480;
 
-/// Maximum payload of an IPv6 fragment in an Ethernet frame, in bytes: a multiple of 8, after IPv6 and fragment header.
+/// Maximum payload of an IPv6 fragment in an Ethernet frame, in bytes: 1,500 minus IPv6 header (40) and fragment header
+/// (8), rounded down to a multiple of 8.
 const PIECE_LEN_IPV6: usize = 1_448;
 
 /// Index in an Ethernet frame at which the payload of an IPv4 fragment starts: 14 bytes Ethernet II and 20 bytes IPv4.
@@ -41,11 +42,11 @@ const TURNS: u64 = 7;
 /// Size of a group of fragmented datagrams that are reassembled at the same time.
 #[derive(Clone, Copy)]
 struct FragmentGroup {
-    /// Number of datagrams whose fragments arrive alternately.
+    /// Number of datagrams in the group; their fragments arrive interleaved.
     streams: u64,
     /// Maximum number of fragments of a datagram; each datagram has at least two.
     most_fragments: u64,
-    /// Payload length of all fragments of a datagram but the last, in bytes; over IPv6 at most 1,448.
+    /// Payload length in bytes of each fragment of a datagram except the last one. For IPv6 it is limited to 1,448.
     piece_len: usize,
 }
 
@@ -76,7 +77,8 @@ enum ArrivalPattern {
     NeverEnds,
 }
 
-/// A stream, the fragments of one datagram: IP version, number and lengths of the fragments, and their order.
+/// Description of a fragmented datagram: its number, its IP version, count and lengths of its fragments, and the order
+/// in which they arrive.
 #[derive(Clone, Copy)]
 struct Stream {
     number: u64,
@@ -104,9 +106,9 @@ pub struct Reassembly {
     pub digest: Digest,
 }
 
-/// Passes the fragments of a thousand datagrams (fifty thousand in each 32nd round) alternately to a reassembly pool,
-/// with unfragmented frames between them. Returned payloads are given back to the pool; incomplete datagrams expire
-/// after some time. Returns the digest of all results.
+/// Passes interleaved fragments of 1,000 datagrams in each round (50,000 in each 32nd round) to a reassembly pool, and
+/// unfragmented frames between them. Buffers of reassembled payloads are given back to the pool for reuse; incomplete
+/// datagrams expire after some seconds of simulated time. Returns the digest of all results.
 pub fn reassemble_streams(alloc: Global, rounds: u32, seed: u64) -> Result<Digest, BenchError> {
     let mut reassembly = Reassembly::new(alloc, seed)?;
     let mut first = (seed % 65_536).wrapping_mul(65_536);
@@ -162,8 +164,8 @@ impl Reassembly {
         Ok(reassembly)
     }
 
-    /// Passes the fragments of a group of datagrams alternately to the reassembly pool. The datagrams have the numbers
-    /// from `first` on.
+    /// Passes the fragments of a group of datagrams to the reassembly pool: first one fragment of each datagram, then
+    /// the next one of each, and so on. The datagrams are numbered consecutively, starting with `first`.
     fn process_group(&mut self, group: FragmentGroup, first: u64) -> Result<(), BenchError> {
         for turn in 0..TURNS {
             for index in 0..group.streams {
@@ -221,8 +223,8 @@ impl Reassembly {
         Ok(())
     }
 
-    /// Passes an IPv4 fragment of 8 bytes to the reassembly pool: fragment `place` of the datagram with this number.
-    /// `more` states whether more fragments follow.
+    /// Passes an IPv4 fragment with 8 bytes of payload to the reassembly pool. The fragment belongs to datagram
+    /// `number`, its offset is `place` (in units of 8 bytes), and `more` is its more-fragments flag.
     pub fn process_short_fragment(
         &mut self,
         number: u64,
@@ -269,8 +271,8 @@ impl Reassembly {
     }
 }
 
-/// Parses a frame and passes it to a reassembly pool, with `second` as timestamp. Adds the result to the digest, and
-/// gives a returned payload back to the pool.
+/// Parses a frame and passes it to a reassembly pool, with `second` as timestamp. Adds the result to the digest. The
+/// buffer of a reassembled payload is given back to the pool for reuse.
 fn give(
     pool: &mut IpDefragPool<u64, u64>,
     digest: &mut Digest,
@@ -321,8 +323,8 @@ impl Stream {
         }
     }
 
-    /// Returns the index of the fragment that arrives as number `turn` of its datagram, from 0 on, or `None` if no more
-    /// arrive.
+    /// Returns the index (from 0) of the fragment that arrives after `turn` earlier fragments of the datagram, or
+    /// `None` if no further fragment arrives.
     fn place_at(&self, turn: u64) -> Option<u64> {
         let place = match self.order {
             ArrivalPattern::Backwards if turn < self.fragments => self.fragments - 1 - turn,

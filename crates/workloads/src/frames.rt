@@ -34,8 +34,8 @@ pub struct Place {
     pub net: usize,
     /// Index in the vector of all frames at which the frame ends.
     pub end: usize,
-    /// Positions of the lower 16 bits of the frame's source and destination IP address, the second the complement of
-    /// the first.
+    /// Positions in the vector of all frames: lower 16 bits of this frame's source IP address, and lower 16 bits of its
+    /// destination IP address, which are set to the one's complement of the former.
     pub addresses: Balance,
     /// Positions of the frame's source port (or of another field that distinguishes frames), and of a second field that
     /// is set to its one's complement, so that the checksum stays valid.
@@ -43,8 +43,8 @@ pub struct Place {
 }
 
 impl Place {
-    /// Sets the frame's IP addresses, ports and source hardware address to values derived from `number`. Its lower 32
-    /// bits are the end of the hardware address, so numbers below 2^32 produce distinct frames.
+    /// Sets the frame's IP addresses, ports and source hardware address to values derived from `number`. The last four
+    /// bytes of the hardware address are the lower 32 bits of `number`, so numbers below 2^32 produce distinct frames.
     #[inline]
     pub fn renew(&self, bytes: &mut [u8], number: u64) {
         put_32(
@@ -119,8 +119,8 @@ impl Frames {
         Ok(Frames { bytes, places })
     }
 
-    /// Sets the addresses and ports of all generated frames to new values: the first frame has this number, and each
-    /// frame the next one.
+    /// Sets the addresses and ports of each generated frame to values derived from its frame number. The first frame
+    /// gets `number`, and each later frame the next higher number.
     pub fn renew(&mut self, number: u64) {
         let mut number = number;
         for place in self.places.as_slice() {

@@ -11,7 +11,7 @@ use crate::slicing::slice_frames;
 use crate::unusual::slice_unusual;
 use std::alloc::Global;
 
-/// A job of the benchmark: work with packets that users of the library wait for.
+/// A job of the benchmark: packet processing whose duration matters to users of the library.
 #[derive(Clone, Copy)]
 pub enum Job {
     /// Reads pcap and pcapng captures, and formats a line for each packet.

@@ -1,4 +1,5 @@
-//! Runs jobs that users of the library wait for, over generated inputs, and prints a digest of all results.
+//! Benchmark program: runs jobs that process or build packets over generated inputs, and prints a digest of the
+//! results of each job.
 //!
 //! `workloads JOB ROUNDS SEED` runs a number of rounds of a job, or of every job with `all`, over inputs that are
 //! derived from the seed. No call gets an input twice, except for fragments that a job repeats on purpose. A line has

@@ -54,8 +54,8 @@ pub struct Shape {
 pub struct Fields {
     /// Index in the generated frame at which the network layer starts.
     pub net: usize,
-    /// Positions of the lower 16 bits of the frame's source and destination IP address, the second the complement of
-    /// the first.
+    /// Positions in the frame: lower 16 bits of the source IP address, and lower 16 bits of the destination IP address,
+    /// which are set to the one's complement of the former.
     pub addresses: Balance,
     /// Positions of the frame's source port (or of another field that distinguishes frames), and of a second field that
     /// is set to its one's complement, so that the checksum stays valid.
@@ -63,9 +63,9 @@ pub struct Fields {
 }
 
 impl Shape {
-    /// Draws the shape of a random frame as in ordinary traffic: four fifths TCP, half of these without payload and
-    /// most others full; UDP with payloads of 2 to 1,257 bytes; a quarter IPv6; a few VLAN tags, echo requests, ARP and
-    /// extension headers.
+    /// Draws the shape of a random frame as in ordinary traffic. Four fifths of the frames are TCP segments: half of
+    /// these have no payload, and most others fill the MTU of 1,500 bytes. UDP payloads have 2 to 1,257 bytes. A
+    /// quarter of the frames is IPv6. A few frames have a VLAN tag or extension headers, or are echo requests or ARP.
     pub fn drawn(numbers: &mut Numbers) -> Shape {
         let kind = numbers.below(100);
         let is_ipv6 = numbers.below(4) == 0;
@@ -102,8 +102,8 @@ impl Shape {
     }
 }
 
-/// Returns random bytes for the payloads of generated frames. The first two are 0xffff, the one's complement of the UDP
-/// source port 0.
+/// Returns random bytes for the payloads of generated frames. The first two bytes are 0xffff: in a UDP datagram they
+/// contain the one's complement of the source port, which is 0 at first.
 pub fn noise(alloc: Global, numbers: &mut Numbers) -> Result<Vec<u8>, BenchError> {
     let mut bytes = Vec::new(alloc);
     bytes.extend_from_slice(&[255, 255])?;
@@ -168,13 +168,15 @@ pub const SOURCE: [u8; 6] = [2, 0, 0, 0, 0, 1];
 /// Destination hardware address of the generated frames; ARP requests are broadcast instead.
 pub const DESTINATION: [u8; 6] = [2, 0, 0, 0, 0, 2];
 
-/// Source IPv4 address of the generated frames; its lower 16 bits are set for each call.
+/// Source IPv4 address of the generated frames. Its lower 16 bits are replaced each time a frame is passed to the
+/// library.
 pub const SOURCE_IPV4: [u8; 4] = [10, 1, 0, 0];
 
 /// Destination IPv4 address of the generated frames; its lower 16 bits are the complement of those of `SOURCE_IPV4`.
 pub const DESTINATION_IPV4: [u8; 4] = [10, 2, 255, 255];
 
-/// Source IPv6 address of the generated frames; its lower 16 bits are set for each call.
+/// Source IPv6 address of the generated frames. Its lower 16 bits are replaced each time a frame is passed to the
+/// library.
 pub const SOURCE_IPV6: [u8; 16] = [0x20, 1, 0xd, 0xb8, 0, 1, 0, 0, 0, 0, 0, 0, 0, 7, 0, 0];
 
 /// Destination IPv6 address of the generated frames; its lower 16 bits are the complement of those of `SOURCE_IPV6`.
@@ -236,8 +238,8 @@ pub fn chain() -> Result<Ipv6Extensions, BenchError> {
     })
 }
 
-/// Writes a frame: the headers begun in `step`, which end in IP, then the transport header that `shape` names, and a
-/// payload from `noise`. Returns the positions of its addresses and ports.
+/// Writes a frame: the link and IP headers that the packet builder `step` already has, the transport header that
+/// `shape` names, and a payload from `noise`. Returns the positions of the frame's addresses and ports.
 fn write_transport(
     frame: &mut Vec<u8>,
     step: PacketBuilderStep<IpHeaders>,

@@ -245,8 +245,8 @@ fn add_checksum_ipv6(
     }
 }
 
-/// Adds a computed checksum to the digest, and whether the checksum field has it. If the UDP payload or TCP segment was
-/// too long to compute it, adds its length instead.
+/// Adds a computed checksum to the digest, and whether it equals the checksum `field` of the packet. If the UDP payload
+/// or TCP segment is too long for a checksum, adds the length from the error instead.
 fn add_sum(digest: &mut Digest, field: u16, sum: Result<u16, ValueTooBigError<usize>>) {
     match sum {
         Ok(sum) => add_verdict(digest, field, sum),
@@ -254,7 +254,7 @@ fn add_sum(digest: &mut Digest, field: u16, sum: Result<u16, ValueTooBigError<us
     }
 }
 
-/// Adds a computed checksum to the digest, and whether the checksum field `field` has it.
+/// Adds the computed checksum `sum` to the digest, and whether it equals the checksum `field` of the packet.
 fn add_verdict(digest: &mut Digest, field: u16, sum: u16) {
     digest.add(u64::from(sum) ^ u64::from(field == sum) << 16);
 }

@@ -58,8 +58,9 @@ enum Transport {
 }
 
 impl Transport {
-    /// Returns three numbers of bytes: the length of the transport header, and the offsets from its start of the source
-    /// port (of the identifier for an echo request) and of its complement. For UDP the complement is in the payload.
+    /// Returns the length of the transport header and two offsets from its start, all in bytes. The first offset is
+    /// that of the source port, or of the identifier of an echo request. The second offset is that of a field which is
+    /// set to the one's complement of this port or identifier; for UDP the field is in the payload.
     fn places(&self) -> (usize, usize, usize) {
         match self {
             Transport::Syn => (40, 0, 6),
@@ -119,8 +120,8 @@ impl UnusualShape {
 pub struct Sample {
     start: usize,
     end: usize,
-    /// Positions of the lower 16 bits of the frame's source and destination IP address, the second the complement of
-    /// the first.
+    /// Positions in the vector of all frames: lower 16 bits of this frame's source IP address, and lower 16 bits of its
+    /// destination IP address, which are set to the one's complement of the former.
     addresses: Balance,
     /// Positions of the frame's source port (or the identifier of its echo request) and of a field with its complement.
     ports: Balance,
@@ -151,8 +152,8 @@ impl Sample {
         }
     }
 
-    /// Returns the captured bytes of a generated frame: all, or if the frame is truncated, its first 14 to 159 bytes,
-    /// by a length that is derived from `number`.
+    /// Returns the captured bytes of a generated frame: all bytes or, if the frame is truncated, only the first 14 to
+    /// 159. The length of a truncated frame is derived from `number`.
     #[inline]
     pub fn captured_in<'a>(&self, bytes: &'a [u8], number: u64) -> &'a [u8] {
         let len = self.end.saturating_sub(self.start);
@@ -191,8 +192,8 @@ impl UnusualFrames {
         Ok(UnusualFrames { bytes, samples })
     }
 
-    /// Sets addresses, ports and sequence numbers of all generated frames to new values: the first frame has this
-    /// number, and each frame the next one.
+    /// Sets addresses, ports and sequence numbers of each generated frame to values derived from its frame number. The
+    /// first frame gets `number`, and each later frame the next higher number.
     pub fn renew(&mut self, number: u64) {
         let mut number = number;
         for sample in self.samples.as_slice() {
@@ -239,7 +240,8 @@ fn push_frame(
     Ok(sample)
 }
 
-/// Appends an Ethernet header and VLAN or MACsec tags, before a network layer of this ether type.
+/// Appends an Ethernet header and the VLAN or MACsec tags that `tags` names. `ether_type` is the type of the network
+/// layer after them; it is not used for an encrypted payload.
 fn push_link(bytes: &mut Vec<u8>, tags: Tags, ether_type: EtherType) -> Result<(), BenchError> {
     let outer = match tags {
         Tags::Untagged => ether_type,
@@ -269,7 +271,8 @@ fn push_link(bytes: &mut Vec<u8>, tags: Tags, ether_type: EtherType) -> Result<(
     }
 }
 
-/// Appends one VLAN tag for each element of `types`, the ether type of the header after that tag.
+/// Appends one VLAN tag for each element of `types`. The element is the ether type in the tag: the type of the header
+/// after the tag.
 fn push_vlans(bytes: &mut Vec<u8>, types: &[EtherType]) -> Result<(), BenchError> {
     for ether_type in types {
         let (Ok(pcp), Ok(vlan_id)) = (VlanPcp::try_new(3), VlanId::try_new(42)) else {
@@ -357,8 +360,8 @@ fn push_ip(bytes: &mut Vec<u8>, shape: &UnusualShape, payload: &[u8]) -> Result<
     }
 }
 
-/// Appends an IP packet with a TCP segment: the IP headers begun in `step`, a TCP header with these options, and this
-/// payload.
+/// Appends an IP packet with a TCP segment: the IP headers that the packet builder `step` already has, a TCP header
+/// with these options, and this payload.
 fn push_tcp(
     bytes: &mut Vec<u8>,
     step: PacketBuilderStep<IpHeaders>,

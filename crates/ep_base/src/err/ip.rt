@@ -31,7 +31,7 @@ pub enum HeadersError {
 #[derive(Clone, Debug, PartialEq, Eq, Hash, Drop, Error)]
 #[error(transparent)]
 pub enum HeadersSliceError {
-    /// Too few bytes for the IP header, for an extension header, or for the length field of the IP header. Or an IPv4
+    /// Fewer bytes than the IP header, an extension header or the length field of the IP header requires, or an IPv4
     /// total length below the header length.
     Len(LenError),
     /// The IP header or an extension header has an invalid field.
@@ -42,7 +42,7 @@ pub enum HeadersSliceError {
 #[derive(Clone, Debug, PartialEq, Eq, Hash, Drop, Error)]
 #[error(transparent)]
 pub enum SliceError {
-    /// Too few bytes for the IP header, for an extension header, or for the length field of the IP header. Or an IPv4
+    /// Fewer bytes than the IP header, an extension header or the length field of the IP header requires, or an IPv4
     /// total length below the header length.
     Len(LenError),
     /// The IP header or an extension header has an invalid field.

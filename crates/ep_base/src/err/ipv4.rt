@@ -29,7 +29,7 @@ pub enum HeaderSliceError {
 #[derive(Clone, Debug, PartialEq, Eq, Hash, Drop, Error)]
 #[error(transparent)]
 pub enum SliceError {
-    /// Too few bytes for the IPv4 header, for the authentication header, or for the total length field. Or a total
+    /// Fewer bytes than the IPv4 header, the authentication header or the total length field requires, or a total
     /// length below the header length.
     Len(LenError),
     /// The IPv4 header has an invalid field.

@@ -26,7 +26,7 @@ pub enum HeaderSliceError {
 #[derive(Clone, Debug, PartialEq, Eq, Hash, Drop, Error)]
 #[error(transparent)]
 pub enum SliceError {
-    /// Too few bytes for the IPv6 header, for an extension header, or for the payload length field of the IPv6 header.
+    /// Fewer bytes than the IPv6 header, an extension header or the payload length field of the IPv6 header requires.
     Len(LenError),
     /// The IPv6 header has an invalid field.
     Header(HeaderError),

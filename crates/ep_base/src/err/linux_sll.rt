@@ -9,8 +9,8 @@ pub enum HeaderError {
     /// The packet type field of the Linux cooked capture header (SLL v1) is above 7.
     #[error("UnsupportedPacketTypeField {packet_type}")]
     UnsupportedPacketTypeField { packet_type: u16 },
-    /// The ARPHRD hardware type of the Linux cooked capture header (SLL v1) is none of those whose protocol field this
-    /// library can interpret.
+    /// The ARPHRD hardware type of the Linux cooked capture header (SLL v1) is unsupported: the library cannot
+    /// interpret the protocol field of the header for this type.
     #[error("UnsupportedArpHardwareId {arp_hardware_type}")]
     UnsupportedArpHardwareId { arp_hardware_type: u16 },
 }

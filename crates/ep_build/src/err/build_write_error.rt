@@ -18,8 +18,8 @@ pub enum BuildWriteError {
     /// Out of memory: the buffer that the frame is appended to could not grow.
     #[error("out of memory")]
     OutOfMemory,
-    /// The frame has an IPv4 authentication header, but the protocol field of the IPv4 header is not 51, its number.
-    /// The packet builder never returns this.
+    /// The frame has an IPv4 authentication header, but the protocol field of the IPv4 header is not 51 (authentication
+    /// header). The packet builder never returns this.
     #[error(transparent)]
     Ipv4Exts(ipv4_exts::ExtsWalkError),
     /// The frame has an IPv6 extension header that the chain of next header values does not lead to, or hop-by-hop
@@ -57,7 +57,8 @@ impl BuildWriteError {
         }
     }
 
-    /// Returns the reason that concerns the IPv4 authentication header; `None` if the error is another one.
+    /// Returns the error that the variant `Ipv4Exts` contains (authentication header not reached); `None` for another
+    /// variant.
     #[inline]
     pub fn ipv4_exts(&self) -> Option<&ipv4_exts::ExtsWalkError>
         ensures { option_copied result ≡ ipv4_exts_in self.now }
@@ -68,7 +69,8 @@ impl BuildWriteError {
         }
     }
 
-    /// Returns the reason that concerns the IPv6 extension headers; `None` if the error is another one.
+    /// Returns the error that the variant `Ipv6Exts` contains (wrong chain of extension headers); `None` for another
+    /// variant.
     #[inline]
     pub fn ipv6_exts(&self) -> Option<&ipv6_exts::ExtsWalkError>
         ensures { option_copied result ≡ ipv6_exts_in self.now }

@@ -11,9 +11,9 @@ use crate::writing::write_arp;
 use ep_link::ArpPacket;
 
 impl PacketBuilderStep<ArpPacket> {
-    /// Appends the frame: link header, VLAN tags and ARP packet. It runs out of memory only if the buffer has to grow;
-    /// then the buffer is unchanged. Both parsers read this ARP packet back from the frame; after a Linux cooked
-    /// capture header, if its packet type is a known one.
+    /// Appends the frame (link header, VLAN tags and ARP packet) to the buffer. The only error is a failed allocation,
+    /// if the buffer has to grow; the buffer is then unchanged. `SlicedPacket` and `PacketHeaders` read the ARP packet
+    /// back from the frame, unless a Linux cooked capture header has an unknown packet type.
     pub fn write(self, buf: &mut Vec<u8>) -> Result<(), BuildWriteError>
         ensures ok { OnOk result (buf.new.items ≡ buf.old.items ++ built_frame (arp_step_frame self) []) }
         ensures err { OnErr result (buf.new.items ≡ buf.old.items) }

@@ -179,11 +179,13 @@ impl PacketBuilderStep<IpHeaders> {
         self.followed_by(tcp_header)
     }
 
-    /// Appends the frame: link and IP headers, and a payload of the given protocol number, which the next header values
-    /// are set to lead to. It is an error if the IP packet is too long for its length field, or if the buffer cannot
-    /// grow; the buffer is then unchanged. If the IP headers mark a fragment (RFC 791, 3.2; RFC 8200, 4.5), and the
-    /// number is not that of an extension header, both parsers read that fragment back; after a Linux cooked capture
-    /// header, if its packet type is a known one.
+    /// Appends the frame (link header, IP headers and payload) to the buffer. The next header values are set to lead to
+    /// `last_next_header_ip_number`, the protocol number of the payload. It is an error if the IP packet is too long
+    /// for its length field, or if the buffer cannot grow; the buffer is then unchanged.
+    ///
+    /// `SlicedPacket` and `PacketHeaders` read a fragment back from the frame if the IP headers are those of a fragment
+    /// (RFC 791, 3.2; RFC 8200, 4.5), the protocol number is not that of an extension header, and a Linux cooked
+    /// capture header has a known packet type.
     #[inline(always)]
     pub fn write(
         self,
@@ -212,8 +214,8 @@ impl PacketBuilderStep<IpHeaders> {
     }
 
     /// Writes the frame (link and IP headers, and the payload) to the start of the slice, and returns its length in
-    /// bytes. The bytes after the frame are unchanged. On an error the whole slice is unchanged: it is too short, or
-    /// the IP packet is too long for its length field. It doesn't allocate.
+    /// bytes. The bytes after the frame are unchanged. It is an error if the slice is too short, or if the IP packet is
+    /// too long for its length field; the whole slice is then unchanged. It doesn't allocate.
     #[inline(always)]
     pub fn write_to_slice(
         self,

@@ -18,10 +18,13 @@ use crate::writing::append_transport_step;
 impl<
     Transport: HoldsHeaders<Before = (LinkPart, IpPart), Last = Transport> + IsTransport,
 > PacketBuilderStep<Transport> {
-    /// Appends the frame: all headers, and the payload. On an error the buffer is unchanged: the IP packet is too long
-    /// for its length field, the transport header is ICMPv6 after IPv4, or the buffer cannot grow. Both parsers read
-    /// the bytes of this transport header and payload back, if the packet is no fragment, an ICMPv4 message has the
-    /// length of its type, and a Linux cooked capture header has a known packet type.
+    /// Appends the frame (all headers, and the payload) to the buffer. It is an error if the IP packet is too long for
+    /// its length field, if the transport header is ICMPv6 after IPv4, or if the buffer cannot grow; the buffer is then
+    /// unchanged.
+    ///
+    /// `SlicedPacket` and `PacketHeaders` read the bytes of the transport header and the payload back from the frame,
+    /// except in three cases: the packet is a fragment; it is an ICMPv4 timestamp message or reply that does not have
+    /// exactly 20 bytes; or it has a Linux cooked capture header with an unknown packet type.
     #[inline(always)]
     pub fn write(self, buf: &mut Vec<u8>, payload: &[u8]) -> Result<(), BuildWriteError>
         ensures ok { let frame = transport_step_frame Transport.kind self in
@@ -41,8 +44,8 @@ impl<
     }
 
     /// Writes the frame (all headers, and the payload) to the start of the slice, and returns its length in bytes. The
-    /// bytes after the frame are unchanged. On an error the whole slice is unchanged: it is too short, the frame is too
-    /// long for the length field of IP, or ICMPv6 follows IPv4. It doesn't allocate.
+    /// bytes after the frame are unchanged. It is an error if the slice is too short, if the IP packet is too long for
+    /// its length field, or if ICMPv6 follows IPv4; the whole slice is then unchanged. It doesn't allocate.
     #[inline(always)]
     pub fn write_to_slice(
         self,

@@ -19,8 +19,8 @@ ghost use Rattle.ep_ext.specs.ShownChains.{shown_parts};
 
 use crate::{Ipv4Extensions, Ipv4ExtensionsSlice, Ipv6Extensions};
 
-/// States that any bytes, with the IP number of the first header, either are one valid chain of extension headers, and
-/// then its headers, the payload's IP number and the bytes after it are unique, or are rejected with exactly one error.
+/// States that any bytes, given the IP number of the first header, either parse in exactly one way as a chain of
+/// extension headers, the payload's IP number and the bytes after the chain, or are rejected with exactly one error.
 /// This holds for both parsers (slices and owned headers).
 pub fn extension_chain()
     ensures { (version : IpVersion) (reading : Reading) (number : ℕ) (bytes : List ℕ) → AreBytes bytes
@@ -28,17 +28,17 @@ pub fn extension_chain()
         (RefusesExtensionChain version reading number bytes) }
 {}
 
-/// States that a chain of extension headers that the slicing parser accepts, and that has no two headers of one type,
-/// is accepted by the parser for owned headers with the same result.
+/// States that if the slicing parser accepts a chain of extension headers without two headers of one type, the parser
+/// for owned headers accepts the chain with the same result.
 pub fn chain_without_second_kind()
     ensures { (version : IpVersion) (number : ℕ) (bytes : List ℕ) (chain : ExtensionChain)
         → IsExtensionChain version slices number bytes chain → NoKindTwice [] chain.parts
         → IsExtensionChain version headers number bytes chain }
 {}
 
-/// States that a chain of extension headers that the parser for owned headers accepts is accepted by the slicing parser
-/// with the same result. The exception is an IPv6 chain that ends before a second header of one type. Bytes that the
-/// parser for owned headers rejects are rejected by the slicing parser with the same error.
+/// States that if the parser for owned headers accepts a chain of extension headers, the slicing parser accepts it with
+/// the same result. The exception is an IPv6 chain that the parser for owned headers ends before a second header of one
+/// type. Bytes that the parser for owned headers rejects are rejected by the slicing parser with the same error.
 pub fn chain_of_headers()
     ensures chain { (version : IpVersion) (number : ℕ) (bytes : List ℕ) (chain : ExtensionChain)
         → IsExtensionChain version headers number bytes chain → IsExtensionChain version slices number bytes chain
@@ -59,8 +59,9 @@ pub fn chain_bytes()
         → length bytes ≡ length (parts_bytes chain.parts) + length chain.rest }
 {}
 
-/// States that the owned headers parsed from an IPv6 extension header chain have the length of the chain in the bytes.
-/// They state that the packet carries a fragment if and only if a fragment header of the chain does.
+/// States that the owned headers parsed from an IPv6 extension header chain have the total length of the parsed bytes.
+/// The headers' `is_fragmenting_payload` is true if and only if a fragment header of the chain states that the packet
+/// carries a fragment.
 pub fn chain_value()
     ensures len { (number : ℕ) (bytes : List ℕ) (chain : ExtensionChain)
         → IsExtensionChain ipv6 headers number bytes chain
@@ -70,8 +71,8 @@ pub fn chain_value()
         → chain_fragments (ipv6_parts (extensions_of chain.parts)) ≡ chain_fragments chain.parts }
 {}
 
-/// States that the headers that iteration finds in the bytes of a valid IPv6 extension header chain are the headers of
-/// the chain. In any bytes, there are at most as many headers as bytes.
+/// States that iteration over the bytes of a valid IPv6 extension header chain yields exactly the headers of the chain.
+/// From any bytes, iteration yields no more headers than there are bytes.
 pub fn shown_headers()
     ensures chain { (number : ℕ) (bytes : List ℕ) (parts : List ExtensionPart) (last : ℕ) (rest : List ℕ)
         → IsExtensionChain ipv6 slices number bytes (chain_of parts last rest) → shown_parts number bytes ≡ parts }
@@ -115,7 +116,7 @@ pub fn linked_ipv6()
         (chain_of (ipv6_parts (ipv6_linked extensions last)) last.0 rest) }
 {}
 
-/// States that writing IPv6 extension headers in the order of their next header fields gives the total length of all
+/// States that IPv6 extension headers, written in the order of their next header fields, have the total length of all
 /// headers. Parsing the written bytes, followed by any bytes, returns these headers, unless the payload's IP number is
 /// that of an extension header.
 pub fn written_ipv6()

@@ -24,9 +24,9 @@ use ep_link::LinkSlice;
 use ep_packet::err::SliceError;
 use ep_transport::TransportSlice;
 
-/// States when `==` is true for each type of lax slicing. Payloads are equal if all their fields are (including whether
-/// bytes are missing), tags and IP packets if the bytes of their headers and their payloads are. Packets are equal if
-/// all their layers are, and the errors at which slicing stopped.
+/// States when `==` is true for each type of lax slicing. Two payloads are equal if all their fields are equal,
+/// including whether bytes are missing. Two tags or IP packets are equal if the bytes of their headers and their
+/// payloads are equal. Two packets are equal if all their layers, and the errors at which slicing stopped, are equal.
 pub fn equalities()
     ensures ether_payloads { (a b : LaxEtherPayloadSlice) →
         IsTrue (⟦<LaxEtherPayloadSlice<'static> as PartialEq>⟧.eq a b) ↔ ((a.incomplete ≡ b.incomplete)

@@ -9,7 +9,7 @@ use std::marker::Model;
 pub(crate) struct ArpAddress {
     /// Bytes of the ARP address, padded with zero bytes to 255.
     bytes: [u8; 255],
-    /// Number of bytes of the ARP address; the rest of the array is not used.
+    /// Length of the ARP address in bytes, 0 to 255. All bytes of `bytes` after the address are 0.
     len: u8,
 }
 

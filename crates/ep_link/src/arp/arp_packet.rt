@@ -64,8 +64,8 @@ impl ArpPacket {
     ///
     /// # Errors
     ///
-    /// Both hardware addresses must have the same length of at most 255 bytes, and so must both protocol addresses. The
-    /// hardware addresses are checked before the protocol addresses, and different lengths before lengths above 255.
+    /// Returns an error if the two hardware addresses have different lengths, or else if they are longer than 255
+    /// bytes. The two protocol addresses are then checked in the same way.
     pub fn new(
         hw_addr_type: ArpHardwareId,
         proto_addr_type: EtherType,

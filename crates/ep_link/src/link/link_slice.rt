@@ -19,7 +19,7 @@ pub enum LinkSlice<'a> {
     Ethernet2(Ethernet2Slice<'a>),
     /// Header of a Linux cooked capture (SLL v1) and its payload.
     LinuxSll(LinuxSllSlice<'a>),
-    /// Payload without a link header. The caller stated its ether type.
+    /// Payload without a link header, with the ether type that the caller passed to the parsing function.
     EtherPayload(EtherPayloadSlice<'a>),
     /// Payload of a Linux cooked capture (SLL v1), without the header.
     LinuxSllPayload(LinuxSllPayloadSlice<'a>),

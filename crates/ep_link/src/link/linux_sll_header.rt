@@ -52,8 +52,8 @@ impl LinuxSllHeader {
         LinuxSllHeader::LEN
     }
 
-    /// Returns the wire bytes of the Linux cooked capture header, even if its fields are unsupported or inconsistent,
-    /// so that parsing the bytes would not return this header.
+    /// Returns the wire bytes of the Linux cooked capture header. The fields are not checked: if they are unsupported
+    /// or inconsistent, parsing the bytes does not return this header.
     #[inline]
     pub fn to_bytes(&self) -> [u8; 16]
         ensures { result ≡ linux_sll_bytes self.now }

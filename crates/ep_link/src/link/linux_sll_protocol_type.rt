@@ -51,8 +51,8 @@ impl LinuxSllProtocolType {
         )
     }
 
-    /// Interprets the protocol field `number` of a Linux cooked capture by its ARPHRD hardware type, which must be a
-    /// supported one.
+    /// Interprets the protocol field `number` of a Linux cooked capture by the ARPHRD hardware type `hardware`, for
+    /// which `is_known` must be true.
     #[inline]
     pub(crate) fn of(hardware: ArpHardwareId, number: u16) -> LinuxSllProtocolType
         ensures { result ≡ protocol_of hardware.0 number }

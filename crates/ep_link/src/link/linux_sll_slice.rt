@@ -110,7 +110,8 @@ impl<'a> LinuxSllSlice<'a> {
         ]
     }
 
-    /// Protocol of the payload, bytes 14 and 15 of the Linux cooked capture header, interpreted by its hardware type.
+    /// Protocol of the payload, bytes 14 and 15 of the Linux cooked capture header. The ARPHRD hardware type (bytes 2
+    /// and 3) determines how the number is interpreted.
     #[inline]
     pub fn protocol_type(&self) -> LinuxSllProtocolType
         ensures { result ≡ (linux_sll_slice_header self.now).protocol_type }

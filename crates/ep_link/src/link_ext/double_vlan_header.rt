@@ -22,7 +22,8 @@ impl DoubleVlanHeader {
     pub const LEN: usize = 8;
 
     /// Parses two VLAN tags at the start of `slice`, and returns them with the bytes after them. The ether type in the
-    /// outer tag, which should announce the inner one, is not checked. An error of the inner tag has offset 4.
+    /// outer tag is not checked, so it need not be that of a VLAN tag. If only the inner tag is truncated, the layer
+    /// start offset of the length error is 4 bytes.
     pub fn from_slice(slice: &[u8]) -> Result<(DoubleVlanHeader, &[u8]), LenError>
         ensures ok { IfOk result (λ read. IsDoubleVlan slice.now (parts_of read.0 read.1.now [])) }
         ensures only { (tagged : Parts DoubleVlanHeader) → IsDoubleVlan slice.now tagged

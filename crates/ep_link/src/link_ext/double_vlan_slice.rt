@@ -28,8 +28,8 @@ impl<'a> DoubleVlanSlice<'a> {
         }
     }
 
-    /// Payload after the inner VLAN tag, with its ether type: all bytes to the end of the inner tag's slice. Its length
-    /// source is `Slice`, even if the short length of a MACsec tag limits that slice.
+    /// Payload after the inner VLAN tag, with its ether type: all bytes to the end of the inner tag's slice. Its
+    /// `len_source` is always `Slice`, even if the short length of a preceding MACsec tag limits that slice.
     #[inline]
     pub fn payload(&self) -> EtherPayloadSlice<'a>
         ensures ether_type { result.ether_type ≡ (double_vlan_slice_header self.now).inner.ether_type }

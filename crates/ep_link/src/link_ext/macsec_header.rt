@@ -44,8 +44,8 @@ impl MacsecHeader {
     /// unmodified payload.
     pub const MAX_LEN: usize = 16;
 
-    /// Parses the MACsec tag at the start of `slice`, and returns it with all bytes after it, even those beyond the
-    /// short length.
+    /// Parses the MACsec tag at the start of `slice`, and returns it with all bytes after it. The short length of the
+    /// tag does not limit the returned bytes.
     pub fn from_slice(slice: &[u8]) -> Result<(MacsecHeader, &[u8]), HeaderSliceError>
         ensures ok { IfOk result (λ read. IsMacsecHeader slice.now (read.0, read.1.now)) }
         ensures only { (header : MacsecHeader) (rest : List ℕ) → IsMacsecHeader slice.now (header, rest)

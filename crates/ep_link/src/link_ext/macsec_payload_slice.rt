@@ -28,8 +28,8 @@ impl<'a> MacsecPayloadSlice<'a> {
         }
     }
 
-    /// Returns `payload` as the payload after the MACsec tag `header`: with the tag's ether type if it is unmodified,
-    /// and as modified bytes otherwise.
+    /// Returns the payload `payload` of the MACsec tag `header` as `Unmodified` with its ether type if the tag contains
+    /// one, otherwise as `Modified`.
     pub(crate) fn of_tag(
         header: &MacsecHeaderSlice<'a>,
         payload: &'a [u8],

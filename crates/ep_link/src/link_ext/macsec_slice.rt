@@ -5,9 +5,9 @@ use ep_base::err::macsec::HeaderSliceError;
 use ep_base::err::{Layer, LenError};
 use ep_base::{EtherPayloadSlice, EtherType, LenSource};
 
-/// Slices of a MACsec tag (IEEE 802.1AE, 9) and its payload. If the short length of the tag is not 0, it limits the
-/// payload, and the integrity check value is not part of it. Otherwise the integrity check value is at the end of the
-/// payload.
+/// Slices of a MACsec tag (IEEE 802.1AE, 9) and its payload. If the short length of the tag is 0, the payload extends
+/// to the end of the slice, and its last bytes are the integrity check value. Otherwise the short length limits the
+/// payload, and the integrity check value is after the payload.
 #[derive(Clone, Debug, PartialEq, Eq, Drop)]
 pub struct MacsecSlice<'a> {
     /// MACsec tag, including the ether type of an unmodified payload.
@@ -27,8 +27,8 @@ impl<'a> MacsecSlice<'a> {
     ghost use Rattle.ep_link.specs.MacsecSlices.{macsec_header_slice_bytes, macsec_slice_bytes};
     ghost use Rattle.ep_link.specs.MacsecSlices.{macsec_slice_header, macsec_slice_parts, macsec_slice_payload};
 
-    /// Parses the MACsec tag and its payload at the start of `slice`. The short length of the tag limits the payload if
-    /// it is not 0.
+    /// Parses the MACsec tag and its payload at the start of `slice`. The short length of the tag limits the payload;
+    /// if the short length is 0, the payload extends to the end of `slice`.
     pub fn from_slice(slice: &'a [u8]) -> Result<MacsecSlice<'a>, HeaderSliceError>
         ensures ok { IfOk result (λ shown. (left : List ℕ) × (slice.now ≡ macsec_slice_bytes shown ++ left)
             × IsMacsec slice.now (macsec_slice_parts shown left)) }

@@ -121,7 +121,7 @@ impl<'a> SingleVlanSlice<'a> {
     }
 
     /// Payload after the VLAN tag, with its ether type: all bytes to the end of the slice, since the tag has no length
-    /// field. Its length source is `Slice`.
+    /// field. Its `len_source` is `Slice`.
     #[inline]
     pub fn payload(&self) -> EtherPayloadSlice<'a>
         ensures ether_type { result.ether_type ≡ (vlan_slice_header self.now).ether_type }

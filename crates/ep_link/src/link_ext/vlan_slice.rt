@@ -29,7 +29,7 @@ impl<'a> VlanSlice<'a> {
     }
 
     /// Payload after the last VLAN tag (the inner one of two), with its ether type: all bytes to the end of that tag's
-    /// slice. Its length source is `Slice`, even if the short length of a MACsec tag limits that slice.
+    /// slice. Its `len_source` is always `Slice`, even if the short length of a preceding MACsec tag limits that slice.
     #[inline]
     pub fn payload(&self) -> EtherPayloadSlice<'a>
         ensures ether_type { result.ether_type ≡ (vlan_slice_header (innermost_tag self.now)).ether_type }

@@ -9,7 +9,8 @@ pub enum HeadersWriteError {
     /// Out of memory: the buffer that the IP headers are appended to could not grow.
     #[error("out of memory")]
     OutOfMemory,
-    /// The IPv4 headers have an authentication header, but the protocol field of the IPv4 header is not 51, its number.
+    /// The IPv4 headers include an authentication header, but the protocol field of the IPv4 header is not 51
+    /// (authentication header).
     #[error(transparent)]
     Ipv4Exts(ipv4_exts::ExtsWalkError),
     /// The IPv6 headers have an extension header that the chain of next header values does not lead to, or hop-by-hop
@@ -31,7 +32,8 @@ impl HeadersWriteError {
         matches!(self, HeadersWriteError::OutOfMemory)
     }
 
-    /// Returns the reason that concerns the IPv4 authentication header; `None` if the error is another one.
+    /// Returns the error that the variant `Ipv4Exts` contains (authentication header not reached); `None` for another
+    /// variant.
     #[inline]
     pub fn ipv4_exts(&self) -> Option<&ipv4_exts::ExtsWalkError>
         ensures { option_copied result ≡ ipv4_walk_error_in self.now }
@@ -42,7 +44,8 @@ impl HeadersWriteError {
         }
     }
 
-    /// Returns the reason that concerns the IPv6 extension headers; `None` if the error is another one.
+    /// Returns the error that the variant `Ipv6Exts` contains (wrong chain of extension headers); `None` for another
+    /// variant.
     #[inline]
     pub fn ipv6_exts(&self) -> Option<&ipv6_exts::ExtsWalkError>
         ensures { option_copied result ≡ ipv6_walk_error_in self.now }

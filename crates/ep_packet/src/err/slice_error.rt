@@ -15,7 +15,8 @@ pub enum SliceError {
     /// A MACsec tag of the packet is invalid.
     #[error(transparent)]
     Macsec(macsec::HeaderError),
-    /// The IP header is invalid, in a packet without an ether type: its first byte gives the IP version.
+    /// The IP header is invalid, in a packet without an ether type: the version field of the header decides between
+    /// IPv4 and IPv6.
     #[error(transparent)]
     Ip(ip::HeaderError),
     /// The IPv4 header is invalid, in a packet of ether type IPv4.

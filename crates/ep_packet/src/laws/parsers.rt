@@ -13,9 +13,9 @@ use crate::entry::Entry;
 use crate::err::SliceError;
 use crate::packet_headers::PacketHeaders;
 
-/// States that bytes that `SlicedPacket` accepts, `PacketHeaders` decodes to equal headers in all layers, unless an
-/// IPv6 extension header of one kind occurs twice. The payload of the last layer is equal too, except that only
-/// `SlicedPacket` limits a UDP payload by the UDP length field.
+/// States that `PacketHeaders` accepts all bytes that `SlicedPacket` accepts, and decodes them to equal headers in all
+/// layers, unless an IPv6 extension header of one kind occurs twice. The payload of the last layer is equal too, except
+/// that only `SlicedPacket` limits a UDP payload by the UDP length field.
 pub fn two_parsers()
     ensures { (entry : Entry) (bytes : List ℕ) (layers : Layers) → IsFrame entry bytes layers
         → HasNoSecondKind layers.net → (other : Layers) × IsFrameIn headers entry bytes other × Agree layers other }
@@ -23,9 +23,9 @@ pub fn two_parsers()
     ep_ext::laws::chains::chain_without_second_kind();
 }
 
-/// States that bytes that `PacketHeaders` rejects, `SlicedPacket` rejects with an equal error. Only `SlicedPacket`
-/// rejects for the UDP length field, which `PacketHeaders` ignores, or from the second IPv6 extension header of one
-/// kind on, before which `PacketHeaders` stops.
+/// States that `SlicedPacket` rejects all bytes that `PacketHeaders` rejects, with an equal error. If `SlicedPacket`
+/// alone rejects bytes, its error is about the UDP length field, which `PacketHeaders` ignores, or there is a second
+/// IPv6 extension header of one kind, before which `PacketHeaders` stops.
 pub fn refuse_alike()
     ensures headers { (entry : Entry) (bytes : List ℕ) (error : SliceError) → RefusesFrameIn headers entry bytes error
         → RefusesFrame entry bytes error }

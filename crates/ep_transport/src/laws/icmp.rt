@@ -1,4 +1,4 @@
-//! Theorems (laws) about ICMPv4 and ICMPv6 messages. Each law is the contract of a function that does nothing else.
+//! Theorems (laws) about ICMPv4 and ICMPv6 messages. Each law is the contract of a function without effect.
 
 ghost use Rattle.std.specs.Prelude.{◌≡◌, ◌%◌, ◌++◌, ◌↔◌, ℕ, IsTrue, [], ◌∷◌, List, length};
 ghost use Rattle.ep_base.specs.Bytes.{AreBytes};
@@ -38,8 +38,9 @@ pub fn icmpv6_messages()
 {}
 
 /// States that a written ICMPv4 or ICMPv6 header is read back unchanged if its type and code belong to its variant of
-/// `Icmpv4Type` or `Icmpv6Type` (for `Unknown`: to no other variant), and an MTU or pointer that is not written is 0.
-/// An ICMPv4 timestamp message must have no payload. All headers that parsing returns meet these conditions.
+/// `Icmpv4Type` or `Icmpv6Type` (for `Unknown`: to no other variant). In ICMPv4, `next_hop_mtu` must be 0 unless the
+/// code is 4, `pointer` must be 0 unless the code is 0, and a timestamp message must have no payload. All headers that
+/// parsing returns meet these conditions.
 pub fn read_back()
     ensures icmpv4 { (header : Icmpv4Header) (payload : List ℕ) → FitsIcmpv4 header
         → EndsIcmpv4 header.icmp_type payload
@@ -48,8 +49,9 @@ pub fn read_back()
         → IsIcmpv6 (icmpv6_bytes header ++ payload) (parts_of header payload []) }
 {}
 
-/// States that an ICMPv4 message with its computed checksum has the one's complement sum 65535, as a receiver verifies.
-/// An ICMPv6 message has it together with any even number of bytes before it, such as the pseudo header.
+/// States that receivers accept computed checksums: the one's complement sum of an ICMPv4 message with its computed
+/// checksum is 65535. For ICMPv6, checksum and sum include the pseudo header, or any other even number of bytes before
+/// the message.
 pub fn checksums()
     ensures icmpv4 { (header : Icmpv4Header) (payload : List ℕ)
         → ones_sum (icmpv4_bytes (record header { checksum = checksum_of (icmpv4_message header payload) })

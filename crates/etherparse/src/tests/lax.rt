@@ -209,8 +209,8 @@ fn short_lengths(rt: HostRuntime) {
     }
 }
 
-/// The payload of a MACsec tag and the VLAN tag in it, as lax parsing limits it by several values of the MACsec short
-/// length.
+/// Lax parsing of a MACsec tag, a VLAN tag and the payload after both, for several values of the MACsec short length,
+/// which may limit the payload.
 #[test]
 fn ether_payloads(rt: HostRuntime) {
     for (short_len, len, incomplete, source) in [
@@ -378,8 +378,8 @@ fn errors_in_headers(rt: HostRuntime) {
     );
 }
 
-/// Lax parsing returns an error if the first header is too short or has an unknown IP version. After a known ether type
-/// it returns a packet that stops at once instead.
+/// Lax parsing returns an error if the first header is too short or has an unknown IP version. If it starts after a
+/// link header, by an ether type, it never fails: an error in the first header is in `stop_err` of the returned packet.
 #[test]
 fn refused_first_headers(rt: HostRuntime) {
     same(

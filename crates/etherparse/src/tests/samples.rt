@@ -35,8 +35,8 @@ pub const AUTHENTICATED: &[u8] =
 pub const OPEN_LENGTH: &[u8] =
     b"\x60\x00\x00\x00\x00\x00\x3b\x40\0\0\0\0\0\0\0\0\0\0\0\0\0\0\0\0\0\0\0\0\0\0\0\0\0\0\0\0\0\0\0\0\x01\x02\x03\x04";
 
-/// An IPv6 packet with two fragment headers. The first one has offset 0 and no more fragments; only the second one
-/// marks a fragment.
+/// An IPv6 packet with two fragment headers. The first one has offset 0 and no more-fragments flag; only the second one
+/// has the flag set.
 pub const FRAGMENT_TWICE: &[u8] =
     b"\x60\x00\x00\x00\x00\x18\x2c\x40\0\0\0\0\0\0\0\0\0\0\0\0\0\0\0\0\0\0\0\0\0\0\0\0\0\0\0\0\0\0\0\0\x2c\x00\x00\x00\x00\x00\x00\x01\x11\x00\x00\x01\x00\x00\x00\x02\x00\x01\x02\x03\x04\x05\x06\x07";
 

@@ -1,5 +1,5 @@
-//! Cases of the tests of the Rust crate etherparse for calls that are otherwise covered by contracts only, with our own
-//! values.
+//! Tests that follow those of the Rust crate etherparse, with values of our own. They test calls that are otherwise
+//! covered by contracts only.
 
 use crate::defrag::*;
 use crate::err::ip::HeadersWriteError;
@@ -102,8 +102,8 @@ const EXTS_4: ipv4_exts::ExtsWalkError = ipv4_exts::ExtsWalkError::ExtNotReferen
 
 const EXTS_6: ipv6_exts::ExtsWalkError = ipv6_exts::ExtsWalkError::HopByHopNotAtStart;
 
-/// Asserts what three accessors of an error of writing IP headers return. `shown` has for each of them whether it
-/// reports this error: out of memory, IPv4 extension headers, IPv6 extension headers.
+/// Asserts what three accessors of an error of writing IP headers return. `shown` has one value for each: whether it
+/// has to report the error. They are, in this order: out of memory, IPv4 extension headers, IPv6 extension headers.
 fn shows_headers_error(rt: &impl Abort, error: &HeadersWriteError, shown: [bool; 3]) {
     let [of_memory, of_ipv4, of_ipv6] = shown;
     same(rt, &error.is_out_of_memory(), &of_memory);
@@ -128,8 +128,9 @@ const TOO_LONG: ValueTooBigError<usize> = ValueTooBigError {
     value_type: ValueType::Ipv6PayloadLength,
 };
 
-/// Asserts what five accessors of a builder error return. `shown` has for each of them whether it reports this error:
-/// out of memory, payload length, IPv4 extension headers, IPv6 extension headers, ICMPv6 in IPv4.
+/// Asserts what five accessors of a builder error return. `shown` has one value for each: whether it has to report the
+/// error. They are, in this order: out of memory, payload length, IPv4 extension headers, IPv6 extension headers,
+/// ICMPv6 in IPv4.
 fn shows_build_error(rt: &impl Abort, error: &BuildWriteError, shown: [bool; 5]) {
     let [of_memory, of_length, of_ipv4, of_ipv6, of_icmp] = shown;
     same(rt, &error.is_out_of_memory(), &of_memory);

@@ -1,4 +1,4 @@
-//! Tests with readers and writers that fail, end or accept nothing after each number of bytes, and with readers and
+//! Tests with readers and writers that fail, end or accept nothing after 0, 1, 2 and so on bytes, and with readers and
 //! writers that move random numbers of bytes for each call.
 
 use super::rows;
@@ -34,8 +34,8 @@ fn answered(len: usize) -> &'static [u8] {
     answers(ANSWERS_LEN.get(len / LINE_LEN).copied().unwrap_or(0))
 }
 
-/// Runs the engine on the five lines of the test input and asserts its result. Asserts that the output begins with
-/// `wanted`, and is exactly `wanted` if the run fails.
+/// Calls `run` on the five lines of the test input, and asserts that it returns `error`, or succeeds if that is `None`.
+/// Asserts that the output begins with `wanted`, and is exactly `wanted` after an error.
 fn assert_ending(
     rt: &impl Abort,
     alloc: Global,
@@ -49,8 +49,8 @@ fn assert_ending(
     assert!(rt; error.is_none() || written.len() == wanted.len());
 }
 
-/// Returns the behaviour of a reader or writer for its first calls: one call moves `len` bytes, the next call does as
-/// `then` states, and a further call would move all bytes.
+/// Returns what the calls of a reader or writer do: one call moves `len` bytes (no such call if `len` is 0), the next
+/// call does `then`, and all later calls move all bytes.
 fn turns_after_one_call(rt: &impl Abort, alloc: Global, len: usize, then: Turn) -> Vec<Turn> {
     let mut turns = Vec::with_capacity(alloc, 3).expect(rt, "refused");
     if len > 0 {
@@ -61,15 +61,15 @@ fn turns_after_one_call(rt: &impl Abort, alloc: Global, len: usize, then: Turn) 
     turns
 }
 
-/// Asserts the result of a run whose reader returns `len` bytes and then does as `then` states (fails, or returns
-/// nothing).
+/// Asserts the result of `run` with a reader that returns `len` bytes by one call (no such call if `len` is 0). The
+/// reader's next call does `then`: it fails or returns no bytes.
 fn assert_reader(rt: &impl Abort, alloc: Global, len: usize, then: Turn, error: Option<RunError>) {
     let reading = turns_after_one_call(rt, alloc, len, then);
     assert_ending(rt, alloc, (&reading, WHOLE), error, answered(len));
 }
 
-/// Tests that a read error ends the run, even if another try would succeed, after each number of input bytes. Tests
-/// that a reader which once returns no bytes has ended, even if it would return some later.
+/// Tests that a read error after 0, 1, 2 and so on input bytes ends `run`, even if another try would succeed. Tests
+/// that the input ends when a read returns no bytes, even if a later read would return some.
 #[test]
 fn readers_fail_or_end_after_each_byte(rt: HostRuntime) {
     let again = Turn::Fails(ErrorKind::Interrupted);
@@ -83,8 +83,8 @@ fn readers_fail_or_end_after_each_byte(rt: HostRuntime) {
     }
 }
 
-/// Returns the behaviour of a reader or writer for its calls: `len` calls move one byte each, the next call does as
-/// `then` states, and a further call would move all bytes.
+/// Returns what the calls of a reader or writer do: `len` calls move one byte each, the next call does `then`, and all
+/// later calls move all bytes.
 fn turns_after_single_bytes(rt: &impl Abort, alloc: Global, len: usize, then: Turn) -> Vec<Turn> {
     let mut turns = Vec::new(alloc);
     for _ in 0..len {
@@ -102,8 +102,8 @@ fn assert_writer(rt: &impl Abort, alloc: Global, len: usize, reading: &[Turn], w
     assert_ending(rt, alloc, (reading, writing), error, answers(len));
 }
 
-/// Asserts that a run ends with a write error if its writer fails, as `then` states, after `len` bytes, which it
-/// accepts by one call or by one call for each byte.
+/// Asserts that `run` ends with a write error if the writer accepts `len` bytes and its next call does `then`: it fails
+/// or accepts nothing. The writer accepts the `len` bytes by one call, and in a second run one by one.
 fn assert_failing_writer(rt: &impl Abort, alloc: Global, len: usize, then: Turn) {
     let at_once = turns_after_one_call(rt, alloc, len, then);
     assert_writer(rt, alloc, len, WHOLE, &at_once);
@@ -111,7 +111,7 @@ fn assert_failing_writer(rt: &impl Abort, alloc: Global, len: usize, then: Turn)
     assert_writer(rt, alloc, len, LINES, &one_by_one);
 }
 
-/// Tests that a write error ends the run after each number of output bytes, both if the input is read by one call and
+/// Tests that a write error after 0, 1, 2 and so on output bytes ends `run`, both if the input is read by one call and
 /// if it is read line by line.
 #[test]
 fn writers_fail_after_each_byte(rt: HostRuntime) {

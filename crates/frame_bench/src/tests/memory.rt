@@ -6,8 +6,8 @@ use super::streams::{Turn, WHOLE, ending_of};
 use std::alloc::Global;
 use std::process::Abort;
 
-/// Runs the engine on request lines, and asserts the answers. If an allocation fails, it prints which error the run
-/// reported, asserts that the output is a start of the answers, and asserts that a second run succeeds.
+/// Calls `run` on request lines, and asserts the answers. If an allocation fails, prints the error that `run` returned,
+/// asserts that the output is a start of the answers, and asserts that a second call of `run` succeeds.
 fn answers(
     rt: &(impl Abort + Print),
     alloc: Global,
@@ -50,15 +50,15 @@ const FOUR: (&str, &str) = (
     ok eth - ipv4 udp 0102030405060708\n",
 );
 
-/// Tests four equal `slice` lines. The engine's buffers are large enough after the first answer, so all later
-/// allocations are made by the writer's vector.
+/// Tests four equal `slice` lines. The buffers of `run` are large enough after the first answer, so all later
+/// allocations are made by the vector of the test writer.
 #[test]
 fn four_frames(rt: HostRuntime) {
     answers(&rt, rt.alloc(), FRAMES, FOUR);
 }
 
-/// Behaviour of a reader that returns one line of the test input with `limit` lines for each call: the lengths of its
-/// lines in bytes.
+/// Behaviour of a reader that returns one line of the test input `rows::LIMITS` for each call. The numbers are the
+/// lengths of the lines in bytes.
 const LIMITS: &[Turn] = &[
     Turn::Moves(12),
     Turn::Moves(9),
@@ -70,8 +70,8 @@ const LIMITS: &[Turn] = &[
     Turn::Moves(69),
 ];
 
-/// Tests that a `limit` line is answered or ends the run if an allocation fails. The new reassembly pool allocates anew
-/// for its contents.
+/// Tests that `limit` lines are answered, or that `run` returns an error if an allocation fails. Each new reassembly
+/// pool allocates its own memory.
 #[test]
 fn limit_lines(rt: HostRuntime) {
     answers(&rt, rt.alloc(), LIMITS, rows::LIMITS);

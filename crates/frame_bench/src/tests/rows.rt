@@ -8,8 +8,8 @@ use std::process::Abort;
 /// Request lines as one text, and the expected answer lines.
 pub(super) type Row = (&'static str, &'static str);
 
-/// Five `frag` lines of two streams (datagrams in fragments) that differ only in their VLAN identifiers, 1 and 2. Each
-/// stream is completed, and between them a fragment of VLAN 1 begins a new stream.
+/// Five `frag` lines with fragments of two datagrams, whose headers differ only in the VLAN identifier, 1 or 2. Both
+/// datagrams are completed. Between the two completions, a further fragment of VLAN 1 begins a new datagram.
 pub(super) const STREAMS_BY_VLAN: Row = (
     "frag eth 1 0 0708090a0b0c0102030405068100000108004500001c000120001411037dc0a80101c0a801020001020304050607\n\
     frag eth 2 0 0708090a0b0c0102030405068100000208004500001c000120001411037dc0a80101c0a801021011121314151617\n\
@@ -44,7 +44,7 @@ pub(super) const LIMITS: Row = (
     none\n",
 );
 
-/// Runs the engine on request lines in memory, and asserts that the output is the expected answers.
+/// Calls `run` on request lines in memory, and asserts that the output is the expected answers.
 fn answers(rt: &impl Abort, alloc: Global, (input, wanted): Row) {
     let mut output = Vec::new(alloc);
     let mut reader = Watched::new(input.as_bytes(), u64::MAX);

@@ -20,7 +20,8 @@ pub(super) enum Turn {
     Fails(ErrorKind),
 }
 
-/// Effects of the calls of a test reader or test writer, in order. All calls after the last entry repeat it.
+/// Effects of the calls of a test reader or test writer, in order. After the last entry, each further call repeats that
+/// entry.
 #[derive(Drop)]
 struct Turns<'a> {
     turns: &'a [Turn],
@@ -80,11 +81,11 @@ impl Write for Target<'_> {
     }
 }
 
-/// Outcome of an engine run: its error, if any, the number of calls of its reader and of its writer, and its output.
+/// Outcome of a call of `run`: its error, if any, the numbers of calls of the reader and of the writer, and the output.
 type Ending = (Option<RunError>, (usize, usize), Vec<u8>);
 
-/// Runs the engine between a test reader and a test writer, whose calls do as the two lists state, and returns the
-/// outcome.
+/// Calls `run` with a test reader of `input` and a test writer, and returns the outcome. The lists `reading` and
+/// `writing` define what each call of the reader and of the writer does.
 pub(super) fn ending_of(
     alloc: Global,
     (reading, writing): (&[Turn], &[Turn]),
@@ -122,8 +123,8 @@ struct Streams {
     written: usize,
 }
 
-/// Runs the engine on `input` with the reader and the writer of a test case, and asserts its error, the numbers of
-/// calls and the output.
+/// Calls `run` on `input` with the reader and the writer of a test case, and asserts its error, the numbers of calls
+/// and the output.
 fn assert_streams(rt: &impl Abort, alloc: Global, streams: &Streams, input: &[u8], wanted: &[u8]) {
     let (error, calls, written) = ending_of(alloc, (streams.reading, streams.writing), input);
     assert!(rt; error == streams.error);
@@ -137,8 +138,8 @@ pub(super) const WHOLE: &[Turn] = &[Turn::Moves(usize::MAX)];
 /// Behaviour of a reader or writer that moves one byte for each call.
 const SINGLE: &[Turn] = &[Turn::Moves(1)];
 
-/// Test input of three lines: not a request, a `slice` request without bytes, and again not a request, without its line
-/// feed.
+/// Test input of three lines: an invalid line, a `slice` line for a frame of no bytes, and another invalid line,
+/// without a line feed at its end.
 const LINES: &[u8] = b"a\nslice eth -\nb";
 
 /// Expected answers to the test input of three lines: `err line`, the error that 14 bytes of an Ethernet II header are
@@ -264,8 +265,8 @@ fn moves_little_or_fails(rt: HostRuntime) {
     }
 }
 
-/// Runs the engine on request lines with a reader and a writer that move one byte for each call, and asserts the
-/// answers and the numbers of calls.
+/// Calls `run` on request lines with a reader and a writer that move one byte for each call, and asserts the answers
+/// and the numbers of calls.
 fn assert_single(rt: &impl Abort, alloc: Global, (input, wanted): rows::Row) {
     let streams = Streams {
         reading: SINGLE,

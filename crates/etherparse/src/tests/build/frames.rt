@@ -363,8 +363,8 @@ fn icmpv6(rt: HostRuntime) {
     are_built(&rt, rt.alloc(), &frames, &parts);
 }
 
-/// Asserts that the builder writes `fragment`: the IP headers, `header_len` bytes long, and then the rest of `fragment`
-/// as payload with IP protocol `number`.
+/// Asserts that the builder writes the bytes `fragment` from the given IP headers and a payload with IP protocol
+/// `number`. The payload is `fragment` without its first `header_len` bytes.
 fn is_fragment(
     rt: &impl Abort,
     alloc: Global,

@@ -13,8 +13,8 @@ fn new_buffer(alloc: Global) -> IpDefragBuf {
     IpDefragBuf::new(IpNumber::UDP, Vec::new(alloc), Vec::new(alloc))
 }
 
-/// Adds fragments to one reassembly buffer by `add`, and to another one by `add_all`. Asserts that both are equal, and
-/// returns the buffer and the answer to each fragment.
+/// Adds fragments to one reassembly buffer by `add`, and to another one by `add_all`. Asserts that both buffers are
+/// equal, and so are both results for each fragment. Returns a buffer and the result for each fragment.
 pub(super) fn adds(rt: &impl Abort, alloc: Global, steps: &[Step]) -> (IpDefragBuf, Answers) {
     let mut payloads = Vec::new(alloc);
     for (_, _, bytes, _) in steps {
@@ -234,8 +234,8 @@ fn used_again(rt: HostRuntime) {
     shows_parts(&rt, rt.alloc(), buffer, &shown, &sections, None);
 }
 
-/// Splits a payload into fragments of 64 bytes (the last one may be shorter), and returns the even ones (`parity` 0) or
-/// the odd ones (`parity` 1).
+/// Splits a payload into fragments of 64 bytes (the last one may be shorter), and returns every other fragment: from
+/// the first one on (`parity` 0), or from the second one on (`parity` 1).
 fn every_other<'a>(
     rt: &impl Abort,
     alloc: Global,
@@ -257,8 +257,9 @@ fn every_other<'a>(
     fragments
 }
 
-/// Reassembles the longest payload (65,535 bytes) from 1,024 fragments, the odd ones first, so that the buffer has many
-/// separate ranges. Its clones, before and after the even ones are added, are equal to it.
+/// Reassembles the longest payload (65,535 bytes) from 1,024 fragments. Every other fragment is added first, so that
+/// the buffer has 512 separate ranges, and then the rest. A clone of the buffer is equal to it before and after the
+/// rest is added.
 #[test]
 fn many_fragments(rt: HostRuntime) {
     let alloc = rt.alloc();

@@ -1,5 +1,5 @@
-//! A datagram that is reassembled while older ones are dropped from the pool: the law (theorem), cited as a user cites
-//! it, and a run of such calls.
+//! Test of a datagram that is reassembled while older datagrams are dropped from the pool. A function cites the law
+//! (theorem) for this case, as a user of the library would, and a test makes the calls.
 
 ghost use Rattle.std.specs.Prelude.{◌≡◌, ◌≤◌, ℕ, nat_le, List, [], length, map};
 ghost use Rattle.std.specs.List.{All};
@@ -12,9 +12,9 @@ use super::pool::WHOLE;
 use super::*;
 use crate::laws;
 
-/// States that a reassembly pool completes a payload of at most `limit` bytes from frames with its fragments, all with
-/// timestamp 3 or later. Calls with fragments of other datagrams may come between them, and calls that drop all
-/// datagrams older than 3.
+/// States that a reassembly pool completes a payload of at most `limit` bytes from frames that carry its fragments, if
+/// all these frames have timestamps of at least 3. Other calls may come between the frames: fragments of other
+/// datagrams, and drops of all datagrams with a timestamp below 3.
 fn drops_of_older_streams()
     ensures { (limit : ℕ) (name : IpFragId ℕ) (payload : List ℕ) (cuts : List (BuiltCut ℕ ℕ))
         (calls : List (Call ℕ ℕ ℕ)) → length payload ≤ limit → All (IsBuiltCut payload) cuts →
@@ -28,8 +28,8 @@ fn drops_of_older_streams()
     laws::defrag::built_cuts_are_reassembled::<u64, u8, u64>();
 }
 
-/// A payload is reassembled from two IPv6 fragments at times 3 and 5, although all incomplete datagrams older than 3
-/// are dropped from the pool between them.
+/// A payload is reassembled from two IPv6 fragments with timestamps 3 and 5, although all incomplete datagrams with a
+/// timestamp below 3 are dropped from the pool between the two.
 #[test]
 fn drop_between_halves(rt: HostRuntime) {
     drops_of_older_streams();

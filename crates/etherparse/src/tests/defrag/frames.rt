@@ -17,8 +17,8 @@ use crate::err::packet::SliceError;
 /// A byte that is rejected as an IP packet, because its version is 5.
 const REFUSED: &[u8] = b"\x50";
 
-/// Runs calls of a reassembly pool through `run_frames`; a call that drops incomplete datagrams removes those with a
-/// timestamp below its limit.
+/// Performs a list of calls on a new reassembly pool by `run_frames`. A call `Drop(limit)` drops the incomplete
+/// datagrams with a timestamp below `limit`.
 fn run_with_limits(
     alloc: Global,
     calls: Vec<FrameCall<u64, u8, u64>>,
@@ -59,8 +59,8 @@ enum Wanted {
     Returned,
 }
 
-/// Converts an expected answer of a reassembly pool to the value that `run_frames` returns; a payload has IP protocol
-/// number 253 (for experiments).
+/// Returns the `FrameAnswer` that `run_frames` has to return for a call with the expected answer `wanted`. A complete
+/// payload has the bytes `payload`, this length source and IP protocol number 253 (for experiments).
 fn answer_of(
     rt: &impl Abort,
     alloc: Global,
@@ -95,8 +95,8 @@ fn frame<'a>(entry: Entry, bytes: &'a [u8], timestamp: u64) -> FrameCall<'a, u64
     }
 }
 
-/// Runs calls of a reassembly pool and asserts the answer to each; an answer that is a payload has these bytes and this
-/// length source.
+/// Performs a list of calls on a new reassembly pool and asserts that their answers are `wanted`, in order. Each
+/// payload that the pool returns has to have the given bytes and length source.
 fn answers(
     rt: &impl Abort,
     alloc: Global,
@@ -202,8 +202,7 @@ fn built(rt: &impl Abort, alloc: Global, headers: IpHeaders, part: &[u8]) -> Vec
     frame
 }
 
-/// Returns permutation `number` (0 to 119) of the indices 0 to 4, in which each position was swapped with itself or an
-/// earlier one.
+/// Returns one of the 120 permutations of the indices 0 to 4. Each `number` from 0 to 119 gives a different one.
 fn order(number: usize) -> [usize; 5] {
     let mut order = [0, 1, 2, 3, 4];
     let mut rest = number;
@@ -214,8 +213,9 @@ fn order(number: usize) -> [usize; 5] {
     order
 }
 
-/// Appends the five fragments of a payload in permutation `number`, each with the expected answer of the pool. After
-/// each of the first four an invalid frame is appended; with `repeats`, all fragments so far are repeated before it.
+/// Appends the five fragments of a payload to `frames`, in the order `order(number)`, each with the expected answer of
+/// the pool. After each of the first four, all fragments so far are appended again if `repeats` is true, and then an
+/// invalid frame.
 fn push_order<'a>(
     rt: &impl Abort,
     frames: &mut Vec<(&'a [u8], Wanted)>,

@@ -4,9 +4,9 @@ use super::Bytes::{Rising, Zeros};
 use super::buffers::{Step, adds, section, shows_parts};
 use super::*;
 
-/// Adds fragments to a reassembly buffer and asserts that only fragment number `refused` is rejected: it is a final
-/// fragment that ends at byte `end`, but earlier fragments reach to byte `reach`. Asserts that the others complete a
-/// payload of `len` bytes.
+/// Adds fragments to a reassembly buffer and asserts that only the fragment with index `refused` (from 0) is rejected:
+/// a final fragment that ends at byte `end`, although earlier fragments reach to byte `reach`. Asserts that the other
+/// fragments complete a payload of `len` bytes.
 fn refuses_end(
     rt: &impl Abort,
     alloc: Global,

@@ -3,8 +3,9 @@
 
 use super::*;
 
-/// An IPv4 fragment with the first 16 bytes of a payload and more to follow. `AFTER_LIMIT` has the 8 bytes after them;
-/// `LAST` conflicts with it, as a final fragment with bytes 8 to 15 that ends the payload at byte 16.
+/// An IPv4 fragment with the bytes 0 to 15 of a payload, and with the more-fragments flag. `AFTER_LIMIT` is a final
+/// fragment with the bytes 16 to 23. `LAST` is a final fragment with the bytes 8 to 15, so that it conflicts with
+/// `AFTER_LIMIT`: the two end the payload at different positions.
 const FIRST: &[u8] =
     b"\x45\x00\x00\x24\x00\x07\x20\x00\x40\xfd\xd6\x82\xc0\xa8\x01\x01\xc0\xa8\x01\x02\
       \x00\x01\x02\x03\x04\x05\x06\x07\x08\x09\x0a\x0b\x0c\x0d\x0e\x0f";
@@ -20,8 +21,9 @@ const LAST: &[u8] =
 /// Payload of 16 bytes that is reassembled from two IPv4 fragments.
 const WHOLE: &[u8] = b"\x00\x01\x02\x03\x04\x05\x06\x07\x08\x09\x0a\x0b\x0c\x0d\x0e\x0f";
 
-/// Expected answer of a reassembly pool to a fragment: no payload yet, the complete payload, or an error because the
-/// fragment (offset in units of 8 bytes, length) ends after the limit.
+/// Expected answer of a reassembly pool to a fragment: no payload yet, the complete payload, or the error that the
+/// fragment ends above the limit. The error has the fragment's offset in units of 8 bytes, its length in bytes, and the
+/// limit in bytes.
 #[derive(Clone, Copy)]
 enum ExpectedAnswer {
     Nothing,

@@ -94,8 +94,8 @@ fn push(rt: &impl Abort, frame: &mut Vec<u8>, bytes: &[u8]) {
     frame.extend_from_slice(bytes).expect(rt, "no memory");
 }
 
-/// Passes a fragment of at most 100 payload bytes to a reassembly pool and returns its answer. `part` is the offset in
-/// units of 8 bytes, and 1 if more fragments follow, else 0.
+/// Passes a fragment of at most 100 payload bytes to a reassembly pool and returns its answer. `part` is a pair: the
+/// offset in units of 8 bytes, and 1 if more fragments follow, else 0.
 pub(crate) fn answer_to(
     rt: &impl Abort,
     alloc: Global,

@@ -66,8 +66,8 @@ pub(crate) fn is_payload(answer: &Answer, len_source: LenSource, bytes: &[u8]) -
     }
 }
 
-/// Passes an Ethernet II frame with an IPv4 fragment to a reassembly pool. Asserts that it completes `payload`, or
-/// nothing if `payload` is empty, and returns the buffer to the pool.
+/// Passes an Ethernet II frame with an IPv4 fragment to a reassembly pool. Asserts that the fragment completes
+/// `payload`, or no payload if `payload` is empty, and gives a completed payload back to the pool.
 fn completes_payload(
     rt: &impl Abort,
     pool: &mut IpDefragPool<u64, u8>,
@@ -85,7 +85,7 @@ fn completes_payload(
 }
 
 /// Fragments whose keys differ only in the VLAN identifier are reassembled separately. After the payload of VLAN 1 is
-/// complete, a repeated fragment starts a new one.
+/// complete, a repeated fragment starts a new payload.
 #[test]
 fn streams_by_vlan(rt: HostRuntime) {
     let mut pool = IpDefragPool::new(rt.alloc());
@@ -96,8 +96,8 @@ fn streams_by_vlan(rt: HostRuntime) {
     completes_payload(&rt, &mut pool, VLAN_2_LAST, 1, OTHER);
 }
 
-/// Drops the incomplete datagrams with a timestamp below `limit` from a reassembly pool, and asserts that the condition
-/// is called with the timestamps of exactly `streams` datagrams.
+/// Drops the incomplete datagrams with a timestamp below `limit` from a reassembly pool. Asserts that `retain` calls
+/// its closure `streams` times, once for each incomplete datagram that the pool holds.
 fn drops(rt: &impl Abort, pool: &mut IpDefragPool<u64, u8>, limit: u64, streams: u32) {
     let asked = Cell::new(0u32);
     pool.retain(|timestamp| {
@@ -107,8 +107,9 @@ fn drops(rt: &impl Abort, pool: &mut IpDefragPool<u64, u8>, limit: u64, streams:
     same(rt, &asked.get(), &streams);
 }
 
-/// A fragment that the reassembly pool rejects does not update the timestamp of its datagram, so that a drop of all
-/// datagrams older than 3 removes it. The drop tests the timestamp once.
+/// Tests that a fragment that the reassembly pool rejects does not update the timestamp of its datagram: although the
+/// fragment has the timestamp 5, dropping all datagrams with a timestamp below 3 removes this datagram, the only one in
+/// the pool.
 #[test]
 fn refused_keeps_time(rt: HostRuntime) {
     let mut pool = IpDefragPool::new(rt.alloc());
@@ -186,8 +187,8 @@ fn many_streams(rt: HostRuntime) {
     process_on_channels(&rt, &mut pool, &last, 0..100, b"");
 }
 
-/// Runs calls of a reassembly pool through `run_calls`; a call that drops incomplete datagrams removes those with a
-/// timestamp below its limit.
+/// Performs a list of calls on a new reassembly pool by `run_calls`. A call `Drop(limit)` drops the incomplete
+/// datagrams with a timestamp below `limit`.
 pub(super) fn run_with_limits(
     alloc: Global,
     calls: Vec<PoolCall<u64, Halved, u64>>,
@@ -259,8 +260,8 @@ fn name() -> IpFragId<u8> {
     }
 }
 
-/// Passes a fragment of one UDP datagram to a reassembly pool. Asserts that it completes the payload `completed_payload`, or
-/// nothing if `completed_payload` is empty.
+/// Passes a fragment of one UDP datagram to a reassembly pool. Asserts that the fragment completes the payload
+/// `completed_payload`, or no payload if `completed_payload` is empty.
 fn completes(
     rt: &impl Abort,
     pool: &mut IpDefragPool<u64, u8>,

@@ -92,8 +92,8 @@ fn second_of_a_kind(rt: HostRuntime) {
     same(&rt, &payload, &expected);
 }
 
-/// Asserts that IP headers, with the payload length set to 8, are written as `expected` without its last 8 bytes, the
-/// payload 1 to 8.
+/// Sets the payload length of IP headers to 8 and writes them. Asserts that the written headers, followed by the
+/// payload bytes 1 to 8, are the bytes `expected`.
 fn writes(rt: &impl Abort, alloc: Global, mut headers: IpHeaders, expected: &[u8]) {
     same(rt, &headers.set_payload_len(8), &Ok(()));
     same(rt, &headers.next_header(), &Ok(IpNumber::UDP));
@@ -104,8 +104,8 @@ fn writes(rt: &impl Abort, alloc: Global, mut headers: IpHeaders, expected: &[u8
     same(rt, &bytes.as_slice(), &expected);
 }
 
-/// Asserts that the IP headers in `expected`, before the payload bytes 1 to 8 with next header UDP, are parsed, and
-/// written as the bytes they were parsed from.
+/// Parses the IP headers in `expected`, which are followed by the payload bytes 1 to 8 with next header UDP. Asserts
+/// that the headers are written as the bytes that they were parsed from.
 fn reads_back(rt: &impl Abort, alloc: Global, expected: &[u8]) {
     let (read, number, payload) = IpHeaders::read_from_slice(expected).expect(rt, "refused");
     same(rt, &(number, payload), &(IpNumber::UDP, PAYLOAD));
@@ -141,8 +141,9 @@ fn ipv6(rt: HostRuntime) {
     reads_back(&rt, rt.alloc(), FRAGMENTED_UDP);
 }
 
-/// Asserts that IP headers reject a payload of `len` bytes with an error of length `actual` and maximum `max_allowed`.
-/// Both count the extension headers; if that sum would be above `usize::MAX`, neither does.
+/// Asserts that IP headers reject a payload of `len` bytes with an error that has the length `actual` and the maximum
+/// `max_allowed`. Both include the extension headers, unless the length would then be above `usize::MAX`; in this case
+/// neither does.
 fn too_long(
     rt: &impl Abort,
     mut headers: IpHeaders,

@@ -85,8 +85,9 @@ fn made(random: u8, set: u8) -> [u8; 66_000] {
     bytes
 }
 
-/// Asserts that `Sum16BitWords::add_slice` sums pseudo-random bytes of each length below 300, and of lengths around the
-/// limits at which it sums in another way, as a plain loop does.
+/// Asserts that `Sum16BitWords::add_slice` computes the sums that a plain loop computes. They are compared for
+/// pseudo-random bytes of each length below 300, and of lengths around those at which `add_slice` changes its
+/// algorithm.
 fn all_lengths_are_added(rt: &impl Abort, alloc: Global, random: u8, set: u8) {
     let bytes = made(random, set);
     for length in 0..300 {

@@ -12,8 +12,8 @@ use ep_ext::{
 use std::alloc::Global;
 use std::process::Abort;
 
-/// IPv6 extension headers of the least length, then 2 more bytes: hop-by-hop (0), destination options (60), routing
-/// (43), destination options (60), fragment (44, with the M flag) and authentication (51), before UDP.
+/// IPv6 extension headers of the least length before UDP: hop-by-hop (0), destination options (60), routing (43),
+/// destination options (60), fragment (44, with the M flag) and authentication (51). There are 2 more bytes after them.
 const EVERY_KIND: &[u8] =
     b"\x3c\x00\x01\x04\x00\x00\x00\x00\x2b\x00\x01\x04\x00\x00\x00\x01\x3c\x00\x00\x00\x00\x00\x00\x02\x2c\x00\x01\x04\x00\x00\x00\x03\x33\x00\x00\x01\x00\x00\x00\x07\x11\x01\x00\x00\x00\x00\x00\x05\x00\x00\x00\x06\xfe\xff";
 
@@ -22,8 +22,8 @@ const EVERY_KIND: &[u8] =
 const LINKED: &[u8] =
     b"\x3c\x00\x01\x04\x00\x00\x00\x00\x2b\x00\x01\x04\x00\x00\x00\x01\x2c\x00\x00\x00\x00\x00\x00\x02\x33\x00\x00\x01\x00\x00\x00\x07\x3c\x01\x00\x00\x00\x00\x00\x05\x00\x00\x00\x06\x06\x00\x01\x04\x00\x00\x00\x03";
 
-/// Two IPv6 destination options headers in a row before UDP, and one more byte. The three constants below it have two
-/// routing, two fragment and two authentication headers.
+/// Two IPv6 destination options headers in a row before UDP, and one more byte. The constants `ROUTING`, `FRAGMENT` and
+/// `AUTHENTICATIONS` have two routing, two fragment and two authentication headers instead.
 const OPTIONS: &[u8] = b"\x3c\x00\x01\x04\x00\x00\x00\x00\x11\x00\x01\x04\x00\x00\x00\x00\xab";
 
 const ROUTING: &[u8] = b"\x2b\x00\x00\x00\x00\x00\x00\x00\x11\x00\x00\x00\x00\x00\x00\x00\xab";
@@ -129,8 +129,8 @@ fn slices(rt: HostRuntime) {
 }
 
 /// Tests that owned IPv6 extension headers have space for one header of each type, and for second destination options
-/// after a routing header. Parsing ends before any further header of a type, and its protocol number is the next header
-/// after the chain.
+/// after a routing header. Parsing ends before a header for which there is no space; the protocol number of this header
+/// is the next header after the chain.
 #[test]
 fn headers(rt: HostRuntime) {
     for (number, bytes, header_len, fragments, last) in [
@@ -334,8 +334,8 @@ fn chain(rt: &impl Abort, numbers: [u8; 6]) -> Ipv6Extensions {
     }
 }
 
-/// Asserts that IPv6 extension headers whose next headers don't link all of them are rejected with the given error.
-/// Both `next_header`, which returns the next header after the chain, and `write` have to return it.
+/// Asserts that `next_header` and `write` of IPv6 extension headers both return the given error, because the next
+/// header fields do not link all of the headers in a valid order.
 fn refuses_links(
     rt: &impl Abort,
     alloc: Global,
@@ -350,8 +350,7 @@ fn refuses_links(
     same(rt, &refused, &Some(HeaderWriteError::Content(error)));
 }
 
-/// Returns the error for an IPv6 extension header of the given IP protocol number that no other header has as its next
-/// header.
+/// Returns the error that no next header field refers to the IPv6 extension header with this IP protocol number.
 fn unreferenced(number: u8) -> ExtsWalkError {
     ExtsWalkError::ExtNotReferenced {
         missing_ext: IpNumber(number),

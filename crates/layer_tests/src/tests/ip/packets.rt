@@ -340,8 +340,8 @@ fn ipv6_packets(rt: HostRuntime) {
     }
 }
 
-/// Tests that the empty extension headers of an IPv6 packet without them keep the next header of the IPv6 header, and
-/// are equal only to empty ones with this number.
+/// Tests the extension headers of an IPv6 packet that has none. They keep the next header of the IPv6 header, and are
+/// equal only to empty extension headers with this next header.
 #[test]
 fn no_extension_headers_begin_with_next_header(rt: HostRuntime) {
     let packet = Ipv6Slice::from_slice(OPEN_LENGTH).expect(&rt, "refused");

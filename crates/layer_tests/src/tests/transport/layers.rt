@@ -12,8 +12,8 @@ use std::process::Abort;
 
 const PAYLOAD: &[u8] = b"\x01\x02\x03\x04\x05\x06\x07\x08";
 
-/// A UDP datagram from port 21 to port 1234 with the payload bytes 1 to 8. The three constants below it are a TCP
-/// segment and echo requests of ICMPv4 and ICMPv6 with the same payload.
+/// A UDP datagram from port 21 to port 1234 with the payload bytes 1 to 8. The constants `SEGMENT` (TCP), `ECHO`
+/// (ICMPv4 echo request) and `ECHO_IPV6` (ICMPv6 echo request) have the same payload.
 const DATAGRAM: &[u8] = b"\x00\x15\x04\xd2\x00\x10\x67\x7f\x01\x02\x03\x04\x05\x06\x07\x08";
 
 const SEGMENT: &[u8] =
