@@ -1,8 +1,9 @@
 #!/usr/bin/env bash
 # Runs the commands of a document in a fresh clone: .ci/check_readme.sh [--short|--long] [DOCUMENT..]
 #
-# Without DOCUMENT it is README.md. Its quotations are compared too: lines of code with the example, the kit with
-# `rt version`, its length and width. With --short nothing is run, and all but the kit is compared in the working tree.
+# Without DOCUMENT it is README.md. Its quotations are compared too: the kit with `rt version`, its length and width,
+# and blocks ```rust, also those of the crates' READMEs, with the code of the crates, which the gate proves and runs.
+# With --short nothing is run, and all but the kit is compared in the working tree.
 # Commands are the lines of the blocks ```sh. Each block is run in one shell, up to its first failure: from the top of
 # the clone, or in the folder of the document's crate. A line whose comment begins with `long:` takes minutes or hours,
 # and is skipped without --long. Each line of a following block ```text has to be in the output of the block. Committed
@@ -14,7 +15,7 @@ documents=()
 for argument in "$@"; do
     case $argument in
         --short | --long) form=${argument#--} ;;
-        --*) sed -n '2,9s/^# \?//p' "$0"; exit 2 ;;
+        --*) sed -n '2,10s/^# \?//p' "$0"; exit 2 ;;
         *) documents+=("$argument") ;;
     esac
 done
@@ -31,20 +32,26 @@ wrong() { echo "check_readme: $*" >&2; status=1; }
 
 # Compares the quotations of the README.
 compare() {
-    local readme=$clone/README.md example=$clone/crates/example_filter/src/main.rt
-    python3 - "$readme" "$example" << 'END' || status=1
+    local readme=$clone/README.md
+    python3 - "$clone" << 'END' || status=1
+import pathlib
 import re
 import sys
 
-text, example = (open(path).read() for path in sys.argv[1:])
+top = pathlib.Path(sys.argv[1])
+text = (top / "README.md").read_text()
 wrong = [f"line {at} has {len(line)} columns" for at, line in enumerate(text.split("\n"), 1)
          if len(line) > 100 and not line.startswith("|")]
 if text.count("\n") > 150:
     wrong.append(f"it has {text.count(chr(10))} lines")
-wrong += [f"this is not in the example:\n{code}" for code in re.findall(r"^```rust\n(.*?)^```", text, re.M | re.S)
-          if code not in example]
+wrong = [f"README.md: {line}" for line in wrong]
+sources = [path.read_text() for path in top.glob("crates/*/src/**/*.rt")]
+for path in [top / "README.md", *sorted(top.glob("crates/*/README.md"))]:
+    wrong += [f"{path.relative_to(top)}: no crate has this code:\n{code}"
+              for code in re.findall(r"^```rust\n(.*?)^```", path.read_text(), re.M | re.S)
+              if not any(code in source for source in sources)]
 for line in wrong:
-    print(f"check_readme: README.md: {line}", file=sys.stderr)
+    print(f"check_readme: {line}", file=sys.stderr)
 sys.exit(bool(wrong))
 END
     # (the gate runs with whatever kit there is)

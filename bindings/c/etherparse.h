@@ -107,6 +107,9 @@ uint32_t etherparse_1_slice_lax(uint32_t entry, uint16_t ether_type, const uint8
 uint32_t etherparse_1_slice_many(uint32_t entry, uint16_t ether_type, const uint8_t *bytes, size_t len,
                                  const size_t *ends, size_t ends_len, struct etherparse_packet *packets,
                                  size_t packets_len, size_t *sliced);
+uint32_t etherparse_1_slice_lax_many(uint32_t entry, uint16_t ether_type, const uint8_t *bytes, size_t len,
+                                     const size_t *ends, size_t ends_len, struct etherparse_packet *packets,
+                                     size_t packets_len, size_t *sliced);
 uint32_t etherparse_1_refusal_text(const struct etherparse_refusal *refusal, uint8_t *buffer, size_t len,
                                    size_t *written);
 uint16_t etherparse_1_checksum(const uint8_t *bytes, size_t len);
@@ -204,11 +207,11 @@ struct etherparse_ip {
 /* Payload of the last layer. It is limited by the innermost length field that counts it, with or without trailing
  * bytes: the length of UDP if it is not 0, else that of IP (in IPv6 a payload length of 0 limits nothing if bytes
  * follow), else the short length of a MACsec tag if it is not 0, else the length that was passed. After an ARP packet
- * there is no payload: len is 0, and len_source is ETHERPARSE_END_ARP. With etherparse_slice_lax, a length field that
- * is not in effect does not limit the payload. */
+ * there is no payload: len is 0, and len_source is ETHERPARSE_END_ARP. In lax slicing, a length field that is not in
+ * effect does not limit the payload. */
 struct etherparse_payload {
     uint32_t len_source; /* enum etherparse_len_source */
-    uint32_t incomplete; /* 1 if bytes that a length field counts are missing (etherparse_slice_lax only); else 0 */
+    uint32_t incomplete; /* 1 if bytes that a length field counts are missing (lax slicing only); else 0 */
     size_t offset;
     size_t len;
 };
@@ -257,7 +260,7 @@ enum etherparse_layer {
     ETHERPARSE_LAYER_ICMPV6 = 21
 };
 
-/* Error of rejected bytes, or the error at which etherparse_slice_lax stopped; all 0 for a frame. For kind LEN,
+/* Error of rejected bytes, or the error at which lax slicing stopped; all 0 for a frame. For kind LEN,
  * required_len is greater than len, except for ICMPv4 timestamps, which have exactly 20 bytes: there len may be
  * greater, so compare before you subtract. len_source is the limit of the len bytes, except that a MACsec short length
  * is reported as ETHERPARSE_END_SLICE; ETHERPARSE_END_ARP is the source of required_len. */
@@ -336,6 +339,22 @@ etherparse_slice_many(uint32_t entry, uint16_t ether_type, const uint8_t *bytes,
     return ETHERPARSE_AS_STATUS(etherparse_1_slice_many(entry, ether_type, bytes ? bytes : &none, len,
                                                         ends ? ends : &no_end, count,
                                                         packets ? packets : &no_packet, count, sliced));
+}
+
+/* Slices `count` consecutive packets in `bytes` laxly. The parameters and statuses are those of etherparse_slice_many,
+ * and packets[i] is filled as by etherparse_slice_lax with packet i: the kind of its refusal is 0 if no layer is
+ * invalid. Unless `entry` is ETHERPARSE_ENTRY_ETHER_TYPE, link.kind and net.kind are both 0 exactly if the first header
+ * is invalid, for which etherparse_slice_lax returns ETHERPARSE_REFUSED. */
+ETHERPARSE_MUST_USE ETHERPARSE_NONNULL((8)) ETHERPARSE_READS(3, 4) ETHERPARSE_READS(5, 6)
+static inline enum etherparse_status
+etherparse_slice_lax_many(uint32_t entry, uint16_t ether_type, const uint8_t *bytes, size_t len, const size_t *ends,
+                          size_t count, struct etherparse_packet *packets, size_t *sliced) {
+    const uint8_t none = 0;
+    const size_t no_end = 0;
+    struct etherparse_packet no_packet;
+    return ETHERPARSE_AS_STATUS(etherparse_1_slice_lax_many(entry, ether_type, bytes ? bytes : &none, len,
+                                                            ends ? ends : &no_end, count,
+                                                            packets ? packets : &no_packet, count, sliced));
 }
 
 /* Buffer length that is enough for the text of every error, including its zero byte. */

@@ -221,6 +221,30 @@ static void look_at_pool(struct etherparse_pool *pool, uint32_t entry, uint16_t 
     }
 }
 
+/* Checks that the halves of the bytes are sliced in one call as by a call for each. */
+static void look_at_many(uint32_t entry, uint16_t ether_type, const uint8_t *frame, size_t len) {
+    const size_t ends[2] = {len / 2, len};
+    struct etherparse_packet both[2], other;
+    size_t sliced;
+    enum etherparse_status wanted = entry == 4 ? ETHERPARSE_UNKNOWN_CHOICE : ETHERPARSE_OK;
+    WANT(etherparse_slice_many(entry, ether_type, frame, len, ends, 2, both, &sliced) == wanted);
+    WANT(sliced == (entry == 4 ? 0u : 2u));
+    if (entry != 4) {
+        WANT(etherparse_slice(entry, ether_type, frame + len / 2, len - len / 2, &other)
+             == (both[1].refusal.kind == 0 ? ETHERPARSE_OK : ETHERPARSE_REFUSED));
+        WANT(other.payload.offset == both[1].payload.offset && other.refusal.number == both[1].refusal.number);
+    }
+    WANT(etherparse_slice_lax_many(entry, ether_type, frame, len, ends, 2, both, &sliced) == wanted);
+    WANT(sliced == (entry == 4 ? 0u : 2u));
+    if (entry != 4) {
+        int is_refused = entry != ETHERPARSE_ENTRY_ETHER_TYPE && both[1].link.kind == 0 && both[1].net.kind == 0;
+        WANT(etherparse_slice_lax(entry, ether_type, frame + len / 2, len - len / 2, &other)
+             == (is_refused ? ETHERPARSE_REFUSED : ETHERPARSE_OK));
+        WANT(other.payload.offset == both[1].payload.offset && other.payload.len == both[1].payload.len);
+        WANT(other.refusal.kind == both[1].refusal.kind && other.refusal.number == both[1].refusal.number);
+    }
+}
+
 int LLVMFuzzerTestOneInput(const uint8_t *input, size_t left) {
     if (left < 3 || left > ROOM) return 0;
     uint32_t entry = input[0] % 5; /* 4 is invalid */
@@ -255,16 +279,7 @@ int LLVMFuzzerTestOneInput(const uint8_t *input, size_t left) {
             WANT(packet.ip.version == 0 && packet.transport.kind == 0 && packet.payload.len == 0);
             if (status == ETHERPARSE_REFUSED) look_at_refusal(&packet.refusal);
         }
-        const size_t ends[2] = {len / 2, len};
-        struct etherparse_packet both[2];
-        size_t sliced;
-        enum etherparse_status many = etherparse_slice_many(entry, ether_type, frame, len, ends, 2, both, &sliced);
-        WANT(many == (entry == 4 ? ETHERPARSE_UNKNOWN_CHOICE : ETHERPARSE_OK) && sliced == (entry == 4 ? 0u : 2u));
-        if (entry != 4) {
-            WANT(etherparse_slice(entry, ether_type, frame + len / 2, len - len / 2, &other)
-                 == (both[1].refusal.kind == 0 ? ETHERPARSE_OK : ETHERPARSE_REFUSED));
-            WANT(other.payload.offset == both[1].payload.offset && other.refusal.number == both[1].refusal.number);
-        }
+        look_at_many(entry, ether_type, frame, len);
         look_at_pool(pool, entry, ether_type, frame, len, time, status);
         if (time % 5 == 4) etherparse_pool_drop_older(pool, time - 2);
     }

@@ -36,6 +36,10 @@ static void slice_many(void) {
     const size_t ends[4] = {frame_len, frame_len, 2 * frame_len, 3 * frame_len};
     status = etherparse_slice_many(ETHERPARSE_ENTRY_ETHERNET, 0, frame, 3 * frame_len, ends, 4, packets, &sliced);
 }
+static void slice_lax_many(void) {
+    const size_t ends[4] = {40, frame_len, 2 * frame_len, 2 * frame_len + 40};
+    status = etherparse_slice_lax_many(ETHERPARSE_ENTRY_ETHERNET, 0, frame, 3 * frame_len, ends, 4, packets, &sliced);
+}
 static void text(void) {
     status = etherparse_refusal_text(&packet.refusal, (char *)buffer, ETHERPARSE_REFUSAL_TEXT_MAX, &written);
 }
@@ -140,6 +144,7 @@ int main(void) {
         NEEDS(slice_lax, ETHERPARSE_OK);
         NEEDS(slice_lax_cut, ETHERPARSE_OK);
         NEEDS(slice_many, ETHERPARSE_OK);
+        NEEDS(slice_lax_many, ETHERPARSE_OK);
         NEEDS(slice_cut, ETHERPARSE_REFUSED);
         NEEDS(text, ETHERPARSE_OK);
         needs("checksum", checksum, 0xffff, ETHERPARSE_STACK, LEAST);

@@ -182,8 +182,23 @@ static void tags(void) {
 
 /* ---- calls that do not allocate */
 
-/* Many frames in one call: all of them, up to an invalid end, and none. */
-static void many(void) {
+/* A call that slices one frame, and the call and the export that slice many frames alike. */
+struct slicing {
+    const char *name;
+    bool is_lax;
+    enum etherparse_status (*one)(uint32_t, uint16_t, const uint8_t *, size_t, struct etherparse_packet *);
+    enum etherparse_status (*many)(uint32_t, uint16_t, const uint8_t *, size_t, const size_t *, size_t,
+                                   struct etherparse_packet *, size_t *);
+    uint32_t (*export)(uint32_t, uint16_t, const uint8_t *, size_t, const size_t *, size_t, struct etherparse_packet *,
+                       size_t, size_t *);
+};
+static const struct slicing strict = {"etherparse_slice_many", false, etherparse_slice, etherparse_slice_many,
+                                      etherparse_1_slice_many};
+static const struct slicing lax = {"etherparse_slice_lax_many", true, etherparse_slice_lax, etherparse_slice_lax_many,
+                                   etherparse_1_slice_lax_many};
+
+/* Many frames in one call: all of them, also truncated ones, up to an invalid end, and none. */
+static void many(const struct slicing *slices) {
     uint8_t frames[3 * 60];
     size_t lens[3], len = 0, ends[3], sliced = 7;
     struct etherparse_packet packets[4], one, before;
@@ -193,29 +208,35 @@ static void many(void) {
     }
     requests = 0;
     memset(&before, 0xab, sizeof before);
-    for (size_t i = 0; i < 4; i++) packets[i] = before;
-    WANT(etherparse_slice_many(0, 0, frames, len, ends, 3, packets, &sliced) == ETHERPARSE_OK && sliced == 3);
-    for (size_t i = 0, start = 0; i < 3; start = ends[i++]) {
-        memset(&one, 0xab, sizeof one);
-        WANT(etherparse_slice(0, 0, frames + start, lens[i], &one) == ETHERPARSE_OK);
-        WANT(memcmp(&one, &packets[i], sizeof one) == 0 && one.destination_port == i && one.payload.len == i);
+    /* The second frame is whole, or has too few bytes for Ethernet II or for UDP; the rest is then the third one. */
+    for (size_t cut = 0; cut < 3; cut++) {
+        if (cut != 0) ends[1] = ends[0] + (cut == 1 ? 13 : 38);
+        for (size_t i = 0; i < 4; i++) packets[i] = before;
+        WANT(slices->many(0, 0, frames, len, ends, 3, packets, &sliced) == ETHERPARSE_OK && sliced == 3);
+        for (size_t i = 0, start = 0; i < 3; start = ends[i++]) {
+            memset(&one, 0xab, sizeof one);
+            enum etherparse_status status = slices->one(0, 0, frames + start, ends[i] - start, &one);
+            WANT(memcmp(&one, &packets[i], sizeof one) == 0);
+            WANT(cut != 0 || (status == ETHERPARSE_OK && one.destination_port == i && one.payload.len == i));
+        }
+        WANT(packets[0].refusal.kind == 0 && memcmp(&before, &packets[3], sizeof before) == 0);
+        WANT(packets[1].refusal.kind == (cut == 0 ? ETHERPARSE_REFUSAL_NONE : ETHERPARSE_REFUSAL_LEN));
+        bool shows_ip = cut == 0 || (cut == 2 && slices->is_lax);
+        WANT(packets[1].net.kind == (shows_ip ? ETHERPARSE_NET_IPV4 : 0));
+        WANT(packets[1].payload.incomplete == (cut == 2 && slices->is_lax));
     }
-    WANT(memcmp(&before, &packets[3], sizeof before) == 0);
-    ends[1] = ends[0] + 13; /* too few bytes for a frame; the rest is another frame */
-    WANT(etherparse_slice_many(0, 0, frames, len, ends, 3, packets, &sliced) == ETHERPARSE_OK && sliced == 3);
-    WANT(packets[0].refusal.kind == 0 && packets[1].refusal.kind == ETHERPARSE_REFUSAL_LEN);
     for (size_t end = 0; end < 2; end++) {
         ends[1] = end ? len + 1 : ends[0] - 1;
         for (size_t i = 0; i < 4; i++) packets[i] = before;
-        WANT(etherparse_slice_many(0, 0, frames, len, ends, 3, packets, &sliced) == ETHERPARSE_UNKNOWN_CHOICE);
+        WANT(slices->many(0, 0, frames, len, ends, 3, packets, &sliced) == ETHERPARSE_UNKNOWN_CHOICE);
         WANT(sliced == 1 && packets[0].refusal.kind == 0 && memcmp(&before, &packets[1], sizeof before) == 0);
     }
-    WANT(etherparse_slice_many(4, 0, frames, len, ends, 3, packets, &sliced) == ETHERPARSE_UNKNOWN_CHOICE);
+    WANT(slices->many(4, 0, frames, len, ends, 3, packets, &sliced) == ETHERPARSE_UNKNOWN_CHOICE);
     WANT(sliced == 0 && memcmp(&before, &packets[1], sizeof before) == 0);
-    WANT(etherparse_slice_many(0, 0, NULL, 0, NULL, 0, NULL, &sliced) == ETHERPARSE_OK && sliced == 0);
-    WANT(etherparse_1_slice_many(0, 0, frames, len, ends, 3, packets, 2, &sliced) == ETHERPARSE_TOO_SMALL);
+    WANT(slices->many(0, 0, NULL, 0, NULL, 0, NULL, &sliced) == ETHERPARSE_OK && sliced == 0);
+    WANT(slices->export(0, 0, frames, len, ends, 3, packets, 2, &sliced) == ETHERPARSE_TOO_SMALL);
     WANT(sliced == 0 && requests == 0);
-    printf("etherparse_slice_many: as one call for each, up to a bad end\n");
+    printf("%s: as one call for each, up to a bad end\n", slices->name);
 }
 
 /* Null pointers with length 0. */
@@ -440,7 +461,8 @@ int main(void) {
     refusals();
     slices();
     slices_laxly();
-    many();
+    many(&strict);
+    many(&lax);
     nulls();
     pools();
     return failed;

@@ -28,8 +28,8 @@ __all__ = [
     "VERSION", "MAX_PAYLOAD", "Status", "Entry", "LinkKind", "ExtKind", "NetKind", "TransportKind", "LenSource",
     "RefusalKind", "Layer", "TcpFlag", "FragmentRefusal", "Packet", "Packets", "Part", "LinkExt", "Ip", "Payload",
     "Refusal", "Route", "TcpFields", "FragmentFields", "EtherparseError", "Refused", "FragmentRefused", "TooLong",
-    "UnknownChoice", "Pool", "PoolPayload", "slice", "slice_lax", "slice_many", "build_udp", "build_tcp",
-    "build_icmp_echo", "build_fragment", "checksum", "version",
+    "UnknownChoice", "Pool", "PoolPayload", "slice", "slice_lax", "slice_many", "slice_lax_many", "build_udp",
+    "build_tcp", "build_icmp_echo", "build_fragment", "checksum", "version",
 ]
 
 VERSION = 100
@@ -221,7 +221,7 @@ class Ip(_Struct):
 
 
 class Payload(_Struct):
-    """Payload of the last layer; `incomplete` is 1 if bytes that a length field counts are missing (slice_lax only)."""
+    """Payload of the last layer; `incomplete` is 1 if bytes that a length field counts are missing (lax slicing)."""
 
     len_source: int
     incomplete: int
@@ -234,7 +234,7 @@ class Payload(_Struct):
 
 
 class Refusal(_Struct):
-    """Error of rejected bytes, or the error at which slice_lax stopped; all 0 for a frame."""
+    """Error of rejected bytes, or the error at which lax slicing stopped; all 0 for a frame."""
 
     kind: int
     layer: int
@@ -304,12 +304,12 @@ class Packet(_Struct):
 
     @property
     def is_incomplete(self) -> bool:
-        """Whether bytes of the payload that a length field counts are missing (slice_lax only)."""
+        """Whether bytes of the payload that a length field counts are missing (lax slicing only)."""
         return self.payload.incomplete != 0
 
     @property
     def stop(self) -> Optional[Refusal]:
-        """Error of the layer after the last one, if a layer must follow and is invalid (slice_lax only)."""
+        """Error of the layer after the last one, if a layer must follow and is invalid (lax slicing only)."""
         return self.refusal if self.refusal.kind else None
 
     @property
@@ -484,13 +484,14 @@ _bytes_in = (ctypes.c_char_p, _size)  # as stored by Python, never null
 _bytes_out = (ctypes.POINTER(_u8), _size)
 _written = ctypes.POINTER(_size)
 _pool = ctypes.c_void_p
+_many = (_u32, _u16, *_bytes_in, ctypes.POINTER(_size), _size, ctypes.POINTER(Packet), _size, _written)
 
 _CALLS: dict[str, tuple[Any, tuple[Any, ...]]] = {
     "version": (_u32, ()),
     "slice": (_u32, (_u32, _u16, *_bytes_in, ctypes.POINTER(Packet))),
     "slice_lax": (_u32, (_u32, _u16, *_bytes_in, ctypes.POINTER(Packet))),
-    "slice_many": (
-        _u32, (_u32, _u16, *_bytes_in, ctypes.POINTER(_size), _size, ctypes.POINTER(Packet), _size, _written)),
+    "slice_many": (_u32, _many),
+    "slice_lax_many": (_u32, _many),
     "refusal_text": (_u32, (ctypes.POINTER(Refusal), *_bytes_out, _written)),
     "checksum": (_u16, _bytes_in),
     "build_tagged_udp": (_u32, (ctypes.POINTER(_TaggedRoute), _u16, _u16, *_bytes_in, *_bytes_out, _written)),
@@ -582,7 +583,8 @@ def _sliced(call: Any, frame: Bytes, entry: int, ether_type: int) -> Packet:
 
 
 class Packets(Sequence[Packet]):
-    """Result of slice_many: a packet for each frame. For a rejected frame the kind of the refusal is not 0."""
+    """Result of slice_many and slice_lax_many: a packet for each frame. The kind of its refusal is not 0 if slice_many
+    rejected the frame, or if slice_lax_many stopped at an error."""
 
     def __init__(self, packets: Any, frames: Sequence[bytes]) -> None:
         self._packets, self._frames = packets, frames
@@ -609,13 +611,24 @@ class Packets(Sequence[Packet]):
 
 def slice_many(frames: Iterable[Bytes], entry: int = Entry.ETHERNET, ether_type: int = 0) -> Packets:
     """Slices many frames in one call. Errors are not raised: packet.refusal has the error of a rejected frame."""
+    return _sliced_many(_library.etherparse_1_slice_many, frames, entry, ether_type)
+
+
+def slice_lax_many(frames: Iterable[Bytes], entry: int = Entry.ETHERNET, ether_type: int = 0) -> Packets:
+    """Slices many packets in one call, each as slice_lax. Errors are not raised: packet.stop is the error of the first
+    invalid layer. If that is the first header, the packet has no layers."""
+    return _sliced_many(_library.etherparse_1_slice_lax_many, frames, entry, ether_type)
+
+
+def _sliced_many(call: Any, frames: Iterable[Bytes], entry: int, ether_type: int) -> Packets:
+    """Slices many frames by one of the calls for many."""
     kept = tuple(frames)
     if not set(map(type, kept)) <= {bytes}:
         kept = tuple(map(_as_bytes, kept))
     joined, count = b"".join(kept), len(kept)
     ends = array("Q", itertools.accumulate(map(len, kept)))
     packets, sliced = (Packet * max(count, 1))(), _size()
-    status = _library.etherparse_1_slice_many(
+    status = call(
         _number("entry", entry, 32), _number("ether_type", ether_type, 16), joined, len(joined),
         (_size * max(count, 1)).from_buffer(ends) if count else (_size * 1)(), count, packets, count, sliced)
     if status != Status.OK:

@@ -105,24 +105,32 @@ class Program(unittest.TestCase):
     def test_many_answer_as_one(self):
         texts = [case.with_suffix("").read_bytes().decode("latin-1") for case in sorted(CASES.glob("*.stdout"))]
         lines = "\n".join(texts).split("\n")
-        for name, entry in ENTRIES.items():
+        calls = (ep.slice_many, ep.slice), (ep.slice_lax_many, ep.slice_lax)
+        for (many, one), (name, entry) in itertools.product(calls, ENTRIES.items()):
             frames = [b"" if line.split(" ")[2] == "-" else bytes.fromhex(line.split(" ")[2]) for line in lines
                       if re.fullmatch(f"slice {name} (-|([0-9a-fA-F]{{2}})+)", line)]
-            packets = ep.slice_many(frames, entry)
+            frames += [frame[: len(frame) * 3 // 4] for frame in frames]
+            packets = many(frames, entry)
             self.assertEqual(len(packets), len(frames))
-            self.assertGreater(len(frames), 5)
+            self.assertGreater(len(frames), 10)
             for frame, packet in zip(frames, packets):
                 try:
-                    self.assertEqual(bytes(ep.slice(frame, entry)), bytes(packet))
+                    self.assertEqual(bytes(one(frame, entry)), bytes(packet))
                     self.assertEqual(packet.frame, frame)
+                    self.assertTrue(packet.link.kind or packet.net.kind)
                 except ep.Refused as error:
                     self.assertEqual(str(error), str(packet.refusal))
+                    self.assertFalse(packet.link.kind or packet.net.kind)
             self.assertEqual([bytes(packet) for packet in packets[1:3]], [bytes(packets[1]), bytes(packets[2])])
-        self.assertEqual(len(ep.slice_many([])), 0)
-        with self.assertRaises(IndexError):
-            packets[len(packets)]
-        with self.assertRaises(ep.UnknownChoice):
-            ep.slice_many([FRAME], 4)
+        for many, one in calls:
+            self.assertEqual(len(many([])), 0)
+            with self.assertRaises(IndexError):
+                packets[len(packets)]
+            with self.assertRaises(ep.UnknownChoice):
+                many([FRAME], 4)
+        cut, tagged = ep.slice_lax_many([b"\x45", b"\0\7\x08\0\x45"], ep.Entry.ETHER_TYPE, 0x8100)
+        self.assertEqual([cut.stop.layer, tagged.stop.layer], [ep.Layer.VLAN_HEADER, ep.Layer.IPV4_HEADER])
+        self.assertEqual([cut.vlan_ids, tagged.vlan_ids], [(), (7,)])
 
 
 class Header(unittest.TestCase):

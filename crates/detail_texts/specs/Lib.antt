@@ -1,6 +1,5 @@
 pub mod HeaderDetails
 pub mod TcpDetails
 pub mod ChecksumTexts
-pub mod Quoted
 pub mod PacketChecksums
 pub mod PacketDetails

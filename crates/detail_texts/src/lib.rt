@@ -6,12 +6,10 @@ pub mod checksums;
 pub mod details;
 pub mod headers;
 pub mod packet_checksums;
-pub mod quoted;
 pub mod tcp;
 
 pub use crate::checksums::{push_checksum_ipv4, push_checksum_ipv6, push_header_checksum};
 pub use crate::details::push_details;
 pub use crate::headers::{push_ipv4, push_ipv6, push_vlan};
 pub use crate::packet_checksums::push_checksum;
-pub use crate::quoted::quoted_packet;
 pub use crate::tcp::push_tcp;

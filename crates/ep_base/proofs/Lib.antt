@@ -3,6 +3,7 @@ pub mod ComparisonLemmas
 pub mod CutRefusalLemmas
 pub mod DecidedLemmas
 pub mod LaxCutLemmas
+pub mod LaxSliceLemmas
 pub mod MissingLemmas
 pub mod ResidueLemmas
 pub mod SumLemmas

@@ -1,5 +1,6 @@
 -- Payloads limited by a length field that may be greater than the number of available bytes.
 use Rattle.std.specs.Prelude.{◌≡◌, ◌&&◌, ◌||◌, ◌+◌, ◌++◌, not, nat_le, nat_lt, if◌then◌else◌, ℕ, Bool, List, length}
+use Rattle.ep_base.specs.declared.lax_cut.LimitedSlice.{LimitedSlice}
 use Rattle.ep_base.specs.declared.len_source.LenSource.{LenSource}
 use Rattle.ep_base.specs.declared.len_source.LenSource.TheVariants as source
 
@@ -32,3 +33,12 @@ pub record IsLaxCut (least stated : ℕ) (named : LenSource) (outer : Bool) (hea
       header_len + length cut.payload ≡ (if cuts least stated available then stated else available)
   pub source : cut.source ≡ (if cuts least stated (header_len + length after) then named else source.Slice)
   pub incomplete : cut.incomplete ≡ is_missing least stated outer (header_len + length after)
+
+-- The limited bytes with the trailing bytes.
+abbrev pub lax_cut_of : LimitedSlice → List ℕ → LaxCut
+lax_cut_of slice left = record {
+  payload = slice.payload.now;
+  left = left;
+  source = slice.len_source;
+  incomplete = slice.incomplete;
+}

@@ -14,6 +14,7 @@ pub mod ReadLemmas
 pub mod ReadingLemmas
 pub mod RefusalLemmas
 pub mod ShownLemmas
+pub mod ValueFrontLemmas
 pub mod ValueLawLemmas
 pub mod ValueLemmas
 pub mod WalkLawLemmas

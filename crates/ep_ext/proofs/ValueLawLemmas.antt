@@ -4,6 +4,7 @@ use Rattle.std.proofs.lemmas.Bool.{cases_Bool, true≢false}
 use Rattle.std.proofs.lemmas.Grind.{common_steps}
 use Rattle.std.specs.Option.{option_map, option_map_or, is_some}
 use Rattle.ep_base.specs.Readings.{headers}
+use Rattle.ep_base.specs.declared.err.ipv6_exts.HeaderSliceError.{HeaderSliceError}
 use Rattle.ep_ext.specs.declared.ip_auth_header.IpAuthHeader.{IpAuthHeader}
 use Rattle.ep_ext.specs.declared.ipv6_fragment_header.Ipv6FragmentHeader.{Ipv6FragmentHeader}
 use Rattle.ep_ext.specs.declared.ipv6_raw_ext_header.Ipv6RawExtHeader.{Ipv6RawExtHeader}
@@ -12,8 +13,9 @@ use Rattle.ep_ext.specs.declared.ipv6_routing_exts.Ipv6RoutingExtensions.{Ipv6Ro
 use Rattle.ep_ext.specs.IpAuth.{ip_auth_len}
 use Rattle.ep_ext.specs.FragmentHeader.{is_ipv6_fragment}
 use Rattle.ep_ext.specs.RawExtension.{raw_extension_len}
-use Rattle.ep_ext.specs.ExtensionParts.{ExtensionPart, hop_by_hop, destination_options, routing, fragment, authentication, optional_part, part_number, part_next, part_bytes, part_fragments}
-use Rattle.ep_ext.specs.Chains.{ipv6, ExtensionChain, takes, demand_of, is_taken, IsChainAfter, IsExtensionChain, parts_bytes, chain_fragments}
+use Rattle.ep_ext.specs.ExtensionParts.{ExtensionPart, hop_by_hop, destination_options, routing, fragment, authentication, optional_part, part_number, part_next, part_len, part_bytes, part_fragments}
+use Rattle.ep_ext.specs.Chains.{ipv6, ExtensionChain, takes, demand_of, is_taken, IsChainAfter, IsExtensionChain, RefusesChainAfter, parts_bytes, chain_fragments}
+use Rattle.ep_ext.specs.ChainPrefixes.{IsLaxChainIn}
 use Rattle.ep_ext.specs.Ipv6Chains.{no_ipv6_extensions, extensions_of, with_part, with_parts, with_destination, has_kind, has_destination, ipv6_parts, routing_header, final_by}
 use Rattle.ep_ext.proofs.PartLemmas.{part_numbered, auth_len}
 use Rattle.ep_ext.proofs.ValueLemmas.{HasTaken, none_taken, taken_more, value_of, value_len}
@@ -208,3 +210,28 @@ pub chain_value_fragments : (number : ℕ) (bytes : List ℕ) (chain : Extension
 chain_value_fragments number bytes chain is =
     let value = value_behind [] no_ipv6_extensions number bytes chain.parts chain.last chain.rest none_taken is in
     value_fragments (extensions_of chain.parts) ∙ value.fragments
+
+-- ---- value of the headers before a rejected one
+
+value_before : (taken : List ℕ) (walked : Ipv6Extensions) (offset number : ℕ) (bytes : List ℕ)
+    (parts : List ExtensionPart) (error : HeaderSliceError)
+    → HasTaken taken walked → RefusesChainAfter ipv6 headers taken offset number bytes parts error
+    → fragments_by (with_parts walked parts).fragment ≡ (fragments_by walked.fragment || chain_fragments parts)
+value_before taken walked offset number bytes [] error has is = or_false (fragments_by walked.fragment)
+value_before taken walked offset number bytes (part ∷ parts) error has is =
+    let here = fresh taken walked number part has is.0 (part_numbered number bytes part is.1.0 is.1.1) in
+    let more_taken = subst (λ (n : ℕ). HasTaken (n ∷ taken) (with_part walked part)) (sym here.numbered)
+    (taken_more taken walked part has) in
+    value_before (number ∷ taken) (with_part walked part) (offset + part_len part) (part_next part) is.1.0 parts error
+    more_taken is.1.2
+    ∙ ap (λ (b : Bool). b || chain_fragments parts) (fragments_with walked part here.free)
+    ∙ or_assoc (fragments_by walked.fragment) (part_fragments part) (chain_fragments parts)
+
+-- The value of the headers parsed up to the first invalid one states a fragment if they do.
+pub lax_value_fragments : (number : ℕ) (bytes : List ℕ) (chain : ExtensionChain) (stop : Option HeaderSliceError)
+    → IsLaxChainIn ipv6 headers number bytes chain stop
+    → chain_fragments (ipv6_parts (extensions_of chain.parts)) ≡ chain_fragments chain.parts
+lax_value_fragments number bytes chain None is = chain_value_fragments number bytes chain is
+lax_value_fragments number bytes chain (Some error) is =
+    value_fragments (extensions_of chain.parts)
+    ∙ value_before [] no_ipv6_extensions 0 number bytes chain.parts error none_taken is.0

@@ -1,6 +1,6 @@
 -- Chains read up to the first invalid header.
 use Rattle.std.specs.Prelude.{◌≡◌, ℕ, List, [], ◌∷◌, Option, Some, None}
-use Rattle.ep_base.specs.Readings.{slices}
+use Rattle.ep_base.specs.Readings.{Reading, slices}
 use Rattle.ep_base.specs.declared.err.ipv6_exts.HeaderError.TheVariants as content
 use Rattle.ep_base.specs.declared.err.ipv6_exts.HeaderSliceError.{HeaderSliceError}
 use Rattle.ep_base.specs.declared.err.ipv6_exts.HeaderSliceError.TheVariants as header_error
@@ -16,13 +16,17 @@ BeginWithParts number bytes [] last rest = (last ≡ number) × (rest ≡ bytes)
 BeginWithParts number bytes (part ∷ parts) last rest =
     (after : List ℕ) × IsExtensionPart number bytes part after × BeginWithParts (part_next part) after parts last rest
 
--- The result of lax parsing. Without an error the bytes are a chain. With an error the headers before the invalid one
--- are valid, and the chain's number and remaining bytes are those of the invalid header.
-abbrev pub IsLaxChain : IpVersion → ℕ → List ℕ → ExtensionChain → Option HeaderSliceError → Type 0
-IsLaxChain version number bytes chain None = IsExtensionChain version slices number bytes chain
-IsLaxChain version number bytes chain (Some error) =
-    RefusesChainAfter version slices [] 0 number bytes chain.parts error
+-- The result of lax parsing, in the given reading. Without an error the bytes are a chain. With an error the headers
+-- before the invalid one are valid, and the chain's number and remaining bytes are those of the invalid header.
+abbrev pub IsLaxChainIn : IpVersion → Reading → ℕ → List ℕ → ExtensionChain → Option HeaderSliceError → Type 0
+IsLaxChainIn version reading number bytes chain None = IsExtensionChain version reading number bytes chain
+IsLaxChainIn version reading number bytes chain (Some error) =
+    RefusesChainAfter version reading [] 0 number bytes chain.parts error
     × BeginWithParts number bytes chain.parts chain.last chain.rest
+
+-- The result of lax parsing, in the reading as slices.
+abbrev pub IsLaxChain : IpVersion → ℕ → List ℕ → ExtensionChain → Option HeaderSliceError → Type 0
+IsLaxChain version = IsLaxChainIn version slices
 
 -- The layer of the invalid header: the truncated one, an authentication header, or Hop-by-Hop options.
 abbrev pub chain_stop_layer : HeaderSliceError → Layer

@@ -1,11 +1,14 @@
 //! Owned extension headers of IPv4: an authentication header, or none.
 
-ghost use Rattle.std.specs.Prelude.{◌≡◌, ◌<◌, ◌≤◌, ◌+◌, ◌++◌, ◌↔◌, length, vec_len, vec_capacity, IfOk, IfErr, OnOk, OnErr, IsOkAnd, Ok, Err};
+ghost use Rattle.std.specs.Prelude.{◌≡◌, ◌<◌, ◌≤◌, ◌+◌, ◌++◌, ◌↔◌, Option, length, vec_len, vec_capacity, IfOk, IfErr, OnOk, OnErr, IsOkAnd, Ok, Err};
+ghost use Rattle.std.specs.Option.{option_map};
 ghost use Rattle.ep_base.specs.Readings.{headers};
+ghost use Rattle.ep_base.specs.declared.err.ip_auth.HeaderSliceError.{HeaderSliceError};
 ghost use Rattle.ep_base.specs.declared.err.ipv4_exts.ExtsWalkError.{ExtsWalkError};
 ghost use Rattle.ep_base.specs.declared.err.ipv4_exts.HeaderWriteError.TheVariants as write_error;
 ghost use Rattle.ep_ext.specs.ExtensionParts.{auth_refusal};
 ghost use Rattle.ep_ext.specs.Chains.{ipv4, ExtensionChain, IsExtensionChain, RefusesExtensionChain, FitParts, chain_of, parts_bytes};
+ghost use Rattle.ep_ext.specs.ChainPrefixes.{IsLaxChainIn};
 ghost use Rattle.ep_ext.specs.Ipv4Chains.{ipv4_parts, ipv4_walk, ipv4_first, ipv4_linked};
 
 use crate::ip_auth_header::IpAuthHeader;
@@ -42,6 +45,37 @@ impl Ipv4Extensions {
         let (header, rest) = IpAuthHeader::from_slice(slice)?;
         let next_header = header.next_header;
         Ok((Ipv4Extensions { auth: Some(header) }, next_header, rest))
+    }
+
+    /// Parses the authentication header at the start of the slice, if `number` (the protocol field of the IPv4 header)
+    /// is 51. Returns the owned header, the IP number of the payload, the bytes after the header, and `None`. If the
+    /// header is invalid or truncated, returns no header, `number`, the whole slice and the error.
+    #[inline]
+    pub fn from_slice_lax(
+        number: IpNumber,
+        slice: &[u8],
+    ) -> (Ipv4Extensions, IpNumber, &[u8], Option<HeaderSliceError>)
+        ensures chain { IsLaxChainIn ipv4 headers number.0 slice.now
+            (chain_of (ipv4_parts result.0) result.1.0 result.2.now) (option_map auth_refusal result.3) }
+        ensures only { (chain : ExtensionChain) (stop : Option HeaderSliceError)
+            → IsLaxChainIn ipv4 headers number.0 slice.now chain (option_map auth_refusal stop)
+            → (chain_of (ipv4_parts result.0) result.1.0 result.2.now ≡ chain) × (result.3 ≡ stop) }
+    {
+        if number != ip_number::AUTHENTICATION_HEADER {
+            return (Ipv4Extensions { auth: None }, number, slice, None);
+        }
+        match IpAuthHeader::from_slice(slice) {
+            Ok((header, rest)) => {
+                let next_header = header.next_header;
+                (
+                    Ipv4Extensions { auth: Some(header) },
+                    next_header,
+                    rest,
+                    None,
+                )
+            }
+            Err(error) => (Ipv4Extensions { auth: None }, number, slice, Some(error)),
+        }
     }
 
     /// Length of the IPv4 extension headers in bytes: 0 without an authentication header, else 12 to 1028.

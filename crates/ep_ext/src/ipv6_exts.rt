@@ -1,19 +1,24 @@
 //! Owned extension headers of an IPv6 packet (RFC 8200, 4.1).
 
-ghost use Rattle.std.specs.Prelude.{◌≡◌, ◌≤◌, ◌++◌, ◌↔◌, ◌==◌, List, true, false, IfOk, IfErr, OnErr, IsOkAnd, Ok, Err, Some, None};
+ghost use Rattle.std.specs.Prelude.{◌≡◌, ◌≤◌, ◌++◌, ◌↔◌, ◌==◌, List, true, false, IfOk, IfErr, OnErr, IsOkAnd, Ok, Err, Option, Some, None};
+ghost use Rattle.std.specs.Option.{option_map};
 ghost use Rattle.ep_base.specs.Readings.{headers};
+ghost use Rattle.ep_base.specs.declared.err.ipv6_exts.HeaderSliceError.{HeaderSliceError};
 ghost use Rattle.ep_ext.specs.ExtensionParts.{ExtensionPart, IsExtensionPart, RefusesExtensionPart, part_next};
 ghost use Rattle.ep_ext.specs.Chains.{ipv6, ExtensionChain, IsExtensionChain, RefusesExtensionChain, chain_of, chain_fragments, is_ipv6_extension};
+ghost use Rattle.ep_ext.specs.ChainPrefixes.{IsLaxChainIn, chain_stop};
 ghost use Rattle.ep_ext.specs.Ipv6ExtensionSlices.{extension_slice_part};
 ghost use Rattle.ep_ext.specs.RawExtensionSlices.{raw_extension_slice_header};
 ghost use Rattle.ep_ext.specs.Ipv6Chains.{no_ipv6_extensions, ipv6_parts, extensions_of, with_part, has_kind};
 
 use crate::ip_auth_header::IpAuthHeader;
 use crate::ipv6_ext_slice::{Ipv6ExtensionSlice, is_extension, with_offset};
+use crate::ipv6_exts_slice::error_with_layer;
 use crate::ipv6_fragment_header::Ipv6FragmentHeader;
 use crate::ipv6_raw_ext_header::Ipv6RawExtHeader;
 use crate::ipv6_raw_ext_header_slice::Ipv6RawExtHeaderSlice;
 use crate::ipv6_routing_exts::Ipv6RoutingExtensions;
+use ep_base::err::Layer;
 use ep_base::err::ipv6_exts::{HeaderError, HeaderSliceError};
 use ep_base::{IpNumber, ip_number};
 use std::alloc::AllocError;
@@ -104,6 +109,56 @@ impl Ipv6Extensions {
         }
     }
 
+    /// Parses the IPv6 extension headers at the start of the slice, up to the first invalid or truncated one; `number`
+    /// is the next header field of the IPv6 header. Returns the owned headers, the IP number of the remaining bytes, the
+    /// remaining bytes, and `None`. Parsing ends before a second header of one type, as in
+    /// [`Ipv6Extensions::from_slice`]. If a header is invalid or truncated, the remaining bytes begin with that header,
+    /// and the fourth value is its error and layer; an offset in the error counts from the start of the slice.
+    #[inline]
+    pub fn from_slice_lax(
+        number: IpNumber,
+        slice: &[u8],
+    ) -> (
+        Ipv6Extensions,
+        IpNumber,
+        &[u8],
+        Option<(HeaderSliceError, Layer)>,
+    )
+        ensures chain { (parts : List ExtensionPart) × (stop : Option HeaderSliceError)
+            × (result.0 ≡ extensions_of parts) × (result.3 ≡ option_map chain_stop stop)
+            × IsLaxChainIn ipv6 headers number.0 slice.now (chain_of parts result.1.0 result.2.now) stop }
+        ensures only { (chain : ExtensionChain) (stop : Option HeaderSliceError)
+            → IsLaxChainIn ipv6 headers number.0 slice.now chain stop
+            → (result.0 ≡ extensions_of chain.parts) × (result.1.0 ≡ chain.last) × (result.2.now ≡ chain.rest)
+            × (result.3 ≡ option_map chain_stop stop) }
+    {
+        let mut extensions = Ipv6Extensions::default();
+        let (last, rest, stop) = extensions.fill_lax(number, slice);
+        (extensions, last, rest, stop)
+    }
+
+    /// Parses the IPv6 extension headers at the start of the slice into this value, as
+    /// [`Ipv6Extensions::from_slice_lax`] does, and replaces its headers. Returns the IP number of the remaining bytes,
+    /// the remaining bytes, and the error and layer of the first invalid header, if any. Reusing a value avoids moves of
+    /// the large header buffers.
+    #[inline]
+    pub fn read_into_lax<'a>(
+        &mut self,
+        number: IpNumber,
+        slice: &'a [u8],
+    ) -> (IpNumber, &'a [u8], Option<(HeaderSliceError, Layer)>)
+        ensures chain { (parts : List ExtensionPart) × (stop : Option HeaderSliceError)
+            × (self.new ≡ extensions_of parts) × (result.2 ≡ option_map chain_stop stop)
+            × IsLaxChainIn ipv6 headers number.0 slice.now (chain_of parts result.0.0 result.1.now) stop }
+        ensures only { (chain : ExtensionChain) (stop : Option HeaderSliceError)
+            → IsLaxChainIn ipv6 headers number.0 slice.now chain stop
+            → (self.new ≡ extensions_of chain.parts) × (result.0.0 ≡ chain.last) × (result.1.now ≡ chain.rest)
+            × (result.2 ≡ option_map chain_stop stop) }
+    {
+        self.clear();
+        self.fill_lax(number, slice)
+    }
+
     /// Overwrites these IPv6 extension headers in place with a copy of those in `source`. No large header buffer is
     /// moved, and fields that are `None` in both values are not written.
     pub fn copy_from(&mut self, source: &Ipv6Extensions)
@@ -183,6 +238,47 @@ impl Ipv6Extensions {
         Ok((next, rest))
     }
 
+    /// Parses the IPv6 extension headers at the start of the slice into this value, which must have no headers, up to
+    /// the first invalid or truncated one; `number` is the IP number of the first header. Returns the IP number of the
+    /// remaining bytes, the remaining bytes, and the error and layer of the first invalid header, if any.
+    fn fill_lax<'a>(
+        &mut self,
+        number: IpNumber,
+        slice: &'a [u8],
+    ) -> (IpNumber, &'a [u8], Option<(HeaderSliceError, Layer)>)
+        requires { self.old ≡ no_ipv6_extensions }
+        ensures { (parts : List ExtensionPart) × (stop : Option HeaderSliceError)
+            × (self.new ≡ extensions_of parts) × (result.2 ≡ option_map chain_stop stop)
+            × IsLaxChainIn ipv6 headers number.0 slice.now (chain_of parts result.0.0 result.1.now) stop }
+    {
+        let mut next = number;
+        let mut rest = slice;
+        while is_extension(next) {
+            let offset = slice.len() - rest.len();
+            if next == ip_number::IPV6_HEADER_HOP_BY_HOP && offset > 0 {
+                let misplaced = HeaderSliceError::Content(HeaderError::HopByHopNotAtStart);
+                return (next, rest, Some((misplaced, Layer::Ipv6ExtHeader)));
+            }
+            if self.has(next) {
+                return (next, rest, None);
+            }
+            match self.read_one(next, rest) {
+                Ok((next_header, after)) => {
+                    next = next_header;
+                    rest = after;
+                }
+                Err(error) => {
+                    return (
+                        next,
+                        rest,
+                        Some(error_with_layer(with_offset(error, offset))),
+                    );
+                }
+            }
+        }
+        (next, rest, None)
+    }
+
     /// Returns true if this value already has an IPv6 extension header of the type with this IP number. If there is a
     /// routing header, 60 (Destination Options) refers only to the Destination Options after it.
     #[inline]
@@ -211,7 +307,8 @@ impl Ipv6Extensions {
     }
 
     /// Parses the one IPv6 extension header at the start of the slice, whose type is given by its IP number `number`,
-    /// and stores it in this value. Returns its next header field and the bytes after the header.
+    /// and stores it in this value. Returns its next header field and the bytes after the header. An error leaves the
+    /// value unchanged.
     fn read_one<'a>(
         &mut self,
         number: IpNumber,
@@ -221,6 +318,7 @@ impl Ipv6Extensions {
         ensures ok { IfOk result (λ read. (part : ExtensionPart) × (self.new ≡ with_part self.old part)
             × (read.0.0 ≡ part_next part) × IsExtensionPart number.0 slice.now part read.1.now) }
         ensures err { IfErr result (RefusesExtensionPart number.0 slice.now) }
+        ensures unchanged { OnErr result (self.new ≡ self.old) }
     {
         let part = match Ipv6ExtensionSlice::read(number, slice) {
             Ok(part) => part,

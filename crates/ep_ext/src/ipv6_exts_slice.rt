@@ -193,7 +193,7 @@ impl<'a> IntoIterator for Ipv6ExtensionsSlice<'a> {
 
 /// Pairs the error of an invalid IPv6 extension header with the layer of that header: the layer that a length error
 /// contains, `Ipv6ExtHeader` for misplaced Hop-by-Hop Options, or `IpAuthHeader` for an invalid authentication header.
-fn error_with_layer(error: HeaderSliceError) -> (HeaderSliceError, Layer)
+pub(crate) fn error_with_layer(error: HeaderSliceError) -> (HeaderSliceError, Layer)
     ensures { result ≡ chain_stop error }
 {
     let layer = match &error {

@@ -3,6 +3,7 @@ pub mod CutRefusalLemmas
 pub mod ExtensionLawLemmas
 pub mod Ipv4Lemmas
 pub mod Ipv6Lemmas
+pub mod LaxIpLemmas
 pub mod MissingLemmas
 pub mod PacketLemmas
 pub mod IpBytesLemmas

@@ -6,6 +6,7 @@ pub mod Ipv4
 pub mod Ipv4Slices
 pub mod Ipv6
 pub mod Ipv6Slices
+pub mod LaxIp
 -- Definitions of lower crates that the contracts use.
 pub use Rattle.ep_base.specs.Bytes
 pub use Rattle.ep_base.specs.NumberComparisons

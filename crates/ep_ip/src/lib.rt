@@ -11,6 +11,7 @@ mod ipv6_header;
 mod ipv6_header_slice;
 mod ipv6_slice;
 pub mod laws;
+pub mod lax;
 mod widths;
 
 pub use arrayvec::ArrayVec;

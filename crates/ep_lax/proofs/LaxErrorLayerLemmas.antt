@@ -51,9 +51,10 @@ use Rattle.ep_packet.specs.declared.err.slice_error.SliceError.TheVariants.{Len}
 use Rattle.ep_packet.specs.Frame.{NetKind, only_ipv4, only_ipv6, only_arp, any_ip, most_link_exts, net_kind}
 use Rattle.ep_packet.specs.FrameRefusals.{RefusesTransportIn, extension_refusal, ipv4_refusal, ipv6_refusal, len_refusal, linux_sll_refusal, net_payload_offset, transport_refusal}
 use Rattle.ep_packet.specs.Layers.{NetLayer, ipv4_layer, ipv6_layer}
-use Rattle.ep_lax.specs.LaxIp.{LaxIp, IsLaxIpv4, IsLaxIpv6, lax_ipv6_source, stop_after}
+use Rattle.ep_ip.specs.LaxIp.{LaxIp, IsLaxIpv4, IsLaxIpv6, lax_ipv6_source, stop_after}
 use Rattle.ep_lax.specs.LaxLayers.{LaxLayers, LaxNet, LaxTransport, error_with_layer}
-use Rattle.ep_lax.specs.LaxRefusals.{RefusesLax, ip_header_refusal, ip_header_rows, of_ipv4_header, of_ipv6_header}
+use Rattle.ep_ip.specs.LaxIp.{ip_header_rows, of_ipv4_header, of_ipv6_header}
+use Rattle.ep_lax.specs.LaxRefusals.{RefusesLax, ip_header_refusal}
 use Rattle.ep_lax.specs.Lax.{IsLimitedLaxly, IsHeaderLimitedLaxly, IsInsideIp, IsIpLayer, IsIpv4Net, IsIpv6Net, IsLax, IsLaxInside, IsLaxNet, IsLaxTransport, IsNoNet, RefusesLaxExtension, chain_refusal}
 use Rattle.ep_lax.specs.LaxStops.{is_by_length, is_length_row, is_udp_length}
 use Rattle.ep_lax.proofs.LaxLawLemmas.{Tagged}

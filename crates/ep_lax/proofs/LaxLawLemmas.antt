@@ -4,7 +4,7 @@ use Rattle.ep_base.specs.Bytes.{AreBytes}
 use Rattle.ep_base.specs.EtherTypes.{ipv4_type, ipv6_type, arp_type}
 use Rattle.ep_base.specs.IpPayload.{IpPayload}
 use Rattle.ep_base.specs.LaxCut.{LaxCut}
-use Rattle.ep_base.specs.Readings.{headers, slices}
+use Rattle.ep_base.specs.Readings.{Reading, headers, slices}
 use Rattle.ep_base.specs.Tables.{IsDecided, IsOne, Parts, RefusesAs, parts_of}
 use Rattle.ep_base.specs.declared.ether_type.EtherType.{EtherType}
 use Rattle.ep_base.specs.declared.len_source.LenSource.TheVariants as source
@@ -13,17 +13,10 @@ use Rattle.ep_base.proofs.BytesLemmas.{AreBytes-back, AreBytes-payload}
 use Rattle.ep_base.proofs.DecidedLemmas.{decided_as, one_as, one_either, refused_as, same_image}
 use Rattle.ep_base.proofs.LaxCutLemmas.{lax_cut_is_one}
 use Rattle.ep_base.proofs.TableLemmas.{decided}
-use Rattle.ep_ext.specs.Chains.{IpVersion, ipv4, ipv6, ExtensionChain, IsChainAfter}
-use Rattle.ep_ext.specs.ExtensionParts.{ExtensionPart, part_next}
-use Rattle.ep_ext.specs.ChainPrefixes.{BeginWithParts, IsLaxChain}
-use Rattle.ep_ext.proofs.PartLemmas.{part_behind_fits}
-use Rattle.ep_ip.specs.declared.ipv4_header.Ipv4Header.{Ipv4Header}
-use Rattle.ep_ip.specs.declared.ipv6_header.Ipv6Header.{Ipv6Header}
+use Rattle.ep_ext.specs.Chains.{IpVersion, ipv4, ipv6}
 use Rattle.ep_ip.specs.IpPackets.{IpPacket}
-use Rattle.ep_ip.specs.Ipv4.{RefusesIpv4Header, ipv4_header_len, of_header_error}
+use Rattle.ep_ip.specs.Ipv4.{RefusesIpv4Header, of_header_error}
 use Rattle.ep_ip.specs.Ipv6.{RefusesIpv6Header, of_header_error as of_ipv6_header_error}
-use Rattle.ep_ip.proofs.Ipv4Lemmas.{ipv4_header_is_read}
-use Rattle.ep_ip.proofs.Ipv6Lemmas.{ipv6_header_is_read}
 use Rattle.ep_link.specs.declared.link_ext.macsec_header.MacsecHeader.{MacsecHeader}
 use Rattle.ep_link.specs.declared.link_ext.single_vlan_header.SingleVlanHeader.{SingleVlanHeader}
 use Rattle.ep_link.specs.Arp.{Arp, IsArp, RefusesArp}
@@ -41,11 +34,11 @@ use Rattle.ep_packet.specs.Frame.{NetKind, only_ipv4, only_ipv6, only_arp, net_k
 use Rattle.ep_packet.specs.FrameRefusals.{RefusesTransportIn, extension_refusal, ipv4_refusal, ipv6_refusal, len_refusal, net_payload_offset, transport_refusal}
 use Rattle.ep_packet.specs.Layers.{NetLayer, ipv4_layer, ipv6_layer}
 use Rattle.ep_packet.proofs.LayerLawLemmas.{layer_laws}
-use Rattle.ep_lax.specs.LaxIp.{LaxIp, IsLaxIpv4, IsLaxIpv6}
+use Rattle.ep_ip.specs.LaxIp.{LaxIp, IsLaxIpv4In, IsLaxIpv6In}
 use Rattle.ep_lax.specs.LaxLayers.{LaxTransport, LaxNet, layer_cut, net_with, no_transport, no_net, error_with_layer}
 use Rattle.ep_lax.specs.LaxMacsec.{IsLaxMacsec, lax_macsec_payload, macsec_stated_len}
-use Rattle.ep_lax.specs.Lax.{IsHeaderLimitedLaxly, IsLimitedLaxly, IsLaxTransport, IsInsideIp, IsIpLayer, IsNoNet, IsLaxNet, IsLaxExtension, RefusesLaxExtension, IsLaxInside, arp_net, chain_refusal}
-use Rattle.ep_lax.proofs.LaxIpLemmas.{behind_ipv4_fits, behind_ipv6_fits, cut_fits, ipv4_behind_is_one, ipv6_behind_is_one, one_lax_ipv4, one_lax_ipv6, refused_no_lax_ipv4, refused_no_lax_ipv6}
+use Rattle.ep_lax.specs.Lax.{IsHeaderLimitedLaxly, IsLimitedLaxly, IsLaxTransport, IsInsideIp, IsIpLayer, IsNoNet, IsLaxNet, IsLaxNetIn, IsLaxExtension, RefusesLaxExtension, IsLaxInsideIn, arp_net, chain_refusal}
+use Rattle.ep_ip.proofs.LaxIpLemmas.{cut_fits, lax_ipv4_decided, lax_ipv4_fits, lax_ipv6_decided, lax_ipv6_fits}
 use Rattle.ep_lax.proofs.LaxMacsecLemmas.{one_lax_macsec, payload_by_is, refused_no_lax_macsec}
 
 -- There is exactly one value that is equal to this one.
@@ -97,83 +90,6 @@ ip_layer_is_one version layer_of offset lax fits =
     fits)
     (record { there = λ inside is. (inside, is, refl); back = λ net is. is })
 
--- The bytes after a chain are bytes.
-chain_rest_fits : (version : IpVersion) (taken : List ℕ) (number : ℕ) (bytes : List ℕ) (parts : List ExtensionPart)
-    (last : ℕ) (rest : List ℕ) → AreBytes bytes → IsChainAfter version slices taken number bytes parts last rest
-    → AreBytes rest
-chain_rest_fits version taken number bytes [] last rest fits is = subst AreBytes (sym is.2) fits
-chain_rest_fits version taken number bytes (part ∷ parts) last rest fits is =
-    chain_rest_fits version (number ∷ taken) (part_next part) is.1.0 parts last rest
-    (part_behind_fits number bytes part is.1.0 is.1.1 fits) is.1.2
-
-front_rest_fits : (number : ℕ) (bytes : List ℕ) (parts : List ExtensionPart) (last : ℕ) (rest : List ℕ)
-    → AreBytes bytes → BeginWithParts number bytes parts last rest → AreBytes rest
-front_rest_fits number bytes [] last rest fits is = subst AreBytes (sym is.1) fits
-front_rest_fits number bytes (part ∷ parts) last rest fits is =
-    front_rest_fits (part_next part) is.0 parts last rest (part_behind_fits number bytes part is.0 is.1 fits) is.2
-
-pub rest_fits : (version : IpVersion) (number : ℕ) (bytes : List ℕ) (chain : ExtensionChain)
-    (stop : Option HeaderSliceError) → AreBytes bytes → IsLaxChain version number bytes chain stop
-    → AreBytes chain.rest
-rest_fits version number bytes chain None fits is =
-    chain_rest_fits version [] number bytes chain.parts chain.last chain.rest fits is
-rest_fits version number bytes chain (Some error) fits is =
-    front_rest_fits number bytes chain.parts chain.last chain.rest fits is.1
-
-pub lax_ipv4_fits : (outer : Bool) (bytes : List ℕ) (lax : LaxIp Ipv4Header) → AreBytes bytes
-    → IsLaxIpv4 outer bytes lax → AreBytes lax.packet.payload.bytes
-lax_ipv4_fits outer bytes lax fits is =
-    let read = is.0 in
-    let behind = is.2 in
-    let len = ipv4_header_len read.0 in
-    let content = cut_fits len read.0.total_len source.Ipv4HeaderTotalLen outer len read.1 behind.cut
-    (behind_ipv4_fits bytes read fits is.1) behind.cuts in
-    subst (λ (l : LaxIp Ipv4Header). AreBytes l.packet.payload.bytes) (sym behind.is)
-    (rest_fits ipv4 read.0.protocol.0 behind.cut.payload behind.chain behind.refused content behind.is_chain)
-
-pub lax_ipv6_fits : (outer : Bool) (bytes : List ℕ) (lax : LaxIp Ipv6Header) → AreBytes bytes
-    → IsLaxIpv6 outer bytes lax → AreBytes lax.packet.payload.bytes
-lax_ipv6_fits outer bytes lax fits is =
-    let read = is.0 in
-    let behind = is.2 in
-    let content = cut_fits 41 (40 + read.0.payload_length) source.Ipv6HeaderPayloadLen outer 40 read.1 behind.cut
-    (behind_ipv6_fits bytes read fits is.1) behind.cuts in
-    subst (λ (l : LaxIp Ipv6Header). AreBytes l.packet.payload.bytes) (sym behind.is)
-    (rest_fits ipv6 read.0.next_header.0 behind.cut.payload behind.chain behind.refused content behind.is_chain)
-
--- Bytes either begin with an IPv4 packet, or their header is rejected.
-pub lax_ipv4_decided : (outer : Bool) (bytes : List ℕ) → AreBytes bytes
-    → IsDecided (IsLaxIpv4 outer bytes) (RefusesIpv4Header bytes)
-lax_ipv4_decided outer bytes fits =
-    let law = decided ipv4_header_is_read bytes fits in
-    record {
-      some = elim law.some [
-        | inl found ↦
-            let one = ipv4_behind_is_one outer found.0 (behind_ipv4_fits bytes found.0 fits found.1) in
-            inl (one.value, (found.0, found.1, one.is))
-        | inr refused ↦ inr refused
-      ];
-      one_value = one_lax_ipv4 outer bytes fits;
-      one_error = law.one_error;
-      not_both = λ lax error is refused. refused_no_lax_ipv4 outer bytes error refused lax is;
-    }
-
-pub lax_ipv6_decided : (outer : Bool) (bytes : List ℕ) → AreBytes bytes
-    → IsDecided (IsLaxIpv6 outer bytes) (RefusesIpv6Header bytes)
-lax_ipv6_decided outer bytes fits =
-    let law = decided ipv6_header_is_read bytes fits in
-    record {
-      some = elim law.some [
-        | inl found ↦
-            let one = ipv6_behind_is_one outer found.0 (behind_ipv6_fits bytes found.0 fits found.1) in
-            inl (one.value, (found.0, found.1, one.is))
-        | inr refused ↦ inr refused
-      ];
-      one_value = one_lax_ipv6 outer bytes fits;
-      one_error = law.one_error;
-      not_both = λ lax error is refused. refused_no_lax_ipv6 outer bytes error refused lax is;
-    }
-
 -- For each error the result without network layer is unique.
 no_net_is_one : (outer : Bool) (error : SliceError) → IsOne (λ (net : LaxNet). IsNoNet outer net error)
 no_net_is_one outer error = one_same (no_net outer (Some (error_with_layer error)))
@@ -191,29 +107,29 @@ pub kind_cases : (type : EtherType) → (net_kind type ≡ None) ⊎ ((net_kind 
     ⊎ ((net_kind type ≡ Some only_ipv6) ⊎ (net_kind type ≡ Some only_arp)))
 kind_cases type = kind_by (type.0 == ipv4_type) (type.0 == ipv6_type) (type.0 == arp_type)
 
-ipv4_is_one : (offset : ℕ) (outer : Bool) (bytes : List ℕ) → AreBytes bytes
-    → IsOne (IsLaxNet offset outer (Some only_ipv4) bytes)
-ipv4_is_one offset outer bytes fits =
-    one_either {Is = IsLaxIpv4 outer bytes}
+ipv4_is_one : (reading : Reading) (offset : ℕ) (outer : Bool) (bytes : List ℕ) → AreBytes bytes
+    → IsOne (IsLaxNetIn reading offset outer (Some only_ipv4) bytes)
+ipv4_is_one reading offset outer bytes fits =
+    one_either {Is = IsLaxIpv4In reading outer bytes}
     {Refuses = RefusesAs (λ e. ipv4_refusal offset (of_header_error e)) (RefusesIpv4Header bytes)}
     {There = IsIpLayer ipv4 ipv4_layer offset} {Instead = λ (error : SliceError) (net : LaxNet). IsNoNet outer net error}
-    (refused_as (λ e. ipv4_refusal offset (of_header_error e)) (lax_ipv4_decided outer bytes fits))
-    (λ lax is. ip_layer_is_one ipv4 ipv4_layer offset lax (lax_ipv4_fits outer bytes lax fits is))
+    (refused_as (λ e. ipv4_refusal offset (of_header_error e)) (lax_ipv4_decided reading outer bytes fits))
+    (λ lax is. ip_layer_is_one ipv4 ipv4_layer offset lax (lax_ipv4_fits reading outer bytes lax fits is))
     (λ error refused. no_net_is_one outer error)
 
-ipv6_is_one : (offset : ℕ) (outer : Bool) (bytes : List ℕ) → AreBytes bytes
-    → IsOne (IsLaxNet offset outer (Some only_ipv6) bytes)
-ipv6_is_one offset outer bytes fits =
-    one_either {Is = IsLaxIpv6 outer bytes}
+ipv6_is_one : (reading : Reading) (offset : ℕ) (outer : Bool) (bytes : List ℕ) → AreBytes bytes
+    → IsOne (IsLaxNetIn reading offset outer (Some only_ipv6) bytes)
+ipv6_is_one reading offset outer bytes fits =
+    one_either {Is = IsLaxIpv6In reading outer bytes}
     {Refuses = RefusesAs (λ e. ipv6_refusal offset (of_ipv6_header_error e)) (RefusesIpv6Header bytes)}
     {There = IsIpLayer ipv6 ipv6_layer offset} {Instead = λ (error : SliceError) (net : LaxNet). IsNoNet outer net error}
-    (refused_as (λ e. ipv6_refusal offset (of_ipv6_header_error e)) (lax_ipv6_decided outer bytes fits))
-    (λ lax is. ip_layer_is_one ipv6 ipv6_layer offset lax (lax_ipv6_fits outer bytes lax fits is))
+    (refused_as (λ e. ipv6_refusal offset (of_ipv6_header_error e)) (lax_ipv6_decided reading outer bytes fits))
+    (λ lax is. ip_layer_is_one ipv6 ipv6_layer offset lax (lax_ipv6_fits reading outer bytes lax fits is))
     (λ error refused. no_net_is_one outer error)
 
-arp_is_one : (offset : ℕ) (outer : Bool) (bytes : List ℕ) → AreBytes bytes
-    → IsOne (IsLaxNet offset outer (Some only_arp) bytes)
-arp_is_one offset outer bytes fits =
+arp_is_one : (reading : Reading) (offset : ℕ) (outer : Bool) (bytes : List ℕ) → AreBytes bytes
+    → IsOne (IsLaxNetIn reading offset outer (Some only_arp) bytes)
+arp_is_one reading offset outer bytes fits =
     one_either {Is = IsArp bytes} {Refuses = RefusesAs (len_refusal offset) (RefusesArp bytes)}
     {There = λ (part : Arp × List ℕ) (net : LaxNet). net ≡ arp_net part.0}
     {Instead = λ (error : SliceError) (net : LaxNet). IsNoNet outer net error}
@@ -221,16 +137,20 @@ arp_is_one offset outer bytes fits =
     (λ part is. one_same (arp_net part.0)) (λ error refused. no_net_is_one outer error)
 
 -- Bytes of an ether type have exactly one network layer with the layers in it, or none.
-pub net_is_one : (offset : ℕ) (outer : Bool) (type : EtherType) (bytes : List ℕ) → AreBytes bytes
-    → IsOne (IsLaxNet offset outer (net_kind type) bytes)
-net_is_one offset outer type bytes fits =
-    let Net : Option NetKind → Type 0 = λ kind. IsOne (IsLaxNet offset outer kind bytes) in
+pub lax_net_is_one : (reading : Reading) (offset : ℕ) (outer : Bool) (type : EtherType) (bytes : List ℕ) → AreBytes bytes
+    → IsOne (IsLaxNetIn reading offset outer (net_kind type) bytes)
+lax_net_is_one reading offset outer type bytes fits =
+    let Net : Option NetKind → Type 0 = λ kind. IsOne (IsLaxNetIn reading offset outer kind bytes) in
     elim (kind_cases type) [
       | inl none ↦ subst Net (sym none) (one_same (no_net outer None))
-      | inr (inl is) ↦ subst Net (sym is) (ipv4_is_one offset outer bytes fits)
-      | inr (inr (inl is)) ↦ subst Net (sym is) (ipv6_is_one offset outer bytes fits)
-      | inr (inr (inr is)) ↦ subst Net (sym is) (arp_is_one offset outer bytes fits)
+      | inr (inl is) ↦ subst Net (sym is) (ipv4_is_one reading offset outer bytes fits)
+      | inr (inr (inl is)) ↦ subst Net (sym is) (ipv6_is_one reading offset outer bytes fits)
+      | inr (inr (inr is)) ↦ subst Net (sym is) (arp_is_one reading offset outer bytes fits)
     ]
+
+pub net_is_one : (offset : ℕ) (outer : Bool) (type : EtherType) (bytes : List ℕ) → AreBytes bytes
+    → IsOne (IsLaxNet offset outer (net_kind type) bytes)
+net_is_one = lax_net_is_one slices
 
 -- ---- link extensions
 
@@ -324,7 +244,7 @@ pub lax_extension_begins : (outer : Bool) (type : EtherType) (bytes : List ℕ) 
 lax_extension_begins outer type bytes (vlan tag payload, incomplete) is = inl is.0
 lax_extension_begins outer type bytes (macsec tag payload, incomplete) is = inr is.0
 
-lax_refused_begins : (offset : ℕ) (type : EtherType) (bytes : List ℕ) (error : SliceError)
+pub lax_refused_begins : (offset : ℕ) (type : EtherType) (bytes : List ℕ) (error : SliceError)
     → RefusesLaxExtension offset type bytes error → BeginsLinkExtension type
 lax_refused_begins offset type bytes error (inl refused) = inl refused.0
 lax_refused_begins offset type bytes error (inr refused) = inr refused.0
@@ -350,18 +270,19 @@ abbrev pub Inside : Type 0
 Inside = List Tagged × LaxNet
 
 -- The bytes contain these link extensions and this network layer.
-abbrev pub HoldsLax : ℕ → ℕ → Bool → Option EtherType → List ℕ → Inside → Type 0
-HoldsLax room offset outer type bytes inside = IsLaxInside room offset outer type bytes inside.0 inside.1
+abbrev pub HoldsLax : Reading → ℕ → ℕ → Bool → Option EtherType → List ℕ → Inside → Type 0
+HoldsLax reading room offset outer type bytes inside =
+    IsLaxInsideIn reading room offset outer type bytes inside.0 inside.1
 
 -- The offset of the payload of a link extension.
 abbrev pub behind_tag : ℕ → Tagged → ℕ
 behind_tag offset tagged = offset + link_ext_header_len (extension_header tagged.0)
 
 -- A link extension followed by the layers in its payload.
-abbrev HoldsTag : ℕ → ℕ → Tagged → Inside → Type 0
-HoldsTag room offset tagged inside =
+abbrev HoldsTag : Reading → ℕ → ℕ → Tagged → Inside → Type 0
+HoldsTag reading room offset tagged inside =
     (others : Inside)
-    × HoldsLax room (behind_tag offset tagged) tagged.1 (extension_type tagged.0) (extension_payload tagged.0) others
+    × HoldsLax reading room (behind_tag offset tagged) tagged.1 (extension_type tagged.0) (extension_payload tagged.0) others
     × (inside ≡ (tagged ∷ others.0, others.1))
 
 -- No link extension is read, for this reason.
@@ -369,89 +290,93 @@ abbrev HoldsNone : Bool → SliceError → Inside → Type 0
 HoldsNone outer error inside = inside ≡ ([], no_net outer (Some (error_with_layer error)))
 
 -- Either the first link extension is rejected, or it is followed by the layers in its payload.
-abbrev HoldsEither : ℕ → ℕ → Bool → EtherType → List ℕ → Inside → Type 0
-HoldsEither room offset outer type bytes inside =
+abbrev HoldsEither : Reading → ℕ → ℕ → Bool → EtherType → List ℕ → Inside → Type 0
+HoldsEither reading room offset outer type bytes inside =
     ((error : SliceError) × RefusesLaxExtension offset type bytes error × HoldsNone outer error inside)
-    ⊎ ((tagged : Tagged) × IsLaxExtension outer type bytes tagged × HoldsTag room offset tagged inside)
+    ⊎ ((tagged : Tagged) × IsLaxExtension outer type bytes tagged × HoldsTag reading room offset tagged inside)
 
-either_there : (room offset : ℕ) (outer : Bool) (type : EtherType) (bytes : List ℕ) (inside : Inside)
-    → HoldsEither room offset outer type bytes inside → HoldsLax (suc room) offset outer (Some type) bytes inside
-either_there room offset outer type bytes inside (inl refused) =
-    subst (HoldsLax (suc room) offset outer (Some type) bytes) (sym refused.2)
+either_there : (reading : Reading) (room offset : ℕ) (outer : Bool) (type : EtherType) (bytes : List ℕ) (inside : Inside)
+    → HoldsEither reading room offset outer type bytes inside → HoldsLax reading (suc room) offset outer (Some type) bytes inside
+either_there reading room offset outer type bytes inside (inl refused) =
+    subst (HoldsLax reading (suc room) offset outer (Some type) bytes) (sym refused.2)
     (inr (refused.0, refused.1, refl))
-either_there room offset outer type bytes inside (inr found) =
-    subst (HoldsLax (suc room) offset outer (Some type) bytes) (sym found.2.2) (found.1, found.2.1)
+either_there reading room offset outer type bytes inside (inr found) =
+    subst (HoldsLax reading (suc room) offset outer (Some type) bytes) (sym found.2.2) (found.1, found.2.1)
 
-either_back : (room offset : ℕ) (outer : Bool) (type : EtherType) (bytes : List ℕ) → BeginsLinkExtension type
-    → (inside : Inside) → HoldsLax (suc room) offset outer (Some type) bytes inside
-    → HoldsEither room offset outer type bytes inside
-either_back room offset outer type bytes begins ([], net) (inl none) = absurd (none.0 begins)
-either_back room offset outer type bytes begins ([], net) (inr refused) =
+either_back : (reading : Reading) (room offset : ℕ) (outer : Bool) (type : EtherType) (bytes : List ℕ) → BeginsLinkExtension type
+    → (inside : Inside) → HoldsLax reading (suc room) offset outer (Some type) bytes inside
+    → HoldsEither reading room offset outer type bytes inside
+either_back reading room offset outer type bytes begins ([], net) (inl none) = absurd (none.0 begins)
+either_back reading room offset outer type bytes begins ([], net) (inr refused) =
     inl (refused.0, refused.1, λ i. ([], refused.2 i))
-either_back room offset outer type bytes begins (tagged ∷ others, net) is =
+either_back reading room offset outer type bytes begins (tagged ∷ others, net) is =
     inr (tagged, is.0, ((others, net), is.1, refl))
 
 bare : LaxNet → Inside
 bare net = ([], net)
 
-bare_back : (offset : ℕ) (outer : Bool) (type : EtherType) (bytes : List ℕ) (inside : Inside)
-    → HoldsLax zero offset outer (Some type) bytes inside
-    → (net : LaxNet) × IsLaxNet offset outer (net_kind type) bytes net × (inside ≡ bare net)
+bare_back : (reading : Reading) (offset : ℕ) (outer : Bool) (type : EtherType) (bytes : List ℕ) (inside : Inside)
+    → HoldsLax reading zero offset outer (Some type) bytes inside
+    → (net : LaxNet) × IsLaxNetIn reading offset outer (net_kind type) bytes net × (inside ≡ bare net)
 unfolding bare
-bare_back offset outer type bytes ([], net) is = (net, is, refl)
-bare_back offset outer type bytes (tagged ∷ others, net) is = absurd is
+bare_back reading offset outer type bytes ([], net) is = (net, is, refl)
+bare_back reading offset outer type bytes (tagged ∷ others, net) is = absurd is
 
-none_back : (room offset : ℕ) (outer : Bool) (type : EtherType) (bytes : List ℕ) → (¬ BeginsLinkExtension type)
-    → (inside : Inside) → HoldsLax (suc room) offset outer (Some type) bytes inside
-    → (net : LaxNet) × IsLaxNet offset outer (net_kind type) bytes net × (inside ≡ bare net)
+none_back : (reading : Reading) (room offset : ℕ) (outer : Bool) (type : EtherType) (bytes : List ℕ) → (¬ BeginsLinkExtension type)
+    → (inside : Inside) → HoldsLax reading (suc room) offset outer (Some type) bytes inside
+    → (net : LaxNet) × IsLaxNetIn reading offset outer (net_kind type) bytes net × (inside ≡ bare net)
 unfolding bare
-none_back room offset outer type bytes none ([], net) (inl is) = (net, is.1, refl)
-none_back room offset outer type bytes none ([], net) (inr refused) =
+none_back reading room offset outer type bytes none ([], net) (inl is) = (net, is.1, refl)
+none_back reading room offset outer type bytes none ([], net) (inr refused) =
     absurd (none (lax_refused_begins offset type bytes refused.0 refused.1))
-none_back room offset outer type bytes none (tagged ∷ others, net) is =
+none_back reading room offset outer type bytes none (tagged ∷ others, net) is =
     absurd (none (lax_extension_begins outer type bytes tagged is.0))
 
-bare_there : (offset : ℕ) (outer : Bool) (type : EtherType) (bytes : List ℕ) (net : LaxNet)
-    → IsLaxNet offset outer (net_kind type) bytes net → HoldsLax zero offset outer (Some type) bytes (bare net)
+bare_there : (reading : Reading) (offset : ℕ) (outer : Bool) (type : EtherType) (bytes : List ℕ) (net : LaxNet)
+    → IsLaxNetIn reading offset outer (net_kind type) bytes net → HoldsLax reading zero offset outer (Some type) bytes (bare net)
 unfolding bare
-bare_there offset outer type bytes net is = is
+bare_there reading offset outer type bytes net is = is
 
-none_there : (room offset : ℕ) (outer : Bool) (type : EtherType) (bytes : List ℕ) → (¬ BeginsLinkExtension type)
-    → (net : LaxNet) → IsLaxNet offset outer (net_kind type) bytes net
-    → HoldsLax (suc room) offset outer (Some type) bytes (bare net)
+none_there : (reading : Reading) (room offset : ℕ) (outer : Bool) (type : EtherType) (bytes : List ℕ) → (¬ BeginsLinkExtension type)
+    → (net : LaxNet) → IsLaxNetIn reading offset outer (net_kind type) bytes net
+    → HoldsLax reading (suc room) offset outer (Some type) bytes (bare net)
 unfolding bare
-none_there room offset outer type bytes none net is = inl (none, is)
+none_there reading room offset outer type bytes none net is = inl (none, is)
 
 -- Bytes of an ether type contain exactly one list of link extensions with one network layer.
-pub inside_is_one : (room offset : ℕ) (outer : Bool) (type : Option EtherType) (bytes : List ℕ) → AreBytes bytes
-    → IsOne (HoldsLax room offset outer type bytes)
-inside_is_one room offset outer None bytes fits = record {
+pub lax_inside_is_one : (reading : Reading) (room offset : ℕ) (outer : Bool) (type : Option EtherType) (bytes : List ℕ) → AreBytes bytes
+    → IsOne (HoldsLax reading room offset outer type bytes)
+lax_inside_is_one reading room offset outer None bytes fits = record {
   value = ([], no_net outer None);
   is = (refl, refl);
   only = λ other is. λ i. (is.0 i, is.1 i);
 }
-inside_is_one zero offset outer (Some type) bytes fits =
-    one_as bare (net_is_one offset outer type bytes fits)
-    (record { there = bare_there offset outer type bytes; back = bare_back offset outer type bytes })
-inside_is_one (suc room) offset outer (Some type) bytes fits =
+lax_inside_is_one reading zero offset outer (Some type) bytes fits =
+    one_as bare (lax_net_is_one reading offset outer type bytes fits)
+    (record { there = bare_there reading offset outer type bytes; back = bare_back reading offset outer type bytes })
+lax_inside_is_one reading (suc room) offset outer (Some type) bytes fits =
     elim (cases_begins type) [
       | inl begins ↦
-          one_as {Is = HoldsEither room offset outer type bytes} (λ (inside : Inside). inside)
+          one_as {Is = HoldsEither reading room offset outer type bytes} (λ (inside : Inside). inside)
           (one_either {Is = IsLaxExtension outer type bytes} {Refuses = RefusesLaxExtension offset type bytes}
-          {There = HoldsTag room offset} {Instead = HoldsNone outer}
+          {There = HoldsTag reading room offset} {Instead = HoldsNone outer}
           (lax_extension_decided offset outer type bytes fits begins)
-          (λ tagged is. one_as {Is = HoldsLax room (behind_tag offset tagged) tagged.1 (extension_type tagged.0)
+          (λ tagged is. one_as {Is = HoldsLax reading room (behind_tag offset tagged) tagged.1 (extension_type tagged.0)
           (extension_payload tagged.0)}
           (λ (others : Inside). (tagged ∷ others.0, others.1))
-          (inside_is_one room (behind_tag offset tagged) tagged.1 (extension_type tagged.0) (extension_payload tagged.0)
+          (lax_inside_is_one reading room (behind_tag offset tagged) tagged.1 (extension_type tagged.0) (extension_payload tagged.0)
           (lax_extension_fits outer type bytes tagged fits is))
           (record { there = λ others is. (others, is, refl); back = λ inside is. is }))
           (λ error refused. one_same ([], no_net outer (Some (error_with_layer error)))))
-          (same_image (either_there room offset outer type bytes) (either_back room offset outer type bytes begins))
+          (same_image (either_there reading room offset outer type bytes) (either_back reading room offset outer type bytes begins))
       | inr none ↦
-          one_as bare (net_is_one offset outer type bytes fits)
+          one_as bare (lax_net_is_one reading offset outer type bytes fits)
           (record {
-            there = none_there room offset outer type bytes none;
-            back = none_back room offset outer type bytes none;
+            there = none_there reading room offset outer type bytes none;
+            back = none_back reading room offset outer type bytes none;
           })
     ]
+
+pub inside_is_one : (room offset : ℕ) (outer : Bool) (type : Option EtherType) (bytes : List ℕ) → AreBytes bytes
+    → IsOne (HoldsLax slices room offset outer type bytes)
+inside_is_one = lax_inside_is_one slices

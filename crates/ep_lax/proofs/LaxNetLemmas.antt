@@ -1,20 +1,17 @@
 -- The network layer of lax slicing, from the contracts of its slices.
-use Rattle.std.proofs.Common.{◌≡◌, ℕ, ◌+◌, ◌≤◌, Bool, List, [], ◌∷◌, ◌++◌, length, Option, Some, None, refl, sym, ap, subst, ◌∙◌, arith, length-append}
+use Rattle.std.proofs.Common.{◌≡◌, ℕ, ◌+◌, ◌≤◌, Bool, List, ◌++◌, length, Option, Some, None, refl, sym, ap, subst, ◌∙◌, arith, length-append}
 use Rattle.std.proofs.Math.Path.{transport}
 use Rattle.std.specs.Option.{option_map}
-use Rattle.std.proofs.lemmas.Grind.{common_steps}
 use Rattle.ep_base.specs.IpPayload.{IpPayload}
 use Rattle.ep_base.specs.declared.len_source.LenSource.{LenSource}
 use Rattle.ep_base.specs.declared.err.ip_auth.HeaderSliceError.{HeaderSliceError as AuthSliceError}
 use Rattle.ep_base.specs.declared.err.ipv6_exts.HeaderSliceError.{HeaderSliceError}
 use Rattle.ep_base.specs.declared.err.ipv6_exts.HeaderSliceError.TheVariants as header_error
 use Rattle.ep_base.specs.declared.err.layer.Layer.{Layer}
-use Rattle.ep_base.specs.Readings.{slices}
-use Rattle.ep_ext.specs.ExtensionParts.{ExtensionPart, hop_by_hop, destination_options, routing, fragment, authentication, auth_refusal, part_bytes, part_len, part_next}
-use Rattle.ep_ext.specs.Chains.{IpVersion, ipv4, ipv6, ExtensionChain, offset_of, parts_bytes}
-use Rattle.ep_ext.specs.ChainPrefixes.{BeginWithParts, IsLaxChain}
-use Rattle.ep_ext.proofs.ChainBytesLemmas.{chain_len}
-use Rattle.ep_ext.proofs.PartLemmas.{auth_len, part_lens}
+use Rattle.ep_base.specs.Readings.{Reading, slices}
+use Rattle.ep_ext.specs.ExtensionParts.{auth_refusal}
+use Rattle.ep_ext.specs.Chains.{IpVersion, ipv4, ipv6, ExtensionChain, offset_of}
+use Rattle.ep_ext.specs.ChainPrefixes.{IsLaxChainIn}
 use Rattle.ep_ip.specs.declared.ipv4_header.Ipv4Header.{Ipv4Header}
 use Rattle.ep_ip.specs.declared.ipv6_header.Ipv6Header.{Ipv6Header}
 use Rattle.ep_ip.specs.Ipv4.{ipv4_header_len}
@@ -25,52 +22,26 @@ use Rattle.ep_packet.specs.declared.err.slice_error.SliceError.{SliceError}
 use Rattle.ep_packet.specs.FrameRefusals.{net_payload_offset}
 use Rattle.ep_packet.specs.Layers.{ipv4_layer, ipv6_layer}
 use Rattle.ep_packet.specs.ShownBytes.{ShowsTransport}
-use Rattle.ep_lax.specs.declared.lax_ip_payload_slice.LaxIpPayloadSlice.{LaxIpPayloadSlice}
+use Rattle.ep_base.specs.declared.lax_ip_payload_slice.LaxIpPayloadSlice.{LaxIpPayloadSlice}
 use Rattle.ep_lax.specs.declared.lax_ipv4_slice.LaxIpv4Slice.{LaxIpv4Slice}
 use Rattle.ep_lax.specs.declared.lax_ipv6_slice.LaxIpv6Slice.{LaxIpv6Slice}
 use Rattle.ep_lax.specs.declared.lax_net_slice.LaxNetSlice.TheVariants as net
 use Rattle.ep_lax.specs.Lax.{IsInsideIp, IsIpv4Net, IsIpv6Net, chain_refusal}
-use Rattle.ep_lax.specs.LaxIp.{LaxIp, IsLaxIpv4, IsLaxIpv6, stop_after}
+use Rattle.ep_ip.specs.LaxIp.{LaxIp, IsLaxIpv4, IsLaxIpv4In, IsLaxIpv6, IsLaxIpv6In, stop_after}
 use Rattle.ep_lax.specs.LaxLayers.{LaxTransport}
 use Rattle.ep_lax.specs.LaxPackets.{ShowsLaxNet, inside_of, lax_net_of}
-use Rattle.ep_lax.specs.LaxSlices.{lax_ip_payload_of, lax_ipv4_of, lax_ipv4_slice_bytes, lax_ipv4_slice_incomplete, lax_ipv4_slice_payload, lax_ipv6_of, lax_ipv6_slice_bytes, lax_ipv6_slice_incomplete, lax_ipv6_slice_payload}
+use Rattle.ep_base.specs.IpPayload.{lax_ip_payload_of}
+use Rattle.ep_lax.specs.LaxSlices.{lax_ipv4_of, lax_ipv4_slice_bytes, lax_ipv4_slice_incomplete, lax_ipv4_slice_payload, lax_ipv6_of, lax_ipv6_slice_bytes, lax_ipv6_slice_incomplete, lax_ipv6_slice_payload}
 use Rattle.ep_lax.specs.LaxWalk.{IsInIpPayload}
-use Rattle.ep_lax.proofs.LaxIpLemmas.{stop_within}
+use Rattle.ep_ip.proofs.LaxIpLemmas.{lax_chain_len, stop_within}
 
 -- ---- lengths of headers
 
--- The wire format of an extension header has the header's length.
-part_bytes_len : (part : ExtensionPart) → length (part_bytes part) ≡ part_len part
-part_bytes_len (hop_by_hop header) = grind (arith, common_steps)
-part_bytes_len (destination_options header) = grind (arith, common_steps)
-part_bytes_len (routing header) = grind (arith, common_steps)
-part_bytes_len (fragment header) = refl
-part_bytes_len (authentication header) = auth_len 0 header
-
--- The length of the bytes is that of the headers at their start plus the rest.
-in_front_len : (number : ℕ) (bytes : List ℕ) (parts : List ExtensionPart) (last : ℕ) (rest : List ℕ)
-    → BeginWithParts number bytes parts last rest → length bytes ≡ length (parts_bytes parts) + length rest
-in_front_len number bytes [] last rest is = omega (arith, ap length is.1)
-in_front_len number bytes (part ∷ parts) last rest is = omega (
-  arith,
-  (part_lens number bytes part is.0 is.1).0,
-  part_bytes_len part,
-  length-append (part_bytes part) (parts_bytes parts),
-  in_front_len (part_next part) is.0 parts last rest is.2,
-)
-
-front_chain_len : (version : IpVersion) (number : ℕ) (bytes : List ℕ) (chain : ExtensionChain)
-    (stop : Option HeaderSliceError) → IsLaxChain version number bytes chain stop
-    → length bytes ≡ length (parts_bytes chain.parts) + length chain.rest
-front_chain_len version number bytes chain None is = chain_len version slices number bytes chain is
-front_chain_len version number bytes chain (Some error) is =
-    in_front_len number bytes chain.parts chain.last chain.rest is.1
-
 -- The length of the bytes is the sum of the headers, payload and trailing bytes of an IPv4 packet.
-lax_ipv4_lens : (outer : Bool) (bytes : List ℕ) (lax : LaxIp Ipv4Header) → IsLaxIpv4 outer bytes lax
+lax_ipv4_lens : (reading : Reading) (outer : Bool) (bytes : List ℕ) (lax : LaxIp Ipv4Header) → IsLaxIpv4In reading outer bytes lax
     → length bytes
     ≡ net_payload_offset (ipv4_layer lax.packet) + length lax.packet.payload.bytes + length lax.packet.left
-lax_ipv4_lens outer bytes lax is =
+lax_ipv4_lens reading outer bytes lax is =
     let header = is.0.0 in
     let rest = is.0.1 in
     let stands = is.1 in
@@ -85,14 +56,14 @@ lax_ipv4_lens outer bytes lax is =
       encoded_len stands.encoded header stands.encodes,
       ap length behind.cuts.parts,
       length-append cut.payload cut.left,
-      front_chain_len ipv4 header.protocol.0 cut.payload behind.chain behind.refused behind.is_chain,
+      lax_chain_len ipv4 reading header.protocol.0 cut.payload behind.chain behind.refused behind.is_chain,
     ))
 
 -- The length of the bytes is the sum of the headers, payload and trailing bytes of an IPv6 packet.
-lax_ipv6_lens : (outer : Bool) (bytes : List ℕ) (lax : LaxIp Ipv6Header) → IsLaxIpv6 outer bytes lax
+lax_ipv6_lens : (reading : Reading) (outer : Bool) (bytes : List ℕ) (lax : LaxIp Ipv6Header) → IsLaxIpv6In reading outer bytes lax
     → length bytes
     ≡ net_payload_offset (ipv6_layer lax.packet) + length lax.packet.payload.bytes + length lax.packet.left
-lax_ipv6_lens outer bytes lax is =
+lax_ipv6_lens reading outer bytes lax is =
     let header = is.0.0 in
     let rest = is.0.1 in
     let stands = is.1 in
@@ -107,7 +78,7 @@ lax_ipv6_lens outer bytes lax is =
       ipv6_len header stands.fits,
       ap length behind.cuts.parts,
       length-append cut.payload cut.left,
-      front_chain_len ipv6 header.next_header.0 cut.payload behind.chain behind.refused behind.is_chain,
+      lax_chain_len ipv6 reading header.next_header.0 cut.payload behind.chain behind.refused behind.is_chain,
     ))
 
 -- ---- start of a rejected extension header
@@ -118,23 +89,23 @@ stop_start n end (header_error.Len error) = omega arith
 stop_start n end (header_error.Content error) = omega arith
 
 -- A rejected extension header after a header of this length starts within the bytes of the packet.
-behind_within : (n : ℕ) (end : LenSource) (version : IpVersion) (number : ℕ) (content : List ℕ)
-    (chain : ExtensionChain) (refused : Option HeaderSliceError) → IsLaxChain version number content chain refused
+behind_within : (n : ℕ) (end : LenSource) (version : IpVersion) (reading : Reading) (number : ℕ) (content : List ℕ)
+    (chain : ExtensionChain) (refused : Option HeaderSliceError) → IsLaxChainIn version reading number content chain refused
     → (error : HeaderSliceError) → option_map (stop_after n end) refused ≡ Some error
     → offset_of error ≤ n + length content
-behind_within n end version number content chain None front error same = absurd (cc same)
-behind_within n end version number content chain (Some refused) front error same =
+behind_within n end version reading number content chain None front error same = absurd (cc same)
+behind_within n end version reading number content chain (Some refused) front error same =
     let is : stop_after n end refused ≡ error = cc in
     omega (
       arith,
       ap offset_of is,
       stop_start n end refused,
-      stop_within version number content chain (Some refused) front refused refl,
+      stop_within version reading number content chain (Some refused) front refused refl,
     )
 
-pub ipv4_stop_within : (outer : Bool) (bytes : List ℕ) (lax : LaxIp Ipv4Header) → IsLaxIpv4 outer bytes lax
+pub ipv4_stop_within : (reading : Reading) (outer : Bool) (bytes : List ℕ) (lax : LaxIp Ipv4Header) → IsLaxIpv4In reading outer bytes lax
     → (error : HeaderSliceError) → lax.stop ≡ Some error → offset_of error ≤ length bytes
-ipv4_stop_within outer bytes lax is error same =
+ipv4_stop_within reading outer bytes lax is error same =
     let header = is.0.0 in
     let stands = is.1 in
     let behind = is.2 in
@@ -142,7 +113,7 @@ ipv4_stop_within outer bytes lax is error same =
     let error_with_layer = sym (ap (λ (l : LaxIp Ipv4Header). l.stop) behind.is) ∙ same in
     omega (
       arith,
-      behind_within (ipv4_header_len header) cut.source ipv4 header.protocol.0 cut.payload behind.chain behind.refused
+      behind_within (ipv4_header_len header) cut.source ipv4 reading header.protocol.0 cut.payload behind.chain behind.refused
           behind.is_chain error error_with_layer,
       ap length stands.parts,
       length-append stands.encoded is.0.1,
@@ -151,9 +122,9 @@ ipv4_stop_within outer bytes lax is error same =
       length-append cut.payload cut.left,
     )
 
-pub ipv6_stop_within : (outer : Bool) (bytes : List ℕ) (lax : LaxIp Ipv6Header) → IsLaxIpv6 outer bytes lax
+pub ipv6_stop_within : (reading : Reading) (outer : Bool) (bytes : List ℕ) (lax : LaxIp Ipv6Header) → IsLaxIpv6In reading outer bytes lax
     → (error : HeaderSliceError) → lax.stop ≡ Some error → offset_of error ≤ length bytes
-ipv6_stop_within outer bytes lax is error same =
+ipv6_stop_within reading outer bytes lax is error same =
     let header = is.0.0 in
     let stands = is.1 in
     let behind = is.2 in
@@ -161,7 +132,7 @@ ipv6_stop_within outer bytes lax is error same =
     let error_with_layer = sym (ap (λ (l : LaxIp Ipv6Header). l.stop) behind.is) ∙ same in
     omega (
       arith,
-      behind_within 40 lax.packet.payload.source ipv6 header.next_header.0 cut.payload behind.chain behind.refused
+      behind_within 40 lax.packet.payload.source ipv6 reading header.next_header.0 cut.payload behind.chain behind.refused
           behind.is_chain error
           (ap (λ (e : LenSource). option_map (stop_after 40 e) behind.refused)
           (ap (λ (l : LaxIp Ipv6Header). l.packet.payload.source) behind.is) ∙ error_with_layer),
@@ -174,7 +145,7 @@ ipv6_stop_within outer bytes lax is error same =
 
 -- ---- layers in a packet
 
-behind_is_inside : (version : IpVersion) (offset len : ℕ) (incomplete : Bool) (payload : IpPayload)
+pub behind_is_inside : (version : IpVersion) (offset len : ℕ) (incomplete : Bool) (payload : IpPayload)
     (stop : Option HeaderSliceError) (inside : LaxTransport)
     → IsInIpPayload (offset + len) incomplete payload (option_map (chain_refusal version offset) stop) inside
     → IsInsideIp version offset len incomplete payload stop inside
@@ -214,7 +185,7 @@ ipv4_filled offset len at packet refused shown found transport_slice error_with_
     let len_is : len ≡ headers = omega (
       arith,
       lens,
-      lax_ipv4_lens outer bytes lax is,
+      lax_ipv4_lens slices outer bytes lax is,
       ap length parts,
       length-append (lax_ipv4_slice_bytes packet) left,
     ) in
@@ -254,7 +225,7 @@ ipv6_filled offset len at packet shown found transport_slice error_with_layer le
     let len_is : len ≡ headers = omega (
       arith,
       lens,
-      lax_ipv6_lens outer bytes lax is,
+      lax_ipv6_lens slices outer bytes lax is,
       ap length parts,
       length-append (lax_ipv6_slice_bytes packet) left,
     ) in

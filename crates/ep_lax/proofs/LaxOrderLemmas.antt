@@ -32,7 +32,7 @@ use Rattle.ep_packet.specs.FrameBytes.{AreInOrder, EncodesNet, after_net}
 use Rattle.ep_packet.proofs.OrderLemmas.{InsideBytes, frame_bytes, ip_bytes, net_layer_bytes, no_layer_bytes, tagged_bytes}
 use Rattle.ep_packet.specs.Layers.{NetLayer, arp, ipv4_layer, ipv6_layer}
 use Rattle.ep_lax.specs.Lax.{IsLimitedLaxly, IsHeaderLimitedLaxly, IsInsideIp, IsIpv4Net, IsIpv6Net, IsLax, IsLaxExtension, IsLaxInside, IsLaxNet, IsLaxTransport}
-use Rattle.ep_lax.specs.LaxIp.{LaxIp, IsLaxIpv4, IsLaxIpv6}
+use Rattle.ep_ip.specs.LaxIp.{LaxIp, IsLaxIpv4, IsLaxIpv6}
 use Rattle.ep_lax.specs.LaxLayers.{LaxLayers, LaxNet, LaxTransport}
 use Rattle.ep_lax.specs.StrictFrames.{extension_in, layers_in}
 use Rattle.ep_lax.proofs.LaxMacsecLemmas.{payload_by_is}
@@ -66,7 +66,7 @@ parts_bytes_are number bytes (part ∷ parts) last rest is =
     )
 
 -- The bytes of the extension headers that are read are their wire format.
-chain_bytes_are : (version : IpVersion) (number : ℕ) (bytes : List ℕ) (chain : ExtensionChain)
+pub chain_bytes_are : (version : IpVersion) (number : ℕ) (bytes : List ℕ) (chain : ExtensionChain)
     (refused : Option HeaderSliceError) → IsLaxChain version number bytes chain refused
     → (encoded : List ℕ) × EncodesParts encoded chain.parts × (bytes ≡ encoded ++ chain.rest)
 chain_bytes_are version number bytes chain None is = chain_encoded version slices number bytes chain is
@@ -144,7 +144,7 @@ part_in_order outer bytes None lax are same =
 part_in_order outer bytes (Some layer) lax are is = cut_in_order outer bytes layer.header layer.payload lax are is
 
 -- The transport layer in a payload of IP is in order.
-transport_in_order : (offset : ℕ) (outer : Bool) (payload : IpPayload) (lax : LaxTransport)
+pub transport_in_order : (offset : ℕ) (outer : Bool) (payload : IpPayload) (lax : LaxTransport)
     → IsLaxTransport offset outer payload lax → AreTransport payload.bytes lax.layer
 transport_in_order offset outer payload lax (inl refused) =
     subst (λ (l : LaxTransport). AreTransport payload.bytes l.layer) (sym refused.2) (no_transport_in payload.bytes)
@@ -152,7 +152,7 @@ transport_in_order offset outer payload lax (inr (part, is, cut)) =
     part_in_order outer payload.bytes part lax
     (transport_bytes_are headers payload.number payload.fragmented payload.bytes part is) cut
 
-inside_in_order : (version : IpVersion) (offset len : ℕ) (outer : Bool) (payload : IpPayload)
+pub inside_in_order : (version : IpVersion) (offset len : ℕ) (outer : Bool) (payload : IpPayload)
     (stop : Option HeaderSliceError) (lax : LaxTransport) → IsInsideIp version offset len outer payload stop lax
     → AreTransport payload.bytes lax.layer
 inside_in_order version offset len outer payload None lax is = transport_in_order (offset + len) outer payload lax is
@@ -207,13 +207,13 @@ net_in_order offset outer (Some any_ip) bytes net (inl is) = ipv4_net_in_order o
 net_in_order offset outer (Some any_ip) bytes net (inr is) = ipv6_net_in_order offset outer bytes net is
 
 -- The bytes are a tag, its payload, and trailing bytes.
-record TagBytes (bytes : List ℕ) (extension : LinkExtension) : Type 0 where
-  tag : List ℕ
-  left : List ℕ
-  encodes : EncodesTag extension tag
-  parts : bytes ≡ (tag ++ extension_payload extension) ++ left
+pub record TagBytes (bytes : List ℕ) (extension : LinkExtension) : Type 0 where
+  pub tag : List ℕ
+  pub left : List ℕ
+  pub encodes : EncodesTag extension tag
+  pub parts : bytes ≡ (tag ++ extension_payload extension) ++ left
 
-tag_bytes : (outer : Bool) (type : EtherType) (bytes : List ℕ) (extension : LinkExtension × Bool)
+pub tag_bytes : (outer : Bool) (type : EtherType) (bytes : List ℕ) (extension : LinkExtension × Bool)
     → IsLaxExtension outer type bytes extension → TagBytes bytes extension.0
 tag_bytes outer type bytes (vlan tag payload, incomplete) is = record {
   tag = vlan_bytes tag;
@@ -231,7 +231,7 @@ tag_bytes outer type bytes (macsec tag payload, incomplete) (of_type, (cut, is, 
       ∙ sym (append_assoc is.header.encoded (macsec_payload_bytes payload) cut.left);
 }
 
-extensions_in_order : (room offset : ℕ) (outer : Bool) (type : Option EtherType) (bytes : List ℕ)
+pub extensions_in_order : (room offset : ℕ) (outer : Bool) (type : Option EtherType) (bytes : List ℕ)
     (extensions : List (LinkExtension × Bool)) (net : LaxNet) → IsLaxInside room offset outer type bytes extensions net
     → InsideBytes bytes (map extension_in extensions) net.layer net.inside.layer
 extensions_in_order room offset outer None bytes extensions net (no_tags, same) =

@@ -49,10 +49,12 @@ use Rattle.ep_packet.specs.FrameRefusals.{RefusesFrame, RefusesNetPart, RefusesT
 use Rattle.ep_packet.specs.Layers.{NetLayer, ip_layer, net_payload}
 use Rattle.ep_packet.proofs.LayerLawLemmas.{frame_law}
 use Rattle.ep_lax.specs.LaxLayers.{LaxLayers, error_with_layer}
-use Rattle.ep_lax.specs.LaxRefusals.{RefusesIpHeader, RefusesLax, ip_header_refusal, of_ipv4_header, of_ipv6_header}
+use Rattle.ep_ip.specs.LaxIp.{RefusesIpHeader, of_ipv4_header, of_ipv6_header}
+use Rattle.ep_lax.specs.LaxRefusals.{RefusesLax, ip_header_refusal}
 use Rattle.ep_lax.specs.Lax.{IsLax, IsLaxNet}
 use Rattle.ep_lax.specs.LaxStops.{IsStrictStop, RefusesWithErrorOrByLength, StopsFor, is_by_length}
-use Rattle.ep_lax.proofs.LaxEntryLemmas.{lax_decided, rows_of_ipv4, rows_of_ipv6}
+use Rattle.ep_ip.proofs.LaxIpLemmas.{rows_of_ipv4, rows_of_ipv6}
+use Rattle.ep_lax.proofs.LaxEntryLemmas.{lax_decided}
 use Rattle.ep_lax.proofs.LaxStopLemmas.{StopsIn, inside_stops, ipv4_chain_stops, ipv4_header_row, ipv4_inside_stops, ipv4_length_rows, ipv6_chain_stops, ipv6_header_row, ipv6_inside_stops, ipv6_length_rows}
 use Rattle.ep_lax.proofs.LaxErrorLayerLemmas.{IsTold, lax_told}
 use Rattle.ep_lax.proofs.StrictLemmas.{frame_is_whole}

@@ -46,7 +46,7 @@ use Rattle.ep_packet.specs.declared.err.slice_error.SliceError.{SliceError}
 use Rattle.ep_packet.specs.Frame.{NetKind, only_ipv4, only_ipv6, only_arp, net_kind}
 use Rattle.ep_packet.specs.FrameRefusals.{RefusesExtensionAt, RefusesInside, RefusesNetPart, RefusesTransportAfterNet, RefusesTransportIn, extension_refusal, ipv4_refusal, ipv6_refusal, len_refusal, net_payload_offset, transport_refusal}
 use Rattle.ep_packet.specs.Layers.{NetLayer, ipv4_layer, ipv6_layer, net_payload}
-use Rattle.ep_lax.specs.LaxIp.{lax_ip_of, lax_ipv6_source, stop_after}
+use Rattle.ep_ip.specs.LaxIp.{lax_ip_of, lax_ipv6_source, stop_after}
 use Rattle.ep_lax.specs.LaxLayers.{LaxNet, net_with, no_net, no_transport, error_with_layer}
 use Rattle.ep_lax.specs.Lax.{IsIpv4Net, IsIpv6Net, IsLaxInside, IsLaxNet, IsLaxTransport, RefusesLaxExtension, chain_refusal}
 use Rattle.ep_lax.specs.LaxStops.{is_by_length, is_length_row}

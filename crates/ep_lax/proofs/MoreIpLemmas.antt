@@ -1,8 +1,8 @@
 -- An IP packet with more bytes after it has the headers that it has without them, followed by further headers.
-use Rattle.std.proofs.Common.{◌≡◌, if◌then◌else◌, ℕ, ◌+◌, ◌≤◌, Bool, true, false, List, [], ◌∷◌, ◌++◌, map, length, take, drop, Option, Some, None, refl, sym, ap, subst, ◌∙◌, inl, inr, append_assoc, length-append, arith}
-use Rattle.std.proofs.Math.Seq.{take-append_seam}
+use Rattle.std.proofs.Common.{◌≡◌, ◌⊎◌, if◌then◌else◌, ℕ, ◌+◌, ◌≤◌, ◌<◌, Bool, true, false, List, [], ◌∷◌, ◌++◌, map, length, Option, Some, None, refl, sym, ap, subst, ◌∙◌, inl, inr, append_assoc, length-append, arith}
+use Rattle.std.specs.Option.{option_map}
 use Rattle.std.proofs.lemmas.Bool.{cases_lt}
-use Rattle.std.proofs.lemmas.List.{append-nil, map-append, take-append-drop, take-append-le}
+use Rattle.std.proofs.lemmas.List.{append-nil, map-append}
 use Rattle.ep_base.specs.Bytes.{AreBytes}
 use Rattle.ep_base.specs.IpPayload.{IpPayload}
 use Rattle.ep_base.specs.LaxCut.{LaxCut, IsLaxCut, cuts}
@@ -11,6 +11,7 @@ use Rattle.ep_base.specs.declared.err.layer.Layer.{Layer}
 use Rattle.ep_base.specs.declared.err.ipv6_exts.HeaderSliceError.{HeaderSliceError}
 use Rattle.ep_base.specs.declared.len_source.LenSource.{LenSource}
 use Rattle.ep_base.specs.declared.len_source.LenSource.TheVariants as source
+use Rattle.ep_base.proofs.BytesLemmas.{AreBytes-front}
 use Rattle.ep_base.proofs.LaxCutLemmas.{cuts_not, cuts_there, lax_cut_is_one}
 use Rattle.ep_ext.specs.Chains.{IpVersion, ipv4, ipv6, ExtensionChain, chain_of, chain_fragments, demand_of, takes, IsChainAfter, RefusesChainAfter}
 use Rattle.ep_ext.specs.ExtensionParts.{ExtensionPart, hop_by_hop, destination_options, routing, fragment, authentication, part_len, part_next, IsExtensionPart}
@@ -18,31 +19,32 @@ use Rattle.ep_ext.specs.ChainPrefixes.{BeginWithParts, IsLaxChain}
 use Rattle.ep_ext.specs.RawExtension.{raw_extension_bytes}
 use Rattle.ep_ext.proofs.ChainLemmas.{behind_decided}
 use Rattle.ep_ext.proofs.HeaderLawLemmas.{header_laws}
-use Rattle.ep_ext.proofs.PartLemmas.{part_behind_fits}
+use Rattle.ep_ext.proofs.ChainLemmas.{taken_is_kind}
+use Rattle.ep_ext.proofs.PartLemmas.{part_behind_fits, part_decided, part_lens}
 use Rattle.ep_ip.specs.declared.ipv4_header.Ipv4Header.{Ipv4Header}
 use Rattle.ep_ip.specs.declared.ipv6_header.Ipv6Header.{Ipv6Header}
 use Rattle.ep_ip.specs.IpPackets.{IpPacket}
 use Rattle.ep_ip.specs.Ipv4.{IsIpv4Header, ipv4_header_len, is_ipv4_fragment}
 use Rattle.ep_ip.specs.Ipv6.{IsIpv6Header, ipv6_bytes}
 use Rattle.ep_packet.specs.declared.err.slice_error.SliceError.{SliceError}
+use Rattle.ep_packet.specs.Offsets.{parts_len}
+use Rattle.ep_packet.proofs.OffsetLemmas.{part_encoded, transport_encoded}
+use Rattle.ep_ip.proofs.IpBytesLemmas.{encoded_len as ipv4_encoded_len, ipv6_len}
+use Rattle.ep_transport.specs.TransportParts.{AreTransport, TransportLayer}
 use Rattle.ep_packet.specs.FrameRefusals.{net_payload_offset}
 use Rattle.ep_packet.specs.Layers.{NetLayer, ipv4_layer, ipv6_layer}
 use Rattle.ep_lax.specs.Lax.{IsInsideIp, IsIpLayer, IsIpv4Net, IsIpv6Net, IsLaxTransport, chain_refusal}
-use Rattle.ep_lax.specs.LaxHeaders.{LayerHeader, of_ipv4, of_ipv6, of_extension, net_headers, transport_headers, ShowsPrefix}
-use Rattle.ep_lax.specs.LaxIp.{LaxIp, IsLaxIpv4After, IsLaxIpv6After, lax_ip_of, lax_ipv6_source, stop_after}
-use Rattle.ep_lax.specs.LaxLayers.{LaxNet, net_with, no_transport, error_with_layer}
-use Rattle.ep_lax.proofs.LaxIpLemmas.{behind_ipv4_fits, behind_ipv6_fits, cut_fits}
-use Rattle.ep_lax.proofs.LaxLawLemmas.{ip_layer_is_one, rest_fits}
+use Rattle.ep_lax.specs.LaxHeaders.{LayerHeader, header_len, of_ipv4, of_ipv6, of_extension, net_headers, transport_headers, ShowsPrefix}
+use Rattle.ep_ip.specs.LaxIp.{LaxIp, IsLaxIpv4After, IsLaxIpv6After, lax_ip_of, lax_ipv6_source, stop_after}
+use Rattle.ep_lax.specs.LaxLayers.{LaxNet, LaxTransport, net_with, no_transport, error_with_layer}
+use Rattle.ep_lax.proofs.FurtherHeaderLemmas.{EndAfter, ShowsComplete, complete_after, complete_before, complete_behind, complete_limited, extensions_len, front_of_longer, header_in_prefix, headers_len, headers_len-append}
+use Rattle.ep_ip.proofs.LaxIpLemmas.{behind_ipv4_fits, behind_ipv6_fits, cut_fits, rest_fits}
+use Rattle.ep_lax.proofs.LaxLawLemmas.{ip_layer_is_one}
+use Rattle.ep_lax.proofs.LaxOrderLemmas.{inside_in_order, transport_in_order}
+use Rattle.ep_lax.proofs.NestedLengthLemmas.{chain_lens}
 use Rattle.ep_lax.proofs.MoreTransportLemmas.{parts_more, payload_with, shows_behind, shows_before, transport_more}
 
 -- ---- payload limited by a length field
-
--- If bytes begin with a list and with a longer one, the longer list begins with the shorter.
-front_of_longer : (a x b y : List ℕ) → a ++ x ≡ b ++ y → length a ≤ length b → (rest : List ℕ) × (b ≡ a ++ rest)
-front_of_longer a x b y same within =
-    let n = length a in
-    let front : take n b ≡ a = sym (take-append-le n b y within) ∙ ap (take n) (sym same) ∙ take-append_seam a x in
-    (drop n b, sym (take-append-drop n b) ∙ ap (λ (l : List ℕ). l ++ drop n b) front)
 
 -- The payload that a field limits does not become shorter.
 cut_grows : (least stated there more : ℕ) → (if cuts least stated there then stated else there)
@@ -87,6 +89,29 @@ cut_more least stated named outer inner len behind more cut longer is there =
     front_of_longer cut.payload (cut.left ++ more) longer.payload longer.left
     (sym (parts_more behind cut.payload cut.left more is.parts) ∙ there.parts) within
 
+-- Either no length field limits the bytes after a header, or it limits them and longer bytes to the same number.
+pub cut_limits : (least stated : ℕ) (named : LenSource) (outer inner : Bool) (len : ℕ) (behind more : List ℕ)
+    (cut longer : LaxCut) → IsLaxCut least stated named outer len behind cut
+    → IsLaxCut least stated named inner len (behind ++ more) longer
+    → (length behind ≤ length cut.payload) ⊎ (length longer.payload ≤ length cut.payload)
+cut_limits least stated named outer inner len behind more cut longer is there =
+    let here = len + length behind in
+    let all = len + length (behind ++ more) in
+    let nowhere : (stated < least) ⊎ (here < stated) → length behind ≤ length cut.payload =
+    λ why. omega (arith, is.ends ∙ ap (λ (b : Bool). if b then stated else here) (cuts_not least stated here why)) in
+    elim (cases_lt stated least) [
+      | inl short ↦ inl (nowhere (inl short))
+      | inr enough ↦ elim (cases_lt here stated) [
+        | inl long ↦ inl (nowhere (inr long))
+        | inr within ↦ inr (omega (
+          arith,
+          is.ends ∙ ap (λ (b : Bool). if b then stated else here) (cuts_there least stated here enough within),
+          there.ends ∙ ap (λ (b : Bool). if b then stated else all)
+              (cuts_there least stated all enough (omega (arith, within, length-append behind more))),
+        ))
+      ]
+    ]
+
 -- ---- chains of extension headers
 
 part_more : (number : ℕ) (bytes more : List ℕ) (part : ExtensionPart) (behind : List ℕ)
@@ -114,6 +139,31 @@ part_more number bytes more (authentication header) behind is = (
   },
 )
 
+-- An extension header that ends in a prefix of its bytes is the first extension header of the prefix, too.
+part_less : (number : ℕ) (bytes more : List ℕ) (part : ExtensionPart) (behind : List ℕ)
+    → IsExtensionPart number (bytes ++ more) part behind → part_len part ≤ length bytes
+    → (after : List ℕ) × IsExtensionPart number bytes part after
+part_less number bytes more (hop_by_hop header) behind is within =
+    let len = part_encoded (hop_by_hop header) (raw_extension_bytes header) (is.1.fits, refl) in
+    let after = header_in_prefix (raw_extension_bytes header) behind bytes more is.1.parts (omega (arith, within, len)) in
+    (after.0, (is.0, record { fits = is.1.fits; parts = after.1 }))
+part_less number bytes more (destination_options header) behind is within =
+    let len = part_encoded (destination_options header) (raw_extension_bytes header) (is.1.fits, refl) in
+    let after = header_in_prefix (raw_extension_bytes header) behind bytes more is.1.parts (omega (arith, within, len)) in
+    (after.0, (is.0, record { fits = is.1.fits; parts = after.1 }))
+part_less number bytes more (routing header) behind is within =
+    let len = part_encoded (routing header) (raw_extension_bytes header) (is.1.fits, refl) in
+    let after = header_in_prefix (raw_extension_bytes header) behind bytes more is.1.parts (omega (arith, within, len)) in
+    (after.0, (is.0, record { fits = is.1.fits; parts = after.1 }))
+part_less number bytes more (fragment header) behind is within =
+    let len = part_encoded (fragment header) is.1.encoded is.1.encodes in
+    let after = header_in_prefix is.1.encoded behind bytes more is.1.parts (omega (arith, within, len)) in
+    (after.0, (is.0, record { encoded = is.1.encoded; encodes = is.1.encodes; parts = after.1 }))
+part_less number bytes more (authentication header) behind is within =
+    let len = part_encoded (authentication header) is.1.encoded is.1.encodes in
+    let after = header_in_prefix is.1.encoded behind bytes more is.1.parts (omega (arith, within, len)) in
+    (after.0, (is.0, record { encoded = is.1.encoded; encodes = is.1.encodes; parts = after.1 }))
+
 -- A chain stays the same when bytes are appended.
 chain_more : (version : IpVersion) (taken : List ℕ) (number : ℕ) (bytes more : List ℕ) (parts : List ExtensionPart)
     (last : ℕ) (rest : List ℕ) → IsChainAfter version slices taken number bytes parts last rest
@@ -136,6 +186,12 @@ IsFrontBehind version taken offset number bytes chain (Some error) =
     RefusesChainAfter version slices taken offset number bytes chain.parts error
     × BeginWithParts number bytes chain.parts chain.last chain.rest
 
+-- After a rejected extension header of `len` bytes, which comes after `parts`, the same header is rejected with more
+-- bytes, too, or it does not end within the `len` bytes.
+abbrev StopsBefore : {E : Type 0} → ℕ → List ExtensionPart → List ExtensionPart → Option E → Type 0
+StopsBefore {E} len parts [] stop = (error : E) × (stop ≡ Some error)
+StopsBefore {E} len parts (next ∷ others) stop = len < parts_len parts + part_len next
+
 record MoreFront (version : IpVersion) (taken : List ℕ) (offset number : ℕ) (bytes : List ℕ)
     (parts : List ExtensionPart) : Type 0 where
   others : List ExtensionPart
@@ -143,6 +199,12 @@ record MoreFront (version : IpVersion) (taken : List ℕ) (offset number : ℕ) 
   rest : List ℕ
   stop : Option HeaderSliceError
   is : IsFrontBehind version taken offset number bytes (chain_of (parts ++ others) last rest) stop
+
+-- A result of lax parsing, and the header at which the first `len` bytes stop.
+record StoppedFront (version : IpVersion) (taken : List ℕ) (offset number len : ℕ) (bytes : List ℕ)
+    (parts : List ExtensionPart) : Type 0 where
+  front : MoreFront version taken offset number bytes parts
+  stops : StopsBefore len parts front.others front.stop
 
 -- There is a result of lax parsing.
 front_there : (version : IpVersion) (taken : List ℕ) (offset number : ℕ) (bytes : List ℕ) → AreBytes bytes
@@ -181,26 +243,74 @@ front_with version taken offset number bytes part behind chain None demand is fr
 front_with version taken offset number bytes part behind chain (Some error) demand is front =
     ((demand, (behind, is, front.0)), (behind, is, front.1))
 
+-- A header that is rejected, but that more bytes begin with, does not end within the first bytes.
+part_stops : (version : IpVersion) (taken : List ℕ) (offset number : ℕ) (bytes more : List ℕ)
+    (error : HeaderSliceError) → AreBytes bytes → RefusesChainAfter version slices taken offset number bytes [] error
+    → (part : ExtensionPart) (after : List ℕ) → demand_of version slices taken number ≡ takes
+    → IsExtensionPart number (bytes ++ more) part after → length bytes < part_len part
+part_stops version taken offset number bytes more error fits (inl refused) part after demand is =
+    absurd (let one = sym demand ∙ refused.0 in cc)
+part_stops version taken offset number bytes more error fits (inr refused) part after demand is =
+    elim (cases_lt (length bytes) (part_len part)) [
+      | inl short ↦ short
+      | inr within ↦
+          let here = part_less number bytes more part after is within in
+          absurd ((part_decided header_laws number bytes fits (taken_is_kind version slices taken number demand)).not_both
+          (part, here.0) refused.1.0 here.1 refused.1.1)
+    ]
+
+-- A header that is rejected, and the headers that more bytes have in its place.
+first_stops : (version : IpVersion) (taken : List ℕ) (offset number : ℕ) (bytes more : List ℕ)
+    (error : HeaderSliceError) → AreBytes bytes → RefusesChainAfter version slices taken offset number bytes [] error
+    → (others : List ExtensionPart) (last : ℕ) (rest : List ℕ) (stop : Option HeaderSliceError)
+    → IsFrontBehind version taken offset number (bytes ++ more) (chain_of others last rest) stop
+    → StopsBefore (length bytes) [] others stop
+first_stops version taken offset number bytes more error fits (inl refused) [] last rest None is =
+    absurd (let one = sym is.0 ∙ refused.0 in cc)
+first_stops version taken offset number bytes more error fits (inr refused) [] last rest None is =
+    absurd (let one = sym is.0 ∙ refused.0 in cc)
+first_stops version taken offset number bytes more error fits refused [] last rest (Some again) is = (again, refl)
+first_stops version taken offset number bytes more error fits refused (part ∷ others) last rest None is =
+    omega (arith, part_stops version taken offset number bytes more error fits refused part is.1.0 is.0 is.1.1)
+first_stops version taken offset number bytes more error fits refused (part ∷ others) last rest (Some again) is =
+    omega (arith, part_stops version taken offset number bytes more error fits refused part is.0.1.0 is.0.0 is.0.1.1)
+
 -- The headers before a rejected header are also valid with more bytes after it.
 refused_more : (version : IpVersion) (taken : List ℕ) (offset number : ℕ) (bytes more : List ℕ)
     (parts : List ExtensionPart) (error : HeaderSliceError) → AreBytes (bytes ++ more)
     → RefusesChainAfter version slices taken offset number bytes parts error
-    → MoreFront version taken offset number (bytes ++ more) parts
+    → StoppedFront version taken offset number (length bytes) (bytes ++ more) parts
 refused_more version taken offset number bytes more [] error fits refused =
-    front_there version taken offset number (bytes ++ more) fits
+    let front = front_there version taken offset number (bytes ++ more) fits in
+    record {
+      front = front;
+      stops = first_stops version taken offset number bytes more error (AreBytes-front bytes more fits) refused
+          front.others front.last front.rest front.stop front.is;
+    }
 refused_more version taken offset number bytes more (part ∷ parts) error fits refused =
     let behind = refused.1.0 ++ more in
     let here = part_more number bytes more part refused.1.0 refused.1.1 in
     let next = refused_more version (number ∷ taken) (offset + part_len part) (part_next part) refused.1.0 more parts
     error (part_behind_fits number (bytes ++ more) part behind here fits) refused.1.2 in
+    let front = next.front in
+    let lens = part_lens number bytes part refused.1.0 refused.1.1 in
     record {
-      others = next.others;
-      last = next.last;
-      rest = next.rest;
-      stop = next.stop;
-      is = front_with version taken offset number (bytes ++ more) part behind
-          (chain_of (parts ++ next.others) next.last next.rest) next.stop refused.0 here next.is;
+      front = record {
+        others = front.others;
+        last = front.last;
+        rest = front.rest;
+        stop = front.stop;
+        is = front_with version taken offset number (bytes ++ more) part behind
+            (chain_of (parts ++ front.others) front.last front.rest) front.stop refused.0 here front.is;
+      };
+      stops = behind_part front.others front.stop (omega (arith, lens.0)) next.stops;
     }
+  where
+    behind_part : (others : List ExtensionPart) (stop : Option HeaderSliceError)
+        → length bytes ≡ part_len part + length refused.1.0 → StopsBefore (length refused.1.0) parts others stop
+        → StopsBefore (length bytes) (part ∷ parts) others stop
+    behind_part [] stop len stops = stops
+    behind_part (next ∷ others) stop len stops = omega (arith, len, stops)
 
 front_chain : (version : IpVersion) (number : ℕ) (bytes : List ℕ) (chain : ExtensionChain)
     (stop : Option HeaderSliceError) → IsFrontBehind version [] 0 number bytes chain stop
@@ -241,11 +351,131 @@ headers_with layer_of heads shown read others inner same parts =
 abbrev pub inner_headers : LaxNet → List LayerHeader
 inner_headers net = net_headers net.layer ++ transport_headers net.inside.layer
 
--- A network layer with the layers in it that has the headers of a prefix of its bytes.
-pub record MoreNet (Is : LaxNet → Type 0) (net : LaxNet) : Type 0 where
+-- A network layer with the layers in it that has the headers of a prefix of its bytes. The prefix has `len` bytes.
+pub record MoreNet (len : ℕ) (Is : LaxNet → Type 0) (net : LaxNet) : Type 0 where
   pub read : LaxNet
   pub is : Is read
   pub shows : ShowsPrefix (inner_headers net) net.inside.stop (inner_headers read) read.inside.stop
+  pub complete : ShowsComplete len (inner_headers net) (inner_headers read)
+
+-- ---- the first further header of a packet
+
+-- The number of bytes after the IP header: extension headers and payload.
+abbrev content_len : {Header : Type 0} → IpPacket Header → ℕ
+content_len packet = parts_len packet.extensions + length packet.payload.bytes
+
+-- The bytes are as long as the extension headers that they begin with and the rest.
+front_lens : (number : ℕ) (bytes : List ℕ) (parts : List ExtensionPart) (last : ℕ) (rest : List ℕ)
+    → BeginWithParts number bytes parts last rest → length bytes ≡ parts_len parts + length rest
+front_lens number bytes [] last rest are = omega (arith, ap length are.1)
+front_lens number bytes (part ∷ parts) last rest are =
+    let here = part_lens number bytes part are.0 are.1 in
+    omega (arith, here.0, front_lens (part_next part) are.0 parts last rest are.2)
+
+pub chain_len : (version : IpVersion) (number : ℕ) (bytes : List ℕ) (chain : ExtensionChain)
+    (refused : Option HeaderSliceError) → IsLaxChain version number bytes chain refused
+    → length bytes ≡ parts_len chain.parts + length chain.rest
+chain_len version number bytes chain None is =
+    chain_lens version slices [] number bytes chain.parts chain.last chain.rest is
+chain_len version number bytes chain (Some error) is = front_lens number bytes chain.parts chain.last chain.rest is.1
+
+-- The transport header is not longer than the bytes that begin with it.
+transport_fits : (bytes : List ℕ) (transport : Option TransportLayer) → AreTransport bytes transport
+    → headers_len (transport_headers transport) ≤ length bytes
+transport_fits bytes None are = omega arith
+transport_fits bytes (Some layer) are =
+    omega (
+      arith,
+      ap length are.parts,
+      length-append are.header (layer.payload ++ are.left),
+      transport_encoded (Some layer) are.header are.encodes,
+    )
+
+-- The further headers of a packet come after the same IP header.
+packet_complete : {Header : Type 0} (layer_of : IpPacket Header → NetLayer) → (heads : IpHeaders layer_of)
+    → (shown read : IpPacket Header) (inside found : LaxTransport) (room : ℕ) → read.header ≡ shown.header
+    → ShowsComplete (content_len shown) (map of_extension shown.extensions ++ transport_headers inside.layer)
+    (map of_extension read.extensions ++ transport_headers found.layer)
+    → AreTransport read.payload.bytes found.layer
+    → (room ≤ content_len shown) ⊎ (content_len read ≤ content_len shown)
+    → ShowsComplete (header_len (heads.head shown.header) + room)
+    (net_headers (Some (layer_of shown)) ++ transport_headers inside.layer)
+    (net_headers (Some (layer_of read)) ++ transport_headers found.layer)
+packet_complete layer_of heads shown read inside found room same complete are limit =
+    let first = transport_headers inside.layer in
+    let all = transport_headers found.layer in
+    let len = header_len (heads.head shown.header) + room in
+    let fits : headers_len (map of_extension read.extensions ++ all) ≤ content_len read = omega (
+      arith,
+      headers_len-append (map of_extension read.extensions) all,
+      extensions_len read.extensions,
+      transport_fits read.payload.bytes found.layer are,
+    ) in
+    let content = complete_limited (content_len shown) (content_len read) room (map of_extension shown.extensions ++ first)
+    (map of_extension read.extensions ++ all) complete fits limit in
+    let after = complete_after room (heads.head shown.header) (map of_extension shown.extensions ++ first)
+    (map of_extension read.extensions ++ all) content in
+    subst (λ (l : List LayerHeader). ShowsComplete len (l ++ first) (net_headers (Some (layer_of read)) ++ all))
+    (sym (heads.are shown))
+    (subst (λ (l : List LayerHeader). ShowsComplete len
+    ((heads.head shown.header ∷ map of_extension shown.extensions) ++ first) (l ++ all))
+    (sym (heads.are read ∙ (λ i. heads.head (same i) ∷ map of_extension read.extensions))) after)
+
+-- The headers after those before a rejected extension header.
+stopped_end : {E : Type 0} (len : ℕ) (parts others : List ExtensionPart) (stop : Option E) (inner : List LayerHeader)
+    → StopsBefore len parts others stop → ((error : E) → stop ≡ Some error → inner ≡ [])
+    → EndAfter len (map of_extension parts) (map of_extension others ++ inner)
+stopped_end len parts [] stop inner stops none =
+    subst (EndAfter len (map of_extension parts)) (sym (none stops.0 stops.1)) tt
+stopped_end len parts (next ∷ others) stop inner stops none = omega (arith, stops, extensions_len parts)
+
+-- After a rejected extension header there is no transport layer.
+no_transport_header : (version : IpVersion) (offset len : ℕ) (incomplete : Bool) (payload : IpPayload)
+    (stop : Option HeaderSliceError) (inside : LaxTransport) → IsInsideIp version offset len incomplete payload stop inside
+    → (error : HeaderSliceError) → stop ≡ Some error → transport_headers inside.layer ≡ []
+no_transport_header version offset len incomplete payload stop inside is error same =
+    let none = subst (λ (s : Option HeaderSliceError). IsInsideIp version offset len incomplete payload s inside) same is in
+    ap (λ (l : LaxTransport). transport_headers l.layer) none
+
+-- The further headers of a packet come after a rejected extension header.
+stopped_complete : {Header : Type 0} (version : IpVersion) (offset place : ℕ) (offset_len place_len : ℕ)
+    (shown read : LaxIp Header) (others : List ExtensionPart) (error : HeaderSliceError) (inside found : LaxTransport)
+    → shown.stop ≡ Some error → read.packet.extensions ≡ shown.packet.extensions ++ others
+    → StopsBefore (content_len shown.packet) shown.packet.extensions others read.stop
+    → IsInsideIp version offset offset_len shown.incomplete shown.packet.payload shown.stop inside
+    → IsInsideIp version place place_len read.incomplete read.packet.payload read.stop found
+    → ShowsComplete (content_len shown.packet) (map of_extension shown.packet.extensions ++ transport_headers inside.layer)
+    (map of_extension read.packet.extensions ++ transport_headers found.layer)
+stopped_complete version offset place offset_len place_len shown read others error inside found stopped parts stops is
+    there =
+    let before : List LayerHeader = map of_extension shown.packet.extensions in
+    let more : List LayerHeader = map of_extension others in
+    let inner = transport_headers found.layer in
+    let none = no_transport_header version offset offset_len shown.incomplete shown.packet.payload shown.stop inside is
+    error stopped in
+    let same : before ++ transport_headers inside.layer ≡ before =
+    ap (λ (l : List LayerHeader). before ++ l) none ∙ append-nil before in
+    subst (λ (l : List LayerHeader). ShowsComplete (content_len shown.packet) l
+    (map of_extension read.packet.extensions ++ inner)) (sym same)
+    (complete_before (content_len shown.packet) before (more ++ inner) (map of_extension read.packet.extensions ++ inner)
+    (ap (λ (l : List LayerHeader). l ++ inner)
+    (ap (λ (l : List ExtensionPart). map of_extension l) parts ∙ map-append of_extension shown.packet.extensions others)
+    ∙ append_assoc before more inner)
+    (stopped_end (content_len shown.packet) shown.packet.extensions others read.stop inner stops
+    (no_transport_header version place place_len read.incomplete read.packet.payload read.stop found there)))
+
+-- The headers of network layers made of these parts.
+nets_complete : (len : ℕ) (layer longer : NetLayer) (incomplete outer : Bool) (inside found : LaxTransport)
+    (net read : LaxNet) → net ≡ net_with layer incomplete inside → read ≡ net_with longer outer found
+    → ShowsComplete len (net_headers (Some layer) ++ transport_headers inside.layer)
+    (net_headers (Some longer) ++ transport_headers found.layer)
+    → ShowsComplete len (inner_headers net) (inner_headers read)
+nets_complete len layer longer incomplete outer inside found net read same there complete =
+    subst (λ (n : LaxNet). ShowsComplete len (inner_headers n) (inner_headers read)) (sym same)
+    (subst (λ (n : LaxNet). ShowsComplete len (inner_headers (net_with layer incomplete inside)) (inner_headers n))
+    (sym there) complete)
+
+-- ---- packets
 
 -- If slicing stopped after a network layer, its headers can be followed by any further headers.
 shows_stopped : (net : LaxNet) (layer : NetLayer) (incomplete : Bool) (refusal : SliceError × Layer)
@@ -260,12 +490,15 @@ shows_stopped net layer incomplete refusal more headers stop same parts =
 
 -- A packet with a rejected last extension header, and another with its headers and further ones.
 packet_stopped : {Header : Type 0} (version : IpVersion) (layer_of : IpPacket Header → NetLayer)
-    → IpHeaders layer_of → (offset place : ℕ) (shown read : LaxIp Header) (error : HeaderSliceError)
-    (others : List ExtensionPart) (net : LaxNet) → shown.stop ≡ Some error
+    → (heads : IpHeaders layer_of) → (offset place : ℕ) (shown read : LaxIp Header) (error : HeaderSliceError)
+    (others : List ExtensionPart) (net : LaxNet) (room : ℕ) → shown.stop ≡ Some error
     → read.packet.header ≡ shown.packet.header → read.packet.extensions ≡ shown.packet.extensions ++ others
+    → StopsBefore (content_len shown.packet) shown.packet.extensions others read.stop
+    → (room ≤ content_len shown.packet) ⊎ (content_len read.packet ≤ content_len shown.packet)
     → AreBytes read.packet.payload.bytes → IsIpLayer version layer_of offset shown net
-    → MoreNet (IsIpLayer version layer_of place read) net
-packet_stopped version layer_of heads offset place shown read error others net stops same parts fits layer =
+    → MoreNet (header_len (heads.head shown.packet.header) + room) (IsIpLayer version layer_of place read) net
+packet_stopped version layer_of heads offset place shown read error others net room stops same parts next limit fits
+    layer =
     let one = ip_layer_is_one version layer_of place read fits in
     let inner = transport_headers one.is.0.layer in
     let inside = subst (λ (s : Option HeaderSliceError). IsInsideIp version offset
@@ -278,17 +511,27 @@ packet_stopped version layer_of heads offset place shown read error others net s
           (layer.2 ∙ ap (net_with (layer_of shown.packet) shown.incomplete) inside)
           (ap inner_headers one.is.2
           ∙ headers_with layer_of heads shown.packet read.packet others inner same parts);
+      complete = nets_complete (header_len (heads.head shown.packet.header) + room) (layer_of shown.packet)
+          (layer_of read.packet) shown.incomplete read.incomplete layer.0 one.is.0 net one.value layer.2 one.is.2
+          (packet_complete layer_of heads shown.packet read.packet layer.0 one.is.0 room same
+          (stopped_complete version offset place (net_payload_offset (layer_of shown.packet))
+          (net_payload_offset (layer_of read.packet)) shown read others error layer.0 one.is.0 stops parts next layer.1
+          one.is.1)
+          (inside_in_order version place (net_payload_offset (layer_of read.packet)) read.incomplete
+          read.packet.payload read.stop one.is.0 one.is.1) limit);
     }
 
 -- A packet, and one with the same headers and more bytes after its payload.
 packet_whole : {Header : Type 0} (version : IpVersion) (layer_of : IpPacket Header → NetLayer)
-    → IpHeaders layer_of → (offset place : ℕ) (shown read : LaxIp Header) (rest : List ℕ) (net : LaxNet)
-    → shown.stop ≡ None → read.stop ≡ None → read.packet.header ≡ shown.packet.header
+    → (heads : IpHeaders layer_of) → (offset place : ℕ) (shown read : LaxIp Header) (rest : List ℕ) (net : LaxNet)
+    (room : ℕ) → shown.stop ≡ None → read.stop ≡ None → read.packet.header ≡ shown.packet.header
     → read.packet.extensions ≡ shown.packet.extensions
     → payload_with shown.packet.payload read.packet.payload.source rest ≡ read.packet.payload
+    → (room ≤ content_len shown.packet) ⊎ (content_len read.packet ≤ content_len shown.packet)
     → AreBytes read.packet.payload.bytes → IsIpLayer version layer_of offset shown net
-    → MoreNet (IsIpLayer version layer_of place read) net
-packet_whole version layer_of heads offset place shown read rest net stops goes_on same parts payload fits layer =
+    → MoreNet (header_len (heads.head shown.packet.header) + room) (IsIpLayer version layer_of place read) net
+packet_whole version layer_of heads offset place shown read rest net room stops goes_on same parts payload limit fits
+    layer =
     let shown_len = net_payload_offset (layer_of shown.packet) in
     let read_len = net_payload_offset (layer_of read.packet) in
     let inside = subst (λ (s : Option HeaderSliceError). IsInsideIp version offset shown_len shown.incomplete
@@ -313,58 +556,99 @@ packet_whole version layer_of heads offset place shown read rest net stops goes_
           (inner_headers longer) found.read.stop) (same_headers layer_of heads read.packet shown.packet same parts)
           (shows_behind (net_headers (Some (layer_of read.packet))) (transport_headers layer.0.layer)
           (transport_headers found.read.layer) layer.0.stop found.read.stop found.shows));
+      complete = nets_complete (header_len (heads.head shown.packet.header) + room) (layer_of shown.packet)
+          (layer_of read.packet) shown.incomplete read.incomplete layer.0 found.read net longer layer.2 refl
+          (packet_complete layer_of heads shown.packet read.packet layer.0 found.read room same
+          (subst (λ (n : ℕ). ShowsComplete (n + length shown.packet.payload.bytes)
+          (map of_extension shown.packet.extensions ++ transport_headers layer.0.layer)
+          (map of_extension read.packet.extensions ++ transport_headers found.read.layer))
+          (extensions_len shown.packet.extensions)
+          (subst (λ (l : List ExtensionPart). ShowsComplete
+          (headers_len (map of_extension shown.packet.extensions) + length shown.packet.payload.bytes)
+          (map of_extension shown.packet.extensions ++ transport_headers layer.0.layer)
+          (map of_extension l ++ transport_headers found.read.layer)) (sym parts)
+          (complete_behind (length shown.packet.payload.bytes) (map of_extension shown.packet.extensions)
+          (transport_headers layer.0.layer) (transport_headers found.read.layer) found.complete)))
+          (transport_in_order (place + read_len) read.incomplete read.packet.payload found.read transport) limit);
     }
+
+-- The limit of a number of bytes, for equal numbers.
+content_limit : (room here there content longer : ℕ) → here ≡ content → there ≡ longer
+    → (room ≤ here) ⊎ (there ≤ here) → (room ≤ content) ⊎ (longer ≤ content)
+content_limit room here there content longer same same_longer (inl all) = inl (omega (arith, all, same))
+content_limit room here there content longer same same_longer (inr limit) = inr (omega (arith, limit, same, same_longer))
+
+-- Errors that are converted stop where they did.
+stops_as : (convert : HeaderSliceError → HeaderSliceError) (len : ℕ) (parts others : List ExtensionPart)
+    (stop : Option HeaderSliceError) → StopsBefore len parts others stop
+    → StopsBefore len parts others (option_map convert stop)
+stops_as convert len parts [] stop stops = (convert stops.0, ap (option_map convert) stops.1)
+stops_as convert len parts (next ∷ others) stop stops = stops
 
 -- A packet with this header, and bytes after it that begin with those of another packet, has the headers of that
 -- packet.
 record MorePacket {Header : Type 0} (version : IpVersion) (layer_of : IpPacket Header → NetLayer) (place : ℕ)
-    (header : Header) (len number : ℕ) (fragmented : List ExtensionPart → Bool) (end : LenSource) (cut : LaxCut)
+    (header : Header) (all len number : ℕ) (fragmented : List ExtensionPart → Bool) (end : LenSource) (cut : LaxCut)
     (net : LaxNet) : Type 0 where
   chain : ExtensionChain
   refused : Option HeaderSliceError
   front : IsLaxChain version number cut.payload chain refused
-  more : MoreNet
+  more : MoreNet all
       (IsIpLayer version layer_of place (lax_ip_of header len (fragmented chain.parts) end cut chain refused)) net
 
 packet_more : {Header : Type 0} (version : IpVersion) (layer_of : IpPacket Header → NetLayer)
-    → IpHeaders layer_of → (offset place : ℕ) (header : Header) (len number : ℕ)
-    (fragmented : List ExtensionPart → Bool) (limit end : LenSource) (cut longer : LaxCut) (rest : List ℕ)
+    → (heads : IpHeaders layer_of) → (offset place : ℕ) (header : Header) (len number : ℕ)
+    (fragmented : List ExtensionPart → Bool) (limit end : LenSource) (cut longer : LaxCut) (rest : List ℕ) (all room : ℕ)
+    → all ≡ header_len (heads.head header) + room
+    → (room ≤ length cut.payload) ⊎ (length longer.payload ≤ length cut.payload)
     → longer.payload ≡ cut.payload ++ rest → AreBytes longer.payload → (chain : ExtensionChain)
     (refused : Option HeaderSliceError) → IsLaxChain version number cut.payload chain refused → (net : LaxNet)
     → IsIpLayer version layer_of offset (lax_ip_of header len (fragmented chain.parts) limit cut chain refused) net
-    → MorePacket version layer_of place header len number fragmented end longer net
-packet_more version layer_of heads offset place header len number fragmented limit end cut longer rest parts fits chain
-    None front net layer =
+    → MorePacket version layer_of place header all len number fragmented end longer net
+packet_more version layer_of heads offset place header len number fragmented limit end cut longer rest all room bytes_len
+    within parts fits chain None front net layer =
     let behind = chain_of chain.parts chain.last (chain.rest ++ rest) in
     let stands : IsLaxChain version number longer.payload behind None =
     subst (λ (l : List ℕ). IsLaxChain version number l behind None) (sym parts)
     (chain_more version [] number cut.payload rest chain.parts chain.last chain.rest front) in
+    let shown = lax_ip_of header len (fragmented chain.parts) limit cut chain None in
+    let read = lax_ip_of header len (fragmented chain.parts) end longer behind None in
     record {
       chain = behind;
       refused = None;
       front = stands;
-      more = packet_whole version layer_of heads offset place
-          (lax_ip_of header len (fragmented chain.parts) limit cut chain None)
-          (lax_ip_of header len (fragmented chain.parts) end longer behind None) rest net refl refl refl refl refl
-          (rest_fits version number longer.payload behind None fits stands) layer;
+      more = subst (λ (n : ℕ). MoreNet n (IsIpLayer version layer_of place read) net) (sym bytes_len)
+          (packet_whole version layer_of heads offset place shown read rest net room refl refl refl refl refl
+          (content_limit room (length cut.payload) (length longer.payload) (content_len shown.packet)
+          (content_len read.packet) (chain_len version number cut.payload chain None front)
+          (chain_len version number longer.payload behind None stands) within)
+          (rest_fits version slices number longer.payload behind None fits stands) layer);
     }
-packet_more version layer_of heads offset place header len number fragmented limit end cut longer rest parts fits chain
-    (Some error) front net layer =
+packet_more version layer_of heads offset place header len number fragmented limit end cut longer rest all room bytes_len
+    within parts fits chain (Some error) front net layer =
     let found = refused_more version [] 0 number cut.payload rest chain.parts error (subst AreBytes parts fits)
     front.0 in
-    let behind = chain_of (chain.parts ++ found.others) found.last found.rest in
-    let stands : IsLaxChain version number longer.payload behind found.stop =
-    subst (λ (l : List ℕ). IsLaxChain version number l behind found.stop) (sym parts)
-    (front_chain version number (cut.payload ++ rest) behind found.stop found.is) in
+    let others = found.front.others in
+    let stop = found.front.stop in
+    let behind = chain_of (chain.parts ++ others) found.front.last found.front.rest in
+    let stands : IsLaxChain version number longer.payload behind stop =
+    subst (λ (l : List ℕ). IsLaxChain version number l behind stop) (sym parts)
+    (front_chain version number (cut.payload ++ rest) behind stop found.front.is) in
+    let shown = lax_ip_of header len (fragmented chain.parts) limit cut chain (Some error) in
+    let read = lax_ip_of header len (fragmented behind.parts) end longer behind stop in
+    let here = chain_len version number cut.payload chain (Some error) front in
     record {
       chain = behind;
-      refused = found.stop;
+      refused = stop;
       front = stands;
-      more = packet_stopped version layer_of heads offset place
-          (lax_ip_of header len (fragmented chain.parts) limit cut chain (Some error))
-          (lax_ip_of header len (fragmented behind.parts) end longer behind found.stop) (stop_after len limit error)
-          found.others net refl refl refl
-          (rest_fits version number longer.payload behind found.stop fits stands) layer;
+      more = subst (λ (n : ℕ). MoreNet n (IsIpLayer version layer_of place read) net) (sym bytes_len)
+          (packet_stopped version layer_of heads offset place shown read (stop_after len limit error) others net room refl
+          refl refl
+          (stops_as (stop_after len end) (content_len shown.packet) chain.parts others stop
+          (subst (λ (n : ℕ). StopsBefore n chain.parts others stop) here found.stops))
+          (content_limit room (length cut.payload) (length longer.payload) (content_len shown.packet)
+          (content_len read.packet) here (chain_len version number longer.payload behind stop stands) within)
+          (rest_fits version slices number longer.payload behind stop fits stands) layer);
     }
 
 -- ---- IP versions
@@ -387,7 +671,8 @@ ipv4_behind outer read cut chain refused cuts front =
     record { cut = cut; chain = chain; refused = refused; cuts = cuts; is_chain = front; is = refl }
 
 pub ipv4_more : (offset place : ℕ) (outer inner : Bool) (bytes more : List ℕ) (net : LaxNet)
-    → AreBytes (bytes ++ more) → IsIpv4Net offset outer bytes net → MoreNet (IsIpv4Net place inner (bytes ++ more)) net
+    → AreBytes (bytes ++ more) → IsIpv4Net offset outer bytes net
+    → MoreNet (length bytes) (IsIpv4Net place inner (bytes ++ more)) net
 ipv4_more offset place outer inner bytes more net fits is =
     let header = is.1.0.0 in
     let behind = is.1.2 in
@@ -401,12 +686,20 @@ ipv4_more offset place outer inner bytes more net fits is =
     let cut = lax_cut_is_one len header.total_len source.Ipv4HeaderTotalLen inner len read.1 (omega arith) in
     let rest = cut_more len header.total_len source.Ipv4HeaderTotalLen outer inner len is.1.0.1 more behind.cut
     cut.value behind.cuts cut.is in
+    let limit = cut_limits len header.total_len source.Ipv4HeaderTotalLen outer inner len is.1.0.1 more behind.cut
+    cut.value behind.cuts cut.is in
+    let all : length bytes ≡ len + length is.1.0.1 = omega (
+      arith,
+      ap length is.1.1.parts,
+      length-append is.1.1.encoded is.1.0.1,
+      ipv4_encoded_len is.1.1.encoded header is.1.1.encodes,
+    ) in
     let payload = cut_fits len header.total_len source.Ipv4HeaderTotalLen inner len read.1 cut.value
     (behind_ipv4_fits (bytes ++ more) read fits stands) cut.is in
     let layer = subst (λ (lax : LaxIp Ipv4Header). IsIpLayer ipv4 ipv4_layer offset lax net) behind.is is.2 in
     let found = packet_more ipv4 ipv4_layer ipv4_heads offset place header len header.protocol.0
     (λ (parts : List ExtensionPart). is_ipv4_fragment header) behind.cut.source cut.value.source behind.cut cut.value
-    rest.0 rest.1 payload behind.chain behind.refused behind.is_chain net layer in
+    rest.0 (length bytes) (length is.1.0.1) all limit rest.1 payload behind.chain behind.refused behind.is_chain net layer in
     record {
       read = found.more.read;
       is = (
@@ -415,6 +708,7 @@ ipv4_more offset place outer inner bytes more net fits is =
         found.more.is,
       );
       shows = found.more.shows;
+      complete = found.more.complete;
     }
 
 -- An IPv6 packet made of these parts.
@@ -428,7 +722,8 @@ ipv6_behind outer read cut chain refused cuts front =
     record { cut = cut; chain = chain; refused = refused; cuts = cuts; is_chain = front; is = refl }
 
 pub ipv6_more : (offset place : ℕ) (outer inner : Bool) (bytes more : List ℕ) (net : LaxNet)
-    → AreBytes (bytes ++ more) → IsIpv6Net offset outer bytes net → MoreNet (IsIpv6Net place inner (bytes ++ more)) net
+    → AreBytes (bytes ++ more) → IsIpv6Net offset outer bytes net
+    → MoreNet (length bytes) (IsIpv6Net place inner (bytes ++ more)) net
 ipv6_more offset place outer inner bytes more net fits is =
     let header = is.1.0.0 in
     let behind = is.1.2 in
@@ -441,11 +736,20 @@ ipv6_more offset place outer inner bytes more net fits is =
     let cut = lax_cut_is_one 41 stated source.Ipv6HeaderPayloadLen inner 40 read.1 (omega arith) in
     let rest = cut_more 41 stated source.Ipv6HeaderPayloadLen outer inner 40 is.1.0.1 more behind.cut cut.value
     behind.cuts cut.is in
+    let limit = cut_limits 41 stated source.Ipv6HeaderPayloadLen outer inner 40 is.1.0.1 more behind.cut cut.value
+    behind.cuts cut.is in
+    let all : length bytes ≡ 40 + length is.1.0.1 = omega (
+      arith,
+      ap length is.1.1.parts,
+      length-append (ipv6_bytes header) is.1.0.1,
+      ipv6_len header is.1.1.fits,
+    ) in
     let payload = cut_fits 41 stated source.Ipv6HeaderPayloadLen inner 40 read.1 cut.value
     (behind_ipv6_fits (bytes ++ more) read fits stands) cut.is in
     let layer = subst (λ (lax : LaxIp Ipv6Header). IsIpLayer ipv6 ipv6_layer offset lax net) behind.is is.2 in
     let found = packet_more ipv6 ipv6_layer ipv6_heads offset place header 40 header.next_header.0 chain_fragments
-    (lax_ipv6_source header behind.cut) (lax_ipv6_source header cut.value) behind.cut cut.value rest.0 rest.1 payload
+    (lax_ipv6_source header behind.cut) (lax_ipv6_source header cut.value) behind.cut cut.value rest.0 (length bytes)
+    (length is.1.0.1) all limit rest.1 payload
     behind.chain behind.refused behind.is_chain net layer in
     record {
       read = found.more.read;
@@ -456,4 +760,5 @@ ipv6_more offset place outer inner bytes more net fits is =
         found.more.is,
       );
       shows = found.more.shows;
+      complete = found.more.complete;
     }

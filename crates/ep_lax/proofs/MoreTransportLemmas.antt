@@ -1,6 +1,6 @@
 -- A payload of IP with more bytes after it has the transport header that it has without them, except for an ICMPv4
 -- timestamp that then is too long.
-use Rattle.std.proofs.Common.{◌≡◌, ◌⊎◌, not, nat_lt, if◌then◌else◌, ℕ, ◌<◌, Bool, false, List, [], ◌∷◌, ◌++◌, length, Option, Some, None, refl, sym, ap, subst, ◌∙◌, inl, inr, append_assoc, length-append, arith}
+use Rattle.std.proofs.Common.{◌≡◌, ◌⊎◌, not, nat_lt, if◌then◌else◌, ℕ, ◌≤◌, ◌<◌, Bool, false, List, [], ◌∷◌, ◌++◌, length, Option, Some, None, refl, sym, ap, subst, ◌∙◌, inl, inr, append_assoc, length-append, arith}
 use Rattle.std.proofs.lemmas.Bool.{cases_eq, cases_lt, ne_eqb}
 use Rattle.std.proofs.lemmas.Grind.{common_steps}
 use Rattle.std.proofs.lemmas.List.{append-nil}
@@ -25,12 +25,18 @@ use Rattle.ep_transport.specs.Icmpv4.{IsIcmpv4, icmpv4_kind, icmpv4_kind_at, icm
 use Rattle.ep_transport.specs.TransportParts.{transport_layer, IsTransportLayer}
 use Rattle.ep_transport.specs.Udp.{udp_bytes}
 use Rattle.ep_transport.proofs.TransportLemmas.{icmpv4_refused}
+use Rattle.ep_base.proofs.BytesLemmas.{AreBytes-front}
+use Rattle.ep_base.proofs.DecidedLemmas.{refused_as}
+use Rattle.ep_transport.specs.TransportHeaders.{EncodesTransportHeader, transport_header_len}
+use Rattle.ep_packet.specs.FrameRefusals.{RefusesTransportIn, transport_refusal}
+use Rattle.ep_packet.proofs.LayerLawLemmas.{layer_laws}
 use Rattle.ep_packet.specs.declared.err.slice_error.SliceError.{SliceError}
 use Rattle.ep_packet.specs.declared.err.slice_error.SliceError.TheVariants.{Len}
 use Rattle.ep_packet.proofs.OffsetLemmas.{transport_encoded}
 use Rattle.ep_lax.specs.Lax.{IsHeaderLimitedLaxly, IsLaxTransport}
 use Rattle.ep_lax.specs.LaxHeaders.{LayerHeader, of_transport, transport_headers, ShowsPrefix}
 use Rattle.ep_lax.specs.LaxLayers.{LaxTransport, no_transport, error_with_layer}
+use Rattle.ep_lax.proofs.FurtherHeaderLemmas.{EndAfter, ShowsComplete, complete_fewer, complete_first, complete_same, header_in_prefix}
 use Rattle.ep_lax.proofs.LaxLawLemmas.{header_cut_is_one, transport_is_one}
 
 -- ---- headers of a prefix
@@ -195,6 +201,50 @@ layer_more number bytes more (header.Icmpv6 icmp) payload is =
       },
     )
 
+-- ---- a header that ends in a prefix of its bytes
+
+-- If bytes are followed by none, they are none.
+no_front : (front behind : List ℕ) → front ++ behind ≡ [] → front ≡ []
+no_front [] behind none = refl
+no_front (byte ∷ others) behind none = absurd (omega (arith, ap length none))
+
+-- The wire format of a transport header has the length that the header states.
+encoded_len : (h : TransportHeader) (encoded : List ℕ) → EncodesTransportHeader h encoded
+    → length encoded ≡ transport_header_len h
+encoded_len h encoded encodes = transport_encoded (Some (transport_layer h [])) encoded encodes
+
+-- A transport layer whose header ends in a prefix of its bytes is the transport layer of the prefix, too.
+layer_less : (number : ℕ) (bytes more : List ℕ) (h : TransportHeader) (payload : List ℕ)
+    → IsTransportLayer headers number (bytes ++ more) h payload → transport_header_len h ≤ length bytes
+    → (after : List ℕ) × IsTransportLayer headers number bytes h after
+layer_less number bytes more (header.Udp udp) payload is within =
+    let len = encoded_len (header.Udp udp) (udp_bytes udp) (is.1.fits, refl) in
+    let after = header_in_prefix (udp_bytes udp) payload bytes more is.1.parts (omega (arith, within, len)) in
+    (after.0, (is.0, record { fits = is.1.fits; parts = after.1 }))
+layer_less number bytes more (header.Tcp tcp) payload is within =
+    let len = encoded_len (header.Tcp tcp) is.1.encoded is.1.encodes in
+    let after = header_in_prefix is.1.encoded payload bytes more is.1.parts (omega (arith, within, len)) in
+    (after.0, (is.0, record { encoded = is.1.encoded; encodes = is.1.encodes; parts = after.1; whole = refl }))
+layer_less number bytes more (header.Icmpv4 icmp) payload is within =
+    let len = encoded_len (header.Icmpv4 icmp) is.1.encoded is.1.encodes in
+    let after = header_in_prefix is.1.encoded payload bytes more is.1.parts (omega (arith, within, len)) in (
+      after.0,
+      (
+        is.0,
+        record {
+          encoded = is.1.encoded;
+          encodes = is.1.encodes;
+          parts = after.1;
+          ends = λ twenty. no_front after.0 more (sym after.2 ∙ is.1.ends twenty);
+          whole = refl;
+        },
+      ),
+    )
+layer_less number bytes more (header.Icmpv6 icmp) payload is within =
+    let len = encoded_len (header.Icmpv6 icmp) is.1.encoded is.1.encodes in
+    let after = header_in_prefix is.1.encoded payload bytes more is.1.parts (omega (arith, within, len)) in
+    (after.0, (is.0, record { encoded = is.1.encoded; encodes = is.1.encodes; parts = after.1; whole = refl }))
+
 -- ---- transport layer
 
 -- The header of a layer is read, whatever its length field limits.
@@ -205,20 +255,41 @@ cut_shows outer (header.Tcp tcp) payload lax is = ap (λ (l : LaxTransport). tra
 cut_shows outer (header.Icmpv4 icmp) payload lax is = ap (λ (l : LaxTransport). transport_headers l.layer) is
 cut_shows outer (header.Icmpv6 icmp) payload lax is = ap (λ (l : LaxTransport). transport_headers l.layer) is
 
--- The transport header of a payload, and of a payload with more bytes after it.
-pub record MoreTransport (offset : ℕ) (outer : Bool) (payload : IpPayload) (lax : LaxTransport) : Type 0 where
+-- The transport header of a payload of `len` bytes, and of a payload with more bytes after it.
+pub record MoreTransport (len offset : ℕ) (outer : Bool) (payload : IpPayload) (lax : LaxTransport) : Type 0 where
   pub read : LaxTransport
   pub is : IsLaxTransport offset outer payload read
   pub shows : ShowsPrefix (transport_headers lax.layer) lax.stop (transport_headers read.layer) read.stop
+  pub complete : ShowsComplete len (transport_headers lax.layer) (transport_headers read.layer)
 
 -- A payload with more bytes after it.
 abbrev pub payload_with : IpPayload → LenSource → List ℕ → IpPayload
 payload_with payload end more =
     record { number = payload.number; fragmented = payload.fragmented; source = end; bytes = payload.bytes ++ more }
 
+-- The transport header of a payload, if its prefix has none because slicing stops, does not end in the prefix.
+stops_before : (offset place : ℕ) (inner : Bool) (payload : IpPayload) (end : LenSource) (more : List ℕ)
+    (error : SliceError) → AreBytes payload.bytes → RefusesTransportIn headers offset payload error
+    → (read : LaxTransport) → IsLaxTransport place inner (payload_with payload end more) read
+    → EndAfter (length payload.bytes) [] (transport_headers read.layer)
+stops_before offset place inner payload end more error fits refused read (inl again) =
+    subst (λ (l : LaxTransport). EndAfter (length payload.bytes) [] (transport_headers l.layer)) (sym again.2) tt
+stops_before offset place inner payload end more error fits refused read (inr (None, part, same)) =
+    subst (λ (l : LaxTransport). EndAfter (length payload.bytes) [] (transport_headers l.layer)) (sym same) tt
+stops_before offset place inner payload end more error fits refused read (inr (Some layer, part, cut)) =
+    let law = refused_as (transport_refusal offset payload.source)
+    (layer_laws.transport headers payload.number payload.fragmented payload.bytes fits) in
+    subst (EndAfter (length payload.bytes) []) (sym (cut_shows inner layer.header layer.payload read cut))
+    (elim (cases_lt (length payload.bytes) (transport_header_len layer.header)) [
+      | inl short ↦ omega (arith, short)
+      | inr within ↦
+          let here = layer_less payload.number payload.bytes more layer.header layer.payload part.1 within in
+          absurd (law.not_both (Some (transport_layer layer.header here.0)) error (part.0, here.1) refused)
+    ])
+
 pub transport_more : (offset place : ℕ) (outer inner : Bool) (payload : IpPayload) (end : LenSource) (more : List ℕ)
     → AreBytes (payload.bytes ++ more) → (lax : LaxTransport) → IsLaxTransport offset outer payload lax
-    → MoreTransport place inner (payload_with payload end more) lax
+    → MoreTransport (length payload.bytes) place inner (payload_with payload end more) lax
 transport_more offset place outer inner payload end more fits lax (inl refused) =
     let one = transport_is_one place inner (payload_with payload end more) fits in
     record {
@@ -228,11 +299,18 @@ transport_more offset place outer inner payload end more fits lax (inl refused) 
           (transport_headers one.value.layer) one.value.stop) (sym refused.2)
           (shows_before [] (transport_headers one.value.layer) (transport_headers one.value.layer) (error_with_layer refused.0)
           one.value.stop refl);
+      complete = subst (λ (l : LaxTransport). ShowsComplete (length payload.bytes) (transport_headers l.layer)
+          (transport_headers one.value.layer)) (sym refused.2)
+          (complete_first (length payload.bytes) (transport_headers one.value.layer)
+          (stops_before offset place inner payload end more refused.0 (AreBytes-front payload.bytes more fits) refused.1
+          one.value one.is));
     }
 transport_more offset place outer inner payload end more fits lax (inr (None, part, same)) = record {
   read = no_transport inner None;
   is = inr (None, part, refl);
   shows = shows_same (transport_headers lax.layer) [] lax.stop None
+      (λ i. transport_headers (sym same i).layer);
+  complete = complete_same (length payload.bytes) (transport_headers lax.layer) []
       (λ i. transport_headers (sym same i).layer);
 }
 transport_more offset place outer inner payload end more fits lax (inr (Some layer, part, cut)) =
@@ -240,12 +318,14 @@ transport_more offset place outer inner payload end more fits lax (inr (Some lay
     elim (layer_more payload.number payload.bytes more layer.header layer.payload part.1) [
       | inl stands ↦
           let one = header_cut_is_one inner layer.header (layer.payload ++ more) in
+          let same = cut_shows inner layer.header (layer.payload ++ more) one.value one.is ∙ sym shown in
           record {
             read = one.value;
             is = inr (Some (transport_layer layer.header (layer.payload ++ more)), (part.0, stands), one.is);
             shows = shows_same (transport_headers lax.layer) (transport_headers one.value.layer) lax.stop
-                one.value.stop
-                (cut_shows inner layer.header (layer.payload ++ more) one.value one.is ∙ sym shown);
+                one.value.stop same;
+            complete = complete_same (length payload.bytes) (transport_headers lax.layer)
+                (transport_headers one.value.layer) same;
           }
       | inr long ↦
           let error = after_header place end long.refusal in
@@ -263,5 +343,7 @@ transport_more offset place outer inner payload end more fits lax (inr (Some lay
               exact = long.exact;
               long = long.long;
             });
+            complete = complete_fewer (length payload.bytes) (transport_headers lax.layer) [] (of_transport layer.header) []
+                shown;
           }
     ]

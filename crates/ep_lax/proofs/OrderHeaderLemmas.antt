@@ -9,6 +9,7 @@ use Rattle.ep_link.specs.LinkExtensions.{LinkExtension, vlan, macsec, EncodesTag
 use Rattle.ep_link.specs.LinkSlices.{LinkLayer, ethernet2, linux_sll, ether_payload, linux_sll_payload}
 use Rattle.ep_transport.specs.TransportParts.{TransportLayer, EncodesTransport}
 use Rattle.ep_packet.proofs.OffsetLemmas.{link_encoded, net_encoded, part_encoded, tag_encoded, transport_encoded}
+use Rattle.ep_packet.proofs.OrderLemmas.{InsideBytes}
 use Rattle.ep_packet.specs.FrameBytes.{AreInOrder, EncodesLink, EncodesNet, EncodesTags}
 use Rattle.ep_packet.specs.Layers.{Layers, NetLayer, arp, ipv4, ipv6}
 use Rattle.ep_lax.specs.LaxHeaders.{BeginWith, EncodesHeader, LayerHeader, frame_headers, header_len, link_headers, net_headers, of_arp, of_extension, of_ipv4, of_ipv6, of_link, of_transport, tag_header, transport_headers}
@@ -92,6 +93,17 @@ transport_begins : (transport : Option TransportLayer) (bytes rest : List ℕ) �
 transport_begins None bytes rest no_bytes = tt
 transport_begins (Some layer) bytes rest encodes =
     header_begins (of_transport layer.header) [] bytes rest encodes (transport_encoded (Some layer) bytes encodes) tt
+
+-- Bytes after a link header with layers in order begin with the headers of these layers.
+pub inside_begins : (bytes : List ℕ) (extensions : List LinkExtension) (net : Option NetLayer)
+    (transport : Option TransportLayer) → InsideBytes bytes extensions net transport
+    → BeginWith (map tag_header extensions ++ (net_headers net ++ transport_headers transport)) bytes
+inside_begins bytes extensions net transport are =
+    let inner = net_headers net ++ transport_headers transport in
+    subst (BeginWith (map tag_header extensions ++ inner)) (sym are.parts)
+    (tags_begin extensions inner are.tags _ are.tags_encode
+    (net_begins net (transport_headers transport) are.net_header _ are.net_encodes
+    (transport_begins transport are.transport_header _ are.transport_encodes)))
 
 -- Bytes with layers in order begin with the headers of all layers.
 pub order_begins : (bytes : List ℕ) (layers : Layers) → AreInOrder bytes layers

@@ -32,7 +32,7 @@ use Rattle.ep_packet.specs.declared.entry.Entry.TheVariants.{Ethernet as etherne
 use Rattle.ep_packet.specs.Frame.{NetKind, only_ipv4, only_ipv6, only_arp, any_ip, net_kind, most_link_exts, IsFrame, IsInside, IsNetPart, IsTransportAfterNet, IsTransportIn}
 use Rattle.ep_packet.specs.FrameRefusals.{net_payload_offset}
 use Rattle.ep_packet.specs.Layers.{Layers, NetLayer, arp, ip_layer, ipv4_layer, ipv6_layer, net_payload}
-use Rattle.ep_lax.specs.LaxIp.{LaxIp, IsLaxIpv4, IsLaxIpv6, lax_ipv6_source}
+use Rattle.ep_ip.specs.LaxIp.{LaxIp, IsLaxIpv4, IsLaxIpv6, lax_ipv6_source}
 use Rattle.ep_lax.specs.LaxLayers.{LaxLayers, LaxNet, LaxTransport, net_with, no_net}
 use Rattle.ep_lax.specs.LaxMacsec.{macsec_stated_len}
 use Rattle.ep_lax.specs.Lax.{IsHeaderLimitedLaxly, IsLaxTransport, IsIpv4Net, IsIpv6Net, IsLaxNet, IsLaxExtension, IsLaxInside, IsLax, arp_net}
@@ -340,7 +340,7 @@ abbrev pub whole_extension : LinkExtension → LinkExtension × Bool
 whole_extension extension = (extension, false)
 
 -- The value of a short length other than 0.
-says_some : (short more : ℕ) → 0 < short → (if short == 0 then 0 else more + short) ≡ more + short
+pub says_some : (short more : ℕ) → 0 < short → (if short == 0 then 0 else more + short) ≡ more + short
 says_some short more some i = if ne_eqb short 0 (λ none. omega arith) i then 0 else more + short
 
 -- The source of the payload's length for a short length other than 0.

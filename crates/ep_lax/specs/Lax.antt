@@ -4,7 +4,7 @@
 use Rattle.std.specs.Prelude.{◌≡◌, ◌⊎◌, ◌+◌, ℕ, zero, suc, Bool, false, List, [], ◌∷◌, Option, Some, None}
 use Rattle.ep_base.specs.IpPayload.{IpPayload}
 use Rattle.ep_base.specs.LaxCut.{LaxCut, IsLaxCut}
-use Rattle.ep_base.specs.Readings.{headers}
+use Rattle.ep_base.specs.Readings.{Reading, headers, slices}
 use Rattle.ep_base.specs.Tables.{Parts, parts_of, RefusesAs}
 use Rattle.ep_base.specs.declared.ether_type.EtherType.{EtherType}
 use Rattle.ep_base.specs.declared.len_source.LenSource.TheVariants as source
@@ -36,7 +36,7 @@ use Rattle.ep_packet.specs.declared.err.slice_error.SliceError.TheVariants.{Ipv4
 use Rattle.ep_packet.specs.Frame.{NetKind, only_ipv4, only_ipv6, only_arp, any_ip, net_kind, most_link_exts}
 use Rattle.ep_packet.specs.FrameRefusals.{RefusesTransportIn, extension_refusal, ipv4_refusal, ipv6_refusal, len_refusal, net_payload_offset}
 use Rattle.ep_packet.specs.Layers.{NetLayer, arp, ipv4_layer, ipv6_layer}
-use Rattle.ep_lax.specs.LaxIp.{LaxIp, IsLaxIpv4, IsLaxIpv6}
+use Rattle.ep_ip.specs.LaxIp.{LaxIp, IsLaxIpv4In, IsLaxIpv6In}
 use Rattle.ep_lax.specs.LaxLayers.{LaxTransport, LaxNet, LaxLayers, layer_cut, net_with, no_transport, no_net, error_with_layer}
 use Rattle.ep_lax.specs.LaxMacsec.{IsLaxMacsec, lax_macsec_payload}
 
@@ -89,15 +89,23 @@ IsIpLayer version layer_of offset lax net =
     × IsInsideIp version offset (net_payload_offset (layer_of lax.packet)) lax.incomplete lax.packet.payload lax.stop inside
     × (net ≡ net_with (layer_of lax.packet) lax.incomplete inside)
 
--- The bytes are an IPv4 packet with the layers in it.
-abbrev pub IsIpv4Net : ℕ → Bool → List ℕ → LaxNet → Type 0
-IsIpv4Net offset outer bytes net =
-    (lax : LaxIp Ipv4Header) × IsLaxIpv4 outer bytes lax × IsIpLayer ipv4 ipv4_layer offset lax net
+-- The bytes are an IPv4 packet with the layers in it, in the given reading.
+abbrev pub IsIpv4NetIn : Reading → ℕ → Bool → List ℕ → LaxNet → Type 0
+IsIpv4NetIn reading offset outer bytes net =
+    (lax : LaxIp Ipv4Header) × IsLaxIpv4In reading outer bytes lax × IsIpLayer ipv4 ipv4_layer offset lax net
 
--- The bytes are an IPv6 packet with the layers in it.
+-- The bytes are an IPv6 packet with the layers in it, in the given reading.
+abbrev pub IsIpv6NetIn : Reading → ℕ → Bool → List ℕ → LaxNet → Type 0
+IsIpv6NetIn reading offset outer bytes net =
+    (lax : LaxIp Ipv6Header) × IsLaxIpv6In reading outer bytes lax × IsIpLayer ipv6 ipv6_layer offset lax net
+
+-- The bytes are an IPv4 packet with the layers in it, in the reading as slices.
+abbrev pub IsIpv4Net : ℕ → Bool → List ℕ → LaxNet → Type 0
+IsIpv4Net = IsIpv4NetIn slices
+
+-- The bytes are an IPv6 packet with the layers in it, in the reading as slices.
 abbrev pub IsIpv6Net : ℕ → Bool → List ℕ → LaxNet → Type 0
-IsIpv6Net offset outer bytes net =
-    (lax : LaxIp Ipv6Header) × IsLaxIpv6 outer bytes lax × IsIpLayer ipv6 ipv6_layer offset lax net
+IsIpv6Net = IsIpv6NetIn slices
 
 -- An ARP packet: its payload is empty and therefore complete.
 abbrev pub arp_net : Arp → LaxNet
@@ -108,22 +116,28 @@ abbrev pub IsNoNet : Bool → LaxNet → SliceError → Type 0
 IsNoNet outer net error = net ≡ no_net outer (Some (error_with_layer error))
 
 -- The bytes, which start at `offset`, are a network layer of this kind, if any, with the layers in it. `outer` is true
--- if the bytes are incomplete. A packet of either IP version is read only if its header is valid.
-abbrev pub IsLaxNet : ℕ → Bool → Option NetKind → List ℕ → LaxNet → Type 0
-IsLaxNet offset outer None bytes net = net ≡ no_net outer None
-IsLaxNet offset outer (Some only_ipv4) bytes net =
+-- if the bytes are incomplete. A packet of either IP version is read only if its header is valid. In the reading as owned
+-- headers, the extension headers end before a second one of a kind.
+abbrev pub IsLaxNetIn : Reading → ℕ → Bool → Option NetKind → List ℕ → LaxNet → Type 0
+IsLaxNetIn reading offset outer None bytes net = net ≡ no_net outer None
+IsLaxNetIn reading offset outer (Some only_ipv4) bytes net =
     ((error : SliceError) × RefusesAs (λ e. ipv4_refusal offset (of_header_error e)) (RefusesIpv4Header bytes) error
     × IsNoNet outer net error)
-    ⊎ IsIpv4Net offset outer bytes net
-IsLaxNet offset outer (Some only_ipv6) bytes net =
+    ⊎ IsIpv4NetIn reading offset outer bytes net
+IsLaxNetIn reading offset outer (Some only_ipv6) bytes net =
     ((error : SliceError)
     × RefusesAs (λ e. ipv6_refusal offset (of_ipv6_header_error e)) (RefusesIpv6Header bytes) error
     × IsNoNet outer net error)
-    ⊎ IsIpv6Net offset outer bytes net
-IsLaxNet offset outer (Some only_arp) bytes net =
+    ⊎ IsIpv6NetIn reading offset outer bytes net
+IsLaxNetIn reading offset outer (Some only_arp) bytes net =
     ((error : SliceError) × RefusesAs (len_refusal offset) (RefusesArp bytes) error × IsNoNet outer net error)
     ⊎ ((part : Arp × List ℕ) × IsArp bytes part × (net ≡ arp_net part.0))
-IsLaxNet offset outer (Some any_ip) bytes net = IsIpv4Net offset outer bytes net ⊎ IsIpv6Net offset outer bytes net
+IsLaxNetIn reading offset outer (Some any_ip) bytes net =
+    IsIpv4NetIn reading offset outer bytes net ⊎ IsIpv6NetIn reading offset outer bytes net
+
+-- The network layer in the reading as slices.
+abbrev pub IsLaxNet : ℕ → Bool → Option NetKind → List ℕ → LaxNet → Type 0
+IsLaxNet = IsLaxNetIn slices
 
 -- ---- link extensions
 
@@ -144,35 +158,45 @@ RefusesLaxExtension offset type bytes error =
 
 -- The layers in bytes with this ether type: a limited number of link extensions, up to the first invalid one, and the
 -- network layer after them with the layers in it.
-abbrev pub IsLaxInside : ℕ → ℕ → Bool → Option EtherType → List ℕ → List (LinkExtension × Bool) → LaxNet → Type 0
-IsLaxInside exts_left offset outer None bytes extensions net = (extensions ≡ []) × (net ≡ no_net outer None)
-IsLaxInside zero offset outer (Some type) bytes [] net = IsLaxNet offset outer (net_kind type) bytes net
-IsLaxInside (suc exts_left) offset outer (Some type) bytes [] net =
-    ((¬ BeginsLinkExtension type) × IsLaxNet offset outer (net_kind type) bytes net)
+abbrev pub IsLaxInsideIn : Reading → ℕ → ℕ → Bool → Option EtherType → List ℕ → List (LinkExtension × Bool) → LaxNet
+    → Type 0
+IsLaxInsideIn reading exts_left offset outer None bytes extensions net = (extensions ≡ []) × (net ≡ no_net outer None)
+IsLaxInsideIn reading zero offset outer (Some type) bytes [] net =
+    IsLaxNetIn reading offset outer (net_kind type) bytes net
+IsLaxInsideIn reading (suc exts_left) offset outer (Some type) bytes [] net =
+    ((¬ BeginsLinkExtension type) × IsLaxNetIn reading offset outer (net_kind type) bytes net)
     ⊎ ((error : SliceError) × RefusesLaxExtension offset type bytes error × IsNoNet outer net error)
-IsLaxInside zero offset outer (Some type) bytes (extension ∷ others) net = ⊥
-IsLaxInside (suc exts_left) offset outer (Some type) bytes (extension ∷ others) net =
+IsLaxInsideIn reading zero offset outer (Some type) bytes (extension ∷ others) net = ⊥
+IsLaxInsideIn reading (suc exts_left) offset outer (Some type) bytes (extension ∷ others) net =
     IsLaxExtension outer type bytes extension
-    × IsLaxInside exts_left (offset + link_ext_header_len (extension_header extension.0)) extension.1
+    × IsLaxInsideIn reading exts_left (offset + link_ext_header_len (extension_header extension.0)) extension.1
     (extension_type extension.0) (extension_payload extension.0) others net
+
+-- The layers in bytes with this ether type, in the reading as slices.
+abbrev pub IsLaxInside : ℕ → ℕ → Bool → Option EtherType → List ℕ → List (LinkExtension × Bool) → LaxNet → Type 0
+IsLaxInside = IsLaxInsideIn slices
 
 -- ---- complete packets
 
--- The bytes are sliced laxly into these layers. An Ethernet header, a Linux cooked capture header or an IP header must
--- be valid.
-abbrev pub IsLax : Entry → List ℕ → LaxLayers → Type 0
-IsLax ethernet bytes layers =
+-- The bytes are read laxly as these layers, in the given reading. An Ethernet header, a Linux cooked capture header or an
+-- IP header must be valid.
+abbrev pub IsLaxIn : Reading → Entry → List ℕ → LaxLayers → Type 0
+IsLaxIn reading ethernet bytes layers =
     (frame : Parts Ethernet2Header) × IsEthernet2 bytes frame
     × (layers.link ≡ Some (ethernet2 frame.header frame.payload))
-    × IsLaxInside most_link_exts ethernet2_header_len false (Some frame.header.ether_type) frame.payload
+    × IsLaxInsideIn reading most_link_exts ethernet2_header_len false (Some frame.header.ether_type) frame.payload
     layers.link_exts layers.net
-IsLax linux_sll bytes layers =
+IsLaxIn reading linux_sll bytes layers =
     (frame : Parts LinuxSllHeader) × IsLinuxSll bytes frame
     × (layers.link ≡ Some (sll frame.header frame.payload))
-    × IsLaxInside most_link_exts linux_sll_header_len false (protocol_ether_type frame.header.protocol_type)
+    × IsLaxInsideIn reading most_link_exts linux_sll_header_len false (protocol_ether_type frame.header.protocol_type)
     frame.payload layers.link_exts layers.net
-IsLax (ether_type type) bytes layers =
+IsLaxIn reading (ether_type type) bytes layers =
     (layers.link ≡ Some (ether_payload type source.Slice bytes))
-    × IsLaxInside most_link_exts 0 false (Some type) bytes layers.link_exts layers.net
-IsLax ip bytes layers =
-    (layers.link ≡ None) × (layers.link_exts ≡ []) × IsLaxNet 0 false (Some any_ip) bytes layers.net
+    × IsLaxInsideIn reading most_link_exts 0 false (Some type) bytes layers.link_exts layers.net
+IsLaxIn reading ip bytes layers =
+    (layers.link ≡ None) × (layers.link_exts ≡ []) × IsLaxNetIn reading 0 false (Some any_ip) bytes layers.net
+
+-- The bytes are sliced laxly into these layers.
+abbrev pub IsLax : Entry → List ℕ → LaxLayers → Type 0
+IsLax = IsLaxIn slices

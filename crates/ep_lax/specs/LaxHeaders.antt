@@ -1,5 +1,5 @@
 -- Headers of layers, from the link layer to the transport layer, and the headers that a prefix of the bytes contains.
-use Rattle.std.specs.Prelude.{◌≡◌, ◌⊎◌, ◌<◌, ℕ, List, [], ◌∷◌, ◌++◌, length, map, Option, Some, None}
+use Rattle.std.specs.Prelude.{◌≡◌, ◌⊎◌, ◌<◌, ◌-◌, nat_le, if◌then◌else◌, ℕ, List, [], ◌∷◌, ◌++◌, length, map, Option, Some, None}
 use Rattle.ep_base.specs.Missing.{HasExactLength}
 use Rattle.ep_base.specs.declared.err.layer.Layer.{Layer}
 use Rattle.ep_base.specs.declared.err.len_error.LenError.{LenError}
@@ -110,6 +110,12 @@ BeginWith (header ∷ others) bytes =
     × (length encoded ≡ header_len header) × BeginWith others rest
 
 -- ---- prefixes
+
+-- The headers that are complete within this number of bytes, one after another from the start.
+abbrev pub headers_within : ℕ → List LayerHeader → List LayerHeader
+headers_within len [] = []
+headers_within len (header ∷ others) =
+    if nat_le (header_len header) len then header ∷ headers_within (len - header_len header) others else []
 
 -- The headers of a prefix are the first of these headers. They are all of them if slicing of the prefix did not stop at
 -- an error.

@@ -1,7 +1,7 @@
 -- Contents of single-layer slices from lax slicing.
 use Rattle.std.specs.Prelude.{◌≡◌, ℕ, ◌++◌, Bool, List, Option}
 use Rattle.std.specs.Option.{option_map}
-use Rattle.ep_base.specs.IpPayload.{IpPayload}
+use Rattle.ep_base.specs.IpPayload.{IpPayload, lax_ip_payload_of}
 use Rattle.ep_base.specs.LaxCut.{LaxCut}
 use Rattle.ep_base.specs.declared.err.ip_auth.HeaderSliceError.{HeaderSliceError as AuthSliceError}
 use Rattle.ep_base.specs.declared.err.ipv6_exts.HeaderSliceError.{HeaderSliceError as ExtsSliceError}
@@ -15,35 +15,15 @@ use Rattle.ep_ip.specs.Ipv6Slices.{ipv6_header_slice_header, ipv6_header_slice_b
 use Rattle.ep_link.specs.Macsec.{MacsecPayload, unmodified, modified, macsec_payload_bytes}
 use Rattle.ep_link.specs.MacsecSlices.{macsec_header_slice_header, macsec_header_slice_bytes}
 use Rattle.ep_link.specs.declared.link_ext.macsec_header.MacsecHeader.{MacsecHeader}
-use Rattle.ep_lax.specs.declared.lax_cut.LimitedSlice.{LimitedSlice}
-use Rattle.ep_lax.specs.declared.lax_ip_payload_slice.LaxIpPayloadSlice.{LaxIpPayloadSlice}
 use Rattle.ep_lax.specs.declared.lax_ipv4_slice.LaxIpv4Slice.{LaxIpv4Slice}
 use Rattle.ep_lax.specs.declared.lax_ipv6_slice.LaxIpv6Slice.{LaxIpv6Slice}
 use Rattle.ep_lax.specs.declared.lax_macsec_payload_slice.LaxMacsecPayloadSlice.{LaxMacsecPayloadSlice}
 use Rattle.ep_lax.specs.declared.lax_macsec_payload_slice.LaxMacsecPayloadSlice.TheVariants as slice
 use Rattle.ep_lax.specs.declared.lax_macsec_slice.LaxMacsecSlice.{LaxMacsecSlice}
-use Rattle.ep_lax.specs.LaxIp.{LaxIp}
+use Rattle.ep_ip.specs.LaxIp.{LaxIp}
 use Rattle.ep_lax.specs.LaxMacsec.{IsLaxMacsec, lax_macsec_payload}
 
--- The limited bytes with the trailing bytes.
-abbrev pub lax_cut_of : LimitedSlice → List ℕ → LaxCut
-lax_cut_of slice left = record {
-  payload = slice.payload.now;
-  left = left;
-  source = slice.len_source;
-  incomplete = slice.incomplete;
-}
-
 -- ---- IP
-
--- The payload.
-abbrev pub lax_ip_payload_of : LaxIpPayloadSlice → IpPayload
-lax_ip_payload_of payload = record {
-  number = payload.ip_number.0;
-  fragmented = payload.fragmented;
-  source = payload.len_source;
-  bytes = payload.payload.now;
-}
 
 -- The header of an IPv4 packet.
 abbrev pub lax_ipv4_slice_header : LaxIpv4Slice → Ipv4Header

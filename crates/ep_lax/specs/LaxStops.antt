@@ -1,14 +1,30 @@
--- Errors of lax slicing, compared with those of strict slicing.
-use Rattle.std.specs.Prelude.{◌≡◌, ◌⊎◌, Bool, true, false, List, ℕ, Some}
+-- Errors of lax slicing, compared with those of strict slicing, and the errors of the layer at which it stops.
+use Rattle.std.specs.Prelude.{◌≡◌, ◌⊎◌, ◌<◌, Bool, true, false, List, [], length, map, reverse, ℕ, Option, Some, None}
+use Rattle.ep_base.specs.IpPayload.{IpPayload}
+use Rattle.ep_base.specs.Readings.{headers, slices}
+use Rattle.ep_base.specs.Tables.{RefusesAs}
+use Rattle.ep_base.specs.declared.ether_type.EtherType.{EtherType}
 use Rattle.ep_base.specs.declared.err.layer.Layer.{Layer}
 use Rattle.ep_base.specs.declared.err.layer.Layer.TheVariants as layer
 use Rattle.ep_base.specs.declared.len_source.LenSource.{LenSource}
 use Rattle.ep_base.specs.declared.len_source.LenSource.TheVariants as source
+use Rattle.ep_ext.specs.Chains.{IpVersion, ipv4 as version_4, ipv6 as version_6, RefusesChainAfter}
+use Rattle.ep_ext.specs.ExtensionParts.{ExtensionPart, part_number}
+use Rattle.ep_ip.specs.Ipv4.{RefusesIpv4Header, of_header_error}
+use Rattle.ep_ip.specs.Ipv6.{RefusesIpv6Header, of_header_error as of_ipv6_header_error}
+use Rattle.ep_link.specs.Arp.{RefusesArp}
+use Rattle.ep_transport.specs.TransportParts.{TransportLayer}
 use Rattle.ep_packet.specs.declared.entry.Entry.{Entry}
 use Rattle.ep_packet.specs.declared.err.slice_error.SliceError.{SliceError}
 use Rattle.ep_packet.specs.declared.err.slice_error.SliceError.TheVariants.{Len}
-use Rattle.ep_packet.specs.FrameRefusals.{RefusesFrame}
-use Rattle.ep_lax.specs.Lax.{IsLax}
+use Rattle.ep_packet.specs.Frame.{NetKind, only_ipv4, only_ipv6, only_arp, any_ip, net_kind, most_link_exts}
+use Rattle.ep_packet.specs.FrameBytes.{last_payload}
+use Rattle.ep_packet.specs.FrameRefusals.{RefusesFrame, RefusesTransportIn, ipv4_refusal, ipv6_refusal, len_refusal}
+use Rattle.ep_packet.specs.Layers.{Layers, NetLayer, ipv4, ipv6, arp}
+use Rattle.ep_packet.specs.Offsets.{payload_offset}
+use Rattle.ep_packet.specs.Payloads.{payload_ether_type_in}
+use Rattle.ep_lax.specs.Lax.{IsLax, RefusesLaxExtension, chain_refusal}
+use Rattle.ep_ip.specs.LaxIp.{stop_after}
 use Rattle.ep_lax.specs.LaxLayers.{LaxLayers, error_with_layer}
 
 -- True if the length field of UDP is the source of this length.
@@ -47,3 +63,54 @@ pub record IsStrictStop (entry : Entry) (bytes : List ℕ) (stop : SliceError ×
   pub layer : stop ≡ error_with_layer stop.0
   pub row : is_by_length stop.0 ≡ false
   pub strict : RefusesWithErrorOrByLength entry bytes stop.0
+
+-- ---- next layer
+
+-- The errors of bytes that do not begin with a valid header of this kind of network layer. The bytes start at `offset`.
+abbrev pub RefusesNetHeader : Option NetKind → ℕ → List ℕ → SliceError → Type 0
+RefusesNetHeader (Some only_ipv4) offset bytes error =
+    RefusesAs (λ e. ipv4_refusal offset (of_header_error e)) (RefusesIpv4Header bytes) error
+RefusesNetHeader (Some only_ipv6) offset bytes error =
+    RefusesAs (λ e. ipv6_refusal offset (of_ipv6_header_error e)) (RefusesIpv6Header bytes) error
+RefusesNetHeader (Some only_arp) offset bytes error = RefusesAs (len_refusal offset) (RefusesArp bytes) error
+RefusesNetHeader (Some any_ip) offset bytes error = ⊥
+RefusesNetHeader None offset bytes error = ⊥
+
+-- The errors of bytes with this ether type after this number of link extensions: the ether type requires a link
+-- extension or a network layer, and the bytes do not begin with a valid header of it. The bytes start at `offset`.
+abbrev pub RefusesAfterLink : ℕ → Option EtherType → ℕ → List ℕ → SliceError → Type 0
+RefusesAfterLink count None offset bytes error = ⊥
+RefusesAfterLink count (Some type) offset bytes error =
+    ((count < most_link_exts) × RefusesLaxExtension offset type bytes error)
+    ⊎ RefusesNetHeader (net_kind type) offset bytes error
+
+-- The errors of the extension header that a payload of IP begins with, after these extension headers: it is invalid, or
+-- Hop-by-Hop options that are not first. The payload starts at `offset`.
+abbrev pub RefusesNextExtension : IpVersion → List ExtensionPart → IpPayload → ℕ → SliceError → Type 0
+RefusesNextExtension version extensions payload offset = RefusesAs
+    (λ e. chain_refusal version offset (stop_after 0 payload.source e))
+    (RefusesChainAfter version slices (reverse (map part_number extensions)) 0 payload.number payload.bytes [])
+
+-- The errors of a payload of IP in which no transport layer was read: it begins with a rejected extension header, or
+-- lacks the valid transport header that its protocol number requires. The payload starts at `offset`.
+abbrev pub RefusesInIp : IpVersion → List ExtensionPart → IpPayload → Option TransportLayer → ℕ → SliceError → Type 0
+RefusesInIp version extensions payload (Some transport) offset error = ⊥
+RefusesInIp version extensions payload None offset error =
+    RefusesNextExtension version extensions payload offset error ⊎ RefusesTransportIn headers offset payload error
+
+-- The errors of the payload of a network layer, which starts at `offset`. An ARP packet has no payload.
+abbrev pub RefusesAfterNet : Option NetLayer → Option TransportLayer → ℕ → SliceError → Type 0
+RefusesAfterNet None transport offset error = ⊥
+RefusesAfterNet (Some (ipv4 header extensions payload)) transport offset error =
+    RefusesInIp version_4 extensions payload transport offset error
+RefusesAfterNet (Some (ipv6 header extensions payload)) transport offset error =
+    RefusesInIp version_6 extensions payload transport offset error
+RefusesAfterNet (Some (arp packet)) transport offset error = ⊥
+
+-- The errors of the layer that follows these layers in the payload of the last one, by the refusal tables of strict
+-- slicing, without those of length fields that limit a payload.
+abbrev pub RefusesNextLayer : Layers → SliceError → Type 0
+RefusesNextLayer layers error =
+    RefusesAfterLink (length layers.link_exts) (payload_ether_type_in layers) (payload_offset layers)
+    (last_payload layers) error
+    ⊎ RefusesAfterNet layers.net layers.transport (payload_offset layers) error

@@ -1,4 +1,3 @@
-pub mod LaxIp
 pub mod LaxMacsec
 pub mod LaxSlices
 pub mod LaxLayers
@@ -8,7 +7,14 @@ pub mod LaxViews
 pub mod LaxPackets
 pub mod LaxPayloads
 pub mod LaxWalk
+pub mod LaxPayloadParts
+pub mod LaxPacketHeaders
+pub mod LaxHeadersWalk
 pub mod StrictFrames
 pub mod LaxHeaders
+pub mod LengthFields
+pub mod Truncation
 pub mod LaxStops
 pub mod LaxComparisons
+pub mod QuotedPackets
+pub mod LaxHeaderComparisons

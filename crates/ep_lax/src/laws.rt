@@ -1,24 +1,30 @@
 //! Laws of lax slicing, which reads truncated packets: each is the contract of a function that does nothing, and holds
 //! for all bytes.
 
-ghost use Rattle.std.specs.Prelude.{◌≡◌, ◌⊎◌, ◌++◌, ℕ, List, [], Some, false};
+ghost use Rattle.std.specs.Prelude.{◌≡◌, ◌⊎◌, ◌++◌, ℕ, List, [], length, Some, None, false};
 ghost use Rattle.ep_base.specs.Bytes.{AreBytes};
 ghost use Rattle.ep_base.specs.Tables.{IsDecided};
 ghost use Rattle.ep_base.specs.declared.err.layer.Layer.{Layer};
+ghost use Rattle.ep_base.specs.declared.err.len_error.LenError.{LenError};
 ghost use Rattle.ep_link.specs.LinkExtensions.{vlan};
 ghost use Rattle.ep_packet.specs.Frame.{IsFrame, most_link_exts};
-ghost use Rattle.ep_packet.specs.FrameBytes.{AreInOrder};
+ghost use Rattle.ep_packet.specs.FrameBytes.{AreInOrder, last_payload};
 ghost use Rattle.ep_packet.specs.FrameRefusals.{RefusesFrame};
 ghost use Rattle.ep_packet.specs.Layers.{Layers};
+ghost use Rattle.ep_packet.specs.Offsets.{payload_offset};
+ghost use Rattle.ep_packet.specs.declared.err.slice_error.SliceError.TheVariants.{Len};
 ghost use Rattle.ep_lax.specs.Lax.{IsLax};
-ghost use Rattle.ep_lax.specs.LaxHeaders.{AreFirst, BeginWith, ShowsPrefix, shown_headers, frame_headers};
+ghost use Rattle.ep_lax.specs.LaxHeaders.{AreFirst, BeginWith, ShowsPrefix, headers_within, shown_headers, frame_headers};
 ghost use Rattle.ep_lax.specs.LaxLayers.{LaxLayers};
 ghost use Rattle.ep_lax.specs.LaxRefusals.{RefusesLax};
-ghost use Rattle.ep_lax.specs.LaxStops.{IsStrictStop, StopsFor, is_by_length};
+ghost use Rattle.ep_lax.specs.LaxStops.{IsStrictStop, RefusesNextLayer, StopsFor, is_by_length};
 ghost use Rattle.ep_lax.specs.LaxViews.{lax_extension_of};
+ghost use Rattle.ep_lax.specs.LengthFields.{ArePayloads, IncludeHeaders};
 ghost use Rattle.ep_lax.specs.StrictFrames.{IsWhole, layers_in};
+ghost use Rattle.ep_lax.specs.Truncation.{ReportsTruncatedPayloads};
 
 pub mod comparisons;
+pub mod headers;
 
 use crate::{LaxLinkExtSlice, LaxSlicedPacket};
 use ep_packet::Entry;
@@ -65,6 +71,43 @@ pub fn prefix_shows_headers()
         → AreFirst (shown_headers read) read.net.inside.stop (frame_headers layers) }
 {}
 
+/// States which headers lax slicing of a truncated packet finds, if strict slicing accepts the full packet and lax
+/// slicing accepts the truncated one: all headers of the full packet that are complete in the truncated one, in order.
+pub fn prefix_shows_complete_headers()
+    ensures { (entry : Entry) (prefix rest : List ℕ) (layers : Layers) (read : LaxLayers) → AreBytes (prefix ++ rest)
+        → IsFrame entry (prefix ++ rest) layers → IsLax entry prefix read
+        → shown_headers read ≡ headers_within (length prefix) (frame_headers layers) }
+{}
+
+/// States that each length field of a packet that strict slicing accepts includes the header that it is in. Fields of 0
+/// that state no length (the short length of MACsec, the payload length of IPv6, the length of UDP) are excepted. Lax
+/// slicing accepts packets for which this is false.
+pub fn length_fields()
+    ensures { (entry : Entry) (bytes : List ℕ) (layers : Layers) → IsFrame entry bytes layers
+        → IncludeHeaders (frame_headers layers) }
+{}
+
+/// States which bytes each payload has that lax slicing finds, for any bytes: from the end of the layer's headers to
+/// the end of the layer. MACsec, IPv4, IPv6 and UDP end where their length field states, if the field includes its
+/// header and this end is within the payload of the layer around it. Any other layer, also one whose length field is 0,
+/// ends with the payload of the layer around it; the outermost layer ends with the packet. The payload of an ARP packet
+/// is empty.
+pub fn payload_bytes()
+    ensures { (entry : Entry) (bytes : List ℕ) (read : LaxLayers) → IsLax entry bytes read
+        → ArePayloads bytes (layers_in read) }
+{}
+
+/// States which payloads of a truncated packet lax slicing reports as incomplete, if strict slicing accepts the full
+/// packet. The payload of MACsec, IPv4, IPv6 and UDP is incomplete exactly if the truncated packet ends before the end
+/// that its length field states. Any other payload, also one whose length field is 0, is incomplete exactly if the
+/// payload of the layer around it is. An ARP packet has no payload, and truncated trailing bytes make nothing
+/// incomplete.
+pub fn truncated_payloads()
+    ensures { (entry : Entry) (prefix rest : List ℕ) (layers : Layers) (read : LaxLayers) → AreBytes (prefix ++ rest)
+        → IsFrame entry (prefix ++ rest) layers → IsLax entry prefix read
+        → ReportsTruncatedPayloads (length prefix) read }
+{}
+
 /// States that the headers that lax slicing finds are the first bytes of the packet, one after another, in their wire
 /// formats and with their reserved bits. The length of a header depends only on its own bytes. So a header that is
 /// found in a truncated packet has the same bytes in the full packet.
@@ -77,6 +120,9 @@ pub fn header_bytes()
 /// field, lax slicing has the same error, as its result or as the error at which it stops. Lax slicing has no errors of
 /// length fields. Bytes that lax slicing rejects are rejected by strict slicing with the same error. If lax slicing
 /// stops at an error, strict slicing rejects the bytes with this error or with an earlier error of a length field.
+///
+/// Lax slicing stops if and only if the next layer, in the payload of the last layer that it found, is truncated or
+/// invalid. It stops at the first error that the checks of strict slicing find in this layer.
 pub fn stops()
     ensures strict { (entry : Entry) (bytes : List ℕ) → AreBytes bytes → (error : SliceError)
         → RefusesFrame entry bytes error → is_by_length error ≡ false
@@ -85,6 +131,19 @@ pub fn stops()
         → RefusesFrame entry bytes error × (is_by_length error ≡ false) }
     ensures stop { (entry : Entry) (bytes : List ℕ) → AreBytes bytes → (read : LaxLayers) → IsLax entry bytes read
         → (stop : SliceError × Layer) → read.net.inside.stop ≡ Some stop → IsStrictStop entry bytes stop }
+    ensures next { (entry : Entry) (bytes : List ℕ) (read : LaxLayers) → IsLax entry bytes read
+        → (stop : SliceError × Layer) → read.net.inside.stop ≡ Some stop → RefusesNextLayer (layers_in read) stop.0 }
+    ensures none { (entry : Entry) (bytes : List ℕ) (read : LaxLayers) → IsLax entry bytes read
+        → read.net.inside.stop ≡ None → (error : SliceError) → RefusesNextLayer (layers_in read) error → ⊥ }
+{}
+
+/// States where lax slicing stops. If it stops at an error for missing bytes, the layer of the error starts at the
+/// offset of the payload of the last layer that was found, and has the bytes of this payload.
+pub fn stop_position()
+    ensures { (entry : Entry) (bytes : List ℕ) (read : LaxLayers) → IsLax entry bytes read → (error : LenError)
+        (layer : Layer) → read.net.inside.stop ≡ Some (Len error, layer)
+        → (error.layer_start_offset ≡ payload_offset (layers_in read))
+        × (error.len ≡ length (last_payload (layers_in read))) }
 {}
 
 /// States that `LINK_EXTS_CAP` is 3: lax slicing reads at most three link extensions (VLAN and MACsec tags) of a

@@ -1,16 +1,10 @@
 //! IPv4 packet in a slice, as lax slicing reads it: bytes of the payload may be missing (RFC 791).
 
-ghost use Rattle.std.specs.Prelude.{◌≡◌, ◌+◌, ◌<◌, ◌^◌};
-ghost use Rattle.std.specs.Option.{ForSome, option_map};
-ghost use Rattle.ep_ext.specs.ExtensionParts.{auth_refusal};
-ghost use Rattle.ep_lax.specs.LaxIp.{stop_after};
-ghost use Rattle.ep_ext.specs.Chains.{offset_of};
-
-use crate::lax_cut::{LengthField, limit_by_length_field};
-use crate::lax_ip_payload_slice::LaxIpPayloadSlice;
-use ep_base::LenSource;
 use ep_base::err::{ip_auth, ipv4};
+use ep_base::lax_cut::{LengthField, limit_by_length_field};
+use ep_base::{LaxIpPayloadSlice, LenSource};
 use ep_ext::Ipv4ExtensionsSlice;
+use ep_ip::lax::auth_error_in_packet;
 use ep_ip::{Ipv4Header, Ipv4HeaderSlice};
 
 /// IPv4 packet read by lax slicing (RFC 791): a valid header, a valid authentication header, if present, and the
@@ -28,8 +22,9 @@ impl<'a> LaxIpv4Slice<'a> {
     ghost use Rattle.ep_ip.specs.declared.ipv4_header.Ipv4Header.{Ipv4Header};
     ghost use Rattle.ep_ip.specs.Ipv4.{RefusesIpv4Header, ipv4_header_len};
     ghost use Rattle.ep_ip.specs.Ipv4Slices.{ipv4_header_slice_header, ipv4_header_slice_bytes};
-    ghost use Rattle.ep_lax.specs.LaxIp.{LaxIp, IsLaxIpv4};
-    ghost use Rattle.ep_lax.specs.LaxSlices.{lax_ip_payload_of, lax_ipv4_of, lax_ipv4_slice_bytes, lax_ipv4_slice_content, lax_ipv4_slice_incomplete};
+    ghost use Rattle.ep_ip.specs.LaxIp.{LaxIp, IsLaxIpv4};
+    ghost use Rattle.ep_base.specs.IpPayload.{lax_ip_payload_of};
+    ghost use Rattle.ep_lax.specs.LaxSlices.{lax_ipv4_of, lax_ipv4_slice_bytes, lax_ipv4_slice_content, lax_ipv4_slice_incomplete};
     ghost use Rattle.ep_lax.specs.LaxSlices.{lax_ipv4_slice_extensions, lax_ipv4_slice_header, lax_ipv4_slice_payload};
 
     /// Slices the IPv4 packet at the start of the slice. A total length below the header length or above the available
@@ -79,7 +74,7 @@ impl<'a> LaxIpv4Slice<'a> {
             header.protocol(),
             content.payload,
         );
-        let stop = error_in_packet(refused, header_len, content.len_source);
+        let stop = auth_error_in_packet(refused, header_len, content.len_source);
         let payload = LaxIpPayloadSlice {
             incomplete: content.incomplete,
             ip_number,
@@ -161,44 +156,5 @@ impl<'a> LaxIpv4Slice<'a> {
         ensures { result ≡ (lax_ipv4_slice_payload self.now).fragmented }
     {
         self.payload.fragmented
-    }
-}
-
-/// Converts the error of an authentication header, if any, into an error of its IPv4 packet. In a length error, the
-/// length of the IPv4 header (`header_len`) is added to the offset, and the length source `LenSource::Slice` is
-/// replaced by `len_source`.
-#[inline]
-fn error_in_packet(
-    refused: Option<ip_auth::HeaderSliceError>,
-    header_len: usize,
-    len_source: LenSource,
-) -> Option<ip_auth::HeaderSliceError>
-    requires { ForSome refused (λ error. offset_of (auth_refusal error) + header_len < 2 ^ 64) }
-    ensures { option_map auth_refusal result
-        ≡ option_map (stop_after header_len len_source) (option_map auth_refusal refused) }
-{
-    match refused {
-        None => None,
-        Some(error) => Some(with_further_offset(error, header_len, len_source)),
-    }
-}
-
-/// Converts the error of an authentication header into an error of its IPv4 packet. In a length error, the length of
-/// the IPv4 header (`header_len`) is added to the offset, and the length source `LenSource::Slice` is replaced by
-/// `len_source`.
-#[inline]
-fn with_further_offset(
-    error: ip_auth::HeaderSliceError,
-    header_len: usize,
-    len_source: LenSource,
-) -> ip_auth::HeaderSliceError
-    requires { offset_of (auth_refusal error) + header_len < 2 ^ 64 }
-    ensures { auth_refusal result ≡ stop_after header_len len_source (auth_refusal error) }
-{
-    match error {
-        ip_auth::HeaderSliceError::Len(error) => {
-            ip_auth::HeaderSliceError::Len(error.after_header(header_len, len_source))
-        }
-        ip_auth::HeaderSliceError::Content(error) => ip_auth::HeaderSliceError::Content(error),
     }
 }

@@ -4,11 +4,11 @@ ghost use Rattle.std.specs.Prelude.{◌≡◌};
 ghost use Rattle.ep_ext.specs.Ipv6ExtensionSlices.{ipv6_slice_number as extension_number};
 ghost use Rattle.ep_ip.specs.Ipv6Slices.{ipv6_header_slice_header};
 
-use crate::lax_cut::{LengthField, LimitedSlice, limit_by_length_field};
-use crate::lax_ip_payload_slice::LaxIpPayloadSlice;
-use ep_base::LenSource;
 use ep_base::err::{Layer, ipv6, ipv6_exts};
+use ep_base::lax_cut::{LengthField, limit_by_length_field};
+use ep_base::{LaxIpPayloadSlice, LenSource};
 use ep_ext::Ipv6ExtensionsSlice;
+use ep_ip::lax::{exts_error_in_packet, ipv6_payload_source};
 use ep_ip::{Ipv6Header, Ipv6HeaderSlice};
 use std::alloc::AllocError;
 
@@ -52,19 +52,17 @@ type WithStop<'a> = (
 );
 
 impl<'a> LaxIpv6Slice<'a> {
-    ghost use Rattle.std.specs.Prelude.{◌≡◌, ◌+◌, ◌<◌, ◌^◌, ◌++◌, length, IfOk, IfErr, IsOkAnd, List, ℕ, Option, false};
-    ghost use Rattle.std.specs.Option.{ForSome, option_map};
+    ghost use Rattle.std.specs.Prelude.{◌≡◌, ◌+◌, ◌++◌, length, IfOk, IfErr, IsOkAnd, List, ℕ, Option, false};
+    ghost use Rattle.std.specs.Option.{option_map};
     ghost use Rattle.ep_base.specs.declared.err.ipv6_exts.HeaderSliceError.{HeaderSliceError};
-    ghost use Rattle.ep_base.specs.LaxCut.{LaxCut};
-    ghost use Rattle.ep_ext.specs.Chains.{offset_of};
     ghost use Rattle.ep_ext.specs.ChainPrefixes.{chain_stop};
     ghost use Rattle.ep_ext.specs.Ipv6ExtensionSlices.{ipv6_slice_parts as extension_parts, ipv6_slice_bytes as extension_bytes};
     ghost use Rattle.ep_ip.specs.declared.ipv6_header.Ipv6Header.{Ipv6Header};
     ghost use Rattle.ep_ip.specs.Ipv6.{RefusesIpv6Header};
     ghost use Rattle.ep_ip.specs.Ipv6Slices.{ipv6_header_slice_bytes};
-    ghost use Rattle.ep_lax.specs.LaxIp.{LaxIp, IsLaxIpv6, lax_ipv6_source, stop_after};
-    ghost use Rattle.ep_lax.specs.LaxSlices.{lax_cut_of};
-    ghost use Rattle.ep_lax.specs.LaxSlices.{lax_ip_payload_of, lax_ipv6_of, lax_ipv6_slice_bytes, lax_ipv6_slice_content, lax_ipv6_slice_incomplete};
+    ghost use Rattle.ep_ip.specs.LaxIp.{LaxIp, IsLaxIpv6};
+    ghost use Rattle.ep_base.specs.IpPayload.{lax_ip_payload_of};
+    ghost use Rattle.ep_lax.specs.LaxSlices.{lax_ipv6_of, lax_ipv6_slice_bytes, lax_ipv6_slice_content, lax_ipv6_slice_incomplete};
     ghost use Rattle.ep_lax.specs.LaxSlices.{lax_ipv6_slice_extensions, lax_ipv6_slice_header, lax_ipv6_slice_payload};
 
     /// Slices the IPv6 packet at the start of the slice. A payload length of 0 or above the available bytes is ignored;
@@ -106,12 +104,12 @@ impl<'a> LaxIpv6Slice<'a> {
             source: LenSource::Ipv6HeaderPayloadLen,
         };
         let content = limit_by_length_field(slice, Ipv6Header::LEN, field, outer);
-        let len_source = LaxIpv6Slice::payload_source(&header, &content);
+        let len_source = ipv6_payload_source(&header, &content);
         let (extensions, ip_number, payload, refused) = Ipv6ExtensionsSlice::from_slice_lax(
             header.next_header(),
             content.payload,
         );
-        let stop = LaxIpv6Slice::error_in_packet(refused, Ipv6Header::LEN, len_source);
+        let stop = exts_error_in_packet(refused, Ipv6Header::LEN, len_source);
         let payload = LaxIpPayloadSlice {
             incomplete: content.incomplete,
             ip_number,
@@ -189,65 +187,5 @@ impl<'a> LaxIpv6Slice<'a> {
         ensures { result ≡ (lax_ipv6_slice_payload self.now).fragmented }
     {
         self.payload.fragmented
-    }
-
-    /// Returns the source of the IPv6 payload's length: the payload length field, or the end of the slice if the field
-    /// is ignored. A field of 0 is ignored if there are bytes after the IPv6 header.
-    #[inline]
-    fn payload_source(header: &Ipv6HeaderSlice<'_>, content: &LimitedSlice<'_>) -> LenSource
-        ensures { (cut : LaxCut) → cut.payload ≡ content.now.payload.now → cut.source ≡ content.now.len_source
-            → result ≡ lax_ipv6_source (ipv6_header_slice_header header.now) cut }
-    {
-        if header.payload_length() != 0 {
-            return content.len_source;
-        }
-        if content.payload.is_empty() {
-            LenSource::Ipv6HeaderPayloadLen
-        } else {
-            LenSource::Slice
-        }
-    }
-
-    /// Converts the error of an IPv6 extension header, if any, into an error of its IPv6 packet, and keeps its layer.
-    /// In a length error, the length of the IPv6 header is added to the offset, and the length source
-    /// `LenSource::Slice` is replaced by `len_source`.
-    #[inline]
-    fn error_in_packet(
-        refused: Option<(ipv6_exts::HeaderSliceError, Layer)>,
-        header_len: usize,
-        len_source: LenSource,
-    ) -> Option<(ipv6_exts::HeaderSliceError, Layer)>
-        requires { ForSome refused (λ read. offset_of read.0 + header_len < 2 ^ 64) }
-        ensures { (stop : Option HeaderSliceError) → refused ≡ option_map chain_stop stop
-            → result ≡ option_map chain_stop (option_map (stop_after header_len len_source) stop) }
-    {
-        match refused {
-            None => None,
-            Some(read) => Some((
-                LaxIpv6Slice::with_further_offset(read.0, header_len, len_source),
-                read.1,
-            )),
-        }
-    }
-
-    /// Converts the error of an IPv6 extension header into an error of its IPv6 packet. In a length error, the length
-    /// of the IPv6 header is added to the offset, and the length source `LenSource::Slice` is replaced by `len_source`.
-    #[inline]
-    fn with_further_offset(
-        error: ipv6_exts::HeaderSliceError,
-        header_len: usize,
-        len_source: LenSource,
-    ) -> ipv6_exts::HeaderSliceError
-        requires { offset_of error + header_len < 2 ^ 64 }
-        ensures { result ≡ stop_after header_len len_source error }
-    {
-        match error {
-            ipv6_exts::HeaderSliceError::Len(error) => {
-                ipv6_exts::HeaderSliceError::Len(error.after_header(header_len, len_source))
-            }
-            ipv6_exts::HeaderSliceError::Content(error) => ipv6_exts::HeaderSliceError::Content(
-                error,
-            ),
-        }
     }
 }

@@ -1,7 +1,7 @@
 //! Payload of a MACsec packet in a slice, as lax slicing returns it; bytes may be missing (IEEE 802.1AE, 9).
 
-use crate::lax_cut::LimitedSlice;
 use crate::lax_ether_payload_slice::LaxEtherPayloadSlice;
+use ep_base::lax_cut::LimitedSlice;
 use ep_link::MacsecHeaderSlice;
 
 /// Payload after a MACsec tag (IEEE 802.1AE, 9), as lax slicing returns it; bytes may be missing.

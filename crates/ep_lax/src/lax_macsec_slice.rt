@@ -4,10 +4,10 @@ ghost use Rattle.std.specs.Prelude.{◌≡◌};
 ghost use Rattle.ep_link.specs.MacsecSlices.{macsec_header_slice_header};
 ghost use Rattle.ep_lax.specs.LaxMacsec.{macsec_stated_len};
 
-use crate::lax_cut::{LengthField, limit_by_length_field};
 use crate::lax_ether_payload_slice::LaxEtherPayloadSlice;
 use crate::lax_macsec_payload_slice::LaxMacsecPayloadSlice;
 use ep_base::err::macsec::HeaderSliceError;
+use ep_base::lax_cut::{LengthField, limit_by_length_field};
 use ep_base::{EtherType, LenSource};
 use ep_link::{MacsecHeader, MacsecHeaderSlice, MacsecPType};
 

@@ -10,9 +10,9 @@ ghost use Rattle.ep_packet.specs.Offsets.{net_layer_len, parts_len};
 ghost use Rattle.ep_lax.specs.LaxSlices.{lax_ipv4_slice_extensions, lax_ipv4_slice_header};
 ghost use Rattle.ep_lax.specs.LaxViews.{lax_net_layer_of};
 
-use crate::lax_ip_payload_slice::LaxIpPayloadSlice;
 use crate::lax_ipv4_slice::LaxIpv4Slice;
 use crate::lax_ipv6_slice::LaxIpv6Slice;
+use ep_base::LaxIpPayloadSlice;
 use ep_ext::{Ipv6ExtensionSlice, Ipv6ExtensionsSlice};
 use ep_ip::Ipv6Header;
 use ep_link::ArpPacketSlice;
@@ -35,7 +35,7 @@ impl<'a> LaxNetSlice<'a> {
     ghost use Rattle.ep_packet.specs.FrameBytes.{EncodesNet};
     ghost use Rattle.ep_packet.specs.Layers.{net_payload};
     ghost use Rattle.ep_packet.specs.Offsets.{net_layer_len};
-    ghost use Rattle.ep_lax.specs.LaxSlices.{lax_ip_payload_of};
+    ghost use Rattle.ep_base.specs.IpPayload.{lax_ip_payload_of};
     ghost use Rattle.ep_lax.specs.LaxViews.{lax_net_incomplete, lax_net_layer_of};
 
     /// Payload of the IPv4 or IPv6 packet; `None` for an ARP packet.

@@ -37,7 +37,8 @@ impl<'a> LaxSlicedPacket<'a> {
     ghost use Rattle.ep_packet.specs.declared.entry.Entry.TheVariants.{Ethernet as ethernet, LinuxSll as linux_sll, EtherType as of_type, Ip as ip};
     ghost use Rattle.ep_lax.specs.Lax.{IsLax};
     ghost use Rattle.ep_lax.specs.LaxLayers.{LaxLayers, no_lax_layers};
-    ghost use Rattle.ep_lax.specs.LaxRefusals.{RefusesIpHeader, RefusesLax};
+    ghost use Rattle.ep_ip.specs.LaxIp.{RefusesIpHeader};
+    ghost use Rattle.ep_lax.specs.LaxRefusals.{RefusesLax};
     ghost use Rattle.ep_lax.specs.LaxPackets.{ShowsLax, lax_layers_of};
     ghost use Rattle.ep_lax.specs.LaxWalk.{IsLaxAfterLink};
 

@@ -13,17 +13,16 @@ ghost use Rattle.ep_packet.specs.ShownBytes.{BeginsWith};
 ghost use Rattle.ep_packet.specs.VlanTags.{outer_tags, vlan_ids_in};
 ghost use Rattle.ep_lax.specs.LaxPackets.{extensions_incomplete, lax_layers_of};
 ghost use Rattle.ep_lax.specs.LaxPayloads.{lax_ether_payload_in, lax_ether_payload_of, lax_vlan_slices, source_after};
-ghost use Rattle.ep_lax.specs.LaxSlices.{lax_ip_payload_of};
+ghost use Rattle.ep_base.specs.IpPayload.{lax_ip_payload_of};
 ghost use Rattle.ep_lax.specs.LaxViews.{lax_extension_of, lax_net_layer_of};
 ghost use Rattle.ep_lax.specs.StrictFrames.{layers_in};
 
 use crate::lax_ether_payload_slice::LaxEtherPayloadSlice;
-use crate::lax_ip_payload_slice::LaxIpPayloadSlice;
 use crate::lax_link_ext_slice::LaxLinkExtSlice;
 use crate::lax_net_slice::LaxNetSlice;
 use crate::lax_sliced_packet::LaxSlicedPacket;
 use arrayvec::ArrayVec;
-use ep_base::{LenSource, VlanId};
+use ep_base::{LaxIpPayloadSlice, LenSource, VlanId};
 use ep_link::{DoubleVlanSlice, LinkSlice, VlanSlice};
 use ep_transport::TransportSlice;
 

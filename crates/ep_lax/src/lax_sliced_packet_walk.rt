@@ -5,8 +5,6 @@
 
 ghost use Rattle.std.specs.Prelude.{◌≡◌, ◌+◌, ◌++◌, ◌<◌, ◌^◌, [], length, false, Bool, List, ℕ, IfOk, IfErr, Option, Some};
 ghost use Rattle.std.specs.Option.{ForSome, option_map};
-ghost use Rattle.ep_base.specs.declared.err.ip.HeaderError.TheVariants as content;
-ghost use Rattle.ep_base.specs.declared.err.ip.LaxHeaderSliceError.TheVariants as header_error;
 ghost use Rattle.ep_base.specs.declared.err.ipv6_exts.HeaderSliceError.{HeaderSliceError};
 ghost use Rattle.ep_ext.specs.Chains.{offset_of};
 ghost use Rattle.ep_ext.specs.ExtensionParts.{auth_refusal};
@@ -14,9 +12,9 @@ ghost use Rattle.ep_ext.specs.ChainPrefixes.{chain_stop};
 ghost use Rattle.ep_packet.specs.Frame.{only_ipv4, only_ipv6, only_arp, any_ip};
 ghost use Rattle.ep_packet.specs.Walk.{net_kind_in};
 ghost use Rattle.ep_lax.specs.Lax.{IsIpv4Net, IsIpv6Net};
-ghost use Rattle.ep_lax.specs.LaxIp.{IsLaxIpv4, IsLaxIpv6};
+ghost use Rattle.ep_ip.specs.LaxIp.{IsLaxIpv4, IsLaxIpv6};
 ghost use Rattle.ep_lax.specs.LaxPackets.{ShowsLaxNet, lax_net_of};
-ghost use Rattle.ep_lax.specs.LaxRefusals.{RefusesIpHeader, of_ipv4_header, of_ipv6_header};
+ghost use Rattle.ep_ip.specs.LaxIp.{RefusesIpHeader};
 ghost use Rattle.ep_lax.specs.LaxSlices.{lax_ipv4_of, lax_ipv4_slice_bytes, lax_ipv6_of, lax_ipv6_slice_bytes};
 ghost use Rattle.ep_lax.specs.LaxWalk.{HasLaxExtensions, HoldsLaxInside, HoldsLaxNet, StopsAfterExtensions};
 
@@ -29,6 +27,7 @@ use crate::lax_transport::fill_ip_payload;
 use arrayvec::ArrayVec;
 use ep_base::err::{Layer, LenError, ip, ip_auth, ipv4, ipv6, ipv6_exts};
 use ep_base::{EtherType, LenSource, ether_type};
+use ep_ip::lax::{of_ipv4_header, of_ipv6_header, unsupported};
 use ep_link::ArpPacketSlice;
 use ep_packet::err::SliceError;
 use ep_transport::TransportSlice;
@@ -268,39 +267,6 @@ pub(crate) fn fill_ip<'a>(
         };
     }
     Err(unsupported(version_number))
-}
-
-/// Returns the error of an IP header whose version is neither 4 nor 6.
-fn unsupported(version_number: u8) -> ip::LaxHeaderSliceError
-    ensures { result ≡ header_error.Content (content.UnsupportedIpVersion version_number) }
-{
-    ip::LaxHeaderSliceError::Content(ip::HeaderError::UnsupportedIpVersion { version_number })
-}
-
-/// Converts the error of an IPv4 header into the equivalent error of an IP header of either version.
-fn of_ipv4_header(error: ipv4::HeaderSliceError) -> ip::LaxHeaderSliceError
-    ensures { result ≡ of_ipv4_header error }
-{
-    match error {
-        ipv4::HeaderSliceError::Len(error) => ip::LaxHeaderSliceError::Len(error),
-        ipv4::HeaderSliceError::Content(ipv4::HeaderError::UnexpectedVersion { version_number }) =>
-            unsupported(version_number),
-        ipv4::HeaderSliceError::Content(ipv4::HeaderError::HeaderLengthSmallerThanHeader { ihl }) =>
-            ip::LaxHeaderSliceError::Content(ip::HeaderError::Ipv4HeaderLengthSmallerThanHeader {
-                ihl,
-            }),
-    }
-}
-
-/// Converts the error of an IPv6 header into the equivalent error of an IP header of either version.
-fn of_ipv6_header(error: ipv6::HeaderSliceError) -> ip::LaxHeaderSliceError
-    ensures { result ≡ of_ipv6_header error }
-{
-    match error {
-        ipv6::HeaderSliceError::Len(error) => ip::LaxHeaderSliceError::Len(error),
-        ipv6::HeaderSliceError::Content(ipv6::HeaderError::UnexpectedVersion { version_number }) =>
-            unsupported(version_number),
-    }
 }
 
 /// Stores a sliced IPv4 packet as the network layer, and slices the transport layer in it. The packet starts at

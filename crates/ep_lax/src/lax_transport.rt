@@ -6,13 +6,12 @@ ghost use Rattle.ep_transport.specs.TransportParts.{TransportLayer, IsTransportP
 ghost use Rattle.ep_packet.specs.ShownBytes.{ShowsTransport};
 ghost use Rattle.ep_lax.specs.Lax.{IsLimitedLaxly, IsLaxTransport};
 ghost use Rattle.ep_lax.specs.LaxPackets.{inside_of};
-ghost use Rattle.ep_lax.specs.LaxSlices.{lax_ip_payload_of};
+ghost use Rattle.ep_base.specs.IpPayload.{lax_ip_payload_of};
 ghost use Rattle.ep_lax.specs.LaxWalk.{IsInIpPayload};
 
-use crate::lax_ip_payload_slice::LaxIpPayloadSlice;
 use crate::lax_stop::{clear_stop, error_with_layer};
-use ep_base::IpNumber;
 use ep_base::err::{Layer, tcp};
+use ep_base::{IpNumber, LaxIpPayloadSlice};
 use ep_packet::err::SliceError;
 use ep_transport::{TransportSlice, UdpSlice};
 

@@ -3,6 +3,7 @@ use Rattle.std.proofs.Common.{◌≡◌, ◌⊎◌, ◌↔◌, ℕ, ◌+◌, ◌
 use Rattle.std.proofs.Common.{◌∷◌, ◌++◌, length, Option, Some, None, Result, Ok, Err, refl, sym, ap, subst}
 use Rattle.std.proofs.Common.{◌∙◌, inl, inr, arith}
 use Rattle.std.specs.Prelude.{IfOk, IfErr, IsOk, IsOkAnd, MatchResult, nat_lt}
+use Rattle.std.specs.Option.{option_map}
 use Rattle.std.proofs.lemmas.Result.{MatchResult-weaker}
 use Rattle.std.proofs.lemmas.Bool.{cases_eq}
 use Rattle.std.proofs.lemmas.Grind.{common_steps}
@@ -33,7 +34,9 @@ use Rattle.ep_ext.specs.declared.ipv6_exts.Ipv6Extensions.{Ipv6Extensions}
 use Rattle.ep_ext.specs.Chains.{IsChainAfter, IsExtensionChain, FitParts, chain_of}
 use Rattle.ep_ext.specs.Chains.{chain_fragments, ipv4, ipv6, is_ipv6_extension, parts_bytes}
 use Rattle.ep_ext.specs.ExtensionParts.{ExtensionPart, part_next}
-use Rattle.ep_ext.specs.Ipv4Chains.{ipv4_first, ipv4_linked, ipv4_parts, ipv4_walk}
+use Rattle.ep_ext.specs.declared.ipv4_exts_slice.Ipv4ExtensionsSlice.{Ipv4ExtensionsSlice}
+use Rattle.ep_ext.specs.IpAuthSlices.{ip_auth_slice_header}
+use Rattle.ep_ext.specs.Ipv4Chains.{ipv4_first, ipv4_linked, ipv4_parts, ipv4_slice_parts, ipv4_walk}
 use Rattle.ep_ext.specs.Ipv6Chains.{RefusesWalk, ipv6_first, ipv6_linked, ipv6_parts}
 use Rattle.ep_ext.proofs.LinkLemmas.{linked_chain, linked_chain_4, linked_value, linked_walk, linked_walk_4}
 use Rattle.ep_ext.proofs.WalkLemmas.{one_walk, one_walk_refusal, walks_not_refused}
@@ -96,6 +99,12 @@ auth_value : (auth : Option IpAuthHeader)
     → ipv4_extensions_of (ipv4_parts (record { auth = auth })) ≡ record { auth = auth }
 auth_value None = refl
 auth_value (Some header) = refl
+
+-- The owned value of the authentication header in a slice, if any.
+pub ipv4_slice_value : (extensions : Ipv4ExtensionsSlice)
+    → ipv4_extensions_of (ipv4_slice_parts extensions)
+    ≡ record { auth = option_map ip_auth_slice_header extensions.auth }
+ipv4_slice_value extensions = auth_value (option_map ip_auth_slice_header extensions.auth)
 
 pub ipv4_value : (extensions : Ipv4Extensions) → ipv4_extensions_of (ipv4_parts extensions) ≡ extensions
 ipv4_value extensions = auth_value extensions.auth

@@ -17,6 +17,7 @@ pub mod WalkLemmas
 pub mod SliceWalkLemmas
 pub mod NetWalkLemmas
 pub mod IpHeadersLemmas
+pub mod LaxIpHeadersLemmas
 pub mod ReadingLemmas
 pub mod HeadersLemmas
 pub mod InsideHeadersLemmas

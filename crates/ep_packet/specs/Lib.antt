@@ -14,6 +14,7 @@ pub mod ShownBytes
 pub mod Walk
 pub mod LinkParts
 pub mod IpHeaders
+pub mod LaxIpHeaders
 pub mod NetHeaders
 pub mod PayloadParts
 pub mod PacketHeaders

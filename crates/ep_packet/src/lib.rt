@@ -5,10 +5,12 @@ mod entry;
 pub mod err;
 mod ip_headers;
 mod ip_headers_read;
+mod ip_headers_read_lax;
 pub mod laws;
 mod link_part;
 mod net_headers;
 mod net_headers_fill;
+mod net_headers_fill_lax;
 mod net_slice;
 mod packet_headers;
 mod payload_slice;
@@ -21,7 +23,7 @@ pub use entry::Entry;
 pub use ep_base::err::{Layer, LenError, ValueTooBigError, ValueType};
 pub use ep_base::{
     EtherPayloadSlice, EtherType, IpFragOffset, IpNumber, IpPayloadSlice, Ipv4Dscp, Ipv4Ecn,
-    Ipv6FlowLabel, LenSource, MacsecAn, MacsecShortLen, VlanId, VlanPcp,
+    Ipv6FlowLabel, LaxIpPayloadSlice, LenSource, MacsecAn, MacsecShortLen, VlanId, VlanPcp,
 };
 pub use ep_ext::{
     IpAuthHeader, Ipv4Extensions, Ipv4ExtensionsSlice, Ipv6Extensions, Ipv6ExtensionsSlice,
@@ -44,6 +46,7 @@ pub use ep_transport::{
     icmpv6,
 };
 pub use ip_headers::IpHeaders;
+pub use ip_headers_read_lax::{IpHeadersIpv6LaxFromSliceResult, IpHeadersLaxFromSliceResult};
 pub use link_part::LinkPart;
 pub use net_headers::{IpHeader, NetHeaders};
 pub use net_slice::{InternetSlice, NetSlice};

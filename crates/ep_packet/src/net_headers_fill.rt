@@ -3,6 +3,7 @@
 //! large. Otherwise the whole layer is replaced.
 
 ghost use Rattle.std.specs.Prelude.{◌≡◌, IfOk, IfErr, List, ℕ, Some, None};
+ghost use Rattle.std.specs.Option.{option_map};
 ghost use Rattle.ep_base.specs.IpPayload.{ip_payload_of};
 ghost use Rattle.ep_base.specs.Readings.{headers};
 ghost use Rattle.ep_base.specs.Tables.{RefusesAs};
@@ -14,7 +15,7 @@ ghost use Rattle.ep_ip.specs.declared.ipv4_header.Ipv4Header.{Ipv4Header};
 ghost use Rattle.ep_ip.specs.declared.ipv6_header.Ipv6Header.{Ipv6Header};
 ghost use Rattle.ep_ip.specs.IpPackets.{IpPacket, IpPart, IsIp, IsIpv4, IsIpv6, RefusesIp, RefusesIpv4, RefusesIpv6};
 ghost use Rattle.ep_ip.specs.IpPackets.{ipv4_part, ipv6_part};
-ghost use Rattle.ep_ip.specs.Ipv4Slices.{ipv4_slice_header, ipv4_slice_packet};
+ghost use Rattle.ep_ip.specs.Ipv4Slices.{ipv4_header_slice_header, ipv4_slice_packet};
 ghost use Rattle.ep_packet.specs.declared.net_headers.NetHeaders.TheVariants as variant;
 ghost use Rattle.ep_packet.specs.HeadersWalk.{FillsIp};
 ghost use Rattle.ep_packet.specs.IpHeaders.{ip_headers_of, of_slice_error};
@@ -28,8 +29,8 @@ use crate::net_headers::NetHeaders;
 use ep_base::err::ip::HeadersSliceError;
 use ep_base::err::{ipv4, ipv6, ipv6_exts};
 use ep_base::{IpNumber, IpPayloadSlice};
-use ep_ext::{IpAuthHeaderSlice, Ipv4Extensions};
-use ep_ip::{Ipv4Slice, Ipv6Header};
+use ep_ext::{IpAuthHeaderSlice, Ipv4Extensions, Ipv4ExtensionsSlice};
+use ep_ip::{Ipv4HeaderSlice, Ipv4Slice, Ipv6Header};
 
 /// Decodes the IP header at the start of the slice, version 4 or 6, and its extension headers into `net`. Returns the
 /// IP payload and its offset from the start of the slice, in bytes.
@@ -82,57 +83,71 @@ pub(crate) fn fill_ipv4<'a>(
     }
 }
 
-/// Copies the headers of a sliced IPv4 packet into `net`. A packet with an authentication header is left to a function
-/// that is not inlined: otherwise the space of that header would be zeroed for each packet.
+/// Copies the headers of a sliced IPv4 packet into `net`.
 fn store_ipv4(net: &mut Option<NetHeaders>, packet: &Ipv4Slice<'_>)
     ensures { (left : List ℕ)
         → net.new ≡ Some (net_headers_of (ip_headers_of (ipv4_part (ipv4_slice_packet packet.now left)))) }
 {
-    if let Some(auth) = packet.extensions().auth {
-        store_authenticated(net, packet, &auth);
+    store_ipv4_headers(net, &packet.header(), &packet.extensions());
+}
+
+/// Copies an IPv4 header and its authentication header, if any, into `net`. A packet with an authentication header is
+/// left to a function that is not inlined: otherwise the space of that header would be zeroed for each packet.
+#[inline(always)]
+pub(crate) fn store_ipv4_headers(
+    net: &mut Option<NetHeaders>,
+    header: &Ipv4HeaderSlice<'_>,
+    extensions: &Ipv4ExtensionsSlice<'_>,
+)
+    ensures { net.new ≡ Some (variant.Ipv4 (ipv4_header_slice_header header.now) (record {
+      auth = option_map ip_auth_slice_header extensions.now.auth;
+    })) }
+{
+    if let Some(auth) = &extensions.auth {
+        store_authenticated(net, header, auth);
         return;
     }
     if let Some(headers) = net {
         if let NetHeaders::Ipv4(stored, extensions) = headers {
-            packet.header().header_into(stored);
+            header.header_into(stored);
             if extensions.auth.is_some() {
                 extensions.auth = None;
             }
             return;
         }
     }
-    replace_by_ipv4(net, packet);
+    replace_by_ipv4(net, header);
 }
 
-/// Copies the IPv4 header of a sliced packet, and the authentication header after it, into `net`.
+/// Copies an IPv4 header, and the authentication header after it, into `net`.
 #[inline(never)]
 fn store_authenticated(
     net: &mut Option<NetHeaders>,
-    packet: &Ipv4Slice<'_>,
+    header: &Ipv4HeaderSlice<'_>,
     auth: &IpAuthHeaderSlice<'_>,
 )
-    ensures { net.new ≡ Some (variant.Ipv4 (ipv4_slice_header packet.now) (record {
+    ensures { net.new ≡ Some (variant.Ipv4 (ipv4_header_slice_header header.now) (record {
       auth = Some (ip_auth_slice_header auth.now);
     })) }
 {
     if let Some(headers) = net {
         if let NetHeaders::Ipv4(stored, extensions) = headers {
-            packet.header().header_into(stored);
+            header.header_into(stored);
             auth.header_into(&mut extensions.auth);
             return;
         }
     }
     let auth = Some(auth.to_header());
-    *net = Some(NetHeaders::Ipv4(packet.header().to_header(), Ipv4Extensions { auth }));
+    *net = Some(NetHeaders::Ipv4(header.to_header(), Ipv4Extensions { auth }));
 }
 
-/// Replaces `net` by the IPv4 header of a sliced packet without an authentication header. It is not inlined, so that
-/// the value is written once: inlined, its parts would be zeroed and moved one by one.
+/// Replaces `net` by an IPv4 header without an authentication header. It is not inlined, so that the value is written
+/// once: inlined, its parts would be zeroed and moved one by one.
 #[inline(never)]
-fn replace_by_ipv4(net: &mut Option<NetHeaders>, packet: &Ipv4Slice<'_>)
-    ensures { net.new ≡ Some (variant.Ipv4 (ipv4_slice_header packet.now) (record { auth = None })) }
+fn replace_by_ipv4(net: &mut Option<NetHeaders>, header: &Ipv4HeaderSlice<'_>)
+    ensures { net.new ≡ Some (variant.Ipv4 (ipv4_header_slice_header header.now) (record { auth = None })) }
 {
-    let header = packet.header().to_header();
+    let header = header.to_header();
     *net = Some(NetHeaders::Ipv4(header, Ipv4Extensions { auth: None }));
 }
 
@@ -227,7 +242,7 @@ fn store_ipv6_extensions<'a>(
 
 /// Sets `net` to an IPv6 header without extension headers. If it already contains IPv6 headers, only the header and the
 /// extension headers that were present are overwritten.
-fn store_ipv6(net: &mut Option<NetHeaders>, header: Ipv6Header)
+pub(crate) fn store_ipv6(net: &mut Option<NetHeaders>, header: Ipv6Header)
     ensures { net.new ≡ Some (variant.Ipv6 header no_ipv6_extensions) }
 {
     if let Some(headers) = net {

@@ -92,7 +92,8 @@ pub use Rattle.ep_packet.specs.Walk
 -- lax parsing of truncated packets
 pub use Rattle.ep_base.specs.LaxCut
 pub use Rattle.ep_ext.specs.ChainPrefixes
-pub use Rattle.ep_lax.specs.LaxIp
+pub use Rattle.ep_ip.specs.LaxIp
+pub use Rattle.ep_packet.specs.LaxIpHeaders
 pub use Rattle.ep_lax.specs.LaxMacsec
 pub use Rattle.ep_lax.specs.LaxSlices
 pub use Rattle.ep_lax.specs.LaxLayers
@@ -101,10 +102,16 @@ pub use Rattle.ep_lax.specs.LaxRefusals
 pub use Rattle.ep_lax.specs.LaxViews
 pub use Rattle.ep_lax.specs.LaxPackets
 pub use Rattle.ep_lax.specs.LaxPayloads
+pub use Rattle.ep_lax.specs.LaxPayloadParts
+pub use Rattle.ep_lax.specs.LaxPacketHeaders
 pub use Rattle.ep_lax.specs.StrictFrames
 pub use Rattle.ep_lax.specs.LaxHeaders
+pub use Rattle.ep_lax.specs.LengthFields
+pub use Rattle.ep_lax.specs.Truncation
 pub use Rattle.ep_lax.specs.LaxStops
 pub use Rattle.ep_lax.specs.LaxComparisons
+pub use Rattle.ep_lax.specs.QuotedPackets
+pub use Rattle.ep_lax.specs.LaxHeaderComparisons
 -- building
 pub use Rattle.ep_build.specs.AppendedFrames
 pub use Rattle.ep_build.specs.BuildErrors

@@ -127,13 +127,15 @@ pub use Rattle.ep_packet.specs.declared.payload_slice.PayloadSlice
 pub use Rattle.ep_packet.specs.declared.sliced_packet.SlicedPacket
 -- lax parsing of truncated packets
 pub use Rattle.ep_lax.specs.declared.lax_ether_payload_slice.LaxEtherPayloadSlice
-pub use Rattle.ep_lax.specs.declared.lax_ip_payload_slice.LaxIpPayloadSlice
+pub use Rattle.ep_base.specs.declared.lax_ip_payload_slice.LaxIpPayloadSlice
 pub use Rattle.ep_lax.specs.declared.lax_ipv4_slice.LaxIpv4Slice
 pub use Rattle.ep_lax.specs.declared.lax_ipv6_slice.LaxIpv6Slice
 pub use Rattle.ep_lax.specs.declared.lax_link_ext_slice.LaxLinkExtSlice
 pub use Rattle.ep_lax.specs.declared.lax_macsec_payload_slice.LaxMacsecPayloadSlice
 pub use Rattle.ep_lax.specs.declared.lax_macsec_slice.LaxMacsecSlice
 pub use Rattle.ep_lax.specs.declared.lax_net_slice.LaxNetSlice
+pub use Rattle.ep_lax.specs.declared.lax_packet_headers.LaxPacketHeaders
+pub use Rattle.ep_lax.specs.declared.lax_payload_slice.LaxPayloadSlice
 pub use Rattle.ep_lax.specs.declared.lax_sliced_packet.LaxSlicedPacket
 -- building
 pub use Rattle.ep_build.specs.declared.err.build_slice_write_error.BuildSliceWriteError

@@ -28,6 +28,7 @@
 //! [`LaxSlicedPacket`] parses a packet that was truncated by the capture, or whose length fields do not match its
 //! bytes. It has the layers up to the first invalid one, the error of that layer (`stop_err`), and for each payload
 //! whether bytes of it are missing. A packet that [`SlicedPacket`] accepts is parsed into equal layers.
+//! [`quoted_packet`] returns the packet that an ICMP error quotes, which is mostly truncated.
 //!
 //! # Single layers
 //!
@@ -123,7 +124,10 @@ pub use ep_lax::LaxLinkExtSlice;
 pub use ep_lax::LaxMacsecPayloadSlice;
 pub use ep_lax::LaxMacsecSlice;
 pub use ep_lax::LaxNetSlice;
+pub use ep_lax::LaxPacketHeaders;
+pub use ep_lax::LaxPayloadSlice;
 pub use ep_lax::LaxSlicedPacket;
+pub use ep_lax::quoted_packet;
 pub use ep_link::ArpHardwareId;
 pub use ep_link::ArpOperation;
 pub use ep_link::ArpPacket;
@@ -154,6 +158,8 @@ pub use ep_packet::Entry;
 pub use ep_packet::InternetSlice;
 pub use ep_packet::IpHeader;
 pub use ep_packet::IpHeaders;
+pub use ep_packet::IpHeadersIpv6LaxFromSliceResult;
+pub use ep_packet::IpHeadersLaxFromSliceResult;
 pub use ep_packet::NetHeaders;
 pub use ep_packet::NetSlice;
 pub use ep_packet::PacketHeaders;

@@ -1,8 +1,7 @@
--- Answer of `etherparse_1_slice_many`.
+-- Answers of `etherparse_1_slice_many` and `etherparse_1_slice_lax_many`.
 use Rattle.std.specs.Prelude.{◌≡◌, ◌<◌, ◌≤◌, ℕ, List, ◌∷◌, length, drop, ◌⊎◌, Option, Some, None, slice_get, slice_index}
 use Rattle.std.specs.List.{slice_range}
 use Rattle.etherparse.specs.Types.Entry.{Entry}
-use Rattle.etherparse_c.specs.SliceAnswers.{IsSliceAnswer}
 use Rattle.etherparse_c.specs.declared.packet.Packet.{Packet}
 
 -- the start of the frame at an index, which is the end of the frame before it, or 0; and its end
@@ -12,28 +11,34 @@ frame_start ends index = slice_index (0 ∷ ends) index
 abbrev pub frame_end : List ℕ → ℕ → ℕ
 frame_end ends index = slice_index ends index
 
--- The packet at an index is filled as `etherparse_1_slice` does for the frame at this index.
-pub record IsSlicedAt (entry : Option Entry) (bytes ends : List ℕ) (packets : List Packet) (index : ℕ) : Type 0 where
+-- which status and packet a call that slices one frame may answer, for the bytes of the frame
+abbrev pub FrameAnswers : Type 1
+FrameAnswers = List ℕ → ℕ → Packet → Type 0
+
+-- The packet at an index is filled as the call for one frame fills it for the frame at this index.
+pub record IsSlicedAt (IsAnswer : FrameAnswers) (bytes ends : List ℕ) (packets : List Packet) (index : ℕ) : Type 0 where
   pub packet : Packet
   pub status : ℕ
   pub stored : slice_get packets index ≡ Some packet
   pub ascends : frame_start ends index ≤ frame_end ends index
   pub within : frame_end ends index ≤ length bytes
-  pub answer : IsSliceAnswer entry (slice_range bytes (frame_start ends index) (frame_end ends index)) status packet
+  pub answer : IsAnswer (slice_range bytes (frame_start ends index) (frame_end ends index)) status packet
 
 -- The first `sliced` frames are sliced; the other packets are unchanged.
-pub record AreSliced (entry : Option Entry) (bytes ends : List ℕ) (old new : List Packet) (sliced : ℕ) : Type 0 where
+pub record AreSliced (IsAnswer : FrameAnswers) (bytes ends : List ℕ) (old new : List Packet) (sliced : ℕ) : Type 0 where
   pub most : sliced ≤ length ends
-  pub each : (index : ℕ) → index < sliced → IsSlicedAt entry bytes ends new index
+  pub each : (index : ℕ) → index < sliced → IsSlicedAt IsAnswer bytes ends new index
   pub others : drop sliced new ≡ drop sliced old
 
 -- The status is 0, and all frames are sliced; or it is 2, and only the frames are sliced that come before a frame that
 -- ends before it starts, or after the last byte; or it is 2, the entry is unknown, and no frame is sliced; or it is 3,
--- there are fewer packets than ends, and no frame is sliced.
-abbrev pub IsManyAnswer : Option Entry → List ℕ → List ℕ → List Packet → List Packet → ℕ → ℕ → Type 0
-IsManyAnswer entry bytes ends old new sliced status =
-    ((status ≡ 0) × (sliced ≡ length ends) × AreSliced entry bytes ends old new sliced)
-    ⊎ ((status ≡ 2) × (sliced < length ends) × AreSliced entry bytes ends old new sliced
+-- there are fewer packets than ends, and no frame is sliced. `IsAnswer` is the answer for one frame: `IsSliceAnswer` or
+-- `IsLaxAnswer`.
+abbrev pub IsManyAnswer : (Option Entry → FrameAnswers) → Option Entry → List ℕ → List ℕ → List Packet → List Packet → ℕ
+    → ℕ → Type 0
+IsManyAnswer IsAnswer entry bytes ends old new sliced status =
+    ((status ≡ 0) × (sliced ≡ length ends) × AreSliced (IsAnswer entry) bytes ends old new sliced)
+    ⊎ ((status ≡ 2) × (sliced < length ends) × AreSliced (IsAnswer entry) bytes ends old new sliced
     × ((frame_end ends sliced < frame_start ends sliced) ⊎ (length bytes < frame_end ends sliced)))
     ⊎ ((status ≡ 2) × (entry ≡ None) × (sliced ≡ 0) × (new ≡ old))
     ⊎ ((status ≡ 3) × (length old < length ends) × (sliced ≡ 0) × (new ≡ old))

@@ -55,6 +55,6 @@ pub use pooling::{
 };
 pub use route::{FragmentFields, Route, TaggedRoute, TcpFields};
 pub use slicing::etherparse_1_slice;
-pub use slicing_many::etherparse_1_slice_many;
+pub use slicing_many::{etherparse_1_slice_lax_many, etherparse_1_slice_many};
 pub use texts::etherparse_1_refusal_text;
 pub use version::etherparse_1_version;

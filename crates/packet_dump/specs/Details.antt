@@ -3,12 +3,12 @@ use Rattle.std.specs.Prelude.{◌≡◌, ◌⊎◌, ℕ, if◌then◌else◌, Bo
 use Rattle.std.specs.Fmt.{decimal}
 use Rattle.std.specs.Option.{option_and_then, option_map}
 use Rattle.detail_texts.specs.PacketDetails.{IsPacketDetails}
-use Rattle.detail_texts.specs.Quoted.{quoted_in}
 use Rattle.etherparse.specs.Lax.{IsLax}
 use Rattle.etherparse.specs.LaxLayers.{LaxLayers}
 use Rattle.etherparse.specs.LaxPackets.{ShowsLax, lax_layers_of}
 use Rattle.etherparse.specs.LaxRefusals.{RefusesLax}
 use Rattle.etherparse.specs.Layers.{Layers}
+use Rattle.etherparse.specs.QuotedPackets.{quoted_in}
 use Rattle.etherparse.specs.StrictFrames.{layers_in}
 use Rattle.etherparse.specs.TransportParts.{transport_layer_of}
 use Rattle.etherparse.specs.Types.Entry.TheVariants.{Ip}

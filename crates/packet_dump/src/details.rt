@@ -10,8 +10,7 @@ ghost use Rattle.packet_dump.specs.Details.{quoted_by};
 ghost use Rattle.packet_dump.specs.Details.{quoted_rest, quoted_text};
 
 use crate::layers::{push_incomplete, push_inner, push_outer, push_refused_start};
-use detail_texts::quoted_packet;
-use etherparse::{Entry, LaxSlicedPacket};
+use etherparse::{Entry, LaxSlicedPacket, quoted_packet};
 use line_io::decimals;
 use std::alloc::AllocError;
 

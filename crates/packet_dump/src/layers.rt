@@ -3,7 +3,7 @@
 ghost use Rattle.std.specs.Prelude.{◌≡◌, ◌++◌, OnOk, false, map};
 ghost use Rattle.std.specs.Option.{option_copied, option_map};
 ghost use Rattle.etherparse.specs.LaxPackets.{lax_layers_of};
-ghost use Rattle.etherparse.specs.LaxSlices.{lax_ip_payload_of};
+ghost use Rattle.etherparse.specs.IpPayload.{lax_ip_payload_of};
 ghost use Rattle.etherparse.specs.LaxViews.{lax_extensions_of, lax_net_layer_of};
 ghost use Rattle.etherparse.specs.LinkSlices.{link_layer_of};
 ghost use Rattle.etherparse.specs.Payloads.{ether_payload_in, payload_ether_type_in};

@@ -3,7 +3,7 @@
 ghost use Rattle.std.specs.Prelude.{◌≡◌, ◌≤◌, ◌<◌, ◌+◌, ◌^◌, ◌++◌, OnOk, length};
 ghost use Rattle.std.specs.Option.{option_copied, option_map};
 ghost use Rattle.etherparse.specs.LaxPackets.{lax_layers_of};
-ghost use Rattle.etherparse.specs.LaxSlices.{lax_ip_payload_of};
+ghost use Rattle.etherparse.specs.IpPayload.{lax_ip_payload_of};
 ghost use Rattle.etherparse.specs.LaxViews.{lax_net_layer_of};
 ghost use Rattle.etherparse.specs.StrictFrames.{layers_in};
 ghost use Rattle.etherparse.specs.TransportParts.{transport_layer_of};

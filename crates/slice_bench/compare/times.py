@@ -1,14 +1,16 @@
 #!/usr/bin/env python3
-"""Measures what an item takes in time, beside C: python3 compare/times.py PROGRAM FOLDER
+"""Measures what an item takes in time, beside C: python3 compare/times.py PROGRAM FOLDER [MEASUREMENT..]
 
 PROGRAM is out/slice_bench, and FOLDER has the corpora that corpora.py wrote. walk.c, build.c and appends.c beside this
 file are built with gcc -O2. Prints, as rows of tables, in nanoseconds of processor time an item, each the least of
 several runs on one processor:
 
-- of each corpus each measurement of frames, and the walk in C;
+- of each corpus each measurement of frames, and the walk in C, which run by turns;
 - of building a frame, and the same by hand in C;
 - of each fragment that is put together, what some rounds take less what one takes, so that reading the file is not in
   it, and the same by hand in C.
+
+With measurements of frames as further arguments, prints those alone, of each corpus, by turns in more and shorter runs.
 """
 import os
 import re
@@ -20,6 +22,8 @@ HERE = os.path.dirname(os.path.abspath(__file__))
 # Number of runs of commands that take a second, and of shorter ones.
 REPEATS = 5
 SHORT_REPEATS = 20
+# Number of turns of the measurements that are given, and of rounds in each run.
+TURNS, TURN_ROUNDS = 100, 400
 FRAMES = ["udp64", "udp1400", "vlan2", "mix"]
 MEASUREMENTS = ["slicing", "slicing-apart", "filling", "lax-filling", "decoding", "rereading", "ipv4-slice", "ip-headers"]
 BUILDING = ["building", "building-from-addresses"]
@@ -39,9 +43,19 @@ def ran(*command):
     return used.ru_utime + used.ru_stime, printed
 
 
+def least_of_each(*commands, turns=SHORT_REPEATS):
+    """The least number of each command that its pattern, the first element, finds in the outputs of short runs. The
+    commands run by turns, each second turn backwards, so that a busy time of the machine falls on all of them."""
+    found = [[] for _ in commands]
+    for turn in range(turns):
+        for numbers, (pattern, *command) in list(zip(found, commands))[:: -1 if turn % 2 else 1]:
+            numbers.append(float(re.search(pattern, ran(*command)[1])[1]))
+    return [min(numbers) for numbers in found]
+
+
 def least(pattern, *command):
     """The least number that the pattern finds in the outputs of short runs of a command."""
-    return min(float(re.search(pattern, ran(*command)[1])[1]) for _ in range(SHORT_REPEATS))
+    return least_of_each((pattern, *command))[0]
 
 
 def rounds_beyond_one(rounds, items, command):
@@ -66,16 +80,27 @@ def build_by_hand(folder):
         subprocess.run(["gcc", "-O2", f"{HERE}/{name}.c", "-o", f"{folder}/{name}"], check=True)
 
 
-def main(program, folder):
+def of_frames(program, file, rounds, names):
+    """The commands of measurements of frames, each after the pattern of its time."""
+    return [(rf"{name} +\d+ +\d+ +([\d.]+)", program, file, rounds, name) for name in names]
+
+
+def main(program, folder, *names):
     os.sched_setaffinity(0, {max(os.sched_getaffinity(0))})
+    if names:
+        heading("Corpus", *(f"`{name}`" for name in names))
+        for corpus in FRAMES:
+            commands = of_frames(program, f"{folder}/{corpus}", TURN_ROUNDS, names)
+            row(f"`{corpus}`", least_of_each(*commands, turns=TURNS))
+        return
     with tempfile.TemporaryDirectory() as made:
         build_by_hand(made)
 
         heading("Corpus", *(f"`{name}`" for name in MEASUREMENTS), "walk in C")
         for corpus in FRAMES:
             file = f"{folder}/{corpus}"
-            values = [least(rf"{name} +\d+ +\d+ +([\d.]+)", program, file, 1000, name) for name in MEASUREMENTS]
-            row(f"`{corpus}`", [*values, least(r"([\d.]+) ns", f"{made}/walk", file, 1000)])
+            commands = [*of_frames(program, file, 1000, MEASUREMENTS), (r"([\d.]+) ns", f"{made}/walk", file, 1000)]
+            row(f"`{corpus}`", least_of_each(*commands))
 
         heading("Frame", *(f"`{name}`" for name in BUILDING), "by hand in C")
         for corpus, size in [("udp64", 64), ("udp1400", 1400)]:
@@ -96,6 +121,6 @@ def main(program, folder):
 
 
 if __name__ == "__main__":
-    if len(sys.argv) != 3:
+    if len(sys.argv) < 3 or not set(sys.argv[3:]) <= set(MEASUREMENTS):
         sys.exit(__doc__)
     main(*sys.argv[1:])

@@ -415,6 +415,19 @@ extern "C" {
         packets_len: usize,
         sliced: *mut usize,
     ) -> u32;
+    /// Slices consecutive packets in `bytes`, which end at `ends`, each as `etherparse_slice_lax`.
+    #[link_name = "etherparse_1_slice_lax_many"]
+    pub fn etherparse_slice_lax_many(
+        entry: u32,
+        ether_type: u16,
+        bytes: *const u8,
+        len: usize,
+        ends: *const usize,
+        ends_len: usize,
+        packets: *mut Packet,
+        packets_len: usize,
+        sliced: *mut usize,
+    ) -> u32;
     /// Writes the text of an error and a zero byte to the start of `buffer`.
     #[link_name = "etherparse_1_refusal_text"]
     pub fn etherparse_refusal_text(refusal: *const Refusal, buffer: *mut u8, len: usize, written: *mut usize) -> u32;

@@ -25,7 +25,7 @@ use core::ops::Deref;
 /// ```
 #[derive(Clone, Copy, Debug, PartialEq, Eq, Hash)]
 #[must_use]
-pub struct LaxSlicedPacket<'a>(SlicedPacket<'a>);
+pub struct LaxSlicedPacket<'a>(pub(crate) SlicedPacket<'a>);
 
 impl<'a> LaxSlicedPacket<'a> {
     /// Slices a packet that starts with an Ethernet II header.

@@ -35,6 +35,7 @@ pub mod err;
 mod headers;
 mod lax_sliced_packet;
 mod link;
+mod many;
 mod net;
 mod numbered;
 mod packet_builder;
@@ -54,6 +55,7 @@ pub use link::{
     Ethernet2Header, Ethernet2Slice, LinkExtHeader, LinkExtSlice, LinkHeader, LinkSlice, LinuxSllHeader, LinuxSllSlice,
     MacsecHeader, MacsecPType, MacsecSlice, SingleVlanHeader, SingleVlanSlice,
 };
+pub use many::{slice_lax_many, slice_many, InvalidEnd};
 pub use net::{
     ArpPacket, ArpPacketSlice, Ipv4Header, Ipv4HeaderSlice, Ipv4Slice, Ipv6Header, Ipv6HeaderSlice, Ipv6Slice,
     NetHeaders, NetSlice,

@@ -176,6 +176,12 @@ impl<'a> SlicedPacket<'a> {
     pub const EMPTY: SlicedPacket<'static> =
         SlicedPacket { description: MaybeUninit::zeroed(), frame: &[], entry: Entry::Ethernet };
 
+    /// Returns the packet with this description of the frame, whose first header is `entry`.
+    #[inline]
+    pub(crate) fn described(description: sys::Packet, frame: &'a [u8], entry: Entry) -> SlicedPacket<'a> {
+        SlicedPacket { description: MaybeUninit::new(description), frame, entry }
+    }
+
     /// Slices a packet laxly, whose first header is `entry`.
     #[inline]
     pub(crate) fn lax(entry: Entry, frame: &'a [u8]) -> Result<SlicedPacket<'a>, Refusal> {

@@ -36,7 +36,7 @@ const IPV6: Entry = Entry::EtherType(EtherType::IPV6);
 const MACSEC: Entry = Entry::EtherType(EtherType::MACSEC);
 
 /// Parses the bytes laxly, starting at the header that `entry` names. Aborts the test if that first header is invalid.
-fn read<'a>(rt: &impl Abort, entry: Entry, bytes: &'a [u8]) -> LaxSlicedPacket<'a> {
+pub(crate) fn read<'a>(rt: &impl Abort, entry: Entry, bytes: &'a [u8]) -> LaxSlicedPacket<'a> {
     let mut packet = LaxSlicedPacket::new();
     packet
         .slice_into(entry, bytes)
@@ -69,10 +69,10 @@ fn has_ip(
 
 /// Asserts that lax parsing stopped because bytes are missing: `layer` starts at byte `start`, needs `required_len`
 /// bytes and has `len`, limited by `source`.
-fn misses(
+pub(crate) fn misses(
     rt: &impl Abort,
     packet: &LaxSlicedPacket<'_>,
-    layer: Layer,
+    layer: &Layer,
     (start, required_len, len): (usize, usize, usize),
     source: LenSource,
 ) {
@@ -82,8 +82,8 @@ fn misses(
     same(rt, &error.layer_start_offset, &start);
     same(rt, &(error.required_len, error.len), &(required_len, len));
     same(rt, &error.len_source, &source);
-    same(rt, &error.layer, &layer);
-    same(rt, at, &layer);
+    same(rt, &error.layer, layer);
+    same(rt, at, layer);
 }
 
 /// Asserts that lax parsing of a packet stopped at this layer with this error.
@@ -124,7 +124,7 @@ fn total_length_of_a_header(rt: HostRuntime) {
     misses(
         &rt,
         &packet,
-        Layer::UdpHeader,
+        &Layer::UdpHeader,
         (34, 8, 0),
         LenSource::Ipv4HeaderTotalLen,
     );
@@ -237,7 +237,13 @@ fn short_lengths_that_stop(rt: HostRuntime) {
     let mut bytes = MACSEC_PACKET;
     bytes[1] = 2;
     let packet = read(&rt, MACSEC, &bytes);
-    misses(&rt, &packet, Layer::VlanHeader, (8, 4, 0), LenSource::Slice);
+    misses(
+        &rt,
+        &packet,
+        &Layer::VlanHeader,
+        (8, 4, 0),
+        LenSource::Slice,
+    );
     same(&rt, &packet.link_exts.len(), &1);
     bytes[1] = 1;
     let refused = macsec::HeaderError::InvalidUnmodifiedShortLen;
@@ -256,12 +262,17 @@ fn short_lengths_that_stop(rt: HostRuntime) {
 #[test]
 fn modified_payloads(rt: HostRuntime) {
     for (short_len, len, incomplete) in [
-        (0u8, 4, false),
-        (3, 3, false),
-        (4, 4, false),
-        (5, 4, true),
+        (0u8, 49, false),
+        (1, 1, false),
+        (2, 2, false),
+        (47, 47, false),
+        (49, 49, false),
+        (50, 49, true),
+        (63, 49, true),
     ] {
-        let bytes = [0x0c, short_len, 0, 0, 0, 0, 0xaa, 0xbb, 0xcc, 0xdd];
+        let mut bytes = [0; 55];
+        bytes[0] = 0x0c;
+        bytes[1] = short_len;
         let packet = read(&rt, MACSEC, &bytes);
         ends_in(&rt, &packet, len, incomplete);
         same(&rt, &packet.ether_payload().is_none(), &true);
@@ -282,7 +293,7 @@ fn truncated_datagrams(rt: HostRuntime) {
             misses(
                 &rt,
                 &packet,
-                Layer::UdpHeader,
+                &Layer::UdpHeader,
                 (34, 8, n - 34),
                 LenSource::Slice,
             );
@@ -291,7 +302,7 @@ fn truncated_datagrams(rt: HostRuntime) {
             misses(
                 &rt,
                 &packet,
-                Layer::Ipv4Header,
+                &Layer::Ipv4Header,
                 (14, 20, n - 14),
                 LenSource::Slice,
             );
@@ -316,7 +327,7 @@ fn truncated_chains(rt: HostRuntime) {
             misses(
                 &rt,
                 &packet,
-                Layer::Ipv6FragHeader,
+                &Layer::Ipv6FragHeader,
                 (start, 8, n - start),
                 LenSource::Slice,
             );
@@ -339,7 +350,7 @@ fn truncated_authentication_headers(rt: HostRuntime) {
             misses(
                 &rt,
                 &packet,
-                Layer::IpAuthHeader,
+                &Layer::IpAuthHeader,
                 (20, 12, n - 20),
                 LenSource::Slice,
             );
@@ -362,7 +373,7 @@ fn errors_in_headers(rt: HostRuntime) {
     misses(
         &rt,
         &packet,
-        Layer::TcpHeader,
+        &Layer::TcpHeader,
         (34, 20, 16),
         LenSource::Ipv4HeaderTotalLen,
     );
@@ -372,7 +383,7 @@ fn errors_in_headers(rt: HostRuntime) {
     misses(
         &rt,
         &packet,
-        Layer::IpAuthHeader,
+        &Layer::IpAuthHeader,
         (40, 12, 4),
         LenSource::Ipv6HeaderPayloadLen,
     );
@@ -397,7 +408,7 @@ fn refused_first_headers(rt: HostRuntime) {
     same(&rt, &LaxSlicedPacket::from_ip(&[0x45; 19]).is_err(), &true);
     same(&rt, &LaxSlicedPacket::from_ip(&[0x60; 39]).is_err(), &true);
     let none = LaxSlicedPacket::from_ether_type(EtherType::IPV4, &[]);
-    misses(&rt, &none, Layer::Ipv4Header, (0, 20, 0), LenSource::Slice);
+    misses(&rt, &none, &Layer::Ipv4Header, (0, 20, 0), LenSource::Slice);
 }
 
 /// Lax parsing of fragments finds no transport layer, and of four VLAN tags it leaves the fourth one as payload. An ARP

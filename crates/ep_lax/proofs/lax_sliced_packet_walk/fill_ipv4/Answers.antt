@@ -1,5 +1,6 @@
 use Rattle.std.proofs.Common.{ap, inr, arith}
 use Rattle.std.specs.Option.{option_map}
+use Rattle.ep_base.specs.Readings.{slices}
 use Rattle.ep_ext.specs.ExtensionParts.{auth_refusal}
 use Rattle.ep_lax.specs.LaxSlices.{lax_ipv4_of}
 use Rattle.ep_lax.proofs.LaxNetLemmas.{ipv4_stop_within}
@@ -11,7 +12,7 @@ fill_ipv4_packet-requires-clause-stop c = λ error same.
     let ok = c.in-Ok.ensures.ok in
     omega (
       arith,
-      ipv4_stop_within c.args.inside.incomplete c.args.inside.slice.now (lax_ipv4_of read.0 ok.0 read.1) ok.2 (auth_refusal error)
+      ipv4_stop_within slices c.args.inside.incomplete c.args.inside.slice.now (lax_ipv4_of read.0 ok.0 read.1) ok.2 (auth_refusal error)
           (ap (option_map auth_refusal) same),
       c.requires,
     )

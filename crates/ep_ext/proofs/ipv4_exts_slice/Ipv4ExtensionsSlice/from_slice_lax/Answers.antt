@@ -28,14 +28,14 @@ returns-then-ne-clause-only c =
 
 pub returns-in-Err-clause-chain : goal.returns-in-Err-clause-chain
 returns-in-Err-clause-chain c =
-    auth_stops c.args.number.0 c.args.slice.now c.in-Err.error
+    auth_stops slices c.args.number.0 c.args.slice.now c.in-Err.error
     (number_same c.ne.result _ _ c.ne.ensures c.if-ne.false) c.in-Err.ensures.err
 
 pub returns-in-Err-clause-only : goal.returns-in-Err-clause-only
 returns-in-Err-clause-only c =
     let bytes = c.args.slice.now in
     let fits : AreBytes bytes = λ i. omega (arith, c.type_inv.slice i) in
-    let here = auth_stops c.args.number.0 bytes c.in-Err.error
+    let here = auth_stops slices c.args.number.0 bytes c.in-Err.error
     (number_same c.ne.result _ _ c.ne.ensures c.if-ne.false) c.in-Err.ensures.err in
     λ chain stop is.
     let same = one_front_chain ipv4 c.args.number.0 bytes fits (chain_of [] c.args.number.0 bytes) chain

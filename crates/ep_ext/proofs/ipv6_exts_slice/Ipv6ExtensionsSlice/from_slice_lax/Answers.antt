@@ -2,6 +2,7 @@ use Rattle.std.proofs.Common.{◌≡◌, ◌-◌, ◌≤◌, ◌∙◌, ◌||◌
 use Rattle.std.specs.Option.{option_map}
 use Rattle.std.proofs.lemmas.Bool.{eqb-true, eqb-false}
 use Rattle.ep_base.specs.Bytes.{AreBytes}
+use Rattle.ep_base.specs.Readings.{slices}
 use Rattle.ep_base.specs.declared.err.ipv6_exts.HeaderError.TheVariants as content
 use Rattle.ep_base.specs.declared.err.ipv6_exts.HeaderSliceError.TheVariants as header_error
 use Rattle.ep_base.proofs.BytesLemmas.{rest_of}
@@ -13,7 +14,7 @@ use Rattle.ep_ext.proofs.ipv6_exts_slice.Ipv6ExtensionsSlice.from_slice_lax.Goal
 use Rattle.ep_ext.proofs.ipv6_exts_slice.Ipv6ExtensionsSlice.from_slice_lax.Goals.{else-eq-via-then-eq+else-offset-gt0, else-eq-via-else-eq}
 
 pub loop-offset-init : goal.loop-offset-init
-loop-offset-init c = front_nothing c.args.number.0 c.args.slice.now
+loop-offset-init c = front_nothing slices c.args.number.0 c.args.slice.now
 
 pub headers_before-ahead-requires : goal.headers_before-ahead-requires
 headers_before-ahead-requires c =

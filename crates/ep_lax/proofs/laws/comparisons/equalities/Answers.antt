@@ -5,11 +5,11 @@ use Rattle.std.proofs.lemmas.Bool.Decides.{Decides-eqb, Decides-and, Decides-lik
 use Rattle.std.proofs.lemmas.Slice.Eq.{slice_eq-Decides}
 use Rattle.ep_base.proofs.ComparisonLemmas.{apart}
 use Rattle.ep_link.specs.Macsec.{unmodified, modified}
-use Rattle.ep_lax.specs.declared.lax_ip_payload_slice.LaxIpPayloadSlice.{LaxIpPayloadSlice}
+use Rattle.ep_base.specs.declared.lax_ip_payload_slice.LaxIpPayloadSlice.{LaxIpPayloadSlice}
 use Rattle.ep_lax.specs.declared.lax_link_ext_slice.LaxLinkExtSlice.TheVariants as extension
 use Rattle.ep_lax.specs.declared.lax_macsec_payload_slice.LaxMacsecPayloadSlice.TheVariants as slice
 use Rattle.ep_lax.specs.declared.lax_net_slice.LaxNetSlice.TheVariants as net
-use Rattle.ep_lax.specs.LaxSlices.{lax_ip_payload_of}
+use Rattle.ep_base.specs.IpPayload.{lax_ip_payload_of}
 use Rattle.ep_lax.proofs.laws.comparisons.equalities.Goals as goal
 
 pub returns-clause-ether_payloads : goal.returns-clause-ether_payloads

@@ -5,7 +5,7 @@ use Rattle.ep_lax.specs.declared.lax_macsec_slice.LaxMacsecSlice.{LaxMacsecSlice
 use Rattle.ep_lax.specs.LaxMacsec.{lax_macsec_payload}
 use Rattle.ep_lax.specs.LaxSlices.{ShowsLaxMacsec, lax_macsec_slice_header, lax_macsec_slice_incomplete, lax_macsec_slice_payload}
 use Rattle.ep_lax.proofs.LaxMacsecLemmas.{one_lax_macsec, refused_no_lax_macsec}
-use Rattle.ep_lax.proofs.LaxSliceLemmas.{only_answer}
+use Rattle.ep_base.proofs.LaxSliceLemmas.{only_answer}
 use Rattle.ep_lax.proofs.lax_macsec_slice.LaxMacsecSlice.from_slice.Goals as goal
 
 pub returns-clause-only : goal.returns-clause-only

@@ -1,7 +1,8 @@
 use Rattle.std.proofs.Common.{length, ap, arith}
 use Rattle.std.proofs.lemmas.List.{length-append}
 use Rattle.ep_link.specs.MacsecSlices.{macsec_header_slice_bytes, macsec_header_slice_header}
-use Rattle.ep_lax.specs.LaxSlices.{lax_cut_of, lax_macsec_payload_of}
+use Rattle.ep_base.specs.LaxCut.{lax_cut_of}
+use Rattle.ep_lax.specs.LaxSlices.{lax_macsec_payload_of}
 use Rattle.ep_lax.proofs.LaxMacsecLemmas.{macsec_put_together}
 use Rattle.ep_lax.proofs.lax_macsec_slice.LaxMacsecSlice.read.Goals as goal
 

@@ -1,0 +1,5 @@
+use Rattle.ep_lax.proofs.PayloadBytesLemmas.{lax_payloads}
+use Rattle.ep_lax.proofs.laws.payload_bytes.Goals as goal
+
+pub returns : goal.returns
+returns c = lax_payloads

@@ -1,0 +1,5 @@
+use Rattle.ep_lax.proofs.LaxStopPlaceLemmas.{stop_place}
+use Rattle.ep_lax.proofs.laws.stop_position.Goals as goal
+
+pub returns : goal.returns
+returns c = stop_place
