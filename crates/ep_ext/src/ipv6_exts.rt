@@ -110,8 +110,8 @@ impl Ipv6Extensions {
     }
 
     /// Parses the IPv6 extension headers at the start of the slice, up to the first invalid or truncated one; `number`
-    /// is the next header field of the IPv6 header. Returns the owned headers, the IP number of the remaining bytes, the
-    /// remaining bytes, and `None`. Parsing ends before a second header of one type, as in
+    /// is the next header field of the IPv6 header. Returns the owned headers, the IP number of the remaining bytes,
+    /// the remaining bytes, and `None`. Parsing ends before a second header of one type, as in
     /// [`Ipv6Extensions::from_slice`]. If a header is invalid or truncated, the remaining bytes begin with that header,
     /// and the fourth value is its error and layer; an offset in the error counts from the start of the slice.
     #[inline]
@@ -139,8 +139,8 @@ impl Ipv6Extensions {
 
     /// Parses the IPv6 extension headers at the start of the slice into this value, as
     /// [`Ipv6Extensions::from_slice_lax`] does, and replaces its headers. Returns the IP number of the remaining bytes,
-    /// the remaining bytes, and the error and layer of the first invalid header, if any. Reusing a value avoids moves of
-    /// the large header buffers.
+    /// the remaining bytes, and the error and layer of the first invalid header, if any. Reusing a value avoids moves
+    /// of the large header buffers.
     #[inline]
     pub fn read_into_lax<'a>(
         &mut self,

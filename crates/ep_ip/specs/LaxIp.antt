@@ -57,8 +57,8 @@ lax_ip_of header header_len fragmented end cut chain refused = record {
 
 -- ---- IPv4
 
--- An IPv4 packet with this header and these bytes after it, in the given reading. `outer` is true if the enclosing layer
--- is incomplete.
+-- An IPv4 packet with this header and these bytes after it, in the given reading. `outer` is true if the enclosing
+-- layer is incomplete.
 pub record IsLaxIpv4AfterIn (reading : Reading) (outer : Bool) (read : Ipv4Header × List ℕ)
     (lax : LaxIp Ipv4Header) : Type 0 where
   pub cut : LaxCut
@@ -90,8 +90,8 @@ abbrev pub lax_ipv6_source : Ipv6Header → LaxCut → LenSource
 lax_ipv6_source header cut =
     if header.payload_length == 0 then ipv6_payload_source header cut.payload else cut.source
 
--- An IPv6 packet with this header, in the given reading. A payload length of 0 limits nothing, since it states no length
--- (RFC 2675); any other counts from the end of the 40-byte header.
+-- An IPv6 packet with this header, in the given reading. A payload length of 0 limits nothing, since it states no
+-- length (RFC 2675); any other counts from the end of the 40-byte header.
 pub record IsLaxIpv6AfterIn (reading : Reading) (outer : Bool) (read : Ipv6Header × List ℕ)
     (lax : LaxIp Ipv6Header) : Type 0 where
   pub cut : LaxCut

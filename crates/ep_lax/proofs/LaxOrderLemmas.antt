@@ -1,14 +1,14 @@
--- Bytes sliced laxly are the headers of the layers in order, the payload of the last layer, and trailing bytes.
+-- Bytes read laxly are the headers of the layers in order, the payload of the last layer, and trailing bytes.
 use Rattle.std.proofs.Common.{◌≡◌, ℕ, ◌+◌, zero, suc, Bool, false, List, [], ◌∷◌, ◌++◌, map, Option, Some, None, refl, sym, ap, subst, ◌∙◌, inl, inr, append_assoc}
 use Rattle.std.proofs.lemmas.List.{append-nil}
 use Rattle.ep_base.specs.IpPayload.{IpPayload}
-use Rattle.ep_base.specs.Readings.{headers, slices}
+use Rattle.ep_base.specs.Readings.{Reading, headers}
 use Rattle.ep_base.specs.declared.ether_type.EtherType.{EtherType}
 use Rattle.ep_base.specs.declared.len_source.LenSource.TheVariants as source
 use Rattle.ep_base.specs.declared.err.ipv6_exts.HeaderSliceError.{HeaderSliceError}
 use Rattle.ep_ext.specs.Chains.{IpVersion, ipv4, ipv6, ExtensionChain, EncodesParts}
 use Rattle.ep_ext.specs.ExtensionParts.{ExtensionPart, hop_by_hop, destination_options, routing, fragment, authentication, part_next, EncodesPart, IsExtensionPart}
-use Rattle.ep_ext.specs.ChainPrefixes.{BeginWithParts, IsLaxChain}
+use Rattle.ep_ext.specs.ChainPrefixes.{BeginWithParts, IsLaxChainIn}
 use Rattle.ep_ext.specs.RawExtension.{raw_extension_bytes}
 use Rattle.ep_ext.proofs.ChainBytesLemmas.{chain_encoded}
 use Rattle.ep_ip.specs.declared.ipv4_header.Ipv4Header.{Ipv4Header}
@@ -31,8 +31,8 @@ use Rattle.ep_packet.specs.Frame.{NetKind, only_ipv4, only_ipv6, only_arp, any_i
 use Rattle.ep_packet.specs.FrameBytes.{AreInOrder, EncodesNet, after_net}
 use Rattle.ep_packet.proofs.OrderLemmas.{InsideBytes, frame_bytes, ip_bytes, net_layer_bytes, no_layer_bytes, tagged_bytes}
 use Rattle.ep_packet.specs.Layers.{NetLayer, arp, ipv4_layer, ipv6_layer}
-use Rattle.ep_lax.specs.Lax.{IsLimitedLaxly, IsHeaderLimitedLaxly, IsInsideIp, IsIpv4Net, IsIpv6Net, IsLax, IsLaxExtension, IsLaxInside, IsLaxNet, IsLaxTransport}
-use Rattle.ep_ip.specs.LaxIp.{LaxIp, IsLaxIpv4, IsLaxIpv6}
+use Rattle.ep_lax.specs.Lax.{IsLimitedLaxly, IsHeaderLimitedLaxly, IsInsideIp, IsIpv4NetIn, IsIpv6NetIn, IsLaxIn, IsLaxExtension, IsLaxInsideIn, IsLaxNetIn, IsLaxTransport}
+use Rattle.ep_ip.specs.LaxIp.{LaxIp, IsLaxIpv4In, IsLaxIpv6In}
 use Rattle.ep_lax.specs.LaxLayers.{LaxLayers, LaxNet, LaxTransport}
 use Rattle.ep_lax.specs.StrictFrames.{extension_in, layers_in}
 use Rattle.ep_lax.proofs.LaxMacsecLemmas.{payload_by_is}
@@ -66,11 +66,11 @@ parts_bytes_are number bytes (part ∷ parts) last rest is =
     )
 
 -- The bytes of the extension headers that are read are their wire format.
-pub chain_bytes_are : (version : IpVersion) (number : ℕ) (bytes : List ℕ) (chain : ExtensionChain)
-    (refused : Option HeaderSliceError) → IsLaxChain version number bytes chain refused
+pub chain_bytes_are : (reading : Reading) (version : IpVersion) (number : ℕ) (bytes : List ℕ) (chain : ExtensionChain)
+    (refused : Option HeaderSliceError) → IsLaxChainIn version reading number bytes chain refused
     → (encoded : List ℕ) × EncodesParts encoded chain.parts × (bytes ≡ encoded ++ chain.rest)
-chain_bytes_are version number bytes chain None is = chain_encoded version slices number bytes chain is
-chain_bytes_are version number bytes chain (Some error) is =
+chain_bytes_are reading version number bytes chain None is = chain_encoded version reading number bytes chain is
+chain_bytes_are reading version number bytes chain (Some error) is =
     parts_bytes_are number bytes chain.parts chain.last chain.rest is.1
 
 -- ---- the network layer
@@ -88,10 +88,10 @@ regroup : (bytes header rest content inner payload left : List ℕ) → bytes �
 regroup bytes header rest content inner payload left parts rest_is content_is =
     parts ∙ ap (λ (x : List ℕ). header ++ x) (rest_is ∙ ap (λ (x : List ℕ). x ++ left) content_is) ∙ simp append_assoc
 
-ipv4_net_bytes : (outer : Bool) (bytes : List ℕ) (lax : LaxIp Ipv4Header) → IsLaxIpv4 outer bytes lax
-    → NetBytes bytes (ipv4_layer lax.packet)
-ipv4_net_bytes outer bytes lax (read, stands, is) =
-    let chain = chain_bytes_are ipv4 read.0.protocol.0 is.cut.payload is.chain is.refused is.is_chain in
+ipv4_net_bytes : (reading : Reading) (outer : Bool) (bytes : List ℕ) (lax : LaxIp Ipv4Header)
+    → IsLaxIpv4In reading outer bytes lax → NetBytes bytes (ipv4_layer lax.packet)
+ipv4_net_bytes reading outer bytes lax (read, stands, is) =
+    let chain = chain_bytes_are reading ipv4 read.0.protocol.0 is.cut.payload is.chain is.refused is.is_chain in
     subst (λ (l : LaxIp Ipv4Header). NetBytes bytes (ipv4_layer l.packet)) (sym is.is) (record {
       header = stands.encoded ++ chain.0;
       left = is.cut.left;
@@ -100,10 +100,10 @@ ipv4_net_bytes outer bytes lax (read, stands, is) =
           is.cuts.parts chain.2;
     })
 
-ipv6_net_bytes : (outer : Bool) (bytes : List ℕ) (lax : LaxIp Ipv6Header) → IsLaxIpv6 outer bytes lax
-    → NetBytes bytes (ipv6_layer lax.packet)
-ipv6_net_bytes outer bytes lax (read, stands, is) =
-    let chain = chain_bytes_are ipv6 read.0.next_header.0 is.cut.payload is.chain is.refused is.is_chain in
+ipv6_net_bytes : (reading : Reading) (outer : Bool) (bytes : List ℕ) (lax : LaxIp Ipv6Header)
+    → IsLaxIpv6In reading outer bytes lax → NetBytes bytes (ipv6_layer lax.packet)
+ipv6_net_bytes reading outer bytes lax (read, stands, is) =
+    let chain = chain_bytes_are reading ipv6 read.0.next_header.0 is.cut.payload is.chain is.refused is.is_chain in
     subst (λ (l : LaxIp Ipv6Header). NetBytes bytes (ipv6_layer l.packet)) (sym is.is) (record {
       header = ipv6_bytes read.0 ++ chain.0;
       left = is.cut.left;
@@ -167,18 +167,18 @@ layer_in_order : (bytes : List ℕ) (layer : NetLayer) (transport : Option Trans
 layer_in_order bytes layer transport are inside =
     net_layer_bytes bytes are.header are.left layer transport are.encodes are.parts inside
 
-ipv4_net_in_order : (offset : ℕ) (outer : Bool) (bytes : List ℕ) (net : LaxNet) → IsIpv4Net offset outer bytes net
-    → InsideBytes bytes [] net.layer net.inside.layer
-ipv4_net_in_order offset outer bytes net (lax, is, (inside, inner, same)) =
+ipv4_net_in_order : (reading : Reading) (offset : ℕ) (outer : Bool) (bytes : List ℕ) (net : LaxNet)
+    → IsIpv4NetIn reading offset outer bytes net → InsideBytes bytes [] net.layer net.inside.layer
+ipv4_net_in_order reading offset outer bytes net (lax, is, (inside, inner, same)) =
     subst (λ (n : LaxNet). InsideBytes bytes [] n.layer n.inside.layer) (sym same)
-    (layer_in_order bytes (ipv4_layer lax.packet) inside.layer (ipv4_net_bytes outer bytes lax is)
+    (layer_in_order bytes (ipv4_layer lax.packet) inside.layer (ipv4_net_bytes reading outer bytes lax is)
     (inside_in_order ipv4 offset _ lax.incomplete lax.packet.payload lax.stop inside inner))
 
-ipv6_net_in_order : (offset : ℕ) (outer : Bool) (bytes : List ℕ) (net : LaxNet) → IsIpv6Net offset outer bytes net
-    → InsideBytes bytes [] net.layer net.inside.layer
-ipv6_net_in_order offset outer bytes net (lax, is, (inside, inner, same)) =
+ipv6_net_in_order : (reading : Reading) (offset : ℕ) (outer : Bool) (bytes : List ℕ) (net : LaxNet)
+    → IsIpv6NetIn reading offset outer bytes net → InsideBytes bytes [] net.layer net.inside.layer
+ipv6_net_in_order reading offset outer bytes net (lax, is, (inside, inner, same)) =
     subst (λ (n : LaxNet). InsideBytes bytes [] n.layer n.inside.layer) (sym same)
-    (layer_in_order bytes (ipv6_layer lax.packet) inside.layer (ipv6_net_bytes outer bytes lax is)
+    (layer_in_order bytes (ipv6_layer lax.packet) inside.layer (ipv6_net_bytes reading outer bytes lax is)
     (inside_in_order ipv6 offset _ lax.incomplete lax.packet.payload lax.stop inside inner))
 
 -- Bytes without network layer are in order.
@@ -191,20 +191,25 @@ no_net_in_order bytes net other no_layer no_transport same =
     (subst (λ (t : Option TransportLayer). InsideBytes bytes [] None t) (sym inside)
     (no_layer_bytes bytes))
 
-net_in_order : (offset : ℕ) (outer : Bool) (kind : Option NetKind) (bytes : List ℕ) (net : LaxNet)
-    → IsLaxNet offset outer kind bytes net → InsideBytes bytes [] net.layer net.inside.layer
-net_in_order offset outer None bytes net same = no_net_in_order bytes net _ refl refl same
-net_in_order offset outer (Some only_ipv4) bytes net (inl refused) = no_net_in_order bytes net _ refl refl refused.2
-net_in_order offset outer (Some only_ipv4) bytes net (inr is) = ipv4_net_in_order offset outer bytes net is
-net_in_order offset outer (Some only_ipv6) bytes net (inl refused) = no_net_in_order bytes net _ refl refl refused.2
-net_in_order offset outer (Some only_ipv6) bytes net (inr is) = ipv6_net_in_order offset outer bytes net is
-net_in_order offset outer (Some only_arp) bytes net (inl refused) = no_net_in_order bytes net _ refl refl refused.2
-net_in_order offset outer (Some only_arp) bytes net (inr (part, is, same)) =
+net_in_order : (reading : Reading) (offset : ℕ) (outer : Bool) (kind : Option NetKind) (bytes : List ℕ) (net : LaxNet)
+    → IsLaxNetIn reading offset outer kind bytes net → InsideBytes bytes [] net.layer net.inside.layer
+net_in_order reading offset outer None bytes net same = no_net_in_order bytes net _ refl refl same
+net_in_order reading offset outer (Some only_ipv4) bytes net (inl refused) =
+    no_net_in_order bytes net _ refl refl refused.2
+net_in_order reading offset outer (Some only_ipv4) bytes net (inr is) =
+    ipv4_net_in_order reading offset outer bytes net is
+net_in_order reading offset outer (Some only_ipv6) bytes net (inl refused) =
+    no_net_in_order bytes net _ refl refl refused.2
+net_in_order reading offset outer (Some only_ipv6) bytes net (inr is) =
+    ipv6_net_in_order reading offset outer bytes net is
+net_in_order reading offset outer (Some only_arp) bytes net (inl refused) =
+    no_net_in_order bytes net _ refl refl refused.2
+net_in_order reading offset outer (Some only_arp) bytes net (inr (part, is, same)) =
     subst (λ (n : LaxNet). InsideBytes bytes [] n.layer n.inside.layer) (sym same)
     (net_layer_bytes bytes (arp_bytes part.0) part.1 (arp part.0) None (is.fits, refl)
     (is.parts ∙ ap (λ (x : List ℕ). x ++ part.1) (sym (append-nil (arp_bytes part.0)))) (no_transport_in []))
-net_in_order offset outer (Some any_ip) bytes net (inl is) = ipv4_net_in_order offset outer bytes net is
-net_in_order offset outer (Some any_ip) bytes net (inr is) = ipv6_net_in_order offset outer bytes net is
+net_in_order reading offset outer (Some any_ip) bytes net (inl is) = ipv4_net_in_order reading offset outer bytes net is
+net_in_order reading offset outer (Some any_ip) bytes net (inr is) = ipv6_net_in_order reading offset outer bytes net is
 
 -- The bytes are a tag, its payload, and trailing bytes.
 pub record TagBytes (bytes : List ℕ) (extension : LinkExtension) : Type 0 where
@@ -231,47 +236,49 @@ tag_bytes outer type bytes (macsec tag payload, incomplete) (of_type, (cut, is, 
       ∙ sym (append_assoc is.header.encoded (macsec_payload_bytes payload) cut.left);
 }
 
-pub extensions_in_order : (room offset : ℕ) (outer : Bool) (type : Option EtherType) (bytes : List ℕ)
-    (extensions : List (LinkExtension × Bool)) (net : LaxNet) → IsLaxInside room offset outer type bytes extensions net
+pub extensions_in_order : (reading : Reading) (room offset : ℕ) (outer : Bool) (type : Option EtherType)
+    (bytes : List ℕ) (extensions : List (LinkExtension × Bool)) (net : LaxNet)
+    → IsLaxInsideIn reading room offset outer type bytes extensions net
     → InsideBytes bytes (map extension_in extensions) net.layer net.inside.layer
-extensions_in_order room offset outer None bytes extensions net (no_tags, same) =
+extensions_in_order reading room offset outer None bytes extensions net (no_tags, same) =
     subst (λ (x : List (LinkExtension × Bool)). InsideBytes bytes (map extension_in x) net.layer net.inside.layer)
     (sym no_tags)
     (no_net_in_order bytes net _ refl refl same)
-extensions_in_order zero offset outer (Some type) bytes [] net is = net_in_order offset outer (net_kind type) bytes net is
-extensions_in_order zero offset outer (Some type) bytes (extension ∷ others) net is = absurd is
-extensions_in_order (suc room) offset outer (Some type) bytes [] net (inl is) =
-    net_in_order offset outer (net_kind type) bytes net is.1
-extensions_in_order (suc room) offset outer (Some type) bytes [] net (inr refused) =
+extensions_in_order reading zero offset outer (Some type) bytes [] net is =
+    net_in_order reading offset outer (net_kind type) bytes net is
+extensions_in_order reading zero offset outer (Some type) bytes (extension ∷ others) net is = absurd is
+extensions_in_order reading (suc room) offset outer (Some type) bytes [] net (inl is) =
+    net_in_order reading offset outer (net_kind type) bytes net is.1
+extensions_in_order reading (suc room) offset outer (Some type) bytes [] net (inr refused) =
     no_net_in_order bytes net _ refl refl refused.2
-extensions_in_order (suc room) offset outer (Some type) bytes (extension ∷ others) net is =
+extensions_in_order reading (suc room) offset outer (Some type) bytes (extension ∷ others) net is =
     let are = tag_bytes outer type bytes extension is.0 in
     tagged_bytes bytes are.tag are.left extension.0 (map extension_in others) net.layer net.inside.layer are.encodes
     are.parts
-    (extensions_in_order room (offset + link_ext_header_len (extension_header extension.0)) extension.1
+    (extensions_in_order reading room (offset + link_ext_header_len (extension_header extension.0)) extension.1
     (extension_type extension.0) (extension_payload extension.0) others net is.1)
 
 -- ---- the frame
 
-pub lax_in_order : (entry : Entry) (bytes : List ℕ) (read : LaxLayers) → IsLax entry bytes read
-    → AreInOrder bytes (layers_in read)
-lax_in_order ethernet bytes read (frame, is, link, inside) =
+pub lax_in_order : (reading : Reading) (entry : Entry) (bytes : List ℕ) (read : LaxLayers)
+    → IsLaxIn reading entry bytes read → AreInOrder bytes (layers_in read)
+lax_in_order reading ethernet bytes read (frame, is, link, inside) =
     frame_bytes bytes (ethernet2_bytes frame.header) frame.left (ethernet2 frame.header frame.payload)
     (layers_in read) (is.fits, refl) is.parts link
-    (extensions_in_order most_link_exts ethernet2_header_len false (Some frame.header.ether_type) frame.payload
+    (extensions_in_order reading most_link_exts ethernet2_header_len false (Some frame.header.ether_type) frame.payload
     read.link_exts read.net inside)
-lax_in_order linux_sll bytes read (frame, is, link, inside) =
+lax_in_order reading linux_sll bytes read (frame, is, link, inside) =
     frame_bytes bytes (linux_sll_bytes frame.header) frame.left (sll frame.header frame.payload)
     (layers_in read) (is.fits, refl) is.parts link
-    (extensions_in_order most_link_exts linux_sll_header_len false (protocol_ether_type frame.header.protocol_type)
-    frame.payload read.link_exts read.net inside)
-lax_in_order (ether_type type) bytes read (link, inside) =
+    (extensions_in_order reading most_link_exts linux_sll_header_len false
+    (protocol_ether_type frame.header.protocol_type) frame.payload read.link_exts read.net inside)
+lax_in_order reading (ether_type type) bytes read (link, inside) =
     frame_bytes bytes [] [] (ether_payload type source.Slice bytes) (layers_in read) refl
     (sym (append-nil bytes)) link
-    (extensions_in_order most_link_exts 0 false (Some type) bytes read.link_exts read.net inside)
-lax_in_order ip bytes read (no_link, no_tags, inl is) =
+    (extensions_in_order reading most_link_exts 0 false (Some type) bytes read.link_exts read.net inside)
+lax_in_order reading ip bytes read (no_link, no_tags, inl is) =
     ip_bytes bytes (layers_in read) (ipv4_layer is.0.packet) no_link (ap (map extension_in) no_tags)
-    (λ i. (is.2.2 i).layer) (ipv4_net_in_order 0 false bytes read.net is)
-lax_in_order ip bytes read (no_link, no_tags, inr is) =
+    (λ i. (is.2.2 i).layer) (ipv4_net_in_order reading 0 false bytes read.net is)
+lax_in_order reading ip bytes read (no_link, no_tags, inr is) =
     ip_bytes bytes (layers_in read) (ipv6_layer is.0.packet) no_link (ap (map extension_in) no_tags)
-    (λ i. (is.2.2 i).layer) (ipv6_net_in_order 0 false bytes read.net is)
+    (λ i. (is.2.2 i).layer) (ipv6_net_in_order reading 0 false bytes read.net is)

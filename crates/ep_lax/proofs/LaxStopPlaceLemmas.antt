@@ -1,8 +1,8 @@
--- Where lax slicing stops for missing bytes: at the payload of the last layer, with the bytes of this payload.
+-- Where lax reading stops for missing bytes: at the payload of the last layer, with the bytes of this payload.
 use Rattle.std.proofs.Common.{◌≡◌, ◌==◌, if◌then◌else◌, ℕ, ◌+◌, Bool, true, false, List, [], ◌∷◌, length, map, reverse, slice_index, Option, Some, None, refl, sym, subst, inl, inr, arith}
 use Rattle.ep_base.specs.IpNumbers.{authentication_number, fragment_number, icmpv4_number, icmpv6_number, tcp_number, udp_number}
 use Rattle.ep_base.specs.IpPayload.{IpPayload}
-use Rattle.ep_base.specs.Readings.{headers, slices}
+use Rattle.ep_base.specs.Readings.{Reading, headers}
 use Rattle.ep_base.specs.Tables.{Refuses, RefusesAs, rows_as}
 use Rattle.ep_base.specs.declared.ether_type.EtherType.{EtherType}
 use Rattle.ep_base.specs.declared.len_source.LenSource.{LenSource}
@@ -40,10 +40,10 @@ use Rattle.ep_packet.specs.FrameRefusals.{RefusesTransportIn, extension_refusal,
 use Rattle.ep_packet.specs.Layers.{Layers, NetLayer, ipv4 as net_ipv4, ipv6 as net_ipv6, arp}
 use Rattle.ep_packet.specs.Offsets.{payload_offset}
 use Rattle.ep_packet.specs.Payloads.{payload_ether_type_in}
-use Rattle.ep_lax.specs.Lax.{IsLax, RefusesLaxExtension, chain_refusal}
+use Rattle.ep_lax.specs.Lax.{IsLaxIn, RefusesLaxExtension, chain_refusal}
 use Rattle.ep_ip.specs.LaxIp.{stop_after}
 use Rattle.ep_lax.specs.LaxLayers.{LaxLayers}
-use Rattle.ep_lax.specs.LaxStops.{RefusesAfterLink, RefusesAfterNet, RefusesInIp, RefusesNetHeader, RefusesNextLayer}
+use Rattle.ep_lax.specs.LaxStops.{RefusesAfterLink, RefusesAfterNetIn, RefusesIpPayloadIn, RefusesNetHeader, RefusesNextLayerIn}
 use Rattle.ep_lax.specs.StrictFrames.{layers_in}
 use Rattle.ep_lax.proofs.LaxNextLayerLemmas.{stop_is_next}
 
@@ -142,13 +142,13 @@ extension_rows_at version offset end number bytes =
     (either_way (AllErrors Such) (number == fragment_number) (rows_as exts_error.Len (fragment_header_rows bytes))
     (rows_as exts_error.Len (raw_extension_rows bytes)) (at, tt) (at, (at, tt)))
 
-extension_at : (version : IpVersion) (visited : List ℕ) (offset : ℕ) (end : LenSource) (number : ℕ) (bytes : List ℕ)
-    (error : ExtsSliceError) → RefusesChainAfter version slices visited 0 number bytes [] error
+extension_at : (reading : Reading) (version : IpVersion) (visited : List ℕ) (offset : ℕ) (end : LenSource) (number : ℕ)
+    (bytes : List ℕ) (error : ExtsSliceError) → RefusesChainAfter version reading visited 0 number bytes [] error
     → IsAt offset (length bytes) (chain_refusal version offset (stop_after 0 end error))
-extension_at version visited offset end number bytes error (inl misplaced) =
+extension_at reading version visited offset end number bytes error (inl misplaced) =
     subst (λ (e : ExtsSliceError). IsAt offset (length bytes) (chain_refusal version offset (stop_after 0 end e)))
     (sym misplaced.1) tt
-extension_at version visited offset end number bytes error (inr refused) =
+extension_at reading version visited offset end number bytes error (inr refused) =
     let why = refused.1 in
     subst (λ (e : ExtsSliceError). IsAt offset (length bytes) (chain_refusal version offset (stop_after 0 end e)))
     (sym why.2)
@@ -157,26 +157,27 @@ extension_at version visited offset end number bytes error (inr refused) =
 
 -- ---- next layer
 
-in_ip_at : (version : IpVersion) (extensions : List ExtensionPart) (payload : IpPayload)
+in_ip_at : (reading : Reading) (version : IpVersion) (extensions : List ExtensionPart) (payload : IpPayload)
     (transport : Option TransportLayer) (offset : ℕ) (error : SliceError)
-    → RefusesInIp version extensions payload transport offset error
+    → RefusesIpPayloadIn reading version extensions payload transport offset error
     → IsAt offset (length (payload_in payload.bytes transport)) error
-in_ip_at version extensions payload (Some transport) offset error refused = absurd refused
-in_ip_at version extensions payload None offset error (inl refused) =
+in_ip_at reading version extensions payload (Some transport) offset error refused = absurd refused
+in_ip_at reading version extensions payload None offset error (inl refused) =
     subst (IsAt offset (length payload.bytes)) (sym refused.2)
-    (extension_at version (reverse (map part_number extensions)) offset payload.source payload.number payload.bytes
-    refused.0 refused.1)
-in_ip_at version extensions payload None offset error (inr refused) = transport_refusal_at offset payload error refused
+    (extension_at reading version (reverse (map part_number extensions)) offset payload.source payload.number
+    payload.bytes refused.0 refused.1)
+in_ip_at reading version extensions payload None offset error (inr refused) =
+    transport_refusal_at offset payload error refused
 
-after_net_at : (bytes : List ℕ) (net : Option NetLayer) (transport : Option TransportLayer) (offset : ℕ)
-    (error : SliceError) → RefusesAfterNet net transport offset error
+after_net_at : (reading : Reading) (bytes : List ℕ) (net : Option NetLayer) (transport : Option TransportLayer)
+    (offset : ℕ) (error : SliceError) → RefusesAfterNetIn reading net transport offset error
     → IsAt offset (length (inner_payload bytes net transport)) error
-after_net_at bytes None transport offset error refused = absurd refused
-after_net_at bytes (Some (net_ipv4 header extensions payload)) transport offset error refused =
-    in_ip_at ipv4 extensions payload transport offset error refused
-after_net_at bytes (Some (net_ipv6 header extensions payload)) transport offset error refused =
-    in_ip_at ipv6 extensions payload transport offset error refused
-after_net_at bytes (Some (arp packet)) transport offset error refused = absurd refused
+after_net_at reading bytes None transport offset error refused = absurd refused
+after_net_at reading bytes (Some (net_ipv4 header extensions payload)) transport offset error refused =
+    in_ip_at reading ipv4 extensions payload transport offset error refused
+after_net_at reading bytes (Some (net_ipv6 header extensions payload)) transport offset error refused =
+    in_ip_at reading ipv6 extensions payload transport offset error refused
+after_net_at reading bytes (Some (arp packet)) transport offset error refused = absurd refused
 
 net_header_at : (kind : Option NetKind) (offset : ℕ) (bytes : List ℕ) (error : SliceError)
     → RefusesNetHeader kind offset bytes error → IsAt offset (length bytes) error
@@ -211,18 +212,20 @@ after_link_at count (Some type) offset bytes error (inr refused) =
     net_header_at (net_kind type) offset bytes error refused
 
 -- The errors of the next layer are about the payload of the last layer.
-next_layer_at : (layers : Layers) (error : SliceError) → RefusesNextLayer layers error
+next_layer_at : (reading : Reading) (layers : Layers) (error : SliceError) → RefusesNextLayerIn reading layers error
     → IsAt (payload_offset layers) (length (last_payload layers)) error
-next_layer_at layers error (inl refused) =
+next_layer_at reading layers error (inl refused) =
     after_link_at (length layers.link_exts) (payload_ether_type_in layers) (payload_offset layers) (last_payload layers)
     error refused
-next_layer_at layers error (inr refused) =
-    after_net_at (payload_after_exts (link_payload layers.link) layers.link_exts) layers.net layers.transport
+next_layer_at reading layers error (inr refused) =
+    after_net_at reading (payload_after_exts (link_payload layers.link) layers.link_exts) layers.net layers.transport
     (payload_offset layers) error refused
 
-pub stop_place : (entry : Entry) (bytes : List ℕ) (read : LaxLayers) → IsLax entry bytes read → (error : LenError)
-    (layer : Layer) → read.net.inside.stop ≡ Some (Len error, layer)
+pub stop_place : (reading : Reading) (entry : Entry) (bytes : List ℕ) (read : LaxLayers)
+    → IsLaxIn reading entry bytes read → (error : LenError) (layer : Layer)
+    → read.net.inside.stop ≡ Some (Len error, layer)
     → (error.layer_start_offset ≡ payload_offset (layers_in read))
     × (error.len ≡ length (last_payload (layers_in read)))
-stop_place entry bytes read is error layer stops =
-    next_layer_at (layers_in read) (Len error) (stop_is_next entry bytes read is (Len error, layer) stops)
+stop_place reading entry bytes read is error layer stops =
+    next_layer_at reading (layers_in read) (Len error)
+    (stop_is_next reading entry bytes read is (Len error, layer) stops)

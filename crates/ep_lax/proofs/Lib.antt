@@ -9,6 +9,7 @@ pub mod LaxTransportLemmas
 pub mod LaxWalkLemmas
 pub mod LaxNetLemmas
 pub mod LaxPacketHeadersLemmas
+pub mod LaxHeadersPayloadLemmas
 pub mod LaxLinkLemmas
 pub mod LaxPayloadLemmas
 pub mod FurtherHeaderLemmas
@@ -22,3 +23,4 @@ pub mod OrderHeaderLemmas
 pub mod NestedLengthLemmas
 pub mod TruncationLemmas
 pub mod PayloadBytesLemmas
+pub mod WholeFrameLemmas

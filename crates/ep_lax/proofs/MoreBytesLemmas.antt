@@ -3,6 +3,7 @@ use Rattle.std.proofs.Common.{◌≡◌, ◌⊎◌, ℕ, zero, suc, ◌+◌, ◌
 use Rattle.std.proofs.lemmas.Bool.{cases_lt}
 use Rattle.std.proofs.lemmas.List.{append-nil}
 use Rattle.ep_base.specs.Bytes.{AreBytes}
+use Rattle.ep_base.specs.Readings.{slices}
 use Rattle.ep_base.specs.Tables.{IsOne, parts_of}
 use Rattle.ep_base.specs.declared.ether_type.EtherType.{EtherType}
 use Rattle.ep_base.specs.declared.err.layer.Layer.{Layer}
@@ -319,7 +320,7 @@ inside_fits : (room offset : ℕ) (outer : Bool) (type : Option EtherType) (byte
 inside_fits room offset outer type bytes extensions net is =
     headers_fit (inside_headers extensions net) bytes
     (inside_begins bytes (map extension_in extensions) net.layer net.inside.layer
-    (extensions_in_order room offset outer type bytes extensions net is))
+    (extensions_in_order slices room offset outer type bytes extensions net is))
 
 -- A tag before the layers of both.
 tagged_more : (len room place : ℕ) (inner : Bool) (type : EtherType) (bytes : List ℕ) (tagged : Tagged)
@@ -610,7 +611,7 @@ prefix_shows_complete entry front back layers read fits frame is =
     let shown = shown_headers read in
     let complete = subst (λ (l : LaxLayers). ShowsComplete (length front) shown (shown_headers l)) same longer.3 in
     let more = first.more in
-    let begins = order_begins front (layers_in read) (lax_in_order entry front read is) in
+    let begins = order_begins front (layers_in read) (lax_in_order slices entry front read is) in
     sym (ap (headers_within (length front)) first.parts
     ∙ complete_headers (length front) shown more (headers_fit shown front begins)
     (subst (λ (l : Layers). ShowsComplete (length front) shown (frame_headers l)) strict.2 complete more first.parts))

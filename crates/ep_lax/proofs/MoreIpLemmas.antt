@@ -6,7 +6,7 @@ use Rattle.std.proofs.lemmas.List.{append-nil, map-append}
 use Rattle.ep_base.specs.Bytes.{AreBytes}
 use Rattle.ep_base.specs.IpPayload.{IpPayload}
 use Rattle.ep_base.specs.LaxCut.{LaxCut, IsLaxCut, cuts}
-use Rattle.ep_base.specs.Readings.{slices}
+use Rattle.ep_base.specs.Readings.{Reading, slices}
 use Rattle.ep_base.specs.declared.err.layer.Layer.{Layer}
 use Rattle.ep_base.specs.declared.err.ipv6_exts.HeaderSliceError.{HeaderSliceError}
 use Rattle.ep_base.specs.declared.len_source.LenSource.{LenSource}
@@ -15,7 +15,7 @@ use Rattle.ep_base.proofs.BytesLemmas.{AreBytes-front}
 use Rattle.ep_base.proofs.LaxCutLemmas.{cuts_not, cuts_there, lax_cut_is_one}
 use Rattle.ep_ext.specs.Chains.{IpVersion, ipv4, ipv6, ExtensionChain, chain_of, chain_fragments, demand_of, takes, IsChainAfter, RefusesChainAfter}
 use Rattle.ep_ext.specs.ExtensionParts.{ExtensionPart, hop_by_hop, destination_options, routing, fragment, authentication, part_len, part_next, IsExtensionPart}
-use Rattle.ep_ext.specs.ChainPrefixes.{BeginWithParts, IsLaxChain}
+use Rattle.ep_ext.specs.ChainPrefixes.{BeginWithParts, IsLaxChain, IsLaxChainIn}
 use Rattle.ep_ext.specs.RawExtension.{raw_extension_bytes}
 use Rattle.ep_ext.proofs.ChainLemmas.{behind_decided}
 use Rattle.ep_ext.proofs.HeaderLawLemmas.{header_laws}
@@ -372,12 +372,13 @@ front_lens number bytes (part ∷ parts) last rest are =
     let here = part_lens number bytes part are.0 are.1 in
     omega (arith, here.0, front_lens (part_next part) are.0 parts last rest are.2)
 
-pub chain_len : (version : IpVersion) (number : ℕ) (bytes : List ℕ) (chain : ExtensionChain)
-    (refused : Option HeaderSliceError) → IsLaxChain version number bytes chain refused
+pub chain_len : (version : IpVersion) (reading : Reading) (number : ℕ) (bytes : List ℕ) (chain : ExtensionChain)
+    (refused : Option HeaderSliceError) → IsLaxChainIn version reading number bytes chain refused
     → length bytes ≡ parts_len chain.parts + length chain.rest
-chain_len version number bytes chain None is =
-    chain_lens version slices [] number bytes chain.parts chain.last chain.rest is
-chain_len version number bytes chain (Some error) is = front_lens number bytes chain.parts chain.last chain.rest is.1
+chain_len version reading number bytes chain None is =
+    chain_lens version reading [] number bytes chain.parts chain.last chain.rest is
+chain_len version reading number bytes chain (Some error) is =
+    front_lens number bytes chain.parts chain.last chain.rest is.1
 
 -- The transport header is not longer than the bytes that begin with it.
 transport_fits : (bytes : List ℕ) (transport : Option TransportLayer) → AreTransport bytes transport
@@ -620,8 +621,8 @@ packet_more version layer_of heads offset place header len number fragmented lim
       more = subst (λ (n : ℕ). MoreNet n (IsIpLayer version layer_of place read) net) (sym bytes_len)
           (packet_whole version layer_of heads offset place shown read rest net room refl refl refl refl refl
           (content_limit room (length cut.payload) (length longer.payload) (content_len shown.packet)
-          (content_len read.packet) (chain_len version number cut.payload chain None front)
-          (chain_len version number longer.payload behind None stands) within)
+          (content_len read.packet) (chain_len version slices number cut.payload chain None front)
+          (chain_len version slices number longer.payload behind None stands) within)
           (rest_fits version slices number longer.payload behind None fits stands) layer);
     }
 packet_more version layer_of heads offset place header len number fragmented limit end cut longer rest all room bytes_len
@@ -636,7 +637,7 @@ packet_more version layer_of heads offset place header len number fragmented lim
     (front_chain version number (cut.payload ++ rest) behind stop found.front.is) in
     let shown = lax_ip_of header len (fragmented chain.parts) limit cut chain (Some error) in
     let read = lax_ip_of header len (fragmented behind.parts) end longer behind stop in
-    let here = chain_len version number cut.payload chain (Some error) front in
+    let here = chain_len version slices number cut.payload chain (Some error) front in
     record {
       chain = behind;
       refused = stop;
@@ -647,7 +648,7 @@ packet_more version layer_of heads offset place header len number fragmented lim
           (stops_as (stop_after len end) (content_len shown.packet) chain.parts others stop
           (subst (λ (n : ℕ). StopsBefore n chain.parts others stop) here found.stops))
           (content_limit room (length cut.payload) (length longer.payload) (content_len shown.packet)
-          (content_len read.packet) here (chain_len version number longer.payload behind stop stands) within)
+          (content_len read.packet) here (chain_len version slices number longer.payload behind stop stands) within)
           (rest_fits version slices number longer.payload behind stop fits stands) layer);
     }
 

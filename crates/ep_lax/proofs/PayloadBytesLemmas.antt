@@ -1,4 +1,4 @@
--- The payload of a layer sliced laxly has the bytes from the end of its headers to the end that its length field
+-- The payload of a layer read laxly has the bytes from the end of its headers to the end that its length field
 -- states, if the field applies, or else to the end of the bytes around the layer.
 use Rattle.std.proofs.Common.{◌≡◌, ◌⊎◌, ◌==◌, ◌&&◌, nat_le, if◌then◌else◌, ℕ, zero, suc, ◌+◌, ◌<◌, ◌≤◌, Bool, false, List, [], ◌∷◌, ◌++◌, length, length-append, map, Option, Some, None, refl, sym, ap, subst, ◌∙◌, inl, inr, append_assoc, arith}
 use Rattle.std.specs.Option.{option_map}
@@ -6,14 +6,14 @@ use Rattle.std.proofs.lemmas.Bool.{cases_eq, cases_lt, le-leb, lt-leb}
 use Rattle.std.proofs.lemmas.List.{append-nil}
 use Rattle.ep_base.specs.IpPayload.{IpPayload}
 use Rattle.ep_base.specs.LaxCut.{LaxCut, IsLaxCut}
-use Rattle.ep_base.specs.Readings.{headers}
+use Rattle.ep_base.specs.Readings.{Reading, headers}
 use Rattle.ep_base.specs.declared.ether_type.EtherType.{EtherType}
 use Rattle.ep_base.specs.declared.len_source.LenSource.{LenSource}
 use Rattle.ep_base.specs.declared.len_source.LenSource.TheVariants as source
 use Rattle.ep_base.specs.declared.err.ipv6_exts.HeaderSliceError.{HeaderSliceError}
 use Rattle.ep_base.proofs.LaxCutLemmas.{cuts_not, cuts_there}
 use Rattle.ep_ext.specs.Chains.{IpVersion, ipv4, ipv6, ExtensionChain, chain_fragments}
-use Rattle.ep_ext.specs.ChainPrefixes.{IsLaxChain}
+use Rattle.ep_ext.specs.ChainPrefixes.{IsLaxChainIn}
 use Rattle.ep_ext.specs.ExtensionParts.{ExtensionPart, part_len}
 use Rattle.ep_ip.specs.declared.ipv4_header.Ipv4Header.{Ipv4Header}
 use Rattle.ep_ip.specs.declared.ipv6_header.Ipv6Header.{Ipv6Header}
@@ -40,7 +40,7 @@ use Rattle.ep_packet.specs.FrameBytes.{EncodesLink, inner_payload, link_payload,
 use Rattle.ep_packet.specs.Layers.{NetLayer, arp, ipv4_layer, ipv6_layer}
 use Rattle.ep_packet.specs.Offsets.{link_len, net_len, parts_len, tag_len, tags_len, transport_len}
 use Rattle.ep_packet.proofs.OffsetLemmas.{link_encoded, net_encoded, tag_encoded, transport_encoded}
-use Rattle.ep_lax.specs.Lax.{IsHeaderLimitedLaxly, IsInsideIp, IsIpLayer, IsIpv4Net, IsIpv6Net, IsLax, IsLaxExtension, IsLaxInside, IsLaxNet, IsLaxTransport, IsNoNet}
+use Rattle.ep_lax.specs.Lax.{IsHeaderLimitedLaxly, IsInsideIp, IsIpLayer, IsIpv4NetIn, IsIpv6NetIn, IsLaxIn, IsLaxExtension, IsLaxInsideIn, IsLaxNetIn, IsLaxTransport, IsNoNet}
 use Rattle.ep_lax.specs.LaxHeaders.{LayerHeader, of_extension, net_headers, tag_header, transport_headers}
 use Rattle.ep_ip.specs.LaxIp.{LaxIp, lax_ipv6_source, stop_after}
 use Rattle.ep_lax.specs.LaxLayers.{LaxLayers, LaxNet, LaxTransport}
@@ -285,18 +285,18 @@ after_parts_range packet offset end header_len chain transport at =
     (sym (parts_end (offset + header_len) end chain.parts (transport_headers transport)))
 
 -- The layers in a packet whose extension headers and payload are the bytes of `cut`.
-packet_ranges : (packet : List ℕ) (offset end place headers_len header_len number : ℕ) (version : IpVersion)
-    (limit : LenSource) (cut : LaxCut) (chain : ExtensionChain) (refused : Option HeaderSliceError) (fragmented : Bool)
-    (inside : LaxTransport) → IsLaxChain version number cut.payload chain refused
+packet_ranges : (reading : Reading) (packet : List ℕ) (offset end place headers_len header_len number : ℕ)
+    (version : IpVersion) (limit : LenSource) (cut : LaxCut) (chain : ExtensionChain)
+    (refused : Option HeaderSliceError) (fragmented : Bool) (inside : LaxTransport)
+    → IsLaxChainIn version reading number cut.payload chain refused
     → IsInsideIp version place headers_len cut.incomplete
     (record { number = chain.last; fragmented = fragmented; source = limit; bytes = chain.rest })
-    (option_map (stop_after header_len limit) refused) inside
-    → IsByteRange packet (offset + header_len) end cut.payload
+    (option_map (stop_after header_len limit) refused) inside → IsByteRange packet (offset + header_len) end cut.payload
     → IsIpRange packet offset end header_len chain None × IsIpRange packet offset end header_len chain inside.layer
-packet_ranges packet offset end place headers_len header_len number version limit cut chain refused fragmented inside
-    is_chain is at =
-    let headers_are = chain_bytes_are version number cut.payload chain refused is_chain in
-    let count = chain_len version number cut.payload chain refused is_chain in
+packet_ranges reading packet offset end place headers_len header_len number version limit cut chain refused fragmented
+    inside is_chain is at =
+    let headers_are = chain_bytes_are reading version number cut.payload chain refused is_chain in
+    let count = chain_len version reading number cut.payload chain refused is_chain in
     let start = offset + header_len + parts_len chain.parts in
     let rest : IsByteRange packet start end chain.rest =
     rest_range packet (offset + header_len) end (parts_len chain.parts) cut.payload headers_are.0 chain.rest at
@@ -310,10 +310,10 @@ packet_ranges packet offset end place headers_len header_len number version limi
           (option_map (stop_after header_len limit) refused) inside is rest),
     )
 
-ipv4_ranges : (packet : List ℕ) (offset end place : ℕ) (outer : Bool) (around bytes : List ℕ) (net : LaxNet)
-    → IsIpv4Net place outer bytes net → IsByteRange packet offset end bytes
+ipv4_ranges : (reading : Reading) (packet : List ℕ) (offset end place : ℕ) (outer : Bool) (around bytes : List ℕ)
+    (net : LaxNet) → IsIpv4NetIn reading place outer bytes net → IsByteRange packet offset end bytes
     → AreNetRanges packet offset end around net
-ipv4_ranges packet offset end place outer around bytes net is at =
+ipv4_ranges reading packet offset end place outer around bytes net is at =
     let read = is.1.0 in
     let stands = is.1.1 in
     let after = is.1.2 in
@@ -327,14 +327,14 @@ ipv4_ranges packet offset end place outer around bytes net is at =
     (λ short. short) in
     let content = cut_range packet offset end n last bytes stands.encoded read.1 after.cut at stands.parts encoded_len
     after.cuts.parts ends in
-    let inner = packet_ranges packet offset last place _ n header.protocol.0 ipv4 after.cut.source after.cut after.chain
-    after.refused (is_ipv4_fragment header) layer.0 after.is_chain layer.1 content in
+    let inner = packet_ranges reading packet offset last place _ n header.protocol.0 ipv4 after.cut.source after.cut
+    after.chain after.refused (is_ipv4_fragment header) layer.0 after.is_chain layer.1 content in
     subst (AreNetRanges packet offset end around) (sym layer.2) (record { net = inner.0; transport = inner.1 })
 
-ipv6_ranges : (packet : List ℕ) (offset end place : ℕ) (outer : Bool) (around bytes : List ℕ) (net : LaxNet)
-    → IsIpv6Net place outer bytes net → IsByteRange packet offset end bytes
+ipv6_ranges : (reading : Reading) (packet : List ℕ) (offset end place : ℕ) (outer : Bool) (around bytes : List ℕ)
+    (net : LaxNet) → IsIpv6NetIn reading place outer bytes net → IsByteRange packet offset end bytes
     → AreNetRanges packet offset end around net
-ipv6_ranges packet offset end place outer around bytes net is at =
+ipv6_ranges reading packet offset end place outer around bytes net is at =
     let read = is.1.0 in
     let stands = is.1.1 in
     let after = is.1.2 in
@@ -350,8 +350,8 @@ ipv6_ranges packet offset end place outer around bytes net is at =
     let content = cut_range packet offset end 40 last bytes encoded read.1 after.cut at stands.parts encoded_len
     after.cuts.parts ends in
     let limit = lax_ipv6_source header after.cut in
-    let inner = packet_ranges packet offset last place _ 40 header.next_header.0 ipv6 limit after.cut after.chain
-    after.refused (chain_fragments after.chain.parts) layer.0 after.is_chain layer.1 content in
+    let inner = packet_ranges reading packet offset last place _ 40 header.next_header.0 ipv6 limit after.cut
+    after.chain after.refused (chain_fragments after.chain.parts) layer.0 after.is_chain layer.1 content in
     subst (AreNetRanges packet offset end around) (sym layer.2) (record { net = inner.0; transport = inner.1 })
 
 -- Bytes without network layer.
@@ -367,23 +367,23 @@ no_net_ranges packet offset end outer bytes net error is at =
     let there = no_layer_range packet offset end bytes at in
     subst (AreNetRanges packet offset end bytes) (sym is) (record { net = there; transport = there })
 
-net_ranges : (packet : List ℕ) (offset end place : ℕ) (outer : Bool) (kind : Option NetKind) (bytes : List ℕ)
-    (net : LaxNet) → IsLaxNet place outer kind bytes net → IsByteRange packet offset end bytes
-    → AreNetRanges packet offset end bytes net
-net_ranges packet offset end place outer None bytes net is at =
+net_ranges : (reading : Reading) (packet : List ℕ) (offset end place : ℕ) (outer : Bool) (kind : Option NetKind)
+    (bytes : List ℕ) (net : LaxNet) → IsLaxNetIn reading place outer kind bytes net
+    → IsByteRange packet offset end bytes → AreNetRanges packet offset end bytes net
+net_ranges reading packet offset end place outer None bytes net is at =
     let there = no_layer_range packet offset end bytes at in
     subst (AreNetRanges packet offset end bytes) (sym is) (record { net = there; transport = there })
-net_ranges packet offset end place outer (Some only_ipv4) bytes net (inl refused) at =
+net_ranges reading packet offset end place outer (Some only_ipv4) bytes net (inl refused) at =
     no_net_ranges packet offset end outer bytes net refused.0 refused.2 at
-net_ranges packet offset end place outer (Some only_ipv4) bytes net (inr is) at =
-    ipv4_ranges packet offset end place outer bytes bytes net is at
-net_ranges packet offset end place outer (Some only_ipv6) bytes net (inl refused) at =
+net_ranges reading packet offset end place outer (Some only_ipv4) bytes net (inr is) at =
+    ipv4_ranges reading packet offset end place outer bytes bytes net is at
+net_ranges reading packet offset end place outer (Some only_ipv6) bytes net (inl refused) at =
     no_net_ranges packet offset end outer bytes net refused.0 refused.2 at
-net_ranges packet offset end place outer (Some only_ipv6) bytes net (inr is) at =
-    ipv6_ranges packet offset end place outer bytes bytes net is at
-net_ranges packet offset end place outer (Some only_arp) bytes net (inl refused) at =
+net_ranges reading packet offset end place outer (Some only_ipv6) bytes net (inr is) at =
+    ipv6_ranges reading packet offset end place outer bytes bytes net is at
+net_ranges reading packet offset end place outer (Some only_arp) bytes net (inl refused) at =
     no_net_ranges packet offset end outer bytes net refused.0 refused.2 at
-net_ranges packet offset end place outer (Some only_arp) bytes net (inr (part, is, same)) at =
+net_ranges reading packet offset end place outer (Some only_arp) bytes net (inr (part, is, same)) at =
     let layer = Some (arp part.0) in
     let len = net_len layer in
     let parts : bytes ≡ (arp_bytes part.0 ++ []) ++ part.1 =
@@ -393,10 +393,10 @@ net_ranges packet offset end place outer (Some only_arp) bytes net (inr (part, i
     let there : IsNetRange packet offset end bytes layer None =
     same_range packet (offset + len) (offset + len + 0) (offset + len) (offset + len) [] none (omega arith) refl in
     subst (AreNetRanges packet offset end bytes) (sym same) (record { net = there; transport = there })
-net_ranges packet offset end place outer (Some any_ip) bytes net (inl is) at =
-    ipv4_ranges packet offset end place outer bytes bytes net is at
-net_ranges packet offset end place outer (Some any_ip) bytes net (inr is) at =
-    ipv6_ranges packet offset end place outer bytes bytes net is at
+net_ranges reading packet offset end place outer (Some any_ip) bytes net (inl is) at =
+    ipv4_ranges reading packet offset end place outer bytes bytes net is at
+net_ranges reading packet offset end place outer (Some any_ip) bytes net (inr is) at =
+    ipv6_ranges reading packet offset end place outer bytes bytes net is at
 
 -- ---- link extensions
 
@@ -469,24 +469,26 @@ tagged_range packet offset end bytes extension others net transport at =
     same_range packet _ _ _ _
     (inner_payload (payload_after_exts (extension_payload extension) others) net transport) at (omega arith) refl
 
-extension_ranges : (packet : List ℕ) (exts_left offset end place : ℕ) (outer : Bool) (type : Option EtherType)
-    (bytes : List ℕ) (extensions : List Tagged) (net : LaxNet)
-    → IsLaxInside exts_left place outer type bytes extensions net → IsByteRange packet offset end bytes
+extension_ranges : (reading : Reading) (packet : List ℕ) (exts_left offset end place : ℕ) (outer : Bool)
+    (type : Option EtherType) (bytes : List ℕ) (extensions : List Tagged) (net : LaxNet)
+    → IsLaxInsideIn reading exts_left place outer type bytes extensions net → IsByteRange packet offset end bytes
     → AreInsideRanges packet offset end bytes (map extension_in extensions) net
-extension_ranges packet exts_left offset end place outer None bytes extensions net is at =
+extension_ranges reading packet exts_left offset end place outer None bytes extensions net is at =
     subst (λ (e : List Tagged). AreInsideRanges packet offset end bytes (map extension_in e) net) (sym is.0)
-    (no_tags packet offset end bytes net (net_ranges packet offset end place outer None bytes net is.1 at))
-extension_ranges packet zero offset end place outer (Some type) bytes [] net is at =
-    no_tags packet offset end bytes net (net_ranges packet offset end place outer (net_kind type) bytes net is at)
-extension_ranges packet zero offset end place outer (Some type) bytes (tagged ∷ others) net is at = absurd is
-extension_ranges packet (suc exts_left) offset end place outer (Some type) bytes [] net (inl is) at =
-    no_tags packet offset end bytes net (net_ranges packet offset end place outer (net_kind type) bytes net is.1 at)
-extension_ranges packet (suc exts_left) offset end place outer (Some type) bytes [] net (inr refused) at =
+    (no_tags packet offset end bytes net (net_ranges reading packet offset end place outer None bytes net is.1 at))
+extension_ranges reading packet zero offset end place outer (Some type) bytes [] net is at =
+    no_tags packet offset end bytes net
+    (net_ranges reading packet offset end place outer (net_kind type) bytes net is at)
+extension_ranges reading packet zero offset end place outer (Some type) bytes (tagged ∷ others) net is at = absurd is
+extension_ranges reading packet (suc exts_left) offset end place outer (Some type) bytes [] net (inl is) at =
+    no_tags packet offset end bytes net
+    (net_ranges reading packet offset end place outer (net_kind type) bytes net is.1 at)
+extension_ranges reading packet (suc exts_left) offset end place outer (Some type) bytes [] net (inr refused) at =
     no_tags packet offset end bytes net (no_net_ranges packet offset end outer bytes net refused.0 refused.2 at)
-extension_ranges packet (suc exts_left) offset end place outer (Some type) bytes (tagged ∷ others) net is at =
+extension_ranges reading packet (suc exts_left) offset end place outer (Some type) bytes (tagged ∷ others) net is at =
     let here = tag_range packet offset end outer type bytes tagged is.0 at in
     let tags = map extension_in others in
-    let next = extension_ranges packet exts_left (offset + tag_len tagged.0)
+    let next = extension_ranges reading packet exts_left (offset + tag_len tagged.0)
     (layer_end offset end (tag_header tagged.0)) (place + tag_len tagged.0) tagged.1 (extension_type tagged.0)
     (extension_payload tagged.0) others net is.1 here in
     record {
@@ -516,36 +518,36 @@ link_range packet layer header left encodes parts none =
     (payload_range packet 0 (length packet) n (length packet) packet header payload left (whole_range packet) parts len
     (omega (arith, len, count, ap length none))) (omega arith) refl
 
-pub lax_payloads : (entry : Entry) (bytes : List ℕ) (read : LaxLayers) → IsLax entry bytes read
-    → ArePayloads bytes (layers_in read)
-lax_payloads ethernet bytes read is =
+pub lax_payloads : (reading : Reading) (entry : Entry) (bytes : List ℕ) (read : LaxLayers)
+    → IsLaxIn reading entry bytes read → ArePayloads bytes (layers_in read)
+lax_payloads reading ethernet bytes read is =
     let frame = is.0 in
     let layer = ethernet2 frame.header frame.payload in
     let link = link_range bytes layer (ethernet2_bytes frame.header) frame.left (is.1.fits, refl) is.1.parts is.1.cut in
-    let inside = extension_ranges bytes most_link_exts ethernet2_header_len (length bytes) ethernet2_header_len false
-    (Some frame.header.ether_type) frame.payload read.link_exts read.net is.3 link in
+    let inside = extension_ranges reading bytes most_link_exts ethernet2_header_len (length bytes) ethernet2_header_len
+    false (Some frame.header.ether_type) frame.payload read.link_exts read.net is.3 link in
     linked_payloads bytes read (Some layer) is.2
     (record { link = link; tags = inside.tags; net = inside.net; transport = inside.transport })
-lax_payloads linux_sll bytes read is =
+lax_payloads reading linux_sll bytes read is =
     let frame = is.0 in
     let layer = sll frame.header frame.payload in
     let link = link_range bytes layer (linux_sll_bytes frame.header) frame.left (is.1.fits, refl) is.1.parts is.1.cut in
-    let inside = extension_ranges bytes most_link_exts linux_sll_header_len (length bytes) linux_sll_header_len false
-    (protocol_ether_type frame.header.protocol_type) frame.payload read.link_exts read.net is.3 link in
+    let inside = extension_ranges reading bytes most_link_exts linux_sll_header_len (length bytes) linux_sll_header_len
+    false (protocol_ether_type frame.header.protocol_type) frame.payload read.link_exts read.net is.3 link in
     linked_payloads bytes read (Some layer) is.2
     (record { link = link; tags = inside.tags; net = inside.net; transport = inside.transport })
-lax_payloads (ether_type type) bytes read is =
+lax_payloads reading (ether_type type) bytes read is =
     let layer = ether_payload type source.Slice bytes in
     let whole = whole_range bytes in
-    let inside = extension_ranges bytes most_link_exts 0 (length bytes) 0 false (Some type) bytes read.link_exts
+    let inside = extension_ranges reading bytes most_link_exts 0 (length bytes) 0 false (Some type) bytes read.link_exts
     read.net is.1 whole in
     linked_payloads bytes read (Some layer) is.0
     (record { link = whole; tags = inside.tags; net = inside.net; transport = inside.transport })
-lax_payloads ip bytes read is =
+lax_payloads reading ip bytes read is =
     let end = length bytes in
     let both : AreNetRanges bytes 0 end [] read.net = elim is.2 [
-      | inl packet ↦ ipv4_ranges bytes 0 end 0 false [] bytes read.net packet (whole_range bytes)
-      | inr packet ↦ ipv6_ranges bytes 0 end 0 false [] bytes read.net packet (whole_range bytes)
+      | inl packet ↦ ipv4_ranges reading bytes 0 end 0 false [] bytes read.net packet (whole_range bytes)
+      | inr packet ↦ ipv6_ranges reading bytes 0 end 0 false [] bytes read.net packet (whole_range bytes)
     ] in
     let inside = subst (λ (e : List Tagged). AreInsideRanges bytes 0 end [] (map extension_in e) read.net) (sym is.1)
     (no_tags bytes 0 end [] read.net both) in

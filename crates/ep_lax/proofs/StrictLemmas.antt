@@ -344,7 +344,7 @@ pub says_some : (short more : ℕ) → 0 < short → (if short == 0 then 0 else 
 says_some short more some i = if ne_eqb short 0 (λ none. omega arith) i then 0 else more + short
 
 -- The source of the payload's length for a short length other than 0.
-short_source : (short : ℕ) → 0 < short → macsec_len_source short ≡ source.MacsecShortLength
+pub short_source : (short : ℕ) → 0 < short → macsec_len_source short ≡ source.MacsecShortLength
 short_source zero some = absurd (omega arith)
 short_source (suc short) some = refl
 

@@ -86,7 +86,8 @@ IsInsideIp version offset headers_len incomplete payload (Some refused) inside =
 abbrev pub IsIpLayer : {Header : Type 0} → IpVersion → (IpPacket Header → NetLayer) → ℕ → LaxIp Header → LaxNet → Type 0
 IsIpLayer version layer_of offset lax net =
     (inside : LaxTransport)
-    × IsInsideIp version offset (net_payload_offset (layer_of lax.packet)) lax.incomplete lax.packet.payload lax.stop inside
+    × IsInsideIp version offset (net_payload_offset (layer_of lax.packet)) lax.incomplete lax.packet.payload lax.stop
+    inside
     × (net ≡ net_with (layer_of lax.packet) lax.incomplete inside)
 
 -- The bytes are an IPv4 packet with the layers in it, in the given reading.
@@ -116,8 +117,8 @@ abbrev pub IsNoNet : Bool → LaxNet → SliceError → Type 0
 IsNoNet outer net error = net ≡ no_net outer (Some (error_with_layer error))
 
 -- The bytes, which start at `offset`, are a network layer of this kind, if any, with the layers in it. `outer` is true
--- if the bytes are incomplete. A packet of either IP version is read only if its header is valid. In the reading as owned
--- headers, the extension headers end before a second one of a kind.
+-- if the bytes are incomplete. A packet of either IP version is read only if its header is valid. In the reading as
+-- owned headers, the extension headers end before a second one of a kind.
 abbrev pub IsLaxNetIn : Reading → ℕ → Bool → Option NetKind → List ℕ → LaxNet → Type 0
 IsLaxNetIn reading offset outer None bytes net = net ≡ no_net outer None
 IsLaxNetIn reading offset outer (Some only_ipv4) bytes net =
@@ -178,8 +179,8 @@ IsLaxInside = IsLaxInsideIn slices
 
 -- ---- complete packets
 
--- The bytes are read laxly as these layers, in the given reading. An Ethernet header, a Linux cooked capture header or an
--- IP header must be valid.
+-- The bytes are read laxly as these layers, in the given reading. An Ethernet header, a Linux cooked capture header or
+-- an IP header must be valid.
 abbrev pub IsLaxIn : Reading → Entry → List ℕ → LaxLayers → Type 0
 IsLaxIn reading ethernet bytes layers =
     (frame : Parts Ethernet2Header) × IsEthernet2 bytes frame

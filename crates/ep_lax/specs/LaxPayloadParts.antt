@@ -17,8 +17,8 @@ use Rattle.ep_lax.specs.LaxLayers.{LaxNet}
 use Rattle.ep_lax.specs.LaxPayloads.{LaxEtherPayload, complete_payload, last_after, lax_ether_payload_of, payload_of_tagged, source_after}
 use Rattle.ep_lax.specs.StrictFrames.{extension_in}
 
--- A payload as plain data, by the layer it belongs to, and whether bytes of it are missing: none after an ARP packet;
--- that of a link layer or link extension, of known or unknown type; that of an IP packet; that of a transport layer.
+-- The payload after the last header, as plain data: the kind of the layer that it belongs to, its bytes, and whether
+-- bytes are missing. An ARP packet has none.
 pub data LaxPayloadPart : Type 0 where
   empty : LaxPayloadPart
   ether : LaxEtherPayload → LaxPayloadPart

@@ -1,7 +1,7 @@
--- Errors of lax slicing, compared with those of strict slicing, and the errors of the layer at which it stops.
+-- Errors of lax slicing, compared with those of strict slicing, and the errors of the layer at which lax reading stops.
 use Rattle.std.specs.Prelude.{◌≡◌, ◌⊎◌, ◌<◌, Bool, true, false, List, [], length, map, reverse, ℕ, Option, Some, None}
 use Rattle.ep_base.specs.IpPayload.{IpPayload}
-use Rattle.ep_base.specs.Readings.{headers, slices}
+use Rattle.ep_base.specs.Readings.{Reading, headers, slices}
 use Rattle.ep_base.specs.Tables.{RefusesAs}
 use Rattle.ep_base.specs.declared.ether_type.EtherType.{EtherType}
 use Rattle.ep_base.specs.declared.err.layer.Layer.{Layer}
@@ -84,33 +84,41 @@ RefusesAfterLink count (Some type) offset bytes error =
     ((count < most_link_exts) × RefusesLaxExtension offset type bytes error)
     ⊎ RefusesNetHeader (net_kind type) offset bytes error
 
--- The errors of the extension header that a payload of IP begins with, after these extension headers: it is invalid, or
--- Hop-by-Hop options that are not first. The payload starts at `offset`.
-abbrev pub RefusesNextExtension : IpVersion → List ExtensionPart → IpPayload → ℕ → SliceError → Type 0
-RefusesNextExtension version extensions payload offset = RefusesAs
+-- The errors of the extension header that a payload of IP begins with, after these extension headers, in the given
+-- reading: it is invalid, or Hop-by-Hop options that are not first. In the reading as owned headers, a second header of
+-- any other kind is not an extension header, and has no errors. The payload starts at `offset`.
+abbrev pub RefusesNextExtensionIn : Reading → IpVersion → List ExtensionPart → IpPayload → ℕ → SliceError → Type 0
+RefusesNextExtensionIn reading version extensions payload offset = RefusesAs
     (λ e. chain_refusal version offset (stop_after 0 payload.source e))
-    (RefusesChainAfter version slices (reverse (map part_number extensions)) 0 payload.number payload.bytes [])
+    (RefusesChainAfter version reading (reverse (map part_number extensions)) 0 payload.number payload.bytes [])
 
 -- The errors of a payload of IP in which no transport layer was read: it begins with a rejected extension header, or
 -- lacks the valid transport header that its protocol number requires. The payload starts at `offset`.
-abbrev pub RefusesInIp : IpVersion → List ExtensionPart → IpPayload → Option TransportLayer → ℕ → SliceError → Type 0
-RefusesInIp version extensions payload (Some transport) offset error = ⊥
-RefusesInIp version extensions payload None offset error =
-    RefusesNextExtension version extensions payload offset error ⊎ RefusesTransportIn headers offset payload error
+abbrev pub RefusesIpPayloadIn : Reading → IpVersion → List ExtensionPart → IpPayload → Option TransportLayer → ℕ
+    → SliceError → Type 0
+RefusesIpPayloadIn reading version extensions payload (Some transport) offset error = ⊥
+RefusesIpPayloadIn reading version extensions payload None offset error =
+    RefusesNextExtensionIn reading version extensions payload offset error
+    ⊎ RefusesTransportIn headers offset payload error
 
 -- The errors of the payload of a network layer, which starts at `offset`. An ARP packet has no payload.
-abbrev pub RefusesAfterNet : Option NetLayer → Option TransportLayer → ℕ → SliceError → Type 0
-RefusesAfterNet None transport offset error = ⊥
-RefusesAfterNet (Some (ipv4 header extensions payload)) transport offset error =
-    RefusesInIp version_4 extensions payload transport offset error
-RefusesAfterNet (Some (ipv6 header extensions payload)) transport offset error =
-    RefusesInIp version_6 extensions payload transport offset error
-RefusesAfterNet (Some (arp packet)) transport offset error = ⊥
+abbrev pub RefusesAfterNetIn : Reading → Option NetLayer → Option TransportLayer → ℕ → SliceError → Type 0
+RefusesAfterNetIn reading None transport offset error = ⊥
+RefusesAfterNetIn reading (Some (ipv4 header extensions payload)) transport offset error =
+    RefusesIpPayloadIn reading version_4 extensions payload transport offset error
+RefusesAfterNetIn reading (Some (ipv6 header extensions payload)) transport offset error =
+    RefusesIpPayloadIn reading version_6 extensions payload transport offset error
+RefusesAfterNetIn reading (Some (arp packet)) transport offset error = ⊥
 
--- The errors of the layer that follows these layers in the payload of the last one, by the refusal tables of strict
--- slicing, without those of length fields that limit a payload.
-abbrev pub RefusesNextLayer : Layers → SliceError → Type 0
-RefusesNextLayer layers error =
+-- The errors of the layer that follows these layers in the payload of the last one, in the given reading.
+abbrev pub RefusesNextLayerIn : Reading → Layers → SliceError → Type 0
+RefusesNextLayerIn reading layers error =
     RefusesAfterLink (length layers.link_exts) (payload_ether_type_in layers) (payload_offset layers)
     (last_payload layers) error
-    ⊎ RefusesAfterNet layers.net layers.transport (payload_offset layers) error
+    ⊎ RefusesAfterNetIn reading layers.net layers.transport (payload_offset layers) error
+
+-- The errors of the layer that follows these layers in the payload of the last one, by the refusal tables of strict
+-- slicing, without those of length fields that limit a payload. `RefusesLaxExtension`, `chain_refusal` and
+-- `stop_after`, which place the errors, are those of the definition of lax slicing.
+abbrev pub RefusesNextLayer : Layers → SliceError → Type 0
+RefusesNextLayer = RefusesNextLayerIn slices

@@ -51,6 +51,15 @@ pub fn strict_frames()
         → (read : LaxLayers) × IsLax entry bytes read × (layers_in read ≡ layers) × IsWhole read }
 {}
 
+/// States when strict slicing accepts a packet, with the layers that lax slicing finds: if lax slicing reports no
+/// payload as incomplete and does not stop at an error, and each length field includes the header that it is in. Fields
+/// of 0 that state no length (the short length of MACsec, the payload length of IPv6, the length of UDP) are excepted.
+/// Strict slicing accepts no other packets, by the laws `strict_frames` and `length_fields`.
+pub fn whole_is_frame()
+    ensures { (entry : Entry) (bytes : List ℕ) (read : LaxLayers) → IsLax entry bytes read → IsWhole read
+        → IncludeHeaders (shown_headers read) → IsFrame entry bytes (layers_in read) }
+{}
+
 /// States that if lax slicing accepts a truncated packet, it accepts the full packet, whose headers begin with those of
 /// the truncated one. Unless slicing of the truncated packet stopped at an error, the full packet has no further
 /// headers. One exception: an ICMPv4 timestamp message must have 20 bytes; if it is truncated to 20 but longer in the
@@ -137,8 +146,9 @@ pub fn stops()
         → read.net.inside.stop ≡ None → (error : SliceError) → RefusesNextLayer (layers_in read) error → ⊥ }
 {}
 
-/// States where lax slicing stops. If it stops at an error for missing bytes, the layer of the error starts at the
-/// offset of the payload of the last layer that was found, and has the bytes of this payload.
+/// States where lax slicing stops. If it stops at a length error (missing bytes, or an ICMPv4 timestamp message of more
+/// than 20 bytes), the layer of the error starts at the offset of the payload of the last layer that was found, and the
+/// error counts the bytes of this payload.
 pub fn stop_position()
     ensures { (entry : Entry) (bytes : List ℕ) (read : LaxLayers) → IsLax entry bytes read → (error : LenError)
         (layer : Layer) → read.net.inside.stop ≡ Some (Len error, layer)

@@ -14,7 +14,7 @@ ghost use Rattle.ep_lax.specs.Lax.{IsLimitedLaxly};
 ghost use Rattle.ep_lax.specs.LaxHeadersWalk.{AreAfterLink, FillsLaxInside, FillsLaxNet, FillsLaxTransport, IsInIp, untyped_part};
 ghost use Rattle.ep_lax.specs.LaxLayers.{LaxTransport, error_with_layer};
 ghost use Rattle.ep_lax.specs.LaxPacketHeaders.{lax_headers_of};
-ghost use Rattle.ep_lax.specs.LaxPayloadParts.{empty, ether, ip as in_ip, lax_payload_part_of, udp};
+ghost use Rattle.ep_lax.specs.LaxPayloadParts.{empty, ether, ip as in_ip, lax_payload_part_bytes, lax_payload_part_of, udp};
 ghost use Rattle.ep_lax.specs.LaxPayloads.{lax_ether_payload_of};
 
 use crate::lax_ether_payload_slice::LaxEtherPayloadSlice;
@@ -33,8 +33,8 @@ use ep_transport::TransportHeader;
 
 /// Owned headers of a packet parsed laxly, from the outside in, up to the first one that is invalid or truncated, and
 /// the payload after them. A length field above the available bytes is ignored, and so is an IPv4 or UDP length below
-/// that of its own header. A second IPv6 extension header of one kind is left in the payload. A value has space for
-/// every kind of IPv6 extension header, even if none is present.
+/// that of its own header. A second IPv6 extension header of one kind is left in the payload; only Hop-by-Hop options
+/// that are not first are an error. A value has space for every kind of IPv6 extension header, even if none is present.
 #[derive(Clone, Debug, PartialEq, Eq, Drop)]
 pub struct LaxPacketHeaders<'a> {
     /// Link header (Ethernet II or Linux cooked capture); `None` if the packet was parsed from an ether type or from
@@ -59,7 +59,7 @@ impl<'a> LaxPacketHeaders<'a> {
     ghost use Rattle.ep_link.specs.Ethernet2.{RefusesEthernet2};
     ghost use Rattle.ep_link.specs.LinuxSll.{RefusesLinuxSll};
     ghost use Rattle.ep_packet.specs.declared.entry.Entry.TheVariants.{Ethernet as ethernet, LinuxSll as linux_sll, EtherType as of_type, Ip as ip};
-    ghost use Rattle.ep_packet.specs.PacketHeaders.{header_vlan_ids, outer_headers, vlan_headers};
+    ghost use Rattle.ep_packet.specs.PacketHeaders.{IsSubsliceOf, header_vlan_ids, outer_headers, vlan_headers};
     ghost use Rattle.ep_lax.specs.Lax.{IsLaxIn};
     ghost use Rattle.ep_lax.specs.LaxHeadersWalk.{AreReadLaxly};
     ghost use Rattle.ep_lax.specs.LaxLayers.{LaxLayers};
@@ -97,6 +97,8 @@ impl<'a> LaxPacketHeaders<'a> {
             × (lax_headers_of packet ≡ lax_headers_in layers)) }
         ensures only { (layers : LaxLayers) → IsLaxIn headers ethernet slice.now layers
             → IsOkAnd result (λ packet. lax_headers_of packet ≡ lax_headers_in layers) }
+        ensures bytes { IfOk result (λ packet.
+            IsSubsliceOf (lax_payload_part_bytes (lax_payload_part_of packet.payload)) slice.now) }
         ensures err { IfErr result (RefusesEthernet2 slice.now) }
     {
         match LinkPart::ethernet(slice) {
@@ -123,6 +125,8 @@ impl<'a> LaxPacketHeaders<'a> {
             × (lax_headers_of packet ≡ lax_headers_in layers)) }
         ensures only { (layers : LaxLayers) → IsLaxIn headers linux_sll slice.now layers
             → IsOkAnd result (λ packet. lax_headers_of packet ≡ lax_headers_in layers) }
+        ensures bytes { IfOk result (λ packet.
+            IsSubsliceOf (lax_payload_part_bytes (lax_payload_part_of packet.payload)) slice.now) }
         ensures err { IfErr result (RefusesLinuxSll slice.now) }
     {
         match LinkPart::linux_sll(slice) {
@@ -143,6 +147,7 @@ impl<'a> LaxPacketHeaders<'a> {
             × (lax_headers_of result ≡ lax_headers_in layers) }
         ensures only { (layers : LaxLayers) → IsLaxIn headers (of_type ether_type) slice.now layers
             → lax_headers_of result ≡ lax_headers_in layers }
+        ensures bytes { IsSubsliceOf (lax_payload_part_bytes (lax_payload_part_of result.payload)) slice.now }
     {
         let mut packet = LaxPacketHeaders::new();
         packet.fill_link(LinkPart::ether_type(ether_type, slice));
@@ -161,6 +166,8 @@ impl<'a> LaxPacketHeaders<'a> {
             × (lax_headers_of packet ≡ lax_headers_in layers)) }
         ensures only { (layers : LaxLayers) → IsLaxIn headers ip slice.now layers
             → IsOkAnd result (λ packet. lax_headers_of packet ≡ lax_headers_in layers) }
+        ensures bytes { IfOk result (λ packet.
+            IsSubsliceOf (lax_payload_part_bytes (lax_payload_part_of packet.payload)) slice.now) }
         ensures err { IfErr result (RefusesIpHeader slice.now) }
     {
         let mut packet = LaxPacketHeaders::new();
@@ -178,6 +185,8 @@ impl<'a> LaxPacketHeaders<'a> {
             × (lax_headers_of self.new ≡ lax_headers_in layers)) }
         ensures only { (layers : LaxLayers) → IsLaxIn headers entry bytes.now layers
             → IsOkAnd result (λ _. lax_headers_of self.new ≡ lax_headers_in layers) }
+        ensures bytes { IfOk result (λ _.
+            IsSubsliceOf (lax_payload_part_bytes (lax_payload_part_of self.new.payload)) bytes.now) }
         ensures err { IfErr result (RefusesLax entry bytes.now) }
         ensures none { IfErr result (λ _. lax_headers_of self.new ≡ no_lax_headers) }
     {

@@ -7,13 +7,13 @@ ghost use Rattle.ep_lax.specs.QuotedPackets.{is_icmpv4_error, payload_if, quoted
 
 use ep_transport::TransportSlice;
 
-/// Returns the packet that an ICMP error message quotes: the message's payload, all bytes after its 8-byte header, which
+/// Returns the packet that an ICMP error message quotes: the message's payload, all bytes after its 8-byte header. They
 /// begin with the IP header of the packet that caused the error. Returns `None` for other ICMP messages, UDP and TCP.
 ///
 /// Error messages are destination unreachable, source quench, redirect, time exceeded and parameter problem of ICMPv4
 /// (types 3, 4, 5, 11 and 12, RFC 792), and all ICMPv6 messages of types below 128 (RFC 4443, 2.1 and 2.4). The packet
-/// is mostly truncated; [`LaxSlicedPacket::from_ip`](crate::LaxSlicedPacket::from_ip) reads its layers. Extensions after
-/// the packet (RFC 4884) are not separated from it.
+/// is usually truncated; [`LaxSlicedPacket::from_ip`](crate::LaxSlicedPacket::from_ip) reads its layers. Extensions
+/// after the packet (RFC 4884) are not separated from it.
 pub fn quoted_packet<'a>(transport: &TransportSlice<'a>) -> Option<&'a [u8]>
     ensures { option_copied result ≡ quoted_in (transport_layer_of transport.now) }
 {

@@ -1,7 +1,7 @@
 //! Decoding IP headers laxly into the network layer of a packet value. Only headers that are or were present are
 //! overwritten, as in strict decoding.
 
-ghost use Rattle.std.specs.Prelude.{◌≡◌, IfOk, IfErr, List, Option, Some};
+ghost use Rattle.std.specs.Prelude.{◌≡◌, IfOk, IfErr, OnErr, List, Option, Some};
 ghost use Rattle.std.specs.Option.{option_map};
 ghost use Rattle.ep_base.specs.Readings.{headers};
 ghost use Rattle.ep_base.specs.declared.err.ipv6_exts.HeaderSliceError.{HeaderSliceError};
@@ -46,7 +46,7 @@ impl NetHeaders {
     /// Decodes the IPv4 header at the start of the slice, and its authentication header, if it is valid, into `net`.
     /// `outer` is true if bytes of the enclosing layer (MACsec) are missing. Returns the payload, its offset from the
     /// start of the slice, and the error of an invalid authentication header, if any. An invalid or truncated IPv4
-    /// header is an error.
+    /// header is an error, and leaves `net` unchanged.
     pub fn read_ipv4_lax_into<'a>(
         net: &mut Option<NetHeaders>,
         slice: &'a [u8],
@@ -56,6 +56,7 @@ impl NetHeaders {
             × FillsLaxIp (ipv4_part lax.packet) lax.incomplete slice.now net.new read.0 read.1
             × (option_map auth_refusal read.2 ≡ lax.stop)) }
         ensures err { IfErr result (RefusesIpv4Header slice.now) }
+        ensures unchanged { OnErr result (net.new ≡ net.old) }
     {
         let header = match Ipv4HeaderSlice::from_slice(slice) {
             Ok(header) => header,
@@ -89,7 +90,7 @@ impl NetHeaders {
     /// Decodes the IPv6 header at the start of the slice, and its extension headers up to the first invalid one, into
     /// `net`. `outer` is true if bytes of the enclosing layer (MACsec) are missing. Returns the payload, its offset
     /// from the start of the slice, and the error and layer of the invalid extension header, if any. An invalid or
-    /// truncated IPv6 header is an error.
+    /// truncated IPv6 header is an error, and leaves `net` unchanged.
     pub fn read_ipv6_lax_into<'a>(
         net: &mut Option<NetHeaders>,
         slice: &'a [u8],
@@ -99,6 +100,7 @@ impl NetHeaders {
             × FillsLaxIp (ipv6_part lax.packet) lax.incomplete slice.now net.new read.0 read.1
             × (read.2 ≡ option_map chain_stop lax.stop)) }
         ensures err { IfErr result (RefusesIpv6Header slice.now) }
+        ensures unchanged { OnErr result (net.new ≡ net.old) }
     {
         let header = match Ipv6HeaderSlice::from_slice(slice) {
             Ok(header) => header,

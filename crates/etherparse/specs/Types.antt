@@ -10,6 +10,8 @@ pub use Rattle.ep_base.specs.declared.err.ip.SliceError as IpSliceError
 pub use Rattle.ep_base.specs.declared.err.ip_auth.HeaderError as IpAuthHeaderError
 pub use Rattle.ep_base.specs.declared.err.ip_auth.HeaderSliceError as IpAuthHeaderSliceError
 pub use Rattle.ep_base.specs.declared.err.ip_exts.ExtsWalkError as IpExtsExtsWalkError
+pub use Rattle.ep_base.specs.declared.err.ip_exts.HeaderError as IpExtsHeaderError
+pub use Rattle.ep_base.specs.declared.err.ip_exts.HeadersSliceError as IpExtsHeadersSliceError
 pub use Rattle.ep_base.specs.declared.err.ipv4.HeaderError as Ipv4HeaderError
 pub use Rattle.ep_base.specs.declared.err.ipv4.HeaderSliceError as Ipv4HeaderSliceError
 pub use Rattle.ep_base.specs.declared.err.ipv4.SliceError as Ipv4SliceError

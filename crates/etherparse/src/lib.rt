@@ -28,7 +28,8 @@
 //! [`LaxSlicedPacket`] parses a packet that was truncated by the capture, or whose length fields do not match its
 //! bytes. It has the layers up to the first invalid one, the error of that layer (`stop_err`), and for each payload
 //! whether bytes of it are missing. A packet that [`SlicedPacket`] accepts is parsed into equal layers.
-//! [`quoted_packet`] returns the packet that an ICMP error quotes, which is mostly truncated.
+//! [`LaxPacketHeaders`] parses such packets into owned headers, and returns the rest as a [`LaxPayloadSlice`].
+//! [`quoted_packet`] returns the packet that an ICMP error quotes, which is usually truncated.
 //!
 //! # Single layers
 //!

@@ -30,15 +30,21 @@ pub record AreSliced (IsAnswer : FrameAnswers) (bytes ends : List ℕ) (old new 
   pub each : (index : ℕ) → index < sliced → IsSlicedAt IsAnswer bytes ends new index
   pub others : drop sliced new ≡ drop sliced old
 
+-- There is a packet for each end, and the entry is known.
+abbrev pub SlicesFrames : Option Entry → List ℕ → List Packet → Type 0
+SlicesFrames entry ends packets = (length ends ≤ length packets) × ¬ (entry ≡ None)
+
 -- The status is 0, and all frames are sliced; or it is 2, and only the frames are sliced that come before a frame that
 -- ends before it starts, or after the last byte; or it is 2, the entry is unknown, and no frame is sliced; or it is 3,
--- there are fewer packets than ends, and no frame is sliced. `IsAnswer` is the answer for one frame: `IsSliceAnswer` or
--- `IsLaxAnswer`.
+-- there are fewer packets than ends, and no frame is sliced. The number of packets is checked first, then the entry.
+-- `IsAnswer` is the answer for one frame: `IsSliceAnswer` or `IsLaxAnswer`.
 abbrev pub IsManyAnswer : (Option Entry → FrameAnswers) → Option Entry → List ℕ → List ℕ → List Packet → List Packet → ℕ
     → ℕ → Type 0
 IsManyAnswer IsAnswer entry bytes ends old new sliced status =
-    ((status ≡ 0) × (sliced ≡ length ends) × AreSliced (IsAnswer entry) bytes ends old new sliced)
-    ⊎ ((status ≡ 2) × (sliced < length ends) × AreSliced (IsAnswer entry) bytes ends old new sliced
+    ((status ≡ 0) × SlicesFrames entry ends old × (sliced ≡ length ends)
+    × AreSliced (IsAnswer entry) bytes ends old new sliced)
+    ⊎ ((status ≡ 2) × SlicesFrames entry ends old × (sliced < length ends)
+    × AreSliced (IsAnswer entry) bytes ends old new sliced
     × ((frame_end ends sliced < frame_start ends sliced) ⊎ (length bytes < frame_end ends sliced)))
-    ⊎ ((status ≡ 2) × (entry ≡ None) × (sliced ≡ 0) × (new ≡ old))
+    ⊎ ((status ≡ 2) × (length ends ≤ length old) × (entry ≡ None) × (sliced ≡ 0) × (new ≡ old))
     ⊎ ((status ≡ 3) × (length old < length ends) × (sliced ≡ 0) × (new ≡ old))

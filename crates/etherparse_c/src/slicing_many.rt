@@ -55,7 +55,7 @@ pub extern "C" fn etherparse_1_slice_lax_many(
     slice_frames::<Lax>(entry, ether_type, bytes, ends, packets, sliced)
 }
 
-/// Way in which a frame is sliced; implemented by `Strict` and `Lax`.
+/// Strict or lax slicing of one frame; implemented by `Strict` and `Lax`.
 pub(crate) trait SlicesFrame {
     /// Answers of the call for one frame with a known or unknown first header, for contracts.
     ghost IsAnswer: { Option Entry → FrameAnswers };
@@ -89,10 +89,10 @@ impl SlicesFrame for Lax {
     }
 }
 
-/// Slices consecutive frames in the way of `Way`, and returns the status for C, as documented at
+/// Slices consecutive frames by `Slicing`, and returns the status for C, as documented at
 /// `etherparse_1_slice_many`.
 #[inline(always)]
-pub(crate) fn slice_frames<Way: SlicesFrame>(
+pub(crate) fn slice_frames<Slicing: SlicesFrame>(
     entry: u32,
     ether_type: u16,
     bytes: &[u8],
@@ -100,7 +100,7 @@ pub(crate) fn slice_frames<Way: SlicesFrame>(
     packets: &mut [Packet],
     sliced: &mut usize,
 ) -> u32
-    ensures { IsManyAnswer Way.IsAnswer (entry_of entry ether_type) bytes.now ends.now
+    ensures { IsManyAnswer Slicing.IsAnswer (entry_of entry ether_type) bytes.now ends.now
         packets.old packets.new sliced.new result }
 {
     *sliced = 0;
@@ -117,7 +117,7 @@ pub(crate) fn slice_frames<Way: SlicesFrame>(
             return numbers::UNKNOWN_CHOICE;
         }
         // The packet itself states whether its frame is rejected.
-        let _ = Way::slice(entry, ether_type, &bytes[start..end], &mut packets[index]);
+        let _ = Slicing::slice(entry, ether_type, &bytes[start..end], &mut packets[index]);
         *sliced = index + 1;
         start = end;
     }

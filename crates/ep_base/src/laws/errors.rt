@@ -14,6 +14,8 @@ pub fn equalities()
     ensures ip_lax_header_slice { DecidesEquality ⟦<ip::LaxHeaderSliceError as PartialEq>⟧.eq }
     ensures ip_auth_header { DecidesEquality ⟦<ip_auth::HeaderError as PartialEq>⟧.eq }
     ensures ip_auth_header_slice { DecidesEquality ⟦<ip_auth::HeaderSliceError as PartialEq>⟧.eq }
+    ensures ip_exts_header { DecidesEquality ⟦<ip_exts::HeaderError as PartialEq>⟧.eq }
+    ensures ip_exts_headers_slice { DecidesEquality ⟦<ip_exts::HeadersSliceError as PartialEq>⟧.eq }
     ensures ip_exts_walk { DecidesEquality ⟦<ip_exts::ExtsWalkError as PartialEq>⟧.eq }
     ensures ipv4_header { DecidesEquality ⟦<ipv4::HeaderError as PartialEq>⟧.eq }
     ensures ipv4_header_slice { DecidesEquality ⟦<ipv4::HeaderSliceError as PartialEq>⟧.eq }
@@ -51,6 +53,10 @@ pub fn clones()
         ⟦<ip_auth::HeaderError as Clone>⟧.is_infallible ⟦<ip_auth::HeaderError as Clone>⟧.is_clone }
     ensures ip_auth_header_slice { ClonesExactly
         ⟦<ip_auth::HeaderSliceError as Clone>⟧.is_infallible ⟦<ip_auth::HeaderSliceError as Clone>⟧.is_clone }
+    ensures ip_exts_header { ClonesExactly
+        ⟦<ip_exts::HeaderError as Clone>⟧.is_infallible ⟦<ip_exts::HeaderError as Clone>⟧.is_clone }
+    ensures ip_exts_headers_slice { ClonesExactly
+        ⟦<ip_exts::HeadersSliceError as Clone>⟧.is_infallible ⟦<ip_exts::HeadersSliceError as Clone>⟧.is_clone }
     ensures ip_exts_walk { ClonesExactly
         ⟦<ip_exts::ExtsWalkError as Clone>⟧.is_infallible ⟦<ip_exts::ExtsWalkError as Clone>⟧.is_clone }
     ensures ipv4_header { ClonesExactly

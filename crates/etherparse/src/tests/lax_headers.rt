@@ -1,8 +1,9 @@
-//! Tests of lax parsing into owned headers: truncated packets, length fields above the available bytes, repeated
-//! extension headers, and fragments. The expected values come from the header diagrams of the standards.
+//! Tests of lax parsing into owned headers: truncated packets, length fields above the available bytes, transport
+//! headers, repeated extension headers, and fragments. The expected values come from the header diagrams of the
+//! standards.
 
 use crate::err::packet::SliceError;
-use crate::err::{Layer, ip_auth, ip_exts, ipv6_exts};
+use crate::err::{Layer, LenError, ip_auth, ip_exts, ipv6_exts, tcp};
 use crate::tests::checks::same;
 use crate::tests::samples::*;
 use crate::*;
@@ -20,6 +21,54 @@ const IPV4_IN_MACSEC: &[u8] =
 const LONG_UDP: &[u8] =
     b"\x45\x00\x00\x24\x00\x00\x40\x00\x14\x11\xe3\x75\xc0\xa8\x01\x01\xc0\xa8\x01\x02\x00\x15\x04\xd2\x00\x11\x67\x7f\x01\x02\x03\x04\x05\x06\x07\x08";
 
+/// An IPv4 packet with a TCP segment: a header of 24 bytes, with the option maximum segment size, and four bytes of
+/// payload.
+const SEGMENT: &[u8] =
+    b"\x45\x00\x00\x30\x00\x00\x40\x00\x40\x06\x00\x00\xc0\xa8\x01\x01\xc0\xa8\x01\x02\x00\x50\x04\xd2\x00\x00\x30\x39\x00\x00\x00\x07\x60\x12\x10\x00\x12\x34\x00\x00\x02\x04\x05\xb4\xaa\xbb\xcc\xdd";
+
+/// An IPv6 packet with the TCP segment of `SEGMENT`.
+const SEGMENT_IPV6: &[u8] =
+    b"\x60\x00\x00\x00\x00\x1c\x06\x40\0\0\0\0\0\0\0\0\0\0\0\0\0\0\0\0\0\0\0\0\0\0\0\0\0\0\0\0\0\0\0\0\x00\x50\x04\xd2\x00\x00\x30\x39\x00\x00\x00\x07\x60\x12\x10\x00\x12\x34\x00\x00\x02\x04\x05\xb4\xaa\xbb\xcc\xdd";
+
+/// An IPv4 packet with a TCP segment: a header of 20 bytes, without options, and two bytes of payload.
+const NO_OPTIONS: &[u8] =
+    b"\x45\x00\x00\x2a\x00\x00\x40\x00\x40\x06\x00\x00\xc0\xa8\x01\x01\xc0\xa8\x01\x02\x00\x50\x04\xd2\x00\x00\x30\x39\x00\x00\x00\x07\x50\x12\x10\x00\x12\x34\x00\x00\xaa\xbb";
+
+/// An IPv4 packet with 20 bytes of TCP, whose data offset is 4 words, below the minimum of 5.
+const SMALL_OFFSET: &[u8] =
+    b"\x45\x00\x00\x28\x00\x00\x40\x00\x40\x06\x00\x00\xc0\xa8\x01\x01\xc0\xa8\x01\x02\x00\x50\x04\xd2\x00\x00\x30\x39\x00\x00\x00\x07\x40\x12\x10\x00\x12\x34\x00\x00";
+
+/// An IPv4 packet with an ICMPv4 echo request and its four bytes of data.
+const ECHO: &[u8] =
+    b"\x45\x00\x00\x20\x00\x00\x40\x00\x40\x01\x00\x00\xc0\xa8\x01\x01\xc0\xa8\x01\x02\x08\x00\x12\x34\x00\x07\x00\x09\xaa\xbb\xcc\xdd";
+
+/// An IPv6 packet with an ICMPv6 echo request and its four bytes of data.
+const ECHO_IPV6: &[u8] =
+    b"\x60\x00\x00\x00\x00\x0c\x3a\x40\0\0\0\0\0\0\0\0\0\0\0\0\0\0\0\0\0\0\0\0\0\0\0\0\0\0\0\0\0\0\0\0\x80\x00\x12\x34\x00\x07\x00\x09\xaa\xbb\xcc\xdd";
+
+/// An IPv6 packet with the ICMPv4 echo request of `ECHO` (next header 1).
+const ICMPV4_IN_IPV6: &[u8] =
+    b"\x60\x00\x00\x00\x00\x0c\x01\x40\0\0\0\0\0\0\0\0\0\0\0\0\0\0\0\0\0\0\0\0\0\0\0\0\0\0\0\0\0\0\0\0\x08\x00\x12\x34\x00\x07\x00\x09\xaa\xbb\xcc\xdd";
+
+/// An IPv4 packet with the ICMPv6 echo request of `ECHO_IPV6` (protocol 58).
+const ICMPV6_IN_IPV4: &[u8] =
+    b"\x45\x00\x00\x20\x00\x00\x40\x00\x40\x3a\x00\x00\xc0\xa8\x01\x01\xc0\xa8\x01\x02\x80\x00\x12\x34\x00\x07\x00\x09\xaa\xbb\xcc\xdd";
+
+/// An IPv4 packet with an ICMPv4 timestamp message of 20 bytes.
+const TIMESTAMP: &[u8] =
+    b"\x45\x00\x00\x28\x00\x00\x40\x00\x40\x01\x00\x00\xc0\xa8\x01\x01\xc0\xa8\x01\x02\x0d\x00\x12\x34\x00\x07\x00\x09\x00\x00\x00\x01\x00\x00\x00\x02\x00\x00\x00\x03";
+
+/// An IPv4 packet with an ICMPv4 timestamp message and four bytes after it, which the total length includes.
+const LONG_TIMESTAMP: &[u8] =
+    b"\x45\x00\x00\x2c\x00\x00\x40\x00\x40\x01\x00\x00\xc0\xa8\x01\x01\xc0\xa8\x01\x02\x0d\x00\x12\x34\x00\x07\x00\x09\x00\x00\x00\x01\x00\x00\x00\x02\x00\x00\x00\x03\xaa\xbb\xcc\xdd";
+
+/// An IPv4 packet with an ICMPv4 timestamp reply and four bytes after it, which the total length includes.
+const LONG_REPLY: &[u8] =
+    b"\x45\x00\x00\x2c\x00\x00\x40\x00\x40\x01\x00\x00\xc0\xa8\x01\x01\xc0\xa8\x01\x02\x0e\x00\x12\x34\x00\x07\x00\x09\x00\x00\x00\x01\x00\x00\x00\x02\x00\x00\x00\x03\xaa\xbb\xcc\xdd";
+
+/// TCP option maximum segment size, of 1460 bytes (RFC 9293, 3.2).
+const MSS: &[u8] = b"\x02\x04\x05\xb4";
+
 /// Layer that a payload belongs to.
 #[derive(Clone, Copy, Debug, PartialEq, Eq)]
 enum Kind {
@@ -28,7 +77,10 @@ enum Kind {
     MacsecModified,
     LinuxSll,
     Ip,
-    Transport,
+    Udp,
+    Tcp,
+    Icmpv4,
+    Icmpv6,
 }
 
 /// Returns the layer that the payload belongs to, and whether bytes of it are missing.
@@ -39,24 +91,85 @@ fn kind_of(payload: &LaxPayloadSlice<'_>) -> (Kind, bool) {
         LaxPayloadSlice::MacsecModified { incomplete, .. } => (Kind::MacsecModified, *incomplete),
         LaxPayloadSlice::LinuxSll(_) => (Kind::LinuxSll, false),
         LaxPayloadSlice::Ip(payload) => (Kind::Ip, payload.incomplete),
-        LaxPayloadSlice::Udp { incomplete, .. }
-        | LaxPayloadSlice::Tcp { incomplete, .. }
-        | LaxPayloadSlice::Icmpv4 { incomplete, .. }
-        | LaxPayloadSlice::Icmpv6 { incomplete, .. } => (Kind::Transport, *incomplete),
+        LaxPayloadSlice::Udp { incomplete, .. } => (Kind::Udp, *incomplete),
+        LaxPayloadSlice::Tcp { incomplete, .. } => (Kind::Tcp, *incomplete),
+        LaxPayloadSlice::Icmpv4 { incomplete, .. } => (Kind::Icmpv4, *incomplete),
+        LaxPayloadSlice::Icmpv6 { incomplete, .. } => (Kind::Icmpv6, *incomplete),
     }
 }
 
-/// Returns the layer of a missing-bytes error, its start, and the required and available bytes.
-fn missing(stop: &Option<(SliceError, Layer)>) -> Option<(Layer, usize, usize, usize)> {
-    let Some((SliceError::Len(error), layer)) = stop else {
-        return None;
+/// Returns the length error at which lax parsing stops: `layer` starts at byte `layer_start_offset`, needs
+/// `required_len` bytes and has `len`, limited by `len_source`.
+fn length_error(
+    layer: Layer,
+    (layer_start_offset, required_len, len): (usize, usize, usize),
+    len_source: LenSource,
+) -> Option<(SliceError, Layer)> {
+    let error = LenError {
+        required_len,
+        len,
+        len_source,
+        layer: layer.clone().unwrap(),
+        layer_start_offset,
     };
-    Some((
-        layer.clone().unwrap(),
-        error.layer_start_offset,
-        error.required_len,
-        error.len,
-    ))
+    Some((SliceError::Len(error), layer))
+}
+
+/// Returns a UDP header from port 21 to port 1234 with this length field.
+fn udp(length: u16) -> Option<TransportHeader> {
+    Some(TransportHeader::Udp(UdpHeader {
+        source_port: 21,
+        destination_port: 1234,
+        length,
+        checksum: 0x677f,
+    }))
+}
+
+/// Returns a TCP header from port 80 to port 1234, with the flags SYN and ACK and these options.
+fn tcp(rt: &impl Abort, options: &[u8]) -> Option<TransportHeader> {
+    Some(TransportHeader::Tcp(TcpHeader {
+        source_port: 80,
+        destination_port: 1234,
+        sequence_number: 12345,
+        acknowledgment_number: 7,
+        syn: true,
+        ack: true,
+        window_size: 4096,
+        checksum: 0x1234,
+        options: TcpOptions::try_from_slice(options).expect(rt, "at most 40 bytes"),
+        ..Default::default()
+    }))
+}
+
+/// Returns the header of an ICMPv4 echo request with identifier 7 and sequence number 9.
+fn echo() -> Option<TransportHeader> {
+    Some(TransportHeader::Icmpv4(Icmpv4Header {
+        icmp_type: Icmpv4Type::EchoRequest(IcmpEchoHeader { id: 7, seq: 9 }),
+        checksum: 0x1234,
+    }))
+}
+
+/// Returns the header of an ICMPv6 echo request with identifier 7 and sequence number 9.
+fn echo_ipv6() -> Option<TransportHeader> {
+    Some(TransportHeader::Icmpv6(Icmpv6Header {
+        icmp_type: Icmpv6Type::EchoRequest(IcmpEchoHeader { id: 7, seq: 9 }),
+        checksum: 0x1234,
+    }))
+}
+
+/// Returns the header of an ICMPv4 timestamp message with the timestamps 1, 2 and 3.
+fn timestamp() -> Option<TransportHeader> {
+    let times = icmpv4::TimestampMessage {
+        id: 7,
+        seq: 9,
+        originate_timestamp: 1,
+        receive_timestamp: 2,
+        transmit_timestamp: 3,
+    };
+    Some(TransportHeader::Icmpv4(Icmpv4Header {
+        icmp_type: Icmpv4Type::TimestampRequest(times),
+        checksum: 0x1234,
+    }))
 }
 
 const IPV4: Entry = Entry::EtherType(EtherType::IPV4);
@@ -67,207 +180,151 @@ const ARP_TYPE: Entry = Entry::EtherType(EtherType::ARP);
 
 const MACSEC: Entry = Entry::EtherType(EtherType::MACSEC);
 
-/// Lax parsing into one reused value: of each packet its first bytes, then the number of link extensions, the lengths
-/// of the network and transport headers, the kind, length and incompleteness of the payload, and the missing bytes at
-/// which parsing stopped.
+/// Asserts the length of the network headers of a packet, its transport header, the kind, bytes and incompleteness of
+/// its payload, and the error at which parsing stopped.
+fn reads(
+    rt: &impl Abort,
+    packet: &LaxPacketHeaders<'_>,
+    (net, transport): (usize, Option<TransportHeader>),
+    (kind, payload, incomplete): (Kind, &[u8], bool),
+    stop: Option<(SliceError, Layer)>,
+) {
+    let net_len = match &packet.net {
+        Some(headers) => headers.header_len(),
+        None => 0,
+    };
+    same(rt, &net_len, &net);
+    same(rt, &packet.transport, &transport);
+    same(rt, &packet.payload.slice(), &payload);
+    same(rt, &kind_of(&packet.payload), &(kind, incomplete));
+    same(rt, &packet.stop_err, &stop);
+}
+
+/// Lax parsing into one reused value: of each packet its first bytes, then the number of link extensions, the length of
+/// the network headers, the transport header, the kind, place and incompleteness of the payload, and the error at which
+/// parsing stopped.
 #[test]
 fn packets(rt: HostRuntime) {
     let mut packet = LaxPacketHeaders::new();
-    for (entry, bytes, len, exts, net, transport, payload_kind, payload_len, incomplete, stop) in [
+    for ((entry, bytes, len), (exts, net, transport), (kind, place, incomplete), stop) in [
         (
-            Entry::Ethernet,
-            FRAME,
-            50,
-            0usize,
-            20usize,
-            8usize,
-            Kind::Transport,
-            8usize,
-            false,
+            (Entry::Ethernet, FRAME, 50),
+            (0usize, 20usize, udp(16)),
+            (Kind::Udp, 42..50usize, false),
             None,
         ),
         (
-            Entry::Ethernet,
-            FRAME,
-            45,
-            0,
-            20,
-            8,
-            Kind::Transport,
-            3,
-            true,
+            (Entry::Ethernet, FRAME, 45),
+            (0, 20, udp(16)),
+            (Kind::Udp, 42..45, true),
             None,
         ),
         (
-            Entry::Ethernet,
-            FRAME,
-            40,
-            0,
-            20,
-            0,
-            Kind::Ip,
-            6,
-            true,
-            Some((Layer::UdpHeader, 34usize, 8usize, 6usize)),
+            (Entry::Ethernet, FRAME, 40),
+            (0, 20, None),
+            (Kind::Ip, 34..40, true),
+            length_error(Layer::UdpHeader, (34, 8, 6), LenSource::Slice),
         ),
         (
-            Entry::Ethernet,
-            FRAME,
-            30,
-            0,
-            0,
-            0,
-            Kind::Ether,
-            16,
-            false,
-            Some((Layer::Ipv4Header, 14, 20, 16)),
+            (Entry::Ethernet, FRAME, 30),
+            (0, 0, None),
+            (Kind::Ether, 14..30, false),
+            length_error(Layer::Ipv4Header, (14, 20, 16), LenSource::Slice),
         ),
-        (IPV4, LONG_UDP, 36, 0, 20, 8, Kind::Transport, 8, true, None),
         (
-            MACSEC,
-            IPV4_IN_MACSEC,
-            36,
-            2,
-            20,
-            0,
-            Kind::Ip,
-            4,
-            false,
+            (IPV4, LONG_UDP, 36),
+            (0, 20, udp(17)),
+            (Kind::Udp, 28..36, true),
             None,
         ),
         (
-            MACSEC,
-            IPV4_IN_MACSEC,
-            34,
-            2,
-            20,
-            0,
-            Kind::Ip,
-            2,
-            true,
+            (MACSEC, IPV4_IN_MACSEC, 36),
+            (2, 20, None),
+            (Kind::Ip, 32..36, false),
             None,
         ),
         (
-            MACSEC,
-            IPV4_IN_MACSEC,
-            9,
-            1,
-            0,
-            0,
-            Kind::Ether,
-            1,
-            true,
-            Some((Layer::VlanHeader, 8, 4, 1)),
-        ),
-        (
-            MACSEC,
-            MODIFIED,
-            10,
-            1,
-            0,
-            0,
-            Kind::MacsecModified,
-            3,
-            false,
+            (MACSEC, IPV4_IN_MACSEC, 34),
+            (2, 20, None),
+            (Kind::Ip, 32..34, true),
             None,
         ),
         (
-            MACSEC,
-            MODIFIED,
-            8,
-            1,
-            0,
-            0,
-            Kind::MacsecModified,
-            2,
-            true,
-            None,
-        ),
-        (IPV6, OPTIONS_TWICE, 60, 0, 48, 0, Kind::Ip, 12, false, None),
-        (IPV6, OPTIONS_TWICE, 52, 0, 48, 0, Kind::Ip, 4, true, None),
-        (
-            IPV6,
-            OPTIONS_TWICE,
-            44,
-            0,
-            40,
-            0,
-            Kind::Ip,
-            4,
-            true,
-            Some((Layer::Ipv6ExtHeader, 40, 8, 4)),
+            (MACSEC, IPV4_IN_MACSEC, 9),
+            (1, 0, None),
+            (Kind::Ether, 8..9, true),
+            length_error(Layer::VlanHeader, (8, 4, 1), LenSource::Slice),
         ),
         (
-            Entry::Ip,
-            AUTHENTICATED,
-            36,
-            0,
-            32,
-            0,
-            Kind::Ip,
-            4,
-            false,
+            (MACSEC, MODIFIED, 10),
+            (1, 0, None),
+            (Kind::MacsecModified, 6..9, false),
             None,
         ),
         (
-            Entry::Ip,
-            AUTHENTICATED,
-            25,
-            0,
-            20,
-            0,
-            Kind::Ip,
-            5,
-            true,
-            Some((Layer::IpAuthHeader, 20, 12, 5)),
-        ),
-        (
-            Entry::Ip,
-            FIRST_IPV4,
-            36,
-            0,
-            20,
-            0,
-            Kind::Ip,
-            16,
-            false,
+            (MACSEC, MODIFIED, 8),
+            (1, 0, None),
+            (Kind::MacsecModified, 6..8, true),
             None,
         ),
         (
-            Entry::Ip,
-            FIRST_IPV6,
-            56,
-            0,
-            48,
-            0,
-            Kind::Ip,
-            8,
-            false,
+            (IPV6, OPTIONS_TWICE, 60),
+            (0, 48, None),
+            (Kind::Ip, 48..60, false),
             None,
         ),
-        (ARP_TYPE, ARP, 28, 0, 28, 0, Kind::Empty, 0, false, None),
         (
-            ARP_TYPE,
-            ARP,
-            20,
-            0,
-            0,
-            0,
-            Kind::Ether,
-            20,
-            false,
-            Some((Layer::Arp, 0, 28, 20)),
+            (IPV6, OPTIONS_TWICE, 52),
+            (0, 48, None),
+            (Kind::Ip, 48..52, true),
+            None,
         ),
         (
-            Entry::LinuxSll,
-            NETLINK,
-            18,
-            0,
-            0,
-            0,
-            Kind::LinuxSll,
-            2,
-            false,
+            (IPV6, OPTIONS_TWICE, 44),
+            (0, 40, None),
+            (Kind::Ip, 40..44, true),
+            length_error(Layer::Ipv6ExtHeader, (40, 8, 4), LenSource::Slice),
+        ),
+        (
+            (Entry::Ip, AUTHENTICATED, 36),
+            (0, 32, None),
+            (Kind::Ip, 32..36, false),
+            None,
+        ),
+        (
+            (Entry::Ip, AUTHENTICATED, 25),
+            (0, 20, None),
+            (Kind::Ip, 20..25, true),
+            length_error(Layer::IpAuthHeader, (20, 12, 5), LenSource::Slice),
+        ),
+        (
+            (Entry::Ip, FIRST_IPV4, 36),
+            (0, 20, None),
+            (Kind::Ip, 20..36, false),
+            None,
+        ),
+        (
+            (Entry::Ip, FIRST_IPV6, 56),
+            (0, 48, None),
+            (Kind::Ip, 48..56, false),
+            None,
+        ),
+        (
+            (ARP_TYPE, ARP, 28),
+            (0, 28, None),
+            (Kind::Empty, 28..28, false),
+            None,
+        ),
+        (
+            (ARP_TYPE, ARP, 20),
+            (0, 0, None),
+            (Kind::Ether, 0..20, false),
+            length_error(Layer::Arp, (0, 28, 20), LenSource::ArpAddrLengths),
+        ),
+        (
+            (Entry::LinuxSll, NETLINK, 18),
+            (0, 0, None),
+            (Kind::LinuxSll, 16..18, false),
             None,
         ),
     ] {
@@ -276,19 +333,197 @@ fn packets(rt: HostRuntime) {
             .read_into(entry, shown)
             .expect(&rt, "the first header is valid");
         same(&rt, &packet.link_exts.len(), &exts);
-        let net_len = match &packet.net {
-            Some(headers) => headers.header_len(),
-            None => 0,
-        };
-        same(&rt, &net_len, &net);
-        let transport_len = match &packet.transport {
-            Some(header) => header.header_len(),
-            None => 0,
-        };
-        same(&rt, &transport_len, &transport);
-        same(&rt, &packet.payload.slice().len(), &payload_len);
-        same(&rt, &kind_of(&packet.payload), &(payload_kind, incomplete));
-        same(&rt, &missing(&packet.stop_err), &stop);
+        let payload = shown.get(place).expect(&rt, "its payload");
+        reads(
+            &rt,
+            &packet,
+            (net, transport),
+            (kind, payload, incomplete),
+            stop,
+        );
+    }
+}
+
+/// Lax parsing of TCP, ICMPv4 and ICMPv6 in IPv4 and IPv6 packets, into one reused value: of each packet its first
+/// bytes, then the length of the IP header, the transport header, the kind, place and incompleteness of the payload,
+/// and the error at which parsing stopped.
+#[test]
+fn transport_headers(rt: HostRuntime) {
+    let mut packet = LaxPacketHeaders::new();
+    let small_offset = SliceError::Tcp(tcp::HeaderError::DataOffsetTooSmall { data_offset: 4 });
+    for ((bytes, len), headers, (kind, place, incomplete), stop) in [
+        (
+            (SEGMENT, 48),
+            (20usize, tcp(&rt, MSS)),
+            (Kind::Tcp, 44..48usize, false),
+            None,
+        ),
+        (
+            (NO_OPTIONS, 42),
+            (20, tcp(&rt, b"")),
+            (Kind::Tcp, 40..42, false),
+            None,
+        ),
+        (
+            (SEGMENT, 46),
+            (20, tcp(&rt, MSS)),
+            (Kind::Tcp, 44..46, true),
+            None,
+        ),
+        (
+            (SEGMENT, 42),
+            (20, None),
+            (Kind::Ip, 20..42, true),
+            length_error(Layer::TcpHeader, (20, 24, 22), LenSource::Slice),
+        ),
+        (
+            (SEGMENT, 33),
+            (20, None),
+            (Kind::Ip, 20..33, true),
+            length_error(Layer::TcpHeader, (20, 20, 13), LenSource::Slice),
+        ),
+        (
+            (SMALL_OFFSET, 40),
+            (20, None),
+            (Kind::Ip, 20..40, false),
+            Some((small_offset, Layer::TcpHeader)),
+        ),
+        (
+            (SEGMENT_IPV6, 68),
+            (40, tcp(&rt, MSS)),
+            (Kind::Tcp, 64..68, false),
+            None,
+        ),
+        (
+            (SEGMENT_IPV6, 64),
+            (40, tcp(&rt, MSS)),
+            (Kind::Tcp, 64..64, true),
+            None,
+        ),
+        (
+            (SEGMENT_IPV6, 63),
+            (40, None),
+            (Kind::Ip, 40..63, true),
+            length_error(Layer::TcpHeader, (40, 24, 23), LenSource::Slice),
+        ),
+        (
+            (SEGMENT_IPV6, 50),
+            (40, None),
+            (Kind::Ip, 40..50, true),
+            length_error(Layer::TcpHeader, (40, 20, 10), LenSource::Slice),
+        ),
+        (
+            (ECHO, 32),
+            (20, echo()),
+            (Kind::Icmpv4, 28..32, false),
+            None,
+        ),
+        ((ECHO, 30), (20, echo()), (Kind::Icmpv4, 28..30, true), None),
+        (
+            (ECHO, 27),
+            (20, None),
+            (Kind::Ip, 20..27, true),
+            length_error(Layer::Icmpv4, (20, 8, 7), LenSource::Slice),
+        ),
+        (
+            (ICMPV4_IN_IPV6, 52),
+            (40, echo()),
+            (Kind::Icmpv4, 48..52, false),
+            None,
+        ),
+        (
+            (ICMPV4_IN_IPV6, 44),
+            (40, None),
+            (Kind::Ip, 40..44, true),
+            length_error(Layer::Icmpv4, (40, 8, 4), LenSource::Slice),
+        ),
+        (
+            (TIMESTAMP, 40),
+            (20, timestamp()),
+            (Kind::Icmpv4, 40..40, false),
+            None,
+        ),
+        (
+            (TIMESTAMP, 36),
+            (20, None),
+            (Kind::Ip, 20..36, true),
+            length_error(Layer::Icmpv4Timestamp, (20, 20, 16), LenSource::Slice),
+        ),
+        (
+            (TIMESTAMP, 26),
+            (20, None),
+            (Kind::Ip, 20..26, true),
+            length_error(Layer::Icmpv4, (20, 8, 6), LenSource::Slice),
+        ),
+        (
+            (LONG_TIMESTAMP, 44),
+            (20, None),
+            (Kind::Ip, 20..44, false),
+            length_error(
+                Layer::Icmpv4Timestamp,
+                (20, 20, 24),
+                LenSource::Ipv4HeaderTotalLen,
+            ),
+        ),
+        (
+            (LONG_TIMESTAMP, 42),
+            (20, None),
+            (Kind::Ip, 20..42, true),
+            length_error(Layer::Icmpv4Timestamp, (20, 20, 22), LenSource::Slice),
+        ),
+        (
+            (LONG_TIMESTAMP, 40),
+            (20, timestamp()),
+            (Kind::Icmpv4, 40..40, true),
+            None,
+        ),
+        (
+            (LONG_REPLY, 44),
+            (20, None),
+            (Kind::Ip, 20..44, false),
+            length_error(
+                Layer::Icmpv4TimestampReply,
+                (20, 20, 24),
+                LenSource::Ipv4HeaderTotalLen,
+            ),
+        ),
+        (
+            (ECHO_IPV6, 52),
+            (40, echo_ipv6()),
+            (Kind::Icmpv6, 48..52, false),
+            None,
+        ),
+        (
+            (ECHO_IPV6, 49),
+            (40, echo_ipv6()),
+            (Kind::Icmpv6, 48..49, true),
+            None,
+        ),
+        (
+            (ECHO_IPV6, 45),
+            (40, None),
+            (Kind::Ip, 40..45, true),
+            length_error(Layer::Icmpv6, (40, 8, 5), LenSource::Slice),
+        ),
+        (
+            (ICMPV6_IN_IPV4, 32),
+            (20, echo_ipv6()),
+            (Kind::Icmpv6, 28..32, false),
+            None,
+        ),
+        (
+            (ICMPV6_IN_IPV4, 22),
+            (20, None),
+            (Kind::Ip, 20..22, true),
+            length_error(Layer::Icmpv6, (20, 8, 2), LenSource::Slice),
+        ),
+    ] {
+        let shown = bytes.get(..len).expect(&rt, "the first bytes");
+        packet
+            .read_into(Entry::Ip, shown)
+            .expect(&rt, "the IP header is valid");
+        let payload = shown.get(place).expect(&rt, "its payload");
+        reads(&rt, &packet, headers, (kind, payload, incomplete), stop);
     }
 }
 
@@ -358,8 +593,7 @@ fn ip_headers(rt: HostRuntime) {
         &(60, 12),
     );
     same(&rt, &IpHeaders::from_slice_lax(&[]).is_err(), &true);
-    let mut bytes = [0; 12];
-    bytes[1] = 0;
+    let bytes = [0; 12]; // byte 1, the payload length, is 0
     let (extensions, number, rest, stop) = Ipv4Extensions::from_slice_lax(
         IpNumber::AUTHENTICATION_HEADER,
         &bytes,

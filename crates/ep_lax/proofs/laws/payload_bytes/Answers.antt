@@ -1,5 +1,6 @@
+use Rattle.ep_base.specs.Readings.{slices}
 use Rattle.ep_lax.proofs.PayloadBytesLemmas.{lax_payloads}
 use Rattle.ep_lax.proofs.laws.payload_bytes.Goals as goal
 
 pub returns : goal.returns
-returns c = lax_payloads
+returns c = lax_payloads slices

@@ -1,5 +1,6 @@
+use Rattle.ep_base.specs.Readings.{slices}
 use Rattle.ep_lax.proofs.LaxStopPlaceLemmas.{stop_place}
 use Rattle.ep_lax.proofs.laws.stop_position.Goals as goal
 
 pub returns : goal.returns
-returns c = stop_place
+returns c = stop_place slices

@@ -247,6 +247,37 @@ fn texts_of_ipv6_exts(rt: HostRuntime) {
 }
 
 #[test]
+fn texts_of_ip_exts(rt: HostRuntime) {
+    let alloc = rt.alloc();
+    shows(
+        &rt,
+        alloc,
+        &ip_exts::HeaderError::Ipv4Ext(ip_auth::HeaderError::ZeroPayloadLen),
+        "ZeroPayloadLen",
+    );
+    shows(
+        &rt,
+        alloc,
+        &ip_exts::HeaderError::Ipv6Ext(ipv6_exts::HeaderError::HopByHopNotAtStart),
+        "HopByHopNotAtStart",
+    );
+    shows(
+        &rt,
+        alloc,
+        &ip_exts::HeadersSliceError::Len(len_error()),
+        LEN_TEXT,
+    );
+    shows(
+        &rt,
+        alloc,
+        &ip_exts::HeadersSliceError::Content(ip_exts::HeaderError::Ipv4Ext(
+            ip_auth::HeaderError::ZeroPayloadLen,
+        )),
+        "ZeroPayloadLen",
+    );
+}
+
+#[test]
 fn texts_of_walk_errors(rt: HostRuntime) {
     let alloc = rt.alloc();
     shows(

@@ -80,6 +80,8 @@ fn errors() {
             ipv6_exts::HeaderError,
             ipv6_exts::HeaderSliceError,
             ipv6_exts::HeaderWriteError,
+            ip_exts::HeaderError,
+            ip_exts::HeadersSliceError,
         ),
     >();
     are_errors::<LenError, ValueTooBigError<usize>, linux_sll::HeaderError>();
@@ -87,6 +89,7 @@ fn errors() {
     are_errors::<tcp::HeaderError, tcp::HeaderSliceError, ip::HeaderError>();
     are_errors::<ip::HeadersError, ip::HeadersSliceError, ip::SliceError>();
     are_errors::<ip_auth::HeaderError, ip_auth::HeaderSliceError, ip_exts::ExtsWalkError>();
+    are_errors::<ip_exts::HeaderError, ip_exts::HeadersSliceError, ip_exts::ExtsWalkError>();
     are_errors::<ipv4::HeaderError, ipv4::HeaderSliceError, ipv4::SliceError>();
     are_errors::<ipv4_exts::ExtsWalkError, ipv4_exts::HeaderWriteError, ipv6::HeaderError>();
     are_errors::<ipv6::HeaderSliceError, ipv6::SliceError, ipv6_exts::ExtsWalkError>();
