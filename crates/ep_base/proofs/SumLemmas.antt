@@ -25,6 +25,12 @@ ones_sum-append a b p =
     ap residue (word_sum-append a b p) ∙ sym (residue_part (word_sum a) (word_sum b))
     ∙ sym (residue_last (residue (word_sum a)) (word_sum b))
 
+-- The sum of an even number of bytes, plus the sum of more bytes, is the sum of all of them.
+pub sum_more : (front back : List ℕ) (n m : ℕ) → n ≡ ones_sum front → length front % 2 ≡ 0
+    → m ≡ ones_add n (ones_sum back) → m ≡ ones_sum (front ++ back)
+sum_more front back n m sum even more =
+    more ∙ ap (λ (k : ℕ). ones_add k (ones_sum back)) sum ∙ sym (ones_sum-append front back even)
+
 pub ones_add-comm : (a b : ℕ) → ones_add a b ≡ ones_add b a
 unfolding ones_add
 ones_add-comm a b = ap residue (add_comm a b)

@@ -3,6 +3,7 @@
 #![tactic(auto)]
 
 mod at_least;
+pub mod bytes;
 pub mod checksum;
 pub mod err;
 mod ether_payload_slice;

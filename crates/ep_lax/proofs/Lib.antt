@@ -24,3 +24,4 @@ pub mod NestedLengthLemmas
 pub mod TruncationLemmas
 pub mod PayloadBytesLemmas
 pub mod WholeFrameLemmas
+pub mod FrameTestLemmas

@@ -53,8 +53,8 @@ use Rattle.ep_lax.proofs.StrictLemmas.{says_some, short_source}
 
 -- ---- length fields
 
--- Each length that the last of these headers state includes its header, if this is true of all of them.
-last_include : (first others : List LayerHeader) → IncludeHeaders (first ++ others) → IncludeHeaders others
+-- If each length that a header of a list states includes that header, so does each that a header of its end states.
+pub last_include : (first others : List LayerHeader) → IncludeHeaders (first ++ others) → IncludeHeaders others
 last_include [] others include = include
 last_include (header ∷ first) others include = last_include first others include.1
 

@@ -18,3 +18,5 @@ pub mod LaxStops
 pub mod LaxComparisons
 pub mod QuotedPackets
 pub mod LaxHeaderComparisons
+pub mod WholeFrames
+pub mod MissingBytes

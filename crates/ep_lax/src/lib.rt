@@ -14,10 +14,12 @@ mod lax_net_slice;
 mod lax_packet_headers;
 mod lax_payload_slice;
 mod lax_sliced_packet;
+mod lax_sliced_packet_frame;
 mod lax_sliced_packet_payload;
 mod lax_sliced_packet_walk;
 mod lax_stop;
 mod lax_transport;
+mod missing_bytes;
 mod quoted_packets;
 
 pub use ep_base::LaxIpPayloadSlice;

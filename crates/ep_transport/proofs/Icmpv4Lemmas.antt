@@ -6,7 +6,7 @@ use Rattle.std.proofs.lemmas.Grind.{common_steps}
 use Rattle.std.proofs.lemmas.Bool.{cases_Bool, eqb-true, eq-eqb, true≢false, cond-true, cond-false, le-ltb}
 use Rattle.std.proofs.lemmas.Bool.Decides.{nat_tests}
 use Rattle.std.proofs.lemmas.List.{drop_all}
-use Rattle.ep_base.specs.Bytes.{AreBytes, word_at}
+use Rattle.ep_base.specs.Bytes.{AreBytes, long_at, word_at}
 use Rattle.ep_base.specs.Tables.{Parts, first_row}
 use Rattle.ep_base.proofs.BytesLemmas.{elements, drop-elements, AreBytes-take, AreBytes-drop, long_cells, word_cells}
 use Rattle.ep_base.proofs.TableLemmas.{IsReadBy}
@@ -18,7 +18,6 @@ use Rattle.ep_transport.specs.declared.icmpv4.timestamp_message.TimestampMessage
 use Rattle.ep_transport.specs.declared.icmpv4_type.Icmpv4Type.{Icmpv4Type}
 use Rattle.ep_transport.specs.declared.icmpv4_type.Icmpv4Type.TheVariants as message
 use Rattle.ep_transport.specs.declared.icmpv4_header.Icmpv4Header.{Icmpv4Header}
-use Rattle.ep_transport.specs.Tcp.{long_at}
 use Rattle.ep_transport.specs.Icmpv4.{icmpv4_row, icmpv4_kinds, icmpv4_kind_of, icmpv4_kind_at, icmpv4_kind, icmpv4_len, icmpv4_type_u8, icmpv4_code_u8, icmpv4_exceeded_u8, icmpv4_exceeded_of}
 use Rattle.ep_transport.specs.Icmpv4.{FitsIcmpv4, FitsIcmpv4Fields, FitsTimestamp, EndsIcmpv4, IsIcmpv4, icmpv4_bytes_with, icmpv4_header_of, icmpv4_parts, icmpv4_rest_with, icmpv4_rows, icmpv4_timestamp_rows, icmpv4_value_of, timestamp_bytes, timestamp_of}
 use Rattle.ep_transport.proofs.IcmpLemmas.{IsInRow, kind_in-row, four_at, four_there, four_range, message_front, echo_same, echo_fits, echo_read, message_bytes}

@@ -2,7 +2,7 @@
 use Rattle.std.proofs.Common.{◌≡◌, ℕ, ◌≤◌, List, [], ◌∷◌, ◌++◌, Option, Some, None, length, drop, slice_index, refl, sym, ap, ap₂, subst, ◌∙◌, arith}
 use Rattle.std.proofs.lemmas.Grind.{common_steps}
 use Rattle.std.proofs.lemmas.Bool.Decides.{nat_tests}
-use Rattle.ep_base.specs.Bytes.{AreBytes, word_at}
+use Rattle.ep_base.specs.Bytes.{AreBytes, long_at, word_at}
 use Rattle.ep_base.specs.Tables.{Parts, first_row}
 use Rattle.ep_base.proofs.BytesLemmas.{AreBytes-take, AreBytes-drop, long_cells}
 use Rattle.ep_base.proofs.TableLemmas.{IsReadBy}
@@ -13,7 +13,6 @@ use Rattle.ep_transport.specs.declared.icmpv6.time_exceeded_code.TimeExceededCod
 use Rattle.ep_transport.specs.declared.icmpv6_type.Icmpv6Type.{Icmpv6Type}
 use Rattle.ep_transport.specs.declared.icmpv6_type.Icmpv6Type.TheVariants as message
 use Rattle.ep_transport.specs.declared.icmpv6_header.Icmpv6Header.{Icmpv6Header}
-use Rattle.ep_transport.specs.Tcp.{long_at}
 use Rattle.ep_transport.specs.Icmpv6.{icmpv6_row, icmpv6_kinds, icmpv6_kind_of, icmpv6_kind_at, icmpv6_kind, icmpv6_type_u8, icmpv6_code_u8, icmpv6_exceeded_u8, icmpv6_exceeded_of}
 use Rattle.ep_transport.specs.Icmpv6.{FitsIcmpv6, FitsIcmpv6Fields, IsIcmpv6, icmpv6_bytes_with, icmpv6_header_of, icmpv6_parts, icmpv6_rest_with, icmpv6_rows, icmpv6_value_of}
 use Rattle.ep_transport.proofs.IcmpLemmas.{IsInRow, kind_in-row, four_at, four_there, four_range, message_front, echo_same, echo_fits, echo_read}

@@ -3,13 +3,7 @@ use Rattle.std.proofs.Common.{◌≡◌, ℕ, zero, suc, ◌%◌, List, [], ◌�
 use Rattle.std.specs.Int.{w16, to_be_bytes}
 use Rattle.std.proofs.lemmas.List.{length-append}
 use Rattle.ep_base.specs.Checksum.{ones_sum, ones_add, checksum_of, no_zero}
-use Rattle.ep_base.proofs.SumLemmas.{ones_sum-append, ones_sum-checksum, ones_sum-word, ones_sum_le}
-
--- The sum of an even number of bytes, plus the sum of more bytes, is the sum of all of them.
-pub sum_more : (front back : List ℕ) (n m : ℕ) → n ≡ ones_sum front → length front % 2 ≡ 0
-    → m ≡ ones_add n (ones_sum back) → m ≡ ones_sum (front ++ back)
-sum_more front back n m sum even more =
-    more ∙ ap (λ (k : ℕ). ones_add k (ones_sum back)) sum ∙ sym (ones_sum-append front back even)
+use Rattle.ep_base.proofs.SumLemmas.{ones_sum-checksum, ones_sum-word, ones_sum_le, sum_more}
 
 -- The sum of an even number of bytes, plus the sum of bytes equal to `back`, is the sum of the concatenation.
 pub sum_piece : (front back : List ℕ) (n m : ℕ) (piece : List ℕ) → n ≡ ones_sum front → length front % 2 ≡ 0

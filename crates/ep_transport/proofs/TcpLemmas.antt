@@ -4,12 +4,12 @@ use Rattle.std.proofs.Common.{List, ◌∷◌, ◌++◌, length, take, drop, get
 use Rattle.std.proofs.lemmas.Grind.{common_steps}
 use Rattle.std.proofs.lemmas.List.{get_or-take, get_or_append_left, length-take, length-drop, length-append, drop-append-le}
 use Rattle.std.proofs.lemmas.List.{take-append-drop, take_all, take_at, drop_at}
-use Rattle.ep_base.specs.Bytes.{AreBytes, word_at, bit}
+use Rattle.ep_base.specs.Bytes.{AreBytes, word_at, long_at, bit}
 use Rattle.ep_base.specs.Tables.{Parts, first_row}
 use Rattle.ep_base.proofs.BytesLemmas.{elements, drop-elements, AreBytes-take, AreBytes-drop, bit_le, bit_read, bit_of_read, long_cells, word_cells}
 use Rattle.ep_base.proofs.TableLemmas.{IsReadBy}
 use Rattle.ep_transport.specs.declared.tcp_header.TcpHeader.{TcpHeader}
-use Rattle.ep_transport.specs.Tcp.{FitsTcp, EncodesTcp, IsTcp, tcp_bytes_with, tcp_flags, tcp_header_of, tcp_parts, tcp_rows, data_offset_of, long_at, flag_at}
+use Rattle.ep_transport.specs.Tcp.{FitsTcp, EncodesTcp, IsTcp, tcp_bytes_with, tcp_flags, tcp_header_of, tcp_parts, tcp_rows, data_offset_of, flag_at}
 
 -- ---- the bytes of a header are read as this header
 

@@ -5,14 +5,13 @@ use Rattle.std.proofs.lemmas.Grind.{common_steps}
 use Rattle.std.proofs.lemmas.Bool.{cases_eq, cond-false, ne_eqb, true≢false}
 use Rattle.std.proofs.lemmas.Option.{none-some}
 use Rattle.std.proofs.lemmas.List.{drop-drop, get_or-drop, length-drop}
-use Rattle.ep_base.specs.Bytes.{AreBytes, word_at}
+use Rattle.ep_base.specs.Bytes.{AreBytes, long_at, word_at}
 use Rattle.ep_base.specs.Tables.{first_row}
 use Rattle.ep_base.proofs.BytesLemmas.{elements, drop-elements, AreBytes-drop, long_cells, word_cells}
 use Rattle.ep_base.proofs.TableLemmas.{IsReadBy}
 use Rattle.ep_transport.specs.declared.tcp_option_element.TcpOptionElement.{TcpOptionElement}
 use Rattle.ep_transport.specs.declared.tcp_option_element.TcpOptionElement.TheVariants.{Noop, MaximumSegmentSize, WindowScale, SelectiveAcknowledgementPermitted, SelectiveAcknowledgement, Timestamp}
 use Rattle.ep_transport.specs.declared.tcp_option_element.TcpOptionReadError.TheVariants.{UnknownId}
-use Rattle.ep_transport.specs.Tcp.{long_at}
 use Rattle.ep_transport.specs.TcpOptionBytes.{Block, FitsBlock, FitsOption, block_bytes, option_bytes, as_read, IsOption, IsNextOption, is_blocks_size, sized_rows, blocks_rows, kind_rows, option_rows}
 use Rattle.ep_transport.specs.TcpOptionSteps.{block_at}
 

@@ -1,7 +1,7 @@
 -- ICMP (RFC 792; the codes of type 3: RFC 1122, 3.2.2.1, RFC 1812, 5.2.7.1; its MTU: RFC 1191, 4).
 use Rattle.std.specs.Prelude.{◌≡◌, ℕ, ◌<◌, ◌^◌, ◌⊎◌, ◌==◌, ⊤, Bool, not, nat_lt, if◌then◌else◌, Option, Some, None, List, [], ◌∷◌, ◌++◌, length, take, drop, slice_index, slice_range}
 use Rattle.std.specs.Int.{w16, w32, to_be_bytes}
-use Rattle.ep_base.specs.Bytes.{AreBytes, word_at}
+use Rattle.ep_base.specs.Bytes.{AreBytes, long_at, word_at}
 use Rattle.ep_base.specs.Readings.{len_error}
 use Rattle.ep_base.specs.Tables.{Refuses, Parts, parts_of}
 use Rattle.ep_base.specs.declared.err.len_error.LenError.{LenError}
@@ -16,7 +16,6 @@ use Rattle.ep_transport.specs.declared.icmpv4_type.Icmpv4Type.{Icmpv4Type}
 use Rattle.ep_transport.specs.declared.icmpv4_type.Icmpv4Type.TheVariants as message
 use Rattle.ep_transport.specs.declared.icmpv4_header.Icmpv4Header.{Icmpv4Header}
 use Rattle.ep_transport.specs.Icmp.{kind_in, FitsEcho, echo_bytes, echo_of}
-use Rattle.ep_transport.specs.Tcp.{long_at}
 
 -- ---- table of kinds
 

@@ -1,7 +1,7 @@
 -- ICMPv6 (RFC 4443).
 use Rattle.std.specs.Prelude.{◌≡◌, ℕ, ◌+◌, ◌<◌, ◌^◌, ◌==◌, ⊤, Bool, nat_lt, if◌then◌else◌, Option, Some, None, List, [], ◌∷◌, ◌++◌, length, drop, slice_index, slice_range}
 use Rattle.std.specs.Int.{w16, w32, to_be_bytes}
-use Rattle.ep_base.specs.Bytes.{AreBytes, word_at}
+use Rattle.ep_base.specs.Bytes.{AreBytes, long_at, word_at}
 use Rattle.ep_base.specs.Checksum.{checksum_of}
 use Rattle.ep_base.specs.IpNumbers.{icmpv6_number}
 use Rattle.ep_base.specs.Readings.{len_error}
@@ -18,7 +18,6 @@ use Rattle.ep_transport.specs.declared.icmpv6_type.Icmpv6Type.TheVariants as mes
 use Rattle.ep_transport.specs.declared.icmpv6_header.Icmpv6Header.{Icmpv6Header}
 use Rattle.ep_transport.specs.Icmp.{kind_in, FitsEcho, echo_bytes, echo_of}
 use Rattle.ep_transport.specs.PseudoHeaders.{pseudo_header_ipv6}
-use Rattle.ep_transport.specs.Tcp.{long_at}
 
 -- ---- table of kinds
 

@@ -1,7 +1,7 @@
 -- TCP (RFC 9293, section 3.1; the flag NS: RFC 3540).
 use Rattle.std.specs.Prelude.{◌≡◌, ℕ, ◌+◌, ◌-◌, ◌*◌, ◌/◌, ◌%◌, ◌^◌, ◌<◌, ◌≤◌, ◌==◌, Bool, false, nat_lt, List, [], ◌∷◌, ◌++◌, length, take, drop, slice_index}
 use Rattle.std.specs.Int.{w16, w32, to_be_bytes}
-use Rattle.ep_base.specs.Bytes.{AreBytes, word_at, bit}
+use Rattle.ep_base.specs.Bytes.{AreBytes, word_at, long_at, bit}
 use Rattle.ep_base.specs.Readings.{len_error}
 use Rattle.ep_base.specs.Tables.{Refuses, Parts, parts_of}
 use Rattle.ep_base.specs.declared.err.layer.Layer.TheVariants as layer
@@ -85,10 +85,6 @@ abbrev pub RefusesTcp : List ℕ → HeaderSliceError → Type 0
 RefusesTcp bytes = Refuses (tcp_rows bytes)
 
 -- ---- reading
-
--- the big-endian 32-bit number at index `i`
-abbrev pub long_at : List ℕ → ℕ → ℕ
-long_at bytes i = 2 ^ 16 * word_at bytes i + word_at bytes (i + 2)
 
 -- the flag in bit `i` of byte 13
 abbrev pub flag_at : List ℕ → ℕ → Bool

@@ -1,7 +1,7 @@
 -- The state of an iterator over TCP options.
 use Rattle.std.specs.Prelude.{ℕ, ◌+◌, List}
 use Rattle.ep_transport.specs.declared.tcp_options_iterator.TcpOptionsIterator.{TcpOptionsIterator}
-use Rattle.ep_transport.specs.Tcp.{long_at}
+use Rattle.ep_base.specs.Bytes.{long_at}
 use Rattle.ep_transport.specs.TcpOptionBytes.{Block}
 
 -- the bytes that are not read yet

@@ -19,7 +19,7 @@ impl<'a> Icmpv6Slice<'a> {
     ghost use Rattle.ep_base.specs.Tables.{Parts};
     ghost use Rattle.ep_transport.specs.declared.icmpv6_header.Icmpv6Header.{Icmpv6Header};
     ghost use Rattle.ep_transport.specs.Icmp.{echo_of};
-    ghost use Rattle.ep_transport.specs.Tcp.{long_at};
+    ghost use Rattle.ep_base.specs.Bytes.{long_at};
     ghost use Rattle.ep_transport.specs.Icmpv6.{IsIcmpv6, RefusesIcmpv6, icmpv6_code_u8, icmpv6_type_u8};
     ghost use Rattle.ep_transport.specs.Icmpv6Slices.{icmpv6_slice_bytes, icmpv6_slice_header, icmpv6_slice_payload, icmpv6_slice_parts};
 

@@ -107,6 +107,8 @@ pub use Rattle.ep_lax.specs.LaxPacketHeaders
 pub use Rattle.ep_lax.specs.StrictFrames
 pub use Rattle.ep_lax.specs.LaxHeaders
 pub use Rattle.ep_lax.specs.LengthFields
+pub use Rattle.ep_lax.specs.MissingBytes
+pub use Rattle.ep_lax.specs.WholeFrames
 pub use Rattle.ep_lax.specs.Truncation
 pub use Rattle.ep_lax.specs.LaxStops
 pub use Rattle.ep_lax.specs.LaxComparisons

@@ -20,19 +20,19 @@ number_at name pool = option_map (λ at. at.number) (arrival_at name pool)
 
 -- the number of a stream after the answer to its fragment in packet `number`, given the number before
 abbrev pub number_after : Result (Option IpDefragPayloadVec) IpDefragError → Option ℕ → ℕ → Option ℕ
-number_after (Ok None) stood number = Some number
-number_after (Ok (Some payload)) stood number = None
-number_after (Err error) stood number = stood
+number_after (Ok None) before number = Some number
+number_after (Ok (Some payload)) before number = None
+number_after (Err error) before number = before
 
 -- a list without the entry `gone`, if there is one
 abbrev pub without : {X : Type 0} → (ℕ → Option X) → Option ℕ → ℕ → Option X
-without stands None number = stands number
-without stands (Some gone) number = if nat_eq gone number then None else stands number
+without entry None number = entry number
+without entry (Some gone) number = if nat_eq gone number then None else entry number
 
 -- a list with the entry `one` by the number `under`, if there is one
 abbrev pub with_one : {X : Type 0} → (ℕ → Option X) → X → Option ℕ → ℕ → Option X
-with_one stands one None number = stands number
-with_one stands one (Some under) number = if nat_eq under number then Some one else stands number
+with_one entry one None number = entry number
+with_one entry one (Some under) number = if nat_eq under number then Some one else entry number
 
 -- the name of a stream, if the stream is open
 abbrev pub open_at : IpDefragPool Arrival ℕ → Option (IpFragId ℕ) → Option (IpFragId ℕ)

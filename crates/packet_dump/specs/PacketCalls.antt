@@ -60,13 +60,13 @@ with_sweep before second oldest =
     else before
 
 -- the table of streams that the pool keeps after its calls
-abbrev pub table_behind : PoolHistory → IpFragId ℕ → Option (Kept Arrival)
-table_behind history = table_after history.limit nat_eq is_since history.calls
+abbrev pub table_of : PoolHistory → IpFragId ℕ → Option (Kept Arrival)
+table_of history = table_after history.limit nat_eq is_since history.calls
 
 -- The pool has the limit and the streams of this history.
 pub record HoldsHistory (history : PoolHistory) (pool : IpDefragPool Arrival ℕ) : Type 0 where
   pub limit : limit_of pool ≡ history.limit
-  pub table : HoldsTable nat_eq pool (table_behind history)
+  pub table : HoldsTable nat_eq pool (table_of history)
 
 -- ---- open streams
 
@@ -81,12 +81,12 @@ pub record AreOpen (table : IpFragId ℕ → Option (Kept Arrival)) (numbers : L
   pub each : (number : ℕ) → Contains numbers number ↔ ((name : IpFragId ℕ) × (number_of (table name) ≡ Some number))
 
 -- the history after the eviction of the oldest stream, if more than `most` are open
-abbrev pub given_up : ℕ → PoolHistory → List ℕ → PoolHistory
-given_up most before [] = before
-given_up most before (oldest ∷ later) =
+abbrev pub evicted : ℕ → PoolHistory → List ℕ → PoolHistory
+evicted most before [] = before
+evicted most before (oldest ∷ later) =
     if nat_lt (length later) most then before else with_call before (drops_streams (since_packet (oldest + 1)))
 
 -- The history `after` has the oldest stream evicted, if more than `most` were open.
 abbrev pub IsBounded : ℕ → PoolHistory → PoolHistory → Type 0
 IsBounded most before after =
-    (numbers : List ℕ) × AreOpen (table_behind before) numbers × (after ≡ given_up most before numbers)
+    (numbers : List ℕ) × AreOpen (table_of before) numbers × (after ≡ evicted most before numbers)

@@ -19,12 +19,12 @@ use Rattle.etherparse.specs.Types.TransportHeader.TheVariants as header
 use Rattle.etherparse.specs.TransportParts.{TransportLayer}
 use Rattle.packet_filter.specs.Passing.{passes}
 use Rattle.packet_filter.specs.declared.word.Word.{Word}
-use Rattle.packet_dump.specs.LayerTexts.{packet_text}
-use Rattle.packet_dump.specs.Openings.{is_cooked, opening_of}
-use Rattle.packet_dump.specs.Rows.{rows_text}
-use Rattle.packet_dump.specs.SliceErrorTexts.{refusal_text}
-use Rattle.packet_dump.specs.Transports.{len_text}
-use Rattle.packet_dump.specs.declared.openings.Opening.{Opening}
+use Rattle.packet_text.specs.LayerTexts.{lax_layers_text}
+use Rattle.link_types.specs.Openings.{is_cooked, opening_of}
+use Rattle.packet_text.specs.Rows.{rows_text}
+use Rattle.packet_text.specs.SliceErrorTexts.{refusal_text}
+use Rattle.packet_text.specs.Transports.{len_text}
+use Rattle.link_types.specs.declared.openings.Opening.{Opening}
 use Rattle.packet_dump.specs.declared.dump_options.DumpOptions.{DumpOptions}
 use Rattle.packet_dump.specs.declared.dump_options.Kind.{Kind}
 use Rattle.packet_dump.specs.declared.dump_options.Kind.TheVariants.{Udp, Tcp, Icmp, Arp, Refused, Stopped}
@@ -100,7 +100,7 @@ Holds strict link bytes content =
 
 -- the text of a content; for a link type that is not supported, its number and the length of the packet
 abbrev pub content_text : List ℕ → Content → List ℕ
-content_text bytes (packet read) = packet_text read
+content_text bytes (packet read) = lax_layers_text read
 content_text bytes (refusal error) = refusal_text error
 content_text bytes (other_link number) = codes " link " ++ decimal number ++ len_text bytes
 
@@ -168,6 +168,20 @@ abbrev pub meets : List (Option Word) → Content → Bool
 meets words (packet read) = list_all (λ slot. slot_holds slot read) words
 meets words (refusal error) = asks_nothing words
 meets words (other_link number) = asks_nothing words
+
+-- True if a packet of this content is selected: its kind is, and it matches the filter.
+abbrev pub is_wanted : DumpOptions → Content → Bool
+is_wanted options content = shows_kind options.only (content_kind content) && meets options.words content
+
+-- True if a packet of this content is shown: lines are printed, and it is selected.
+abbrev pub shows_content : DumpOptions → Content → Bool
+shows_content options content = not options.quiet && is_wanted options content
+
+-- True if details of a packet of this content are printed: it has layers, it is shown, and details are wanted.
+abbrev pub prints_details : DumpOptions → Content → Bool
+prints_details options (packet read) = options.verbose && shows_content options (packet read)
+prints_details options (refusal error) = false
+prints_details options (other_link number) = false
 
 -- ---- bytes
 

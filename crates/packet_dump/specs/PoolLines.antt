@@ -1,7 +1,6 @@
 -- Lines of reassembled payloads, and of fragments that the pool rejects.
-use Rattle.std.specs.Prelude.{◌≡◌, ◌⊎◌, ℕ, ◌-◌, ◌*◌, ◌/◌, if◌then◌else◌, ◌&&◌, Bool, true, false, List, [], ◌∷◌, ◌++◌, Option, Some, None, codes, drop}
+use Rattle.std.specs.Prelude.{◌≡◌, ℕ, ◌-◌, ◌*◌, ◌/◌, if◌then◌else◌, ◌&&◌, Bool, true, false, List, [], ◌∷◌, ◌++◌, Option, Some, None, codes}
 use Rattle.std.specs.List.{list_all}
-use Rattle.capture_reader.specs.Captures.{PlainShown}
 use Rattle.etherparse.specs.Readings.{slices}
 use Rattle.etherparse.specs.Types.TcpHeaderSliceError.{HeaderSliceError}
 use Rattle.etherparse.specs.Types.TcpHeaderSliceError.TheVariants as header_error
@@ -16,14 +15,13 @@ use Rattle.etherparse.specs.TransportParts.{TransportLayer, IsTransportPart, Ref
 use Rattle.line_io.specs.Lines.{line_feed}
 use Rattle.packet_filter.specs.Passing.{matches_reassembled}
 use Rattle.packet_filter.specs.declared.word.Word.{Word}
-use Rattle.packet_dump.specs.Openings.{opening_of}
-use Rattle.packet_dump.specs.PacketContents.{IsFrameIn, bytes_text, header_kind, shows_line}
-use Rattle.packet_dump.specs.LayerTexts.{outer_text, protocol_text}
-use Rattle.packet_dump.specs.PacketCalls.{IsBounded, PoolHistory, frame_call, table_behind, with_frame, with_sweep}
-use Rattle.packet_dump.specs.SliceErrorTexts.{refusal_text}
-use Rattle.packet_dump.specs.Transports.{len_text, transport_text}
-use Rattle.packet_dump.specs.declared.lines.LineParts.{LineParts}
-use Rattle.packet_dump.specs.declared.openings.Opening.{Opening}
+use Rattle.packet_dump.specs.DecodedPackets.{DecodedPacket}
+use Rattle.packet_dump.specs.PacketContents.{bytes_text, header_kind, shows_line}
+use Rattle.packet_dump.specs.PacketLines.{line_start}
+use Rattle.packet_text.specs.LayerTexts.{outer_text, protocol_text}
+use Rattle.packet_dump.specs.PacketCalls.{IsBounded, PoolHistory, frame_call, table_of, with_frame, with_sweep}
+use Rattle.packet_text.specs.SliceErrorTexts.{refusal_text}
+use Rattle.packet_text.specs.Transports.{len_text, transport_text}
 use Rattle.packet_dump.specs.declared.pooling.Arrival.{Arrival}
 use Rattle.packet_dump.specs.declared.dump_options.Kind.{Kind}
 use Rattle.packet_dump.specs.declared.dump_options.Kind.TheVariants.{Refused}
@@ -134,9 +132,9 @@ IsAnswerText options start layers buffer_returned text = text ≡ []
 
 -- ---- packets
 
--- the arrival of the packet of a line: its number, and the latest timestamp
-abbrev pub arrival_of : LineParts → Arrival
-arrival_of parts = record { number = parts.number; instant = parts.latest }
+-- the arrival of a packet: its number, and the latest timestamp
+abbrev pub arrival_of : DecodedPacket → Arrival
+arrival_of one = record { number = one.number; instant = one.latest }
 
 -- the timestamp before which streams expire at a packet of time `this`
 abbrev pub oldest_from : DumpOptions → ℕ → ℕ
@@ -149,35 +147,22 @@ swept_at options before this = with_sweep before (this / 1000000000) (oldest_fro
 -- The text is the line of the pool's answer to a frame with this arrival.
 abbrev pub IsCallText : DumpOptions → List ℕ → PoolHistory → Layers → Arrival → List ℕ → Type 0
 IsCallText options start before layers at text =
-    IsAnswerText options start layers (answer_to before.limit (table_behind before) (frame_call layers at)) text
+    IsAnswerText options start layers (answer_to before.limit (table_of before) (frame_call layers at)) text
 
--- The frame is passed to the pool after old streams have expired, the text is the line of the answer, and then the
--- oldest stream is evicted if more are open than allowed.
-abbrev pub GivesFrame : DumpOptions → List ℕ → PoolHistory → Arrival → Layers → List ℕ → PoolHistory → Type 0
-GivesFrame options start before at layers text after =
+-- A frame is passed to the pool after old streams have expired, the text is the line of the answer, and then the oldest
+-- stream is evicted if more are open than allowed.
+abbrev pub PassesFrame : DumpOptions → List ℕ → PoolHistory → Arrival → Layers → List ℕ → PoolHistory → Type 0
+PassesFrame options start before at layers text after =
     let swept = swept_at options before at.instant in
     IsCallText options start swept layers at text × IsBounded options.streams (with_frame swept layers at) after
 
--- The pool is unchanged, and the text is empty.
-abbrev pub DoesNothing : PoolHistory → List ℕ → PoolHistory → Type 0
-DoesNothing before text after = (text ≡ []) × (after ≡ before)
+-- A frame is passed to the pool, if there is one.
+abbrev pub PassesIfFrame : DumpOptions → List ℕ → PoolHistory → Arrival → Option Layers → List ℕ → PoolHistory → Type 0
+PassesIfFrame options start before at (Some layers) text after = PassesFrame options start before at layers text after
+PassesIfFrame options start before at None text after = (text ≡ []) × (after ≡ before)
 
--- The frame is passed to the pool, if there is one.
-abbrev pub GivesFound : DumpOptions → List ℕ → PoolHistory → Arrival → Option Layers → List ℕ → PoolHistory → Type 0
-GivesFound options start before at (Some layers) text after = GivesFrame options start before at layers text after
-GivesFound options start before at None text after = DoesNothing before text after
-
--- If payloads are reassembled, bytes that are a frame are passed to the pool, and no others.
-abbrev pub GivesWhere : Bool → DumpOptions → List ℕ → PoolHistory → Arrival → Opening → List ℕ → List ℕ → PoolHistory
-    → Type 0
-GivesWhere false options start before at opening bytes text after = DoesNothing before text after
-GivesWhere true options start before at opening bytes text after =
-    (frame : Option Layers) × IsFrameIn opening bytes frame × GivesFound options start before at frame text after
-
--- The text is the line of the answer to the fragment in a packet with this arrival, and `after` is the state of the
--- pool. A packet that is no frame or is not supported changes nothing.
-abbrev pub IsPooled : DumpOptions → List ℕ → PoolHistory → Arrival → PlainShown → List ℕ → PoolHistory → Type 0
-IsPooled options start before at shown text after =
-    ((opening : Opening) × (opening_of shown.link shown.bytes ≡ Some opening)
-    × GivesWhere options.reassemble options start before at opening (drop opening.skipped shown.bytes) text after)
-    ⊎ ((opening_of shown.link shown.bytes ≡ None) × DoesNothing before text after)
+-- The packet is passed to the pool if it is a frame, the text is the line of the answer, and `after` is the state of the
+-- pool. A packet that is no frame changes nothing.
+abbrev pub PassesPacket : DumpOptions → PoolHistory → DecodedPacket → List ℕ → PoolHistory → Type 0
+PassesPacket options before one text after =
+    PassesIfFrame options (line_start options.time one) before (arrival_of one) one.frame text after

@@ -1,19 +1,18 @@
 -- Capture file of the selected packets.
-use Rattle.std.specs.Prelude.{◌≡◌, ℕ, ◌+◌, ◌^◌, ◌<◌, if◌then◌else◌, Bool, true, false, List, [], ◌∷◌, ◌++◌, Option}
-use Rattle.std.specs.Prelude.{Some, None, ◌&&◌}
+use Rattle.std.specs.Prelude.{◌≡◌, ℕ, ◌^◌, ◌<◌, if◌then◌else◌, Bool, true, false, List, [], ◌∷◌, ◌++◌, Option}
+use Rattle.std.specs.Prelude.{Some, None, filter, map}
 use Rattle.std.specs.Io.KnownBytes.{Appends}
-use Rattle.capture_reader.specs.Captures.{Item, IsCapture, PlainShown, Stage, at_start, shown_in, stage_after}
-use Rattle.capture_reader.specs.Captures.{stage_after_items}
+use Rattle.capture_reader.specs.Captures.{PlainShown}
 use Rattle.capture_reader.specs.Classic.{heading_bytes}
 use Rattle.capture_writer.specs.Written.{AreWritten, IsWriteError, IsWritten, capture_bytes, packet_bytes}
 use Rattle.capture_writer.specs.Written.{written_heading}
 use Rattle.capture_writer.specs.declared.write_error.WriteError.TheVariants as write_error
 use Rattle.capture_writer.specs.declared.write_error.WriteRefusal.{WriteRefusal}
-use Rattle.packet_dump.specs.Dumps.{AreFewer, Begin, IsRefused, packets_in}
-use Rattle.packet_dump.specs.PacketContents.{Content, Holds, content_kind, meets, shows_kind}
+use Rattle.packet_dump.specs.DecodedPackets.{DecodedPacket}
+use Rattle.packet_dump.specs.Dumps.{BeginsRun, IsRun}
+use Rattle.packet_dump.specs.PacketContents.{is_wanted}
 use Rattle.packet_dump.specs.declared.dump_options.DumpOptions.{DumpOptions}
 use Rattle.packet_dump.specs.declared.ending.Ending.{Ending}
-use Rattle.packet_dump.specs.declared.ending.Ending.TheVariants.{Complete, Enough, Broken}
 use Rattle.packet_dump.specs.declared.saving.SaveFault.TheVariants.{Refused, Failed}
 use Rattle.packet_dump.specs.declared.saving.SaveState.{SaveState}
 use Rattle.packet_dump.specs.declared.saving.SaveState.TheVariants.{Unasked, Open, Stopped}
@@ -21,23 +20,13 @@ use Rattle.packet_dump.specs.declared.saving.Saving.{Saving}
 
 -- ---- selected packets
 
--- True if a packet of this content is selected: its kind is, and it matches the filter.
-abbrev pub is_wanted : DumpOptions → Content → Bool
-is_wanted options content = shows_kind options.only (content_kind content) && meets options.words content
+-- True if a packet is selected.
+abbrev pub is_selected : DumpOptions → DecodedPacket → Bool
+is_selected options one = is_wanted options one.content
 
--- The packets are that of an item, if it is one and is selected, else none.
-abbrev pub Selects : DumpOptions → Option PlainShown → List PlainShown → Type 0
-Selects options None packets = packets ≡ []
-Selects options (Some shown) packets =
-    (content : Content) × Holds options.strict shown.link shown.bytes content
-    × (packets ≡ (if is_wanted options content then shown ∷ [] else []))
-
--- The packets are the selected ones of these items, in order.
-abbrev pub AreSelected : DumpOptions → Stage → List Item → List PlainShown → Type 0
-AreSelected options stage [] packets = packets ≡ []
-AreSelected options stage (item ∷ items) packets =
-    (one others : List PlainShown) × Selects options (shown_in stage item) one × (packets ≡ one ++ others)
-    × AreSelected options (stage_after stage item) items others
+-- the selected packets, in order
+abbrev pub selected : DumpOptions → List DecodedPacket → List PlainShown
+selected options packets = map (λ one. one.shown) (filter (is_selected options) packets)
 
 -- ---- their capture
 
@@ -54,36 +43,32 @@ copy_bytes packets = capture_bytes (link_in packets) packets
 abbrev pub AreSaved : List PlainShown → Type 0
 AreSaved packets = (link_in packets < 2 ^ 16) × AreWritten (link_in packets) packets
 
--- A selected packet of these items cannot be written, and this is its number; the bytes are a capture of the selected
--- packets before it.
-pub record IsUnsaved (options : DumpOptions) (items : List Item) (bytes : List ℕ) (number : ℕ) (refusal : WriteRefusal)
-    : Type 0 where
-  pub earlier : List Item
-  pub item : Item
-  pub later : List Item
-  pub packets : List PlainShown
-  pub shown : PlainShown
-  pub parts : items ≡ earlier ++ item ∷ later
-  pub selected : AreSelected options at_start earlier packets
-  pub shows : shown_in (stage_after_items at_start earlier) item ≡ Some shown
-  pub is_selected : Selects options (Some shown) (shown ∷ [])
-  pub number_is : number ≡ packets_in earlier + 1
-  pub refused : IsWriteError (link_in (packets ++ shown ∷ [])) shown (write_error.Refused refusal)
-  pub fits : link_in (packets ++ shown ∷ []) < 2 ^ 16
-  pub written : AreWritten (link_in (packets ++ shown ∷ [])) packets
-  pub bytes_are : bytes ≡ capture_bytes (link_in (packets ++ shown ∷ [])) packets
+-- A selected packet cannot be written, and this is its number; the bytes are a capture of the selected packets before
+-- it.
+pub record IsUnsaved (options : DumpOptions) (packets : List DecodedPacket) (bytes : List ℕ) (number : ℕ)
+    (refusal : WriteRefusal) : Type 0 where
+  pub earlier : List DecodedPacket
+  pub one : DecodedPacket
+  pub later : List DecodedPacket
+  pub parts : packets ≡ earlier ++ one ∷ later
+  pub is : is_selected options one ≡ true
+  pub number_is : number ≡ one.number
+  pub refused : IsWriteError (link_in (selected options earlier ++ one.shown ∷ [])) one.shown
+      (write_error.Refused refusal)
+  pub fits : link_in (selected options earlier ++ one.shown ∷ []) < 2 ^ 16
+  pub written : AreWritten (link_in (selected options earlier ++ one.shown ∷ [])) (selected options earlier)
+  pub bytes_are : bytes ≡ capture_bytes (link_in (selected options earlier ++ one.shown ∷ []))
+      (selected options earlier)
 
--- The bytes begin a capture of selected packets of the first items.
-pub record BeginsCopy (options : DumpOptions) (items : List Item) (bytes : List ℕ) : Type 0 where
-  pub earlier : List Item
-  pub later : List Item
-  pub packets : List PlainShown
+-- The bytes begin a capture of the selected packets among the first ones.
+pub record BeginsCopy (options : DumpOptions) (packets : List DecodedPacket) (bytes : List ℕ) : Type 0 where
+  pub earlier : List DecodedPacket
+  pub later : List DecodedPacket
   pub link : ℕ
   pub rest : List ℕ
-  pub parts : items ≡ earlier ++ later
-  pub selected : AreSelected options at_start earlier packets
-  pub written : AreWritten link packets
-  pub complete : capture_bytes link packets ≡ bytes ++ rest
+  pub parts : packets ≡ earlier ++ later
+  pub written : AreWritten link (selected options earlier)
+  pub complete : capture_bytes link (selected options earlier) ≡ bytes ++ rest
 
 -- ---- states
 
@@ -129,35 +114,31 @@ abbrev pub begun_bytes : Bool → List PlainShown → List ℕ
 begun_bytes closed [] = if closed then copy_bytes [] else []
 begun_bytes closed (first ∷ others) = copy_bytes (first ∷ others)
 
--- The bytes for these items, given whether a file is wanted and whether it is closed: the capture of the selected
--- packets, or of those before a packet that cannot be written; or a prefix of it, if the file failed.
-abbrev pub Saves : DumpOptions → Bool → Bool → SaveState → List Item → List ℕ → Type 0
-Saves options false closed Unasked items bytes = bytes ≡ []
-Saves options true closed (Open link) items bytes =
-    (packets : List PlainShown) × AreSelected options at_start items packets × AreSaved packets
-    × (link ≡ first_link packets) × (bytes ≡ begun_bytes closed packets)
-Saves options true closed (Stopped (Refused number refusal)) items bytes = IsUnsaved options items bytes number refusal
-Saves options true closed (Stopped Failed) items bytes = BeginsCopy options items bytes
-Saves options wanted closed state items bytes = ⊥
+-- The bytes for these packets, given whether a file is wanted and whether it is closed: the capture of the selected
+-- packets, or of those before the first that cannot be written; or a prefix of it, if the file failed.
+abbrev pub Saves : DumpOptions → Bool → Bool → SaveState → List DecodedPacket → List ℕ → Type 0
+Saves options false closed Unasked packets bytes = bytes ≡ []
+Saves options true closed (Open link) packets bytes =
+    AreSaved (selected options packets) × (link ≡ first_link (selected options packets))
+    × (bytes ≡ begun_bytes closed (selected options packets))
+Saves options true closed (Stopped (Refused number refusal)) packets bytes =
+    IsUnsaved options packets bytes number refusal
+Saves options true closed (Stopped Failed) packets bytes = BeginsCopy options packets bytes
+Saves options wanted closed state packets bytes = ⊥
 
 -- ---- complete runs
-
--- The input ends with these items, so that a run ends there.
-abbrev pub EndsAt : DumpOptions → Bool → Ending → List ℕ → List Item → Type 0
-EndsAt options ended Complete read items = (ended ≡ true) × IsCapture read items × AreFewer options items
-EndsAt options ended Enough read items = Begin read items × (packets_in items ≡ options.most)
-EndsAt options ended (Broken packets error) read items =
-    IsRefused ended read (items, error) × AreFewer options items × (packets ≡ packets_in items)
 
 -- The file, if one is wanted, has the bytes that are saved of the input.
 abbrev pub IsCopy : DumpOptions → Bool → Bool → Ending → SaveState → List ℕ → List ℕ → Type 0
 IsCopy options wanted ended ending state read saved =
-    (items : List Item) × EndsAt options ended ending read items × Saves options wanted true state items saved
+    (packets : List DecodedPacket) × IsRun options ended ending read packets
+    × Saves options wanted true state packets saved
 
 -- The file, if one is wanted, begins the bytes that are saved of the input.
 abbrev pub BeginsSaved : DumpOptions → Bool → List ℕ → List ℕ → Type 0
 BeginsSaved options false read saved = saved ≡ []
-BeginsSaved options true read saved = (items : List Item) × Begin read items × BeginsCopy options items saved
+BeginsSaved options true read saved =
+    (packets : List DecodedPacket) × BeginsRun options read packets × BeginsCopy options packets saved
 
 -- ---- steps
 
@@ -182,31 +163,31 @@ Pushes link (Stopped (Refused place refusal)) number shown old new =
     × (new ≡ old ++ file_header_bytes link shown.link)
 Pushes link state number shown old new = ⊥
 
--- Bytes that are right for these items, after those in the file, become right for all items.
-abbrev pub GoesOn : DumpOptions → Saving → Saving → (items all : List Item) → Type 0
-GoesOn options old new items all =
-    (wanted : Bool) (saved : List ℕ) → Saves options wanted false old.state items (saved ++ old.bytes.items)
+-- Bytes that are right for these packets, after those in the file, become right for all packets.
+abbrev pub GoesOn : DumpOptions → Saving → Saving → (packets all : List DecodedPacket) → Type 0
+GoesOn options old new packets all =
+    (wanted : Bool) (saved : List ℕ) → Saves options wanted false old.state packets (saved ++ old.bytes.items)
     → Saves options wanted false new.state all (saved ++ new.bytes.items)
 
 -- The pending bytes were written, as far as the file accepted them.
 abbrev pub Flushes : Saving → Saving → (contents next_contents : Option (List ℕ)) → Type 0
 Flushes old new contents next_contents =
-    (options : DumpOptions) (wanted closed : Bool) (items : List Item) (saved : List ℕ)
-    → Saves options wanted closed old.state items (saved ++ old.bytes.items)
+    (options : DumpOptions) (wanted closed : Bool) (packets : List DecodedPacket) (saved : List ℕ)
+    → Saves options wanted closed old.state packets (saved ++ old.bytes.items)
     → (more : List ℕ) × Appends contents next_contents more
-    × Saves options wanted closed new.state items (saved ++ more)
+    × Saves options wanted closed new.state packets (saved ++ more)
 
 -- No more packets follow.
 abbrev pub Finishes : Saving → Saving → Type 0
 Finishes old new =
-    (options : DumpOptions) (wanted : Bool) (items : List Item) (saved : List ℕ)
-    → Saves options wanted false old.state items (saved ++ old.bytes.items)
-    → Saves options wanted true new.state items (saved ++ new.bytes.items)
+    (options : DumpOptions) (wanted : Bool) (packets : List DecodedPacket) (saved : List ℕ)
+    → Saves options wanted false old.state packets (saved ++ old.bytes.items)
+    → Saves options wanted true new.state packets (saved ++ new.bytes.items)
 
 -- No more packets follow, and the pending bytes were written.
 abbrev pub Closes : Saving → Saving → (contents next_contents : Option (List ℕ)) → Type 0
 Closes old new contents next_contents =
-    (options : DumpOptions) (wanted : Bool) (items : List Item) (saved : List ℕ)
-    → Saves options wanted false old.state items (saved ++ old.bytes.items)
+    (options : DumpOptions) (wanted : Bool) (packets : List DecodedPacket) (saved : List ℕ)
+    → Saves options wanted false old.state packets (saved ++ old.bytes.items)
     → (more : List ℕ) × Appends contents next_contents more
-    × Saves options wanted true new.state items (saved ++ more)
+    × Saves options wanted true new.state packets (saved ++ more)

@@ -1,23 +1,27 @@
 -- State between two chunks of a capture.
-use Rattle.std.specs.Prelude.{◌≡◌, ℕ, ◌+◌, ◌<◌, ◌≤◌, Bool, true, List, ◌++◌, Some}
-use Rattle.capture_reader.specs.Captures.{Item, IsCapture, PlainShown, RefusesCapture}
+use Rattle.std.specs.Prelude.{◌≡◌, ℕ, ◌+◌, ◌<◌, ◌≤◌, Bool, true, false, List, [], ◌∷◌, ◌++◌, Some}
+use Rattle.capture_reader.specs.Captures.{IsCapture, Item, PlainShown, RefusesCapture, Stage, at_start, stage_after}
+use Rattle.capture_reader.specs.Captures.{stage_after_items}
 use Rattle.capture_reader.specs.Readers.{Reads, reader_offset, reader_unread}
-use Rattle.packet_dump.specs.Dumps.{AreAllTexts, AreFewer, Begin, IsLine, none_read, packets_in, progress_after_items}
 use Rattle.etherparse.specs.Types.IpFragId.{IpFragId}
+use Rattle.packet_dump.specs.DecodedPackets.{AreDecoded, DecodedPacket, IsDecoded, IsPacketAfter, Progress, none_read}
+use Rattle.packet_dump.specs.DecodedPackets.{packets_in, progress_after_items, progress_with}
+use Rattle.packet_dump.specs.Decoding.{layers_of, packet_of, start_of}
+use Rattle.packet_dump.specs.Dumps.{AreAllLines, AreFewer, Begin}
 use Rattle.packet_dump.specs.OpenStreams.{IsListed, number_at}
-use Rattle.packet_dump.specs.PacketCalls.{HoldsHistory, PoolHistory}
-use Rattle.packet_dump.specs.Saves.{GoesOn}
-use Rattle.packet_dump.specs.Shown.{first_after, instant_in, latest_after}
-use Rattle.packet_dump.specs.Summaries.{BecameOf, CountsOn, Fates, PlainSummary, plain_of}
+use Rattle.packet_dump.specs.PacketCalls.{HoldsHistory, PoolHistory, new_pool, with_frame}
+use Rattle.packet_dump.specs.PacketLines.{line_of}
+use Rattle.packet_dump.specs.PoolLines.{IsCallText, PassesPacket, arrival_of}
+use Rattle.packet_dump.specs.Saves.{GoesOn, Saves, asks, new_state}
+use Rattle.packet_dump.specs.Summaries.{BecameOf, Fates, PlainSummary, counted_all, counted_one, new_summary, plain_of}
+use Rattle.packet_dump.specs.declared.decoded.Decoded.{Decoded}
+use Rattle.packet_dump.specs.declared.dump_options.DumpOptions.{DumpOptions}
 use Rattle.packet_dump.specs.declared.ending.Ending.{Ending}
 use Rattle.packet_dump.specs.declared.ending.Ending.TheVariants as ending
 use Rattle.packet_dump.specs.declared.pooling.Pooling.{Pooling}
-use Rattle.packet_dump.specs.declared.saving.Saving.{Saving}
-use Rattle.packet_dump.specs.declared.session.Session.{Session}
 use Rattle.packet_dump.specs.declared.session.CaptureState.{CaptureState}
 use Rattle.packet_dump.specs.declared.session.CaptureState.TheVariants.{MayEnd, Enough, Cut, Refused}
-use Rattle.packet_dump.specs.declared.summary.Summary.{Summary}
-use Rattle.packet_dump.specs.declared.dump_options.DumpOptions.{DumpOptions}
+use Rattle.packet_dump.specs.declared.session.Session.{Session}
 
 -- The pool has this history, its open streams are listed, and none has a fragment of a packet later than the last one.
 pub record HoldsStreams (history : PoolHistory) (pooling : Pooling) : Type 0 where
@@ -31,7 +35,7 @@ abbrev pub fates_of : Pooling → Fates
 fates_of pooling = record {
   reassembled = pooling.reassembled;
   refused = pooling.refused;
-  given_up = pooling.given_up;
+  dropped = pooling.dropped;
 }
 
 -- The pool has this history, and its fragments were counted.
@@ -44,16 +48,29 @@ pub record AwaitsPacket (history : PoolHistory) (number : ℕ) (pooling : Poolin
   pub holds : HoldsPooling history pooling
   pub later : history.number < number
 
--- The session has these options, took these bytes, and read these items from them. It has their number of packets,
--- which is no more than wanted, and their first and latest timestamp. The pool has this history.
+-- A packet that is a frame was passed to a pool of this history, after which the pool is `new`, and the line of the
+-- answer was appended.
+abbrev pub ProcessesFrame : DumpOptions → Decoded → PoolHistory → Pooling → (items next_items : List ℕ) → Type 0
+ProcessesFrame options decoded before new items next_items =
+    let at = arrival_of (packet_of decoded) in
+    (text : List ℕ) × IsCallText options (start_of options decoded) before (layers_of decoded) at text
+    × HoldsPooling (with_frame before (layers_of decoded) at) new × (next_items ≡ items ++ text)
+
+-- the progress of a session at this stage of the capture
+abbrev pub progress_of : Stage → Session → Progress
+progress_of stage session =
+    record { stage = stage; number = session.number; first = session.first; latest = session.latest }
+
+-- The session has these options, took these bytes, and read these items from them, whose packets are decoded. It has
+-- their number of packets, which is no more than wanted, and their first and latest timestamp. The pool has this
+-- history.
 pub record HasRead (options : DumpOptions) (session : Session) (read : List ℕ) (items : List Item)
-    (history : PoolHistory) : Type 0 where
+    (packets : List DecodedPacket) (history : PoolHistory) : Type 0 where
   pub options_is : session.options ≡ options
   pub reads : Reads session.capture read items
   pub within : session.number ≤ options.most
-  pub number : session.number ≡ (progress_after_items none_read items).number
-  pub first : session.first ≡ (progress_after_items none_read items).first
-  pub latest : session.latest ≡ (progress_after_items none_read items).latest
+  pub progress : progress_after_items none_read items ≡ progress_of (stage_after_items at_start items) session
+  pub decoded : AreDecoded options none_read items packets
   pub pooled : HoldsPooling history session.pooling
   pub given : history.number ≤ session.number
 
@@ -73,43 +90,66 @@ HasState options (Cut error) read items = AreFewer options items × RefusesCaptu
 HasState options (Refused error) read items =
     AreFewer options items × ((more : List ℕ) → RefusesCapture (read ++ more) (items, error))
 
--- the data that is gathered of packets in addition to their lines: the capture file and the summary
-pub record Gathered : Type 0 where
-  pub saving : Saving
-  pub summary : PlainSummary
+-- ---- results
 
-abbrev pub gathered : Saving → Summary → Gathered
-gathered saving summary = record { saving = saving; summary = plain_of summary }
+-- the start of a run and its results written so far: the summary before any packet, whether a capture file is wanted,
+-- the lines that were written, and the bytes that were written to the capture file
+pub record Written : Type 0 where
+  pub start : PlainSummary
+  pub wanted : Bool
+  pub lines : List ℕ
+  pub saved : List ℕ
 
--- More items were read, their lines were built, and their packets were saved and counted.
-pub record Drained (options : DumpOptions) (session : Session) (read : List ℕ) (items : List Item) (text : List ℕ)
-    (before next : Gathered) : Type 0 where
-  pub more : List Item
+-- The session took these bytes and processed the packets in them: the lines that were written are theirs, the summary
+-- counts them, and the capture file has them, in the bytes that were written and then those that are pending.
+pub record HasProcessed (options : DumpOptions) (session : Session) (read : List ℕ) (written : Written) : Type 0 where
+  pub items : List Item
+  pub packets : List DecodedPacket
+  pub history : PoolHistory
+  pub has_read : HasRead options session read items packets history
+  pub lines : AreAllLines options packets written.lines history
+  pub counted : plain_of session.summary ≡ counted_all packets written.start
+  pub saves : Saves options written.wanted false session.saving.state packets
+      (written.saved ++ session.saving.bytes.items)
+
+-- the results written so far, with these lines after them
+abbrev pub with_lines : Written → List ℕ → Written
+with_lines written lines = record written { lines = written.lines ++ lines }
+
+-- The packets that the session took were processed, their lines are pending, and the capture has this state.
+abbrev pub Drains : DumpOptions → Session → CaptureState → List ℕ → Written → Type 0
+Drains options session capture_state read written =
+    (processed : HasProcessed options session read (with_lines written session.output.items))
+    × HasState options capture_state read processed.items
+
+-- A packet of the capture was decoded, saved and counted, and its line appended; the pool has the history after it.
+pub record ProcessesPacket (old new : Session) (before : PoolHistory) (shown : PlainShown) : Type 0 where
+  pub one : DecodedPacket
+  pub answer : List ℕ
   pub after : PoolHistory
-  pub has_read : HasRead options session read (items ++ more) after
-  pub texts : AreAllTexts options (items ++ more) (text ++ session.output.items) after
-  pub saves : GoesOn options before.saving next.saving items (items ++ more)
-  pub counts : CountsOn options before.summary next.summary items (items ++ more)
-
--- More items were read, with their lines, packets and counts, and the capture has this state.
-abbrev pub Drains : DumpOptions → Session → CaptureState → List ℕ → List Item → List ℕ → Gathered → Gathered → Type 0
-Drains options session capture_state read items text before next =
-    (drained : Drained options session read items text before next)
-    × HasState options capture_state read (items ++ drained.more)
-
--- A packet was counted, and its line appended; the pool has the history after it.
-pub record PushesLine (old new : Session) (before : PoolHistory) (shown : PlainShown) : Type 0 where
   pub options : new.options ≡ old.options
-  pub line : List ℕ
-  pub after : PoolHistory
-  pub is : IsLine old.options (old.number + 1) (first_after old.first (instant_in shown))
-      (latest_after old.latest (instant_in shown)) before shown line after
+  pub decoded : IsDecoded old.options one
+  pub follows : (stage : Stage) → IsPacketAfter (progress_of stage old) shown one
+  pub passes : PassesPacket old.options before one answer after
   pub pooled : HoldsPooling after new.pooling
   pub given : after.number ≤ new.number
-  pub output : new.output.items ≡ old.output.items ++ line
-  pub number : new.number ≡ old.number + 1
-  pub first : new.first ≡ first_after old.first (instant_in shown)
-  pub latest : new.latest ≡ latest_after old.latest (instant_in shown)
+  pub output : new.output.items ≡ old.output.items ++ line_of old.options one ++ answer
+  pub counted : plain_of new.summary ≡ counted_one one (plain_of old.summary)
+  pub saves : (packets : List DecodedPacket) → GoesOn old.options old.saving new.saving packets (packets ++ one ∷ [])
+  pub progress : (stage : Stage) (item : Item)
+      → progress_with (progress_of stage old) item (Some shown) ≡ progress_of (stage_after stage item) new
+
+-- The session is that of a run before any byte is read, and nothing was added to the capture file.
+pub record IsUnread (session : Session) : Type 0 where
+  pub read : HasRead session.options session [] [] [] (new_pool session.options.limit)
+  pub taken : taken_by session ≡ 0
+  pub state : session.saving.state ≡ new_state (asks session.saving.state)
+  pub bytes : session.saving.bytes.items ≡ []
+
+-- The session is that of a run before any byte is read, and its summary counts no packet.
+pub record IsNew (session : Session) : Type 0 where
+  pub unread : IsUnread session
+  pub summary : plain_of session.summary ≡ new_summary session.summary.wanted session.options.quiet
 
 -- True if a run ends in this state of the capture, given whether its reader has ended.
 abbrev pub ends_run : CaptureState → Bool → Bool

@@ -3,7 +3,7 @@ use Rattle.std.specs.Prelude.{◌≡◌, ℕ, ◌≤◌, ◌+◌, ◌-◌, ◌^�
 use Rattle.std.specs.Prelude.{Option, Some, None, length, map}
 use Rattle.std.specs.Borrow.{Bor}
 use Rattle.std.specs.Str.{bytes_eq}
-use Rattle.capture_reader.specs.Captures.{Item, PlainShown, Stage, at_start, shown_in, stage_after}
+use Rattle.capture_reader.specs.Captures.{PlainShown}
 use Rattle.etherparse.specs.Calls.{Answer, Kept, answer_to, buffer_returned, drops_streams, fragment_refused}
 use Rattle.etherparse.specs.Calls.{gives_frame, no_payload, payload_returned, returns_buffer, streams_dropped}
 use Rattle.etherparse.specs.Calls.{table_after}
@@ -17,15 +17,15 @@ use Rattle.etherparse.specs.Types.Layer.{Layer}
 use Rattle.etherparse.specs.Types.SliceError.{SliceError}
 use Rattle.etherparse.specs.Types.TransportHeader.{TransportHeader}
 use Rattle.etherparse.specs.Types.TransportHeader.TheVariants as header
-use Rattle.packet_dump.specs.Dumps.{AreAllTexts, packets_in}
-use Rattle.packet_dump.specs.Openings.{is_cooked, opening_of}
-use Rattle.packet_dump.specs.PacketCalls.{AreOpen, NumberCall, PoolHistory, is_since, table_behind}
-use Rattle.packet_dump.specs.PacketContents.{Content, Holds, HoldsAfterOpening, other_link, packet, refusal}
-use Rattle.packet_dump.specs.Saves.{EndsAt}
-use Rattle.packet_dump.specs.SliceErrorTexts.{error_name}
+use Rattle.packet_dump.specs.DecodedPackets.{DecodedPacket}
+use Rattle.packet_dump.specs.Dumps.{AreAllLines, IsRun}
+use Rattle.link_types.specs.Openings.{is_cooked, opening_of}
+use Rattle.packet_dump.specs.PacketCalls.{AreOpen, NumberCall, PoolHistory, is_since, table_of}
+use Rattle.packet_dump.specs.PacketContents.{Content, other_link, packet, refusal}
+use Rattle.packet_dump.specs.ErrorNames.{error_name}
 use Rattle.packet_dump.specs.declared.dump_options.DumpOptions.{DumpOptions}
 use Rattle.packet_dump.specs.declared.ending.Ending.{Ending}
-use Rattle.packet_dump.specs.declared.openings.Opening.{Opening}
+use Rattle.link_types.specs.declared.openings.Opening.{Opening}
 use Rattle.packet_dump.specs.declared.pooling.Arrival.{Arrival}
 use Rattle.packet_dump.specs.declared.summary.Fragments.{Fragments}
 use Rattle.packet_dump.specs.declared.summary.LayerCounts.{LayerCounts}
@@ -231,60 +231,21 @@ abbrev pub counted : Bool → PlainShown → Content → PlainSummary → PlainS
 counted cooked shown content before =
     if before.wanted then with_content cooked shown content (with_packet shown before) else before
 
--- The packet of these bytes after an opening was counted.
-abbrev pub CountsBehind : Bool → Opening → List ℕ → PlainShown → PlainSummary → PlainSummary → Type 0
-CountsBehind strict opening bytes shown old new =
-    (content : Content) × HoldsAfterOpening strict opening bytes content
-    × (new ≡ counted (is_cooked opening) shown content old)
-
 -- True if the program parses a cooked header of the opening.
 abbrev pub has_cooked : Option Opening → Bool
 has_cooked (Some opening) = is_cooked opening
 has_cooked None = false
 
--- The packet was counted by its content.
-abbrev pub CountsPacket : Bool → PlainShown → PlainSummary → PlainSummary → Type 0
-CountsPacket strict shown old new =
-    (content : Content) × Holds strict shown.link shown.bytes content
-    × (new ≡ counted (has_cooked (opening_of shown.link shown.bytes)) shown content old)
-
 -- ---- several packets
 
--- a packet and its content
-abbrev pub ReadPacket : Type 0
-ReadPacket = PlainShown × Content
-
--- The packets are that of an item with its content, if it is one, else none.
-abbrev pub IsReadPacket : DumpOptions → Option PlainShown → List ReadPacket → Type 0
-IsReadPacket options (Some shown) packets =
-    (content : Content) × Holds options.strict shown.link shown.bytes content × (packets ≡ (shown, content) ∷ [])
-IsReadPacket options None packets = packets ≡ []
-
--- The packets are those of these items with their contents, in order.
-abbrev pub AreReadPackets : DumpOptions → Stage → List Item → List ReadPacket → Type 0
-AreReadPackets options stage [] packets = packets ≡ []
-AreReadPackets options stage (item ∷ items) packets =
-    (one others : List ReadPacket) × IsReadPacket options (shown_in stage item) one × (packets ≡ one ++ others)
-    × AreReadPackets options (stage_after stage item) items others
-
-abbrev pub counted_one : ReadPacket → PlainSummary → PlainSummary
-counted_one read before =
-    counted (has_cooked (opening_of read.0.link read.0.bytes)) read.0 read.1 before
+-- the summary with a packet
+abbrev pub counted_one : DecodedPacket → PlainSummary → PlainSummary
+counted_one one before = counted (has_cooked (opening_of one.shown.link one.shown.bytes)) one.shown one.content before
 
 -- the summary after these packets
-abbrev pub counted_all : List ReadPacket → PlainSummary → PlainSummary
+abbrev pub counted_all : List DecodedPacket → PlainSummary → PlainSummary
 counted_all [] before = before
 counted_all (one ∷ others) before = counted_all others (counted_one one before)
-
--- The packets of these items were counted, whether or not they are shown.
-abbrev pub IsCounted : DumpOptions → List Item → PlainSummary → PlainSummary → Type 0
-IsCounted options items old new =
-    (packets : List ReadPacket) × AreReadPackets options at_start items packets × (new ≡ counted_all packets old)
-
--- A summary of the packets of these items becomes one of those of all items.
-abbrev pub CountsOn : DumpOptions → PlainSummary → PlainSummary → (items all : List Item) → Type 0
-CountsOn options old new items all =
-    (start : PlainSummary) → IsCounted options items start old → IsCounted options all start new
 
 -- ---- fragments
 
@@ -296,10 +257,10 @@ HasOpen table count = (numbers : List ℕ) × AreOpen table numbers × (count �
 pub record Fates : Type 0 where
   pub reassembled : ℕ
   pub refused : ℕ
-  pub given_up : ℕ
+  pub dropped : ℕ
 
 abbrev pub no_fates : Fates
-no_fates = record { reassembled = 0; refused = 0; given_up = 0 }
+no_fates = record { reassembled = 0; refused = 0; dropped = 0 }
 
 -- the counts with the pool's answer to a frame
 abbrev pub with_answer : Answer → Fates → Fates
@@ -310,8 +271,8 @@ with_answer streams_dropped before = before
 with_answer buffer_returned before = before
 
 -- the counts with a number of streams that were expired or evicted
-abbrev pub with_given_up : ℕ → Fates → Fates
-with_given_up count before = record before { given_up = more before.given_up count }
+abbrev pub with_dropped : ℕ → Fates → Fates
+with_dropped count before = record before { dropped = more before.dropped count }
 
 -- The counts after a call on a pool of this limit, given the calls before it: a frame adds its answer, and a drop adds
 -- the streams that are open before it and not after it.
@@ -322,7 +283,7 @@ CountsCall limit earlier (gives_frame carried at channel) old new =
 CountsCall limit earlier (drops_streams oldest) old new =
     (had has : ℕ) × HasOpen (table_after limit nat_eq is_since earlier) had
     × HasOpen (table_after limit nat_eq is_since (earlier ++ drops_streams oldest ∷ [])) has
-    × (new ≡ with_given_up (had - has) old)
+    × (new ≡ with_dropped (had - has) old)
 CountsCall limit earlier returns_buffer old new = new ≡ old
 
 -- The counts after these calls in order.
@@ -341,9 +302,9 @@ pub record AreFragments (history : PoolHistory) (fragments : Fragments) : Type 0
   pub became : BecameOf history (record {
     reassembled = fragments.reassembled;
     refused = fragments.not_reassembled;
-    given_up = fragments.given_up;
+    dropped = fragments.dropped;
   })
-  pub stay : HasOpen (table_behind history) fragments.open
+  pub stay : HasOpen (table_of history) fragments.open
 
 -- ---- complete runs
 
@@ -356,13 +317,13 @@ CountsFragments true pool old new =
     (fragments : Fragments) × AreFragments pool fragments × (new ≡ with_fragments fragments old)
 CountsFragments false pool old new = new ≡ old
 
--- The input ends with these items, so that a run ends there; the output is their lines, their packets were counted, and
--- so were their fragments.
+-- The output is the lines of the packets of the input, and all of them were counted, shown or not, and so were their
+-- fragments.
 abbrev pub IsCountedDump : DumpOptions → Bool → Ending → PlainSummary → PlainSummary → List ℕ → List ℕ → Type 0
 IsCountedDump options ended ending old new read written =
-    (items : List Item) × EndsAt options ended ending read items × (packets_in items ≤ options.most)
-    × (pool : PoolHistory) × AreAllTexts options items written pool
-    × (behind : PlainSummary) × IsCounted options items old behind × CountsFragments options.reassemble pool behind new
+    (packets : List DecodedPacket) × IsRun options ended ending read packets
+    × (pool : PoolHistory) × AreAllLines options packets written pool
+    × CountsFragments options.reassemble pool (counted_all packets old) new
 
 -- ---- sums
 
@@ -373,9 +334,9 @@ parsed_in (refusal error) = 0
 parsed_in (other_link number) = 0
 
 -- the number of packets with a valid layer
-abbrev pub parsed_count : List ReadPacket → ℕ
+abbrev pub parsed_count : List DecodedPacket → ℕ
 parsed_count [] = 0
-parsed_count (one ∷ others) = parsed_in one.1 + parsed_count others
+parsed_count (one ∷ others) = parsed_in one.content + parsed_count others
 
 -- the total of counts by key
 abbrev pub total : {K : Type 0} → List (K × ℕ) → ℕ

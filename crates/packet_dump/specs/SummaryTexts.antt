@@ -69,7 +69,7 @@ abbrev pub pieces_text : Fragments → List ℕ
 pieces_text fragments =
     count_text (codes "reassembled") fragments.reassembled
     ++ count_text (codes "not reassembled") fragments.not_reassembled
-    ++ count_text (codes "expired or evicted") fragments.given_up ++ count_text (codes "incomplete at the end") fragments.open
+    ++ count_text (codes "expired or evicted") fragments.dropped ++ count_text (codes "incomplete at the end") fragments.open
 
 -- the counts of fragments, if payloads are reassembled
 abbrev pub fragments_text : Option Fragments → List ℕ

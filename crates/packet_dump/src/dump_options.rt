@@ -1,17 +1,18 @@
 //! Options of a `packet_dump` run: which packets are shown, and how.
 
-ghost use Rattle.std.specs.Prelude.{◌≡◌, ◌||◌, ◌&&◌, Some};
-ghost use Rattle.std.specs.Option.{is_none, option_map};
+ghost use Rattle.std.specs.Prelude.{◌≡◌};
+ghost use Rattle.std.specs.Option.{option_map};
 ghost use Rattle.etherparse.specs.LaxPackets.{lax_layers_of};
 ghost use Rattle.etherparse.specs.LaxViews.{lax_net_layer_of};
 ghost use Rattle.etherparse.specs.TransportParts.{transport_layer_of};
-ghost use Rattle.packet_dump.specs.PacketContents.{asks_nothing, content_kind, frame_kind, meets, packet, same_kind};
-ghost use Rattle.packet_dump.specs.PacketContents.{shows_kind, shows_line, slot_holds};
-ghost use Rattle.packet_dump.specs.PacketLines.{shows_content};
+ghost use Rattle.packet_dump.specs.Decoding.{content_in};
+ghost use Rattle.packet_dump.specs.PacketContents.{asks_nothing, content_kind, frame_kind, is_wanted, meets, packet};
+ghost use Rattle.packet_dump.specs.PacketContents.{same_kind, shows_kind, shows_line, slot_holds};
 ghost use Rattle.packet_dump.specs.PoolLines.{inner_kind, part};
 
+use crate::decoded::{Decoded, Outcome};
 use etherparse::{LaxNetSlice, LaxSlicedPacket, TransportSlice};
-use packet_filter::{Word, passes};
+use packet_filter::{Word, holds};
 
 /// Kind of a packet for the option `--only`: its transport layer, ARP, or how its parsing failed.
 #[derive(Clone, Copy)]
@@ -133,14 +134,6 @@ pub struct DumpOptions {
 }
 
 impl DumpOptions {
-    /// Returns whether each packet is also sliced strictly, to check that it is a complete, valid frame: for `--strict`
-    /// and for `--reassemble`.
-    pub fn asks_frames(&self) -> bool
-        ensures { result ≡ (self.now.strict || self.now.reassemble) }
-    {
-        self.strict || self.reassemble
-    }
-
     /// Returns whether the lines of packets of this kind are printed, by `--quiet` and `--only`: never with `--quiet`,
     /// otherwise if `--only` names the kind or is not given. The filter options (`--host` ..) are not considered here.
     pub fn shows(&self, kind: Option<Kind>) -> bool
@@ -150,7 +143,7 @@ impl DumpOptions {
     }
 
     /// Returns whether `--only` selects packets of this kind; without `--only` it selects all.
-    pub fn wants(&self, kind: Option<Kind>) -> bool
+    fn wants(&self, kind: Option<Kind>) -> bool
         ensures { result ≡ shows_kind self.now.only kind }
     {
         match (self.only, kind) {
@@ -160,38 +153,37 @@ impl DumpOptions {
         }
     }
 
-    /// Returns whether every packet is selected: there is neither `--only` nor a filter option.
-    pub fn wants_all(&self) -> bool
-        ensures { result ≡ (is_none self.now.only && asks_nothing self.now.words) }
+    /// Returns whether `--only` and all filter options select a packet, even if `--quiet` hides its line. Without
+    /// layers (rejected, or with an unsupported link type) it matches no filter option.
+    pub fn selects(&self, packet: &Decoded<'_>) -> bool
+        ensures { result ≡ is_wanted self.now (content_in packet.now) }
     {
-        self.only.is_none() && self.asks_nothing()
+        match &packet.outcome {
+            Outcome::Layers => self.wants_layers(&packet.read) && self.meets(&packet.read),
+            Outcome::Refused(_) => self.wants(Some(Kind::Refused)) && self.asks_nothing(),
+            Outcome::Unsupported => self.wants(None) && self.asks_nothing(),
+        }
     }
 
-    /// Returns whether the line of a packet with a valid first header is printed: never with `--quiet`, otherwise only
-    /// if `--only` and all filter options select the packet.
-    pub fn shows_read(&self, read: &LaxSlicedPacket<'_>) -> bool
-        ensures { result ≡ shows_content self.now (packet (lax_layers_of read.now)) }
+    /// Returns whether `--only` selects a packet with these layers, whose kind is determined only with `--only`.
+    fn wants_layers(&self, read: &LaxSlicedPacket<'_>) -> bool
+        ensures { result ≡ shows_kind self.now.only (content_kind (packet (lax_layers_of read.now))) }
     {
-        self.shows(Kind::of(read)) && self.meets(read)
-    }
-
-    /// Returns whether the line of a packet without valid layers (rejected, or with an unsupported link type) is
-    /// printed, given its kind: never with `--quiet` or any filter option, otherwise only if `--only` selects the kind.
-    pub fn shows_unread(&self, kind: Option<Kind>) -> bool
-        ensures { result ≡ (shows_line self.now kind && asks_nothing self.now.words) }
-    {
-        self.shows(kind) && self.asks_nothing()
+        match self.only {
+            Some(_) => self.wants(Kind::of(read)),
+            None => true,
+        }
     }
 
     /// Returns whether a packet matches all filter options (`--host`, `--port`, `--net`, `--vlan`).
-    pub fn meets(&self, read: &LaxSlicedPacket<'_>) -> bool
+    fn meets(&self, read: &LaxSlicedPacket<'_>) -> bool
         ensures { result ≡ meets self.now.words (packet (lax_layers_of read.now)) }
     {
         self.words.iter().all(|slot| slot_holds(slot, read))
     }
 
     /// Returns whether there is no filter option (`--host`, `--port`, `--net`, `--vlan`).
-    pub fn asks_nothing(&self) -> bool
+    fn asks_nothing(&self) -> bool
         ensures { result ≡ asks_nothing self.now.words }
     {
         self.words.iter().all(|slot| match slot {
@@ -207,7 +199,7 @@ fn slot_holds(slot: &Option<Word>, read: &LaxSlicedPacket<'_>) -> bool
     ensures { result ≡ slot_holds slot.now (lax_layers_of read.now) }
 {
     match slot {
-        Some(word) => passes(&[*word], read),
+        Some(word) => holds(word, read),
         None => true,
     }
 }

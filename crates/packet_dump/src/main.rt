@@ -14,52 +14,43 @@ ghost use Rattle.line_io.specs.Transfers.{Transfers};
 ghost use Rattle.line_io.specs.WatchedWords.{has_ended, has_failed, inner_of, reads_left};
 ghost use Rattle.packet_dump.specs.Dumps.{BeginsDump};
 ghost use Rattle.packet_dump.specs.ErrorTexts.{hint_text, magic_hint, status_of, status_with};
-ghost use Rattle.packet_dump.specs.Saves.{BeginsSaved, IsCopy, asks, is_failed, new_state};
+ghost use Rattle.packet_dump.specs.Saves.{BeginsSaved, IsCopy, asks, is_failed};
+ghost use Rattle.packet_dump.specs.Sessions.{IsNew};
 ghost use Rattle.packet_dump.specs.Summaries.{plain_of};
 ghost use Rattle.packet_dump.specs.SummaryTexts.{IsSummedDump, summary_text};
 
-mod addresses;
-mod bytes;
+mod decoded;
 mod details;
 pub mod dump_options;
 pub mod ending;
 pub mod engine;
 mod filters;
-mod icmp_messages;
+mod fragments;
 pub mod laws;
-mod layers;
-mod lines;
-mod links;
-mod missing;
-mod nets;
-mod openings;
 mod options;
+mod packet_lines;
 mod pool_lines;
 mod pooling;
-mod refusals;
-mod rows;
 pub mod saving;
-mod selection;
-mod session;
+pub mod session;
 mod shown;
 mod source;
 pub mod summary;
 mod target;
-mod transports;
 
 use crate::dump_options::DumpOptions;
 use crate::ending::{Ending, error_text};
 use crate::engine::{MOST_READS, run};
 use crate::filters::{FilterError, words_of};
 use crate::options::{Request, UsageError, parse};
-use crate::saving::{SaveFault, SaveState, Saving};
+use crate::saving::{SaveFault, SaveState};
+use crate::session::Session;
 use crate::source::{LONG, Source};
 use crate::summary::Summary;
 use crate::target::{NoFile, Target};
 use capture_reader::Refusal;
 use line_io::{RunError, Watched};
 use packet_filter::WordError;
-use std::alloc::Global;
 use std::io::{IsTerminal, Read, Write};
 use std::process::ExitCode;
 use std::rt::{Env, Files};
@@ -274,15 +265,16 @@ fn dump(
     target: Option<&str>,
     wanted: bool,
 ) -> ExitCode {
+    let mut session = Session::new(rt.alloc(), options, wanted, target.is_some());
     let Some(path) = path else {
         let input = Source::new(rt.stdin(), rt, "standard input", None);
-        return dump_input(rt, options, None, input, target, wanted);
+        return dump_input(rt, &mut session, None, input, target);
     };
     match fs::open(rt, path) {
         Ok(file) => {
             let len = shown_len(rt, &file);
             let input = Source::new(file, rt, path, len);
-            dump_input(rt, options, Some(path), input, target, wanted)
+            dump_input(rt, &mut session, Some(path), input, target)
         }
         Err(error) => {
             let _ = eprintln!(rt; "packet_dump: {path}: {error}");
@@ -296,23 +288,23 @@ fn dump(
 /// name exists, so the input is never overwritten.
 fn dump_input<R: Read + Drop>(
     rt: &HostRuntime,
-    options: DumpOptions,
+    session: &mut Session,
     path: Option<&str>,
     input: R,
     target: Option<&str>,
-    wanted: bool,
-) -> ExitCode {
-    let mut saving = Saving::new(rt.alloc(), target.is_some());
+) -> ExitCode
+    requires { IsNew session.old }
+{
     let Some(name) = target else {
         let mut file = Watched::new(NoFile, 0);
-        let outcome = dump_into(rt, options, wanted, input, &mut saving, &mut file);
+        let outcome = dump_into(rt, session, input, &mut file);
         return ended(rt, path, outcome);
     };
     match fs::File::create_new(rt, name) {
         Ok(created) => {
             let mut file = Watched::new(Target::new(created, rt, name), 0);
-            let outcome = dump_into(rt, options, wanted, input, &mut saving, &mut file);
-            saved(rt, path, outcome, name, saving.state)
+            let outcome = dump_into(rt, session, input, &mut file);
+            saved(rt, path, outcome, name, session.saving.state)
         }
         Err(error) => {
             let _ = eprintln!(rt; "packet_dump: {name}: {error}");
@@ -325,27 +317,16 @@ fn dump_input<R: Read + Drop>(
 /// to a new capture file, if wanted (`--write`).
 fn dump_into<R: Read + Drop, F: Write>(
     rt: &HostRuntime,
-    options: DumpOptions,
-    wanted: bool,
+    session: &mut Session,
     input: R,
-    saving: &mut Saving,
     file: &mut Watched<F>,
 ) -> Result<Ending, RunError>
+    requires new { IsNew session.old }
     requires file_sound { has_failed file.old ≡ false }
-    requires fresh { saving.old.state ≡ new_state (asks saving.old.state) }
-    requires empty { saving.old.bytes.items ≡ [] }
 {
     let mut reader = Watched::new(input, MOST_READS);
     let mut writer = Watched::new(rt.stdout(), 0);
-    dump_reader(
-        rt.alloc(),
-        options,
-        wanted,
-        &mut reader,
-        &mut writer,
-        saving,
-        file,
-    )
+    dump_reader(session, &mut reader, &mut writer, file)
 }
 
 /// Returns the length of the input file if progress is printed for it, or else `None`. Progress is printed if the file
@@ -364,57 +345,52 @@ fn shown_len(rt: &HostRuntime, file: &fs::File) -> Option<u64> {
 }
 
 /// Writes the lines of a capture's packets to a writer, then the summary, if wanted, and the selected packets to a new
-/// capture file, if wanted. The contract requires that the reader was not read before.
+/// capture file, if wanted. The contract requires that neither the session nor the reader was used before.
 fn dump_reader<R: Read, W: Write, F: Write>(
-    alloc: Global,
-    options: DumpOptions,
-    wanted: bool,
+    session: &mut Session,
     reader: &mut Watched<R>,
     writer: &mut Watched<W>,
-    saving: &mut Saving,
     file: &mut Watched<F>,
 ) -> Result<Ending, RunError>
+    requires new { IsNew session.old }
     requires reader_sound { has_failed reader.old ≡ false }
     requires reader_open { has_ended reader.old ≡ false }
     requires reads { reads_left reader.old ≡ 2 ^ 47 }
     requires writer_sound { has_failed writer.old ≡ false }
     requires file_sound { has_failed file.old ≡ false }
-    requires fresh { saving.old.state ≡ new_state (asks saving.old.state) }
-    requires empty { saving.old.bytes.items ≡ [] }
-    ensures ok { IfOk result (λ ending. Transfers (IsSummedDump wanted options (has_ended reader.new) ending)
+    ensures ok { IfOk result (λ ending. Transfers
+        (IsSummedDump session.old.summary.wanted session.old.options (has_ended reader.new) ending)
         R.remaining reader.old reader.new W.contents writer.old writer.new) }
-    ensures err { OnErr result (wanted ≡ false → Transfers (BeginsDump options) R.remaining reader.old reader.new
-        W.contents writer.old writer.new) }
+    ensures err { OnErr result (session.old.summary.wanted ≡ false → Transfers (BeginsDump session.old.options)
+        R.remaining reader.old reader.new W.contents writer.old writer.new) }
     ensures saved { IfOk result (λ ending. Transfers
-        (IsCopy options (asks saving.old.state) (has_ended reader.new) ending saving.new.state)
+        (IsCopy session.old.options (asks session.old.saving.state) (has_ended reader.new) ending
+        session.new.saving.state)
         R.remaining reader.old reader.new F.contents file.old file.new) }
-    ensures begun { OnErr result (wanted ≡ false → Transfers (BeginsSaved options (asks saving.old.state))
+    ensures begun { OnErr result (session.old.summary.wanted ≡ false →
+        Transfers (BeginsSaved session.old.options (asks session.old.saving.state))
         R.remaining reader.old reader.new F.contents file.old file.new) }
-    ensures failed { has_failed file.new ≡ is_failed saving.new.state }
+    ensures failed { has_failed file.new ≡ is_failed session.new.saving.state }
     ensures read { (result ≡ Err RunError.Read) ↔ (has_failed reader.new ≡ true) }
     ensures write { (result ≡ Err RunError.Write) ↔ (has_failed writer.new ≡ true) }
 {
-    let mut summary = Summary::new(alloc, wanted, options.quiet);
-    let ending = run(alloc, options, &mut summary, reader, writer, saving, file)?;
+    let wanted = session.summary.wanted;
+    let ending = run(session, reader, writer, file)?;
     if wanted {
-        summarized(alloc, &summary, writer)?;
+        summarized(&session.summary, writer)?;
     }
     Ok(ending)
 }
 
 /// Writes the text of a run's summary (`--summary`), with the counts of packets, layers and errors.
-fn summarized<W: Write>(
-    alloc: Global,
-    summary: &Summary,
-    writer: &mut Watched<W>,
-) -> Result<(), RunError>
+fn summarized<W: Write>(summary: &Summary, writer: &mut Watched<W>) -> Result<(), RunError>
     requires { has_failed writer.old ≡ false }
     ensures all { OnOk result (Appends (W.contents (inner_of writer.old)) (W.contents (inner_of writer.new))
         (summary_text (plain_of summary.now))) }
     ensures read { result ≢ Err RunError.Read }
     ensures write { (result ≡ Err RunError.Write) ↔ (has_failed writer.new ≡ true) }
 {
-    let text = summary.text(alloc)?;
+    let text = summary.text()?;
     writer.write_all(text.as_bytes())
 }
 

@@ -427,7 +427,8 @@ pub fn parse(words: &[String]) -> Result<Request<'_>, UsageError<'_>>
 /// Parses the value of an option and stores it in `options`. Does nothing for options whose value is kept as text
 /// (`--write`, filter options, `-r`).
 fn set<'a>(options: &mut DumpOptions, option: Awaited, text: &'a str) -> Result<(), UsageError<'a>>
-    ensures ok { OnOk result ((item : Item) × IsValue option text.now item × (options.new ≡ options_with options.old item)) }
+    ensures ok { OnOk result ((item : Item) × IsValue option text.now item
+        × (options.new ≡ options_with options.old item)) }
     ensures err { IfErr result (λ error. fault_of error ≡ bad_value option text.now) }
     ensures bad { IfErr result (λ _. (item : Item) → IsValue option text.now item → ⊥) }
 {

@@ -1,7 +1,7 @@
 //! Further lines of `--reassemble`, after the line of a packet: for a reassembled payload, or for an IP fragment that
 //! the reassembly pool rejects.
 
-ghost use Rattle.std.specs.Prelude.{◌≡◌, ◌++◌, ℕ, IfOk, IsFalse, List, OnOk};
+ghost use Rattle.std.specs.Prelude.{◌≡◌, ◌++◌, ℕ, IsFalse, List, OnOk};
 ghost use Rattle.std.specs.Option.{option_map};
 ghost use Rattle.etherparse.specs.Pools.{plain_frame_answer, is_allocation_failure_in};
 ghost use Rattle.etherparse.specs.FragmentRefusals.{is_allocation_failure};
@@ -9,45 +9,140 @@ ghost use Rattle.etherparse.specs.IpDefragErrorTexts.{error_text};
 ghost use Rattle.etherparse.specs.LaxPackets.{lax_layers_of};
 ghost use Rattle.etherparse.specs.StrictFrames.{layers_in};
 ghost use Rattle.etherparse.specs.TransportParts.{payload_in, transport_layer_of};
-ghost use Rattle.packet_dump.specs.PacketLines.{parts_start};
-ghost use Rattle.packet_dump.specs.PoolLines.{Inner, IsAnswerText, IsInner, closing_text, frame_error};
+ghost use Rattle.packet_dump.specs.Decoding.{layers_of, start_of};
+ghost use Rattle.packet_dump.specs.PoolLines.{Inner, IsAnswerText, IsInner, closing_text, frame_error, meets_payload};
 ghost use Rattle.packet_dump.specs.PoolLines.{opening_text, part, payload_line, payload_text, pool_refusal_text};
-ghost use Rattle.packet_dump.specs.PoolLines.{meets_payload, refused_line, shows_payload, slot_holds_of, unread, unread_text};
+ghost use Rattle.packet_dump.specs.PoolLines.{refused_line, shows_payload, slot_holds_of, unread, unread_text};
 
-use crate::dump_options::{DumpOptions, Kind, TimeForm};
-use crate::layers::{push_outer, push_protocol};
-use crate::lines::{LineParts, push_start};
-use crate::refusals::push_refusal;
-use crate::rows::push_rows;
-use crate::transports::{push_len, push_transport};
+use crate::decoded::Decoded;
+use crate::dump_options::{DumpOptions, Kind};
+use crate::packet_lines::push_start;
 use etherparse::defrag::{IpDefragError, IpDefragPayloadVec};
 use etherparse::err::packet::SliceError;
 use etherparse::err::tcp::HeaderSliceError;
-use etherparse::{IpNumber, LaxSlicedPacket, TransportSlice};
+use etherparse::{LaxSlicedPacket, TransportSlice};
 use packet_filter::{Word, matches_reassembled};
-use std::alloc::{AllocError, Global};
+use packet_text::{push_len, push_outer, push_protocol, push_refusal, push_rows, push_transport};
+use std::alloc::AllocError;
 
-/// Inputs for the additional line of a packet with `--reassemble`. The line describes the payload that the packet's
-/// fragment completed, or states why the reassembly pool rejected the fragment.
-#[derive(Clone, Copy)]
-struct Further<'a, 'b> {
-    options: DumpOptions,
-    /// Start of the line as text: number and timestamp of the packet with the fragment, and the fields of a link header
-    /// that the program, not the library, parses.
-    start: &'a [u8],
-    /// Layers of the packet with the fragment.
-    read: &'a LaxSlicedPacket<'b>,
+/// Appends the additional line for `answer`, the reassembly pool's result for the fragment of a packet: the reassembled
+/// payload, or why the fragment is rejected. Appends nothing if the payload is still incomplete, or if the options hide
+/// the line. Returns an error if an allocation failed, also one of the pool.
+pub fn push_answer(
+    output: &mut Vec<u8>,
+    options: &DumpOptions,
+    packet: &Decoded<'_>,
+    answer: &Result<Option<IpDefragPayloadVec>, IpDefragError>,
+) -> Result<(), AllocError>
+    ensures memory { OnOk result (IsFalse (is_allocation_failure_in answer.now)) }
+    ensures text { OnOk result ((text : List ℕ)
+        × IsAnswerText options.now (start_of options.now packet.now) (layers_of packet.now)
+        (plain_frame_answer answer.now) text × (output.new.items ≡ output.old.items ++ text)) }
+{
+    match answer {
+        Ok(Some(payload)) => push_payload(output, options, packet, payload),
+        Ok(None) => Ok(()),
+        Err(error) => push_pool_error(output, options, packet, error),
+    }
 }
 
-impl Further<'_, '_> {
-    /// Returns whether the line of a reassembled payload or rejected fragment is printed: only without `--quiet`, if
-    /// `--only` selects its kind, and if all filter options match.
-    fn shows(&self, kind: Option<Kind>, transport: &Option<TransportSlice<'_>>) -> bool
-        ensures { result ≡ shows_payload self.now.options (layers_in (lax_layers_of self.now.read.now)) kind
-            (option_map transport_layer_of transport.now) }
-    {
-        self.options.shows(kind) && meets_payload(&self.options.words, self.read, transport)
+/// Appends the line of a reassembled payload, with its transport layer or why that is invalid, if the line is shown.
+/// `packet` is the packet that completed the payload.
+fn push_payload(
+    output: &mut Vec<u8>,
+    options: &DumpOptions,
+    packet: &Decoded<'_>,
+    payload: &IpDefragPayloadVec,
+) -> Result<(), AllocError>
+    ensures { OnOk result ((inner : Inner) × IsInner payload.now.ip_number.0 payload.now.payload.items inner
+        × (output.new.items ≡ output.old.items ++ payload_line options.now (start_of options.now packet.now)
+        (layers_of packet.now) payload.now.ip_number.0 payload.now.payload.items inner)) }
+{
+    let bytes = payload.payload.as_slice();
+    match TransportSlice::from_ip_number(payload.ip_number, false, bytes) {
+        Ok(transport) => push_part(output, options, packet, payload, &transport),
+        Err(error) => push_unread(output, options, packet, payload, error),
     }
+}
+
+/// Appends the line of a reassembled payload with a valid transport layer, or with a protocol that is not parsed, if
+/// the line is shown.
+fn push_part(
+    output: &mut Vec<u8>,
+    options: &DumpOptions,
+    packet: &Decoded<'_>,
+    payload: &IpDefragPayloadVec,
+    transport: &Option<TransportSlice<'_>>,
+) -> Result<(), AllocError>
+    ensures { OnOk result (output.new.items ≡ output.old.items ++ payload_line options.now
+        (start_of options.now packet.now) (layers_of packet.now) payload.now.ip_number.0 payload.now.payload.items
+        (part (option_map transport_layer_of transport.now))) }
+{
+    if !shows_payload(options, &packet.read, Kind::of_part(transport), transport) {
+        return Ok(());
+    }
+    push_opening(output, options, packet)?;
+    push_reassembled(output, payload, transport)?;
+    let bytes = payload.payload.as_slice();
+    push_closing(output, options.hex, bytes_of_part(bytes, transport))
+}
+
+/// Appends the line of a reassembled payload whose transport header is truncated or invalid, if the line is shown.
+fn push_unread(
+    output: &mut Vec<u8>,
+    options: &DumpOptions,
+    packet: &Decoded<'_>,
+    payload: &IpDefragPayloadVec,
+    error: HeaderSliceError,
+) -> Result<(), AllocError>
+    ensures { OnOk result (output.new.items ≡ output.old.items ++ payload_line options.now
+        (start_of options.now packet.now) (layers_of packet.now) payload.now.ip_number.0 payload.now.payload.items
+        (unread error)) }
+{
+    if !shows_payload(options, &packet.read, Some(Kind::Refused), &None) {
+        return Ok(());
+    }
+    push_opening(output, options, packet)?;
+    push_reassembled_refusal(output, error)?;
+    push_closing(output, options.hex, payload.payload.as_slice())
+}
+
+/// Appends the line of a fragment that the reassembly pool rejects, if it is shown. If the pool could not allocate,
+/// appends no line and returns an error.
+fn push_pool_error(
+    output: &mut Vec<u8>,
+    options: &DumpOptions,
+    packet: &Decoded<'_>,
+    error: &IpDefragError,
+) -> Result<(), AllocError>
+    ensures memory { OnOk result (IsFalse (is_allocation_failure error.now)) }
+    ensures text { OnOk result (output.new.items ≡ output.old.items ++ refused_line options.now
+        (start_of options.now packet.now) (layers_of packet.now) error.now) }
+{
+    if let IpDefragError::AllocationFailure { .. } = error {
+        return Err(AllocError);
+    }
+    if !shows_payload(options, &packet.read, Some(Kind::Refused), &None) {
+        return Ok(());
+    }
+    push_opening(output, options, packet)?;
+    push_pool_refusal(output, error)?;
+    push_closing(output, options.hex, b"")
+}
+
+/// Returns whether the line of a reassembled payload or rejected fragment is printed: only without `--quiet`, if
+/// `--only` selects its kind, and if all filter options (`--host`, `--port` ..) match. Its ports are those of its own
+/// transport layer; its addresses and VLAN tags are those of `read`, the packet with the fragment.
+fn shows_payload(
+    options: &DumpOptions,
+    read: &LaxSlicedPacket<'_>,
+    kind: Option<Kind>,
+    transport: &Option<TransportSlice<'_>>,
+) -> bool
+    ensures { result ≡ shows_payload options.now (layers_in (lax_layers_of read.now)) kind
+        (option_map transport_layer_of transport.now) }
+{
+    options.shows(kind) && meets_payload(&options.words, read, transport)
 }
 
 /// Returns whether a reassembled payload matches all filter options (`--host`, `--port` ..). Its ports are those of its
@@ -82,135 +177,22 @@ fn slot_holds_of(
     }
 }
 
-/// Appends the additional line for `answer`, the reassembly pool's result for the fragment of a packet: the reassembled
-/// payload, or why the fragment is rejected. Appends nothing if the payload is still incomplete, or if the options hide
-/// the line. Returns an error if an allocation failed, also one of the pool.
-pub fn push_answer(
-    output: &mut Vec<u8>,
-    options: &DumpOptions,
-    parts: &LineParts<'_>,
-    read: &LaxSlicedPacket<'_>,
-    answer: &Result<Option<IpDefragPayloadVec>, IpDefragError>,
-) -> Result<(), AllocError>
-    ensures memory { OnOk result (IsFalse (is_allocation_failure_in answer.now)) }
-    ensures text { OnOk result ((text : List ℕ)
-        × IsAnswerText options.now (parts_start options.now.time parts.now) (layers_in (lax_layers_of read.now))
-        (plain_frame_answer answer.now) text
-        × (output.new.items ≡ output.old.items ++ text)) }
-{
-    if let Ok(None) = answer {
-        return Ok(());
-    }
-    let start = start_of(*output.allocator(), options.time, parts)?;
-    let further = Further {
-        options: *options,
-        start: start.as_slice(),
-        read,
-    };
-    push_answer_line(output, &further, answer)
-}
-
-/// Returns the start of a packet's line as text: its number, its timestamp, and the fields of a link header that the
-/// program, not the library, parses. The additional line of a reassembled payload or rejected fragment also starts with
-/// this text.
-fn start_of(alloc: Global, form: TimeForm, parts: &LineParts<'_>) -> Result<Vec<u8>, AllocError>
-    ensures { IfOk result (λ start. start.items ≡ parts_start form parts.now) }
-{
-    let mut start = Vec::new(alloc);
-    push_start(&mut start, form, parts)?;
-    Ok(start)
-}
-
-/// Appends the additional line for `answer`, the reassembly pool's result for the fragment of a packet: the reassembled
-/// payload, or why the fragment is rejected. Appends nothing if the payload is still incomplete, or if the options hide
-/// the line.
-fn push_answer_line(
-    output: &mut Vec<u8>,
-    further: &Further<'_, '_>,
-    answer: &Result<Option<IpDefragPayloadVec>, IpDefragError>,
-) -> Result<(), AllocError>
-    ensures memory { OnOk result (IsFalse (is_allocation_failure_in answer.now)) }
-    ensures text { OnOk result ((text : List ℕ)
-        × IsAnswerText further.now.options further.now.start.now (layers_in (lax_layers_of further.now.read.now))
-        (plain_frame_answer answer.now) text × (output.new.items ≡ output.old.items ++ text)) }
-{
-    match answer {
-        Ok(found) => push_found(output, further, found),
-        Err(error) => push_pool_error(output, further, error),
-    }
-}
-
-/// Appends the line of a reassembled payload, or nothing if the fragment completed none.
-fn push_found(
-    output: &mut Vec<u8>,
-    further: &Further<'_, '_>,
-    found: &Option<IpDefragPayloadVec>,
-) -> Result<(), AllocError>
-    ensures { OnOk result ((text : List ℕ)
-        × IsAnswerText further.now.options further.now.start.now (layers_in (lax_layers_of further.now.read.now))
-        (plain_frame_answer (Ok found.now)) text × (output.new.items ≡ output.old.items ++ text)) }
-{
-    match found {
-        Some(payload) => push_payload(output, further, payload),
-        None => Ok(()),
-    }
-}
-
-/// Appends the line of a reassembled payload, with its transport layer or why that is invalid, if the line is shown.
-fn push_payload(
-    output: &mut Vec<u8>,
-    further: &Further<'_, '_>,
-    payload: &IpDefragPayloadVec,
-) -> Result<(), AllocError>
-    ensures { OnOk result ((inner : Inner) × IsInner payload.now.ip_number.0 payload.now.payload.items inner
-        × (output.new.items ≡ output.old.items ++ payload_line further.now.options further.now.start.now
-        (layers_in (lax_layers_of further.now.read.now)) payload.now.ip_number.0 payload.now.payload.items inner)) }
-{
-    let bytes = payload.payload.as_slice();
-    match TransportSlice::from_ip_number(payload.ip_number, false, bytes) {
-        Ok(part) => push_part(output, further, payload.ip_number, bytes, &part),
-        Err(error) => push_unread(output, further, payload.ip_number, bytes, error),
-    }
-}
-
-/// Appends the line of a reassembled payload with a valid transport layer, or with a protocol that is not parsed, if
-/// the line is shown.
-fn push_part(
-    output: &mut Vec<u8>,
-    further: &Further<'_, '_>,
-    number: IpNumber,
-    bytes: &[u8],
-    transport: &Option<TransportSlice<'_>>,
-) -> Result<(), AllocError>
-    ensures { OnOk result (output.new.items ≡ output.old.items ++ payload_line further.now.options further.now.start.now
-        (layers_in (lax_layers_of further.now.read.now)) number.0 bytes.now
-        (part (option_map transport_layer_of transport.now))) }
-{
-    if !further.shows(Kind::of_part(transport), transport) {
-        return Ok(());
-    }
-    push_opening(output, further)?;
-    push_reassembled(output, number, bytes, transport)?;
-    push_closing(output, further.options.hex, bytes_of_part(bytes, transport))
-}
-
 /// Appends ` reassembled` and the transport layer of a reassembled payload, or the payload's protocol and length if it
 /// has no transport layer.
 fn push_reassembled(
     output: &mut Vec<u8>,
-    number: IpNumber,
-    bytes: &[u8],
+    payload: &IpDefragPayloadVec,
     transport: &Option<TransportSlice<'_>>,
 ) -> Result<(), AllocError>
-    ensures { OnOk result (output.new.items
-        ≡ output.old.items ++ payload_text number.0 bytes.now (part (option_map transport_layer_of transport.now))) }
+    ensures { OnOk result (output.new.items ≡ output.old.items ++ payload_text payload.now.ip_number.0
+        payload.now.payload.items (part (option_map transport_layer_of transport.now))) }
 {
     output.extend_from_slice(b" reassembled")?;
     match transport {
         Some(transport) => push_transport(output, transport),
         None => {
-            push_protocol(output, number)?;
-            push_len(output, bytes)
+            push_protocol(output, payload.ip_number)?;
+            push_len(output, payload.payload.as_slice())
         }
     }
 }
@@ -224,25 +206,6 @@ fn bytes_of_part<'a>(bytes: &'a [u8], transport: &Option<TransportSlice<'a>>) ->
         Some(transport) => transport.payload(),
         None => bytes,
     }
-}
-
-/// Appends the line of a reassembled payload whose transport header is truncated or invalid, if the line is shown.
-fn push_unread(
-    output: &mut Vec<u8>,
-    further: &Further<'_, '_>,
-    number: IpNumber,
-    bytes: &[u8],
-    error: HeaderSliceError,
-) -> Result<(), AllocError>
-    ensures { OnOk result (output.new.items ≡ output.old.items ++ payload_line further.now.options further.now.start.now
-        (layers_in (lax_layers_of further.now.read.now)) number.0 bytes.now (unread error)) }
-{
-    if !further.shows(Some(Kind::Refused), &None) {
-        return Ok(());
-    }
-    push_opening(output, further)?;
-    push_reassembled_refusal(output, error)?;
-    push_closing(output, further.options.hex, bytes)
 }
 
 /// Appends ` reassembled` and why the transport header of a reassembled payload is rejected.
@@ -263,28 +226,6 @@ fn frame_error(error: HeaderSliceError) -> SliceError
     }
 }
 
-/// Appends the line of a fragment that the reassembly pool rejects, if it is shown. If the pool could not allocate,
-/// appends no line and returns an error.
-fn push_pool_error(
-    output: &mut Vec<u8>,
-    further: &Further<'_, '_>,
-    error: &IpDefragError,
-) -> Result<(), AllocError>
-    ensures memory { OnOk result (IsFalse (is_allocation_failure error.now)) }
-    ensures text { OnOk result (output.new.items ≡ output.old.items ++ refused_line further.now.options
-        further.now.start.now (layers_in (lax_layers_of further.now.read.now)) error.now) }
-{
-    if let IpDefragError::AllocationFailure { .. } = error {
-        return Err(AllocError);
-    }
-    if !further.shows(Some(Kind::Refused), &None) {
-        return Ok(());
-    }
-    push_opening(output, further)?;
-    push_pool_refusal(output, error)?;
-    push_closing(output, further.options.hex, b"")
-}
-
 /// Appends ` not reassembled: ` and why the reassembly pool rejects a fragment.
 fn push_pool_refusal(output: &mut Vec<u8>, error: &IpDefragError) -> Result<(), AllocError>
     ensures { OnOk result (output.new.items ≡ output.old.items ++ pool_refusal_text error.now) }
@@ -303,12 +244,16 @@ fn push_pool_reason(output: &mut Vec<u8>, error: &IpDefragError) -> Result<(), A
 
 /// Appends the start of a line for a reassembled payload or rejected fragment: packet number, timestamp, and the
 /// packet's link header, tags and IP header.
-fn push_opening(output: &mut Vec<u8>, further: &Further<'_, '_>) -> Result<(), AllocError>
+fn push_opening(
+    output: &mut Vec<u8>,
+    options: &DumpOptions,
+    packet: &Decoded<'_>,
+) -> Result<(), AllocError>
     ensures { OnOk result (output.new.items
-        ≡ output.old.items ++ opening_text further.now.start.now (layers_in (lax_layers_of further.now.read.now))) }
+        ≡ output.old.items ++ opening_text (start_of options.now packet.now) (layers_of packet.now)) }
 {
-    output.extend_from_slice(further.start)?;
-    push_outer(output, further.read)
+    push_start(output, options.time, packet)?;
+    push_outer(output, &packet.read)
 }
 
 /// Appends the end of a line for a reassembled payload or rejected fragment: the hex dump of `bytes` if `hex`, and a

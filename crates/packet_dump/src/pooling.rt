@@ -1,30 +1,31 @@
 //! Reassembly of IP fragments (`--reassemble`): the reassembly pool, and when its incomplete payloads expire.
 
-ghost use Rattle.std.specs.Prelude.{◌≡◌, ◌++◌, ◌/◌, is_some, ℕ, List, OnOk, Some};
+ghost use Rattle.std.specs.Prelude.{◌≡◌, ◌<◌, ◌++◌, is_some, ℕ, List, OnOk, Some};
 ghost use Rattle.std.specs.BTreeMap.{get};
-ghost use Rattle.std.specs.Option.{option_map};
+ghost use Rattle.std.specs.Option.{option_and_then, option_map};
 ghost use Rattle.std.specs.Ordering.{nat_cmp};
+ghost use Rattle.etherparse.specs.IpFragments.{IpFragment};
 ghost use Rattle.etherparse.specs.LaxPackets.{lax_layers_of};
-ghost use Rattle.etherparse.specs.Layers.{layers_of};
-ghost use Rattle.etherparse.specs.Pools.{fragment_in, plain_frame_answer};
-ghost use Rattle.etherparse.specs.StrictFrames.{layers_in};
-ghost use Rattle.etherparse.specs.Streams.{name_of};
-ghost use Rattle.packet_dump.specs.PacketLines.{parts_start};
+ghost use Rattle.etherparse.specs.Pools.{plain_frame_answer};
+ghost use Rattle.etherparse.specs.Types.IpFragId.{IpFragId};
+ghost use Rattle.packet_dump.specs.CarriedFragments.{fragment_in, named_fragment, plain_carried};
+ghost use Rattle.packet_dump.specs.Decoding.{packet_of};
 ghost use Rattle.packet_dump.specs.PacketCalls.{IsBounded, PoolHistory, is_since, new_pool, since_instant};
-ghost use Rattle.packet_dump.specs.PacketCalls.{with_frame, with_sweep};
-ghost use Rattle.packet_dump.specs.PoolLines.{GivesFrame, IsCallText, arrival_of, oldest_from};
+ghost use Rattle.packet_dump.specs.PacketCalls.{with_sweep};
+ghost use Rattle.packet_dump.specs.PoolLines.{PassesPacket, oldest_from, swept_at};
 ghost use Rattle.packet_dump.specs.OpenStreams.{arrival_at, number_at, number_after, open_at, with_one, without};
-ghost use Rattle.packet_dump.specs.Sessions.{AwaitsPacket, HoldsPooling, HoldsStreams, fates_of};
+ghost use Rattle.packet_dump.specs.Sessions.{AwaitsPacket, HoldsPooling, HoldsStreams, ProcessesFrame, fates_of};
 ghost use Rattle.packet_dump.specs.Summaries.{AreFragments, with_answer};
 
+use crate::decoded::Decoded;
 use crate::dump_options::DumpOptions;
-use crate::lines::LineParts;
+use crate::fragments::{Carried, carried_fragment};
 use crate::pool_lines::push_answer;
 use crate::summary::Fragments;
+use etherparse::LaxSlicedPacket;
 use etherparse::defrag::{IpDefragError, IpDefragPayloadVec, IpDefragPool, IpFragId};
 use etherparse::laws::defrag::one_more_call;
-use etherparse::{LaxSlicedPacket, SlicedPacket};
-use packet_times::{EPOCH, SECOND};
+use packet_times::seconds_of;
 use std::alloc::{AllocError, Global};
 use std::collections::BTreeMap;
 
@@ -57,7 +58,7 @@ pub struct Pooling {
     /// Number of IP fragments that the reassembly pool rejected so far.
     refused: u64,
     /// Number of streams (incomplete payloads) that expired or were evicted.
-    given_up: u64,
+    dropped: u64,
 }
 
 impl Pooling {
@@ -71,106 +72,107 @@ impl Pooling {
             swept: 0,
             reassembled: 0,
             refused: 0,
-            given_up: 0,
+            dropped: 0,
         }
     }
 
-    /// Passes a packet to the reassembly pool, and appends the line of a reassembled payload or rejected fragment, if
-    /// there is one. Before that, old streams (incomplete payloads) expire if a new second of the capture has begun.
-    /// Afterwards the oldest stream is evicted if there are more than `--streams` allows. The buffer of a reassembled
-    /// payload is returned to the pool.
-    pub fn give(
+    /// Passes a packet to the reassembly pool if strict slicing accepts it, and appends the line of a reassembled
+    /// payload or rejected fragment, if there is one. Before that, old streams (incomplete payloads) expire if a new
+    /// second of the capture has begun. Afterwards the oldest stream is evicted if there are more than `--streams`
+    /// allows. The buffer of a reassembled payload is returned to the pool. Does nothing without `--reassemble`.
+    pub fn reassemble(
         &mut self,
         output: &mut Vec<u8>,
         options: &DumpOptions,
-        parts: &LineParts<'_>,
-        sliced: &SlicedPacket<'_>,
-        read: &LaxSlicedPacket<'_>,
+        packet: &Decoded<'_>,
     ) -> Result<(), AllocError>
-        requires same { layers_in (lax_layers_of read.now) ≡ layers_of sliced.now }
-        ensures { OnOk result ((before : PoolHistory) → AwaitsPacket before parts.now.number self.old →
+        ensures { OnOk result ((before : PoolHistory) → AwaitsPacket before packet.now.captured.number self.old →
             (text : List ℕ) × (after : PoolHistory)
-            × GivesFrame options.now (parts_start options.now.time parts.now) before (arrival_of parts.now)
-            (layers_of sliced.now) text after
+            × PassesPacket options.now before (packet_of packet.now) text after
             × HoldsPooling after self.new × (output.new.items ≡ output.old.items ++ text)) }
     {
-        let this = parts.latest;
-        self.sweep(second_of(this), oldest_from(options, this));
-        self.give_frame(output, options, parts, sliced, read)?;
-        self.bound(options.streams);
+        if !packet.is_frame {
+            return Ok(());
+        }
+        self.expire(options, packet.captured.latest);
+        self.process_frame(output, options, packet)?;
+        self.evict_oldest(options.streams);
         Ok(())
     }
 
     /// Passes a packet to the reassembly pool if it carries an IP fragment, and appends the line of a reassembled
     /// payload or rejected fragment, if there is one.
-    fn give_frame(
+    #[inline(always)]
+    fn process_frame(
         &mut self,
         output: &mut Vec<u8>,
         options: &DumpOptions,
-        parts: &LineParts<'_>,
-        sliced: &SlicedPacket<'_>,
-        read: &LaxSlicedPacket<'_>,
+        packet: &Decoded<'_>,
     ) -> Result<(), AllocError>
-        requires same { layers_in (lax_layers_of read.now) ≡ layers_of sliced.now }
-        ensures { OnOk result ((before : PoolHistory) → AwaitsPacket before parts.now.number self.old → (text : List ℕ)
-            × IsCallText options.now (parts_start options.now.time parts.now) before (layers_of sliced.now)
-            (arrival_of parts.now) text
-            × HoldsPooling (with_frame before (layers_of sliced.now) (arrival_of parts.now)) self.new
-            × (output.new.items ≡ output.old.items ++ text)) }
+        ensures { OnOk result ((before : PoolHistory) → AwaitsPacket before packet.now.captured.number self.old →
+            ProcessesFrame options.now packet.now before self.new output.old.items output.new.items) }
     {
         one_more_call::<Arrival, u64, Arrival>();
-        match IpFragId::of_packet(sliced, 0) {
-            Some(name) => self.give_at(output, options, parts, sliced, read, name),
+        match carried_fragment(&packet.read) {
+            Some(carried) => self.process_fragment(output, options, packet, carried),
             None => Ok(()),
         }
     }
 
-    /// Passes a packet that carries an IP fragment to the reassembly pool, and appends the line of a reassembled
-    /// payload or rejected fragment, if there is one. Updates the list of streams (incomplete payloads).
-    fn give_at(
+    /// Passes the IP fragment of a packet to the reassembly pool, and appends the line of a reassembled payload or
+    /// rejected fragment, if there is one. Updates the list of streams (incomplete payloads).
+    fn process_fragment(
         &mut self,
         output: &mut Vec<u8>,
         options: &DumpOptions,
-        parts: &LineParts<'_>,
-        sliced: &SlicedPacket<'_>,
-        read: &LaxSlicedPacket<'_>,
-        name: IpFragId<u64>,
+        packet: &Decoded<'_>,
+        carried: Carried<'_>,
     ) -> Result<(), AllocError>
-        requires same { layers_in (lax_layers_of read.now) ≡ layers_of sliced.now }
-        requires named { option_map (λ carried. name_of carried 0) (fragment_in sliced.now) ≡ Some name }
-        ensures { OnOk result ((before : PoolHistory) → AwaitsPacket before parts.now.number self.old → (text : List ℕ)
-            × IsCallText options.now (parts_start options.now.time parts.now) before (layers_of sliced.now)
-            (arrival_of parts.now) text
-            × HoldsPooling (with_frame before (layers_of sliced.now) (arrival_of parts.now)) self.new
-            × (output.new.items ≡ output.old.items ++ text)) }
+        requires { Some (plain_carried carried)
+            ≡ option_map named_fragment (fragment_in (lax_layers_of packet.now.read)) }
+        ensures { OnOk result ((before : PoolHistory) → AwaitsPacket before packet.now.captured.number self.old →
+            ProcessesFrame options.now packet.now before self.new output.old.items output.new.items) }
     {
         one_more_call::<Arrival, u64, Arrival>();
         let arrival = Arrival {
-            number: parts.number,
-            instant: parts.latest,
+            number: packet.captured.number,
+            instant: packet.captured.latest,
         };
-        let stood = number_at(&self.pool, &name);
-        let answer = self.pool.process_sliced_packet(sliced, arrival, 0);
-        let stands = number_after(&answer, stood, parts.number);
-        push_answer(output, options, parts, read, &answer)?;
-        unlist(&mut self.names, stood);
-        list(&mut self.names, name, stands)?;
-        self.give_back(answer);
+        let number_before = number_at(&self.pool, &carried.name);
+        let answer = self
+            .pool
+            .process_fragment(carried.name, &carried.fragment, arrival);
+        let number = number_after(&answer, number_before, packet.captured.number);
+        push_answer(output, options, packet, &answer)?;
+        let listed = remove_number(&mut self.names, number_before);
+        insert_stream(&mut self.names, listed, &packet.read, number)?;
+        self.return_payload(answer);
         Ok(())
     }
 
+    /// Expires old streams (incomplete payloads) if a new second of the capture has begun since the last check. `this`
+    /// is the timestamp of the current packet, in nanoseconds.
+    #[inline(always)]
+    fn expire(&mut self, options: &DumpOptions, this: u128)
+        ensures { (before : PoolHistory) → HoldsPooling before self.old →
+            HoldsPooling (swept_at options.now before this) self.new }
+    {
+        let second = seconds_of(this);
+        if self.swept < second {
+            self.expire_before(second, oldest_from(options, this));
+        }
+    }
+
     /// Expires the streams (incomplete payloads) whose last accepted fragment has a timestamp below `oldest`, in
-    /// nanoseconds. Does nothing unless `second`, the timestamp of the current packet in whole seconds, is later than
-    /// that of the last check.
-    fn sweep(&mut self, second: u128, oldest: u128)
+    /// nanoseconds. `second`, the timestamp of the current packet in whole seconds, is later than that of the last
+    /// check.
+    fn expire_before(&mut self, second: u128, oldest: u128)
+        requires { self.old.swept < second }
         ensures { (before : PoolHistory) → HoldsPooling before self.old →
             HoldsPooling (with_sweep before second oldest) self.new }
     {
-        if self.swept >= second {
-            return;
-        }
         one_more_call::<Arrival, u64, Arrival>();
-        let had = self.names.len();
+        let open_before = self.names.len();
         self.swept = second;
         self.pool.retain(
             |kept: &Arrival| -> bool
@@ -178,14 +180,13 @@ impl Pooling {
             { kept.instant >= oldest },
         );
         keep_open(&mut self.names, &self.pool);
-        let has = self.names.len();
-        let gone = had.saturating_sub(has);
-        self.given_up = self.given_up.saturating_add(gone as u64);
+        let expired = open_before.saturating_sub(self.names.len());
+        self.dropped = self.dropped.saturating_add(expired as u64);
     }
 
     /// Evicts the stream (incomplete payload) whose last accepted fragment is oldest, if the reassembly pool has more
     /// than `most`.
-    fn bound(&mut self, most: u64)
+    fn evict_oldest(&mut self, most: u64)
         ensures { (before : PoolHistory) → HoldsPooling before self.old →
             (after : PoolHistory) × IsBounded most before after × HoldsPooling after self.new }
     {
@@ -195,13 +196,13 @@ impl Pooling {
         one_more_call::<Arrival, u64, Arrival>();
         if let Some((_, name)) = self.names.pop_first() {
             self.pool.remove(&name);
-            self.given_up = self.given_up.saturating_add(1);
+            self.dropped = self.dropped.saturating_add(1);
         }
     }
 
     /// Counts the reassembly pool's result of a fragment (payload or error), and returns the buffer of a reassembled
     /// payload to the pool for reuse.
-    fn give_back(&mut self, answer: Result<Option<IpDefragPayloadVec>, IpDefragError>)
+    fn return_payload(&mut self, answer: Result<Option<IpDefragPayloadVec>, IpDefragError>)
         ensures streams { (before : PoolHistory) → HoldsStreams before self.old → HoldsStreams before self.new }
         ensures counted { fates_of self.new ≡ with_answer (plain_frame_answer answer) (fates_of self.old) }
     {
@@ -223,7 +224,7 @@ impl Pooling {
         Fragments {
             reassembled: self.reassembled,
             not_reassembled: self.refused,
-            given_up: self.given_up,
+            dropped: self.dropped,
             open: self.names.len() as u64,
         }
     }
@@ -242,45 +243,62 @@ fn number_at(pool: &IpDefragPool<Arrival, u64>, name: &IpFragId<u64>) -> Option<
 
 /// Returns the packet number of a stream's last accepted fragment, after the reassembly pool returned `answer` for a
 /// further fragment of the stream. The result is `number` (the packet of the further fragment) if the fragment was
-/// accepted, `stood` (the packet number before) if it was rejected, and `None` if the payload is complete. Saves a
+/// accepted, `before` (the packet number before) if it was rejected, and `None` if the payload is complete. Saves a
 /// second lookup in the pool.
 fn number_after(
     answer: &Result<Option<IpDefragPayloadVec>, IpDefragError>,
-    stood: Option<u64>,
+    before: Option<u64>,
     number: u64,
 ) -> Option<u64>
-    ensures { result ≡ number_after answer.now stood number }
+    ensures { result ≡ number_after answer.now before number }
 {
     match answer {
         Ok(None) => Some(number),
         Ok(Some(_)) => None,
-        Err(_) => stood,
+        Err(_) => before,
     }
 }
 
 /// Removes the entry of packet number `gone` from the list of streams (incomplete payloads), which is ordered by packet
-/// number; does nothing for `None`.
-fn unlist(names: &mut BTreeMap<u64, IpFragId<u64>>, gone: Option<u64>)
-    ensures { (number : ℕ) → get nat_cmp names.new number ≡ without (get nat_cmp names.old) gone number }
+/// number, and returns it. Does nothing for `None`.
+fn remove_number(
+    names: &mut BTreeMap<u64, IpFragId<u64>>,
+    gone: Option<u64>,
+) -> Option<IpFragId<u64>>
+    ensures names { (number : ℕ) → get nat_cmp names.new number ≡ without (get nat_cmp names.old) gone number }
+    ensures removed { result ≡ option_and_then (get nat_cmp names.old) gone }
 {
-    if let Some(gone) = gone {
-        names.remove(&gone);
+    match gone {
+        Some(gone) => names.remove(&gone),
+        None => None,
     }
 }
 
-/// Adds a stream (incomplete payload) to the list of streams, which is ordered by the packet number of the last
-/// accepted fragment. Does nothing without a packet number.
-fn list(
+/// Adds the stream of a packet's IP fragment to the list of streams (incomplete payloads), which is ordered by the
+/// packet number of the last accepted fragment. `listed` is the identifier of the stream, if the list had it before.
+/// Does nothing without a packet number.
+fn insert_stream(
     names: &mut BTreeMap<u64, IpFragId<u64>>,
-    name: IpFragId<u64>,
+    listed: Option<IpFragId<u64>>,
+    read: &LaxSlicedPacket<'_>,
     under: Option<u64>,
 ) -> Result<(), AllocError>
-    ensures { OnOk result ((number : ℕ) →
+    ensures { OnOk result ((name : IpFragId ℕ) (fragment : IpFragment) (number : ℕ) →
+        ((found : IpFragId ℕ) → listed ≡ Some found → found ≡ name) →
+        Some (name, fragment) ≡ option_map named_fragment (fragment_in (lax_layers_of read.now)) →
         get nat_cmp names.new number ≡ with_one (get nat_cmp names.old) name under number) }
 {
-    if let Some(under) = under {
-        names.insert(under, name)?;
-    }
+    let Some(under) = under else {
+        return Ok(());
+    };
+    let name = match listed {
+        Some(name) => name,
+        None => match carried_fragment(read) {
+            Some(carried) => carried.name,
+            None => return Ok(()),
+        },
+    };
+    names.insert(under, name)?;
     Ok(())
 }
 
@@ -294,18 +312,6 @@ fn keep_open(names: &mut BTreeMap<u64, IpFragId<u64>>, pool: &IpDefragPool<Arriv
             ensures stays { name.new ≡ name.old }
         { pool.timestamp(name).is_some() },
     );
-}
-
-/// Converts a timestamp from nanoseconds to whole seconds, both counted from 2^63 seconds before 1970. For times from
-/// 1970 until 2554 it uses a 64 bit division, which is faster than a 128 bit division.
-fn second_of(instant: u128) -> u128
-    ensures { result ≡ instant / 1000000000 }
-{
-    if instant >= EPOCH && instant - EPOCH < 0x1_0000_0000_0000_0000 {
-        EPOCH / SECOND + u128::from((instant - EPOCH) as u64 / 1_000_000_000)
-    } else {
-        instant / SECOND
-    }
 }
 
 /// Returns the timestamp `--timeout` seconds before `this`, the timestamp of the current packet, both in nanoseconds;

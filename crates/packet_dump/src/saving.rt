@@ -1,13 +1,18 @@
 //! Writing of the selected packets to a new capture file (`--write`).
 
-ghost use Rattle.std.specs.Prelude.{◌≡◌, ◌<◌, ◌^◌, ◌++◌, [], false, IfOk, OnErr, OnOk};
+ghost use Rattle.std.specs.Prelude.{◌≡◌, ◌<◌, ◌^◌, ◌++◌, [], ◌∷◌, false, ℕ, IfOk, List, OnErr, OnOk};
 ghost use Rattle.capture_reader.specs.Readers.{shown_of};
 ghost use Rattle.line_io.specs.WatchedWords.{has_failed, inner_of};
-ghost use Rattle.packet_dump.specs.Saves.{Closes, Finishes, Flushes, Pushes, asks, file_header_bytes, is_empty};
-ghost use Rattle.packet_dump.specs.Saves.{is_failed};
-ghost use Rattle.packet_dump.specs.Saves.{is_idle, link_with, new_state};
+ghost use Rattle.packet_dump.specs.DecodedPackets.{DecodedPacket};
+ghost use Rattle.packet_dump.specs.Decoding.{content_in, packet_with};
+ghost use Rattle.packet_dump.specs.PacketContents.{is_wanted};
+ghost use Rattle.packet_dump.specs.Saves.{Closes, Finishes, Flushes, GoesOn, Pushes, asks, file_header_bytes, is_empty};
+ghost use Rattle.packet_dump.specs.Saves.{is_failed, is_idle, link_with, new_state};
+ghost use Rattle.packet_dump.specs.declared.dump_options.DumpOptions.{DumpOptions};
 
+use crate::decoded::Decoded;
 use capture_reader::Shown;
+use capture_writer::laws::read_back;
 use capture_writer::{WriteError, WriteRefusal, push_heading, push_packet};
 use line_io::Watched;
 use std::alloc::{AllocError, Global};
@@ -68,14 +73,30 @@ impl Saving {
         }
     }
 
+    /// Adds a packet to the capture file, if there is one and the packet is selected.
+    pub fn save(&mut self, packet: &Decoded<'_>) -> Result<(), AllocError>
+        ensures saves { OnOk result ((options : DumpOptions) (packets : List DecodedPacket) (details : List ℕ) →
+            packet.now.is_selected ≡ is_wanted options (content_in packet.now) →
+            GoesOn options self.old self.new packets (packets ++ packet_with packet.now details ∷ [])) }
+        ensures failed { is_failed self.new.state ≡ is_failed self.old.state }
+    {
+        match self.state {
+            SaveState::Open(link) => {
+                if packet.is_selected {
+                    read_back();
+                    self.push(link, packet.captured.number, &packet.captured.shown)
+                } else {
+                    Ok(())
+                }
+            }
+            SaveState::Unasked => Ok(()),
+            SaveState::Stopped(_) => Ok(()),
+        }
+    }
+
     /// Adds a packet to the pending bytes of the capture file, with the file header if it is the first one. If the
     /// packet cannot be written (such as without a timestamp), no later packet is written.
-    pub fn push(
-        &mut self,
-        link: Option<u16>,
-        number: u64,
-        shown: &Shown<'_>,
-    ) -> Result<(), AllocError>
+    fn push(&mut self, link: Option<u16>, number: u64, shown: &Shown<'_>) -> Result<(), AllocError>
         ensures pushes { OnOk result (Pushes link self.new.state number (shown_of shown.now) self.old.bytes.items
             self.new.bytes.items) }
         ensures failed { OnOk result (is_failed self.new.state ≡ false) }

@@ -1,27 +1,23 @@
 //! State of a `packet_dump` run between two chunks of the capture that are read.
 
-ghost use Rattle.std.specs.Prelude.{◌≡◌, ◌<◌, ◌≤◌, ◌+◌, ◌^◌, ◌++◌, [], ◌∷◌, ℕ, List, Some, IfOk, OnOk, length};
-ghost use Rattle.capture_reader.specs.Captures.{Item, at_start, shown_in, stage_after_items};
+ghost use Rattle.std.specs.Prelude.{◌≡◌, ◌<◌, ◌≤◌, ◌+◌, ◌^◌, ◌++◌, ℕ, List, IfOk, OnOk, length};
 ghost use Rattle.capture_reader.specs.Readers.{reader_shown};
-ghost use Rattle.packet_dump.specs.Dumps.{AreAllTexts, packets_in};
-ghost use Rattle.packet_dump.specs.PacketCalls.{PoolHistory, new_pool};
-ghost use Rattle.packet_dump.specs.Saves.{GoesOn, is_failed};
-ghost use Rattle.packet_dump.specs.Sessions.{AwaitsPacket, Counts, Drains, HasRead, HoldsPooling, PushesLine};
-ghost use Rattle.packet_dump.specs.Sessions.{ending_of};
-ghost use Rattle.packet_dump.specs.Sessions.{ends_run, gathered, taken_by};
-ghost use Rattle.packet_dump.specs.Summaries.{CountsFragments, CountsPacket, plain_of};
+ghost use Rattle.packet_dump.specs.PacketCalls.{PoolHistory};
+ghost use Rattle.packet_dump.specs.Saves.{is_failed, new_state};
+ghost use Rattle.packet_dump.specs.Sessions.{AwaitsPacket, Counts, Drains, HasProcessed, HoldsPooling, IsNew};
+ghost use Rattle.packet_dump.specs.Sessions.{ProcessesPacket, Written, ending_of, ends_run, taken_by};
+ghost use Rattle.packet_dump.specs.Summaries.{CountsFragments, new_summary, plain_of};
 ghost use Rattle.packet_dump.specs.declared.dump_options.DumpOptions.{DumpOptions};
 
+use crate::decoded::{CapturedPacket, Decoded};
 use crate::dump_options::DumpOptions;
 use crate::ending::Ending;
-use crate::lines::{LineParts, push_line};
+use crate::packet_lines::append_line;
 use crate::pooling::Pooling;
-use crate::saving::{SaveState, Saving};
-use crate::selection::is_selected;
+use crate::saving::Saving;
 use crate::shown::{first_after, instant_in, latest_after};
 use crate::summary::Summary;
 use capture_reader::{Advance, CaptureError, CaptureReader};
-use capture_writer::laws::read_back;
 use std::alloc::{AllocError, Global};
 
 /// Reason why a run can process no further packet now: the bytes read so far contain no other complete packet, the
@@ -52,7 +48,7 @@ impl CaptureState {
 }
 
 /// State of a run: the parser of the capture, the number of packets read, the first and the last timestamp, the
-/// reassembly pool, and lines to write.
+/// reassembly pool, the summary, and the lines and packets to write.
 #[derive(Drop)]
 pub struct Session {
     options: DumpOptions,
@@ -63,16 +59,22 @@ pub struct Session {
     /// Timestamp of the last packet read that has one, in nanoseconds since 2^63 seconds before 1970; 0 if none has.
     latest: u128,
     pooling: Pooling,
+    /// Counts for `--summary`, over all packets read; nothing is counted if no summary is wanted.
+    pub summary: Summary,
+    /// Capture file that `--write` creates, with the packets added to it that are not yet written.
+    pub saving: Saving,
     /// Lines of packets that are built and not yet written.
     pub(crate) output: Vec<u8>,
 }
 
 impl Session {
-    /// Returns the state of a run before any byte of the capture is read.
-    pub fn new(alloc: Global, options: DumpOptions) -> Session
-        ensures has_read { HasRead options result [] [] (new_pool options.limit) }
-        ensures taken { taken_by result ≡ 0 }
-        ensures counts { Counts result }
+    /// Returns the state of a run before any byte of the capture is read. `summary` is whether a summary is wanted
+    /// (`--summary`), and `saves` whether a capture file is (`--write`).
+    pub fn new(alloc: Global, options: DumpOptions, summary: bool, saves: bool) -> Session
+        ensures new { IsNew result }
+        ensures options { result.options ≡ options }
+        ensures summary { plain_of result.summary ≡ new_summary summary options.quiet }
+        ensures saves { result.saving.state ≡ new_state saves }
     {
         Session {
             options,
@@ -81,6 +83,8 @@ impl Session {
             first: None,
             latest: 0,
             pooling: Pooling::new(alloc, options.limit),
+            summary: Summary::new(alloc, summary, options.quiet),
+            saving: Saving::new(alloc, saves),
             output: Vec::new(alloc),
         }
     }
@@ -88,11 +92,11 @@ impl Session {
     /// Passes the next chunk of bytes of the capture to its parser. Packets in it are not processed yet.
     pub fn take(&mut self, piece: &[u8]) -> Result<(), AllocError>
         requires fits { taken_by self.old + length piece.now < 2 ^ 64 }
-        ensures has_read { OnOk result ((options : DumpOptions) (read : List ℕ) (items : List Item)
-            (history : PoolHistory) → HasRead options self.old read items history →
-            HasRead options self.new (read ++ piece.now) items history) }
+        ensures processed { OnOk result ((options : DumpOptions) (read : List ℕ) (written : Written) →
+            HasProcessed options self.old read written → HasProcessed options self.new (read ++ piece.now) written) }
         ensures taken { OnOk result (taken_by self.new ≡ taken_by self.old + length piece.now) }
         ensures counts { Counts self.old → Counts self.new }
+        ensures saving { self.new.saving ≡ self.old.saving }
     {
         self.capture.take(piece)
     }
@@ -100,19 +104,12 @@ impl Session {
     /// Processes the complete packets in the bytes read so far, until `--count` packets are read: builds their lines,
     /// counts them in the summary, and adds the selected ones to the capture file (`--write`). Returns the state of the
     /// run after them.
-    pub fn drain(
-        &mut self,
-        summary: &mut Summary,
-        saving: &mut Saving,
-    ) -> Result<CaptureState, AllocError>
+    pub fn drain(&mut self) -> Result<CaptureState, AllocError>
         requires fits { taken_by self.old < 2 ^ 64 }
         requires counts { Counts self.old }
-        ensures drains { IfOk result (λ capture_state. (options : DumpOptions) (read : List ℕ) (items : List Item) (text : List ℕ)
-            (history : PoolHistory) → HasRead options self.old read items history →
-            AreAllTexts options items text history →
-            Drains options self.new capture_state read items text (gathered saving.old summary.old)
-            (gathered saving.new summary.new)) }
-        ensures failed { is_failed saving.new.state ≡ is_failed saving.old.state }
+        ensures drains { IfOk result (λ capture_state. (options : DumpOptions) (read : List ℕ) (written : Written) →
+            HasProcessed options self.old read written → Drains options self.new capture_state read written) }
+        ensures failed { is_failed self.new.saving.state ≡ is_failed self.old.saving.state }
         ensures taken { OnOk result (taken_by self.new ≡ taken_by self.old) }
         ensures counts { OnOk result (Counts self.new) }
     {
@@ -123,8 +120,7 @@ impl Session {
             }
             match self.capture.advance() {
                 Ok(Advance::Packet) => {
-                    self.save_packet(saving)?;
-                    self.push_packet(summary)?;
+                    self.process_packet()?;
                 }
                 Ok(Advance::Other) => {}
                 Ok(Advance::MayEnd) => return Ok(CaptureState::MayEnd),
@@ -149,49 +145,28 @@ impl Session {
     }
 
     /// Stores the counts of reassembled payloads and rejected fragments in the summary, with `--reassemble`.
-    pub fn count_pool(&mut self, summary: &mut Summary)
-        ensures { (history : PoolHistory) → HoldsPooling history self.old.pooling →
-            CountsFragments self.old.options.reassemble history (plain_of summary.old) (plain_of summary.new) }
+    pub fn count_pool(&mut self)
+        ensures counts { (history : PoolHistory) → HoldsPooling history self.old.pooling →
+            CountsFragments self.old.options.reassemble history (plain_of self.old.summary)
+            (plain_of self.new.summary) }
+        ensures saving { self.new.saving ≡ self.old.saving }
     {
         if self.options.reassemble {
-            summary.count_fragments(self.pooling.fragments());
+            self.summary.count_fragments(self.pooling.fragments());
         }
     }
 
-    /// Adds the packet that was just parsed to the capture file (`--write`), if there is one and the packet is
-    /// selected.
-    fn save_packet(&self, saving: &mut Saving) -> Result<(), AllocError>
-        requires { self.now.number + 1 < 2 ^ 64 }
-        ensures saves { OnOk result ((items : List Item) (item : Item) → self.now.number ≡ packets_in items →
-            shown_in (stage_after_items at_start items) item ≡ Some (reader_shown self.now.capture) →
-            GoesOn self.now.options saving.old saving.new items (items ++ item ∷ [])) }
-        ensures failed { is_failed saving.new.state ≡ is_failed saving.old.state }
-    {
-        match saving.state {
-            SaveState::Open(link) => {
-                let shown = self.capture.shown();
-                if is_selected(&self.options, &shown) {
-                    read_back();
-                    saving.push(link, self.number + 1, &shown)
-                } else {
-                    Ok(())
-                }
-            }
-            SaveState::Unasked => Ok(()),
-            SaveState::Stopped(_) => Ok(()),
-        }
-    }
-
-    /// Counts the packet that was just parsed, and appends its line, if it is shown, to the pending output.
-    fn push_packet(&mut self, summary: &mut Summary) -> Result<(), AllocError>
+    /// Processes the packet that was just parsed: adds it to the capture file (`--write`) if it is selected, counts it,
+    /// and appends its line, if it is shown, to the pending output. With `--reassemble` a second line follows if the
+    /// packet's IP fragment completes a payload or is rejected.
+    fn process_packet(&mut self) -> Result<(), AllocError>
         requires { self.old.number + 1 < 2 ^ 64 }
-        ensures capture { self.new.capture ≡ self.old.capture }
-        ensures line { OnOk result ((before : PoolHistory) →
+        ensures packet { OnOk result ((before : PoolHistory) →
             AwaitsPacket before (self.old.number + 1) self.old.pooling →
-            PushesLine self.old self.new before (reader_shown self.old.capture)) }
+            ProcessesPacket self.old self.new before (reader_shown self.old.capture)) }
+        ensures capture { self.new.capture ≡ self.old.capture }
+        ensures failed { is_failed self.new.saving.state ≡ is_failed self.old.saving.state }
         ensures counts { self.new.number ≤ self.old.number + 1 }
-        ensures summed { OnOk result (CountsPacket self.old.options.strict (reader_shown self.old.capture)
-            (plain_of summary.old) (plain_of summary.new)) }
     {
         let shown = self.capture.shown();
         let this = instant_in(&shown);
@@ -200,19 +175,17 @@ impl Session {
         self.number += 1;
         self.first = first;
         self.latest = latest;
-        let options = self.options;
-        let parts = LineParts {
+        let mut packet = Decoded::new(CapturedPacket {
             number: self.number,
             first,
             latest,
             shown,
-        };
-        push_line(
-            &mut self.output,
-            &mut self.pooling,
-            summary,
-            &options,
-            &parts,
-        )
+        });
+        packet.decode(&self.options);
+        self.saving.save(&packet)?;
+        self.summary.count(&packet)?;
+        append_line(&mut self.output, &self.options, &packet)?;
+        self.pooling
+            .reassemble(&mut self.output, &self.options, &packet)
     }
 }

@@ -1,8 +1,7 @@
 //! Counts of the packets of a capture that `--summary` prints.
 
-ghost use Rattle.std.specs.Prelude.{◌≡◌, ◌++◌, false, nat_eq, map, IfOk, OnOk};
+ghost use Rattle.std.specs.Prelude.{◌≡◌, ◌++◌, map, IfOk, OnOk};
 ghost use Rattle.std.specs.Option.{option_map};
-ghost use Rattle.std.specs.Str.{bytes_eq};
 ghost use Rattle.std.specs.String.{string_bytes};
 ghost use Rattle.capture_reader.specs.Readers.{shown_of};
 ghost use Rattle.etherparse.specs.LaxPackets.{lax_layers_of};
@@ -10,17 +9,19 @@ ghost use Rattle.etherparse.specs.LaxViews.{lax_extension_of, lax_net_layer_of};
 ghost use Rattle.etherparse.specs.LinkSlices.{link_layer_of};
 ghost use Rattle.etherparse.specs.StrictFrames.{layers_in};
 ghost use Rattle.etherparse.specs.TransportParts.{transport_layer_of};
-ghost use Rattle.packet_dump.specs.PacketContents.{other_link, packet, refusal};
+ghost use Rattle.link_types.specs.Openings.{opening_of};
+ghost use Rattle.packet_dump.specs.Decoding.{packet_of};
 ghost use Rattle.packet_dump.specs.SummaryTexts.{causes_text, count_text, errors_text, fragments_text};
 ghost use Rattle.packet_dump.specs.SummaryTexts.{inner_counts_text, links_text, outer_counts_text, packets_text, pieces_text};
 ghost use Rattle.packet_dump.specs.SummaryTexts.{refusals_text, some_text, summary_text, unread_text};
-ghost use Rattle.packet_dump.specs.SliceErrorTexts.{error_name};
-ghost use Rattle.packet_dump.specs.Summaries.{counted, is_truncated, more, new_summary, no_layers, no_refusals, plain_count};
+ghost use Rattle.packet_dump.specs.ErrorNames.{error_name};
+ghost use Rattle.packet_dump.specs.Summaries.{counted_one, is_truncated, more, new_summary, no_layers, no_refusals, plain_count};
 ghost use Rattle.packet_dump.specs.Summaries.{plain_of, plain_refusals, with_cause, with_cooked, with_error};
-ghost use Rattle.packet_dump.specs.Summaries.{with_extension, with_extensions, with_fragment, with_fragments};
+ghost use Rattle.packet_dump.specs.Summaries.{with_extensions, with_fragment, with_fragments};
 ghost use Rattle.packet_dump.specs.Summaries.{with_layers, with_link, with_net, with_one, with_packet, with_stop};
 ghost use Rattle.packet_dump.specs.Summaries.{with_transport};
 
+use crate::decoded::{Decoded, Outcome};
 use capture_reader::Shown;
 use etherparse::err::packet::SliceError;
 use etherparse::err::{Layer, ip, ip_auth, ipv4, ipv6_exts, linux_sll, macsec};
@@ -48,7 +49,7 @@ struct LayerCounts {
 #[derive(Drop)]
 pub struct Summary {
     /// True if a summary is printed at the end; otherwise nothing is counted.
-    wanted: bool,
+    pub wanted: bool,
     /// True if the summary also prints how many of the refused and stopped packets are truncated, and how many are
     /// malformed (`--quiet`).
     by_cause: bool,
@@ -90,7 +91,7 @@ pub struct Fragments {
     /// Number of IP fragments that the reassembly pool rejected.
     pub not_reassembled: u64,
     /// Number of incomplete IP payloads that expired or were evicted.
-    pub given_up: u64,
+    pub dropped: u64,
     /// Number of IP payloads that are still incomplete at the end of the run.
     pub open: u64,
 }
@@ -102,7 +103,7 @@ impl Fragments {
     {
         push_count(text, "reassembled", self.reassembled)?;
         push_count(text, "not reassembled", self.not_reassembled)?;
-        push_count(text, "expired or evicted", self.given_up)?;
+        push_count(text, "expired or evicted", self.dropped)?;
         push_count(text, "incomplete at the end", self.open)
     }
 }
@@ -129,49 +130,29 @@ impl Summary {
         }
     }
 
-    /// Counts a packet with a valid layer: its bytes, its layers, and the error at which they end, if any. A Linux
-    /// cooked capture header that the program parsed itself counts as a layer.
-    pub fn count_read(
-        &mut self,
-        shown: &Shown<'_>,
-        read: &LaxSlicedPacket<'_>,
-        cooked: bool,
-    ) -> Result<(), AllocError>
-        ensures { OnOk result (plain_of self.new
-            ≡ counted cooked (shown_of shown.now) (packet (lax_layers_of read.now)) (plain_of self.old)) }
+    /// Counts a packet, if a summary is wanted: its bytes, and its layers with the error at which they end, or why it
+    /// has none. A Linux cooked capture header that the program parsed itself counts as a layer.
+    pub fn count(&mut self, packet: &Decoded<'_>) -> Result<(), AllocError>
+        requires { packet.now.opening
+            ≡ opening_of packet.now.captured.shown.link_type packet.now.captured.shown.bytes.now }
+        ensures { OnOk result (plain_of self.new ≡ counted_one (packet_of packet.now) (plain_of self.old)) }
     {
         if !self.wanted {
             return Ok(());
         }
+        let shown = &packet.captured.shown;
         self.count_packet(shown);
-        self.layers.count(read, cooked);
-        self.count_stop(shown, &read.stop_err)
-    }
-
-    /// Counts a rejected packet (without a valid layer or, with `--strict`, not a complete, valid frame), and its
-    /// error.
-    pub fn count_refusal(&mut self, shown: &Shown<'_>, error: &SliceError) -> Result<(), AllocError>
-        ensures { OnOk result (plain_of self.new
-            ≡ counted false (shown_of shown.now) (refusal error.now) (plain_of self.old)) }
-    {
-        if !self.wanted {
-            return Ok(());
+        match &packet.outcome {
+            Outcome::Layers => {
+                self.layers.count(&packet.read, packet.is_cooked());
+                self.count_stop(shown, &packet.read.stop_err)
+            }
+            Outcome::Refused(error) => {
+                self.count_cause(shown);
+                self.refused.count(error)
+            }
+            Outcome::Unsupported => count_key(&mut self.unread, shown.link_type),
         }
-        self.count_packet(shown);
-        self.count_cause(shown);
-        self.refused.count(error)
-    }
-
-    /// Counts a packet whose link type or link header is not supported, by link type.
-    pub fn count_unread(&mut self, shown: &Shown<'_>) -> Result<(), AllocError>
-        ensures { OnOk result (plain_of self.new
-            ≡ counted false (shown_of shown.now) (other_link shown.now.link_type) (plain_of self.old)) }
-    {
-        if !self.wanted {
-            return Ok(());
-        }
-        self.count_packet(shown);
-        count_link_type(&mut self.unread, shown.link_type)
     }
 
     /// Counts a packet, and its captured and original bytes.
@@ -190,7 +171,8 @@ impl Summary {
         shown: &Shown<'_>,
         stop: &Option<(SliceError, Layer)>,
     ) -> Result<(), AllocError>
-        ensures { OnOk result (plain_of self.new ≡ with_stop (is_truncated (shown_of shown.now)) stop.now (plain_of self.old)) }
+        ensures { OnOk result (plain_of self.new
+            ≡ with_stop (is_truncated (shown_of shown.now)) stop.now (plain_of self.old)) }
     {
         match stop {
             Some(stop) => {
@@ -223,10 +205,10 @@ impl Summary {
     }
 
     /// Returns the text of the summary: a line for each count, and for each kind of layer that occurs. Allocates.
-    pub fn text(&self, alloc: Global) -> Result<String, AllocError>
+    pub fn text(&self) -> Result<String, AllocError>
         ensures { IfOk result (λ text. string_bytes text ≡ summary_text (plain_of self.now)) }
     {
-        let mut text = String::new(alloc);
+        let mut text = String::new(*self.unread.allocator());
         self.push_packets(&mut text)?;
         self.layers.push_outer(&mut text)?;
         self.layers.push_inner(&mut text)?;
@@ -274,7 +256,7 @@ impl Refusals {
         ensures { OnOk result (plain_refusals self.new ≡ with_error error.now (plain_refusals self.old)) }
     {
         more(&mut self.all, 1);
-        count_name(&mut self.errors, error_name(error))
+        count_key(&mut self.errors, error_name(error))
     }
 
     /// Appends a line with the name `row` (`refused` or `stopped`) and the number of packets with such an error, then one
@@ -347,17 +329,10 @@ impl LayerCounts {
         ensures { self.new ≡ with_extensions (map lax_extension_of extensions.now) self.old }
     {
         for extension in extensions {
-            self.count_extension(extension);
-        }
-    }
-
-    /// Counts a VLAN or MACsec tag.
-    fn count_extension(&mut self, extension: &LaxLinkExtSlice<'_>)
-        ensures { self.new ≡ with_extension (lax_extension_of extension.now) self.old }
-    {
-        match extension {
-            LaxLinkExtSlice::Vlan(_) => more(&mut self.vlan, 1),
-            LaxLinkExtSlice::Macsec(_) => more(&mut self.macsec, 1),
+            match extension {
+                LaxLinkExtSlice::Vlan(_) => more(&mut self.vlan, 1),
+                LaxLinkExtSlice::Macsec(_) => more(&mut self.macsec, 1),
+            }
         }
     }
 
@@ -434,32 +409,17 @@ fn more(count: &mut u64, by: u64)
     *count = count.saturating_add(by);
 }
 
-/// Adds 1 to the count of a link type in a list of pairs, with a new pair if it has none.
-fn count_link_type(counts: &mut Vec<(u16, u64)>, link_type: u16) -> Result<(), AllocError>
-    ensures { OnOk result (counts.new.items ≡ with_one nat_eq link_type counts.old.items) }
+/// Adds 1 to the count of a key in a list of pairs, with a new pair if it has none.
+fn count_key<K: PartialEq + Copy>(counts: &mut Vec<(K, u64)>, key: K) -> Result<(), AllocError>
+    ensures { OnOk result (counts.new.items ≡ with_one K.eq key counts.old.items) }
 {
     for index in 0..counts.len() {
-        if counts[index].0 == link_type {
+        if counts[index].0 == key {
             more(&mut counts[index].1, 1);
             return Ok(());
         }
     }
-    counts.push((link_type, 1))?;
-    Ok(())
-}
-
-/// Adds 1 to the count of an error's name in a list of pairs, with a new pair if it has none.
-fn count_name(counts: &mut Vec<(&'static str, u64)>, name: &'static str) -> Result<(), AllocError>
-    ensures { OnOk result (map plain_count counts.new.items
-        ≡ with_one bytes_eq name.now (map plain_count counts.old.items)) }
-{
-    for index in 0..counts.len() {
-        if counts[index].0 == name {
-            more(&mut counts[index].1, 1);
-            return Ok(());
-        }
-    }
-    counts.push((name, 1))?;
+    counts.push((key, 1))?;
     Ok(())
 }
 

@@ -7,5 +7,5 @@ pub mod passing;
 pub mod word;
 
 pub use crate::network::Network;
-pub use crate::passing::{matches_reassembled, passes};
+pub use crate::passing::{holds, matches_reassembled, passes};
 pub use crate::word::{Word, WordError};

@@ -26,7 +26,7 @@ pub fn passes(words: &[Word], packet: &LaxSlicedPacket<'_>) -> bool
 }
 
 /// Returns true if a primitive of a filter matches a packet.
-fn holds(word: &Word, packet: &LaxSlicedPacket<'_>) -> bool
+pub fn holds(word: &Word, packet: &LaxSlicedPacket<'_>) -> bool
     ensures { result ≡ holds_of word.now (lax_layers_of packet.now) }
 {
     match word {

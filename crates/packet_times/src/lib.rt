@@ -9,5 +9,5 @@ pub mod texts;
 
 pub use crate::dates::Date;
 pub use crate::instants::{EPOCH, SECOND, instant_of, is_fine};
-pub use crate::texts::{push_epoch, push_since, push_utc};
+pub use crate::texts::{push_epoch, push_since, push_utc, seconds_of};
 pub use capture_reader::Time;

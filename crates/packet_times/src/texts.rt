@@ -45,7 +45,7 @@ pub fn push_utc(output: &mut Vec<u8>, time: Time) -> Result<(), AllocError>
 
 /// Converts an instant from nanoseconds to whole seconds, both counted from 2^63 seconds before 1970. For times from
 /// 1970 until 2554 it uses a 64 bit division, which is faster than a 128 bit division.
-fn seconds_of(instant: u128) -> u128
+pub fn seconds_of(instant: u128) -> u128
     ensures { result ≡ instant / 1000000000 }
 {
     if instant >= EPOCH && instant - EPOCH < WORD {

@@ -1,8 +1,9 @@
 //! Measured calls that build Ethernet frames from the headers and payloads decoded from other frames.
 
-ghost use Rattle.std.specs.Prelude.{◌≡◌, ◌<◌, ◌^◌, IfErr};
+ghost use Rattle.std.specs.Prelude.{◌≡◌, IfErr};
 
 use crate::bench_error::BenchError;
+use ep_base::bytes::word_at;
 use etherparse::err::packet::BuildWriteError;
 use etherparse::{
     ArpPacket, DoubleVlanHeader, Ethernet2Header, IpHeaders, IpNumber, Ipv4Extensions, Ipv4Header,
@@ -419,19 +420,4 @@ fn append_ip_payload(
 fn frame_number(frame: &[u8]) -> u64 {
     let words = u64::from(word_at(frame, 24)) + u64::from(word_at(frame, 40));
     words.wrapping_add(frame.len() as u64)
-}
-
-/// Returns the big-endian 16-bit word at byte offset `at` of a frame. Bytes after the end of the frame count as 0.
-fn word_at(frame: &[u8], at: usize) -> u16
-    requires { at < 2 ^ 16 }
-{
-    u16::from_be_bytes([byte_at(frame, at), byte_at(frame, at + 1)])
-}
-
-/// Returns the byte at offset `at` of a frame, or 0 after the end of the frame.
-fn byte_at(frame: &[u8], at: usize) -> u8 {
-    match frame.get(at) {
-        Some(byte) => *byte,
-        None => 0,
-    }
 }

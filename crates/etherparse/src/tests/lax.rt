@@ -52,6 +52,13 @@ fn ends_in(rt: &impl Abort, packet: &LaxSlicedPacket<'_>, len: usize, incomplete
     same(rt, &packet.stop_err.is_none(), &true);
 }
 
+/// Asserts the number of bytes that are missing from the last layer's payload, and whether strict slicing accepts the
+/// packet.
+fn lacks(rt: &impl Abort, packet: &LaxSlicedPacket<'_>, missing: usize, is_frame: bool) {
+    same(rt, &packet.missing_bytes(), &missing);
+    same(rt, &packet.is_frame(), &is_frame);
+}
+
 /// Asserts the number of bytes of the IP payload, whether bytes of it are missing (`incomplete`), and the length field
 /// that limits it (`source`).
 fn has_ip(
@@ -134,25 +141,27 @@ fn total_length_of_a_header(rt: HostRuntime) {
 /// payload.
 #[test]
 fn datagram_lengths(rt: HostRuntime) {
-    for (total_len, udp_len, len, incomplete) in [
-        (36u8, 0u8, 8, false),
-        (36, 7, 8, false),
-        (36, 8, 0, false),
-        (36, 15, 7, false),
-        (36, 16, 8, false),
-        (36, 17, 8, true),
-        (37, 0, 8, true),
-        (37, 7, 8, true),
-        (37, 8, 0, false),
-        (37, 16, 8, false),
-        (37, 17, 8, true),
-        (0, 0, 8, false),
-        (0, 17, 8, true),
+    for (total_len, udp_len, len, incomplete, missing, is_frame) in [
+        (36u8, 0u8, 8, false, 0, true),
+        (36, 7, 8, false, 0, false),
+        (36, 8, 0, false, 0, true),
+        (36, 15, 7, false, 0, true),
+        (36, 16, 8, false, 0, true),
+        (36, 17, 8, true, 1, false),
+        (37, 0, 8, true, 1, false),
+        (37, 7, 8, true, 1, false),
+        (37, 8, 0, false, 0, false),
+        (37, 16, 8, false, 0, false),
+        (37, 17, 8, true, 1, false),
+        (0, 0, 8, false, 0, false),
+        (0, 17, 8, true, 1, false),
     ] {
         let mut frame = UDP;
         frame[17] = total_len;
         frame[39] = udp_len;
-        ends_in(&rt, &read(&rt, Entry::Ethernet, &frame), len, incomplete);
+        let packet = read(&rt, Entry::Ethernet, &frame);
+        ends_in(&rt, &packet, len, incomplete);
+        lacks(&rt, &packet, missing, is_frame);
     }
 }
 
@@ -160,20 +169,21 @@ fn datagram_lengths(rt: HostRuntime) {
 #[test]
 fn payload_lengths(rt: HostRuntime) {
     let limited = LenSource::Ipv6HeaderPayloadLen;
-    for (length_field, len, incomplete, source) in [
-        (0u16, 4, false, LenSource::Slice),
-        (1, 1, false, limited),
-        (4, 4, false, limited),
-        (5, 4, true, LenSource::Slice),
-        (65535, 4, true, LenSource::Slice),
+    for (length_field, len, missing, source) in [
+        (0u16, 4, 0, LenSource::Slice),
+        (1, 1, 0, limited),
+        (4, 4, 0, limited),
+        (5, 4, 1, LenSource::Slice),
+        (65535, 4, 65531, LenSource::Slice),
     ] {
         let mut bytes = IPV6_PACKET;
         let field = length_field.to_be_bytes();
         bytes[4] = field[0];
         bytes[5] = field[1];
         let packet = read(&rt, IPV6, &bytes);
-        has_ip(&rt, &packet, len, incomplete, source);
-        ends_in(&rt, &packet, len, incomplete);
+        has_ip(&rt, &packet, len, missing > 0, source);
+        ends_in(&rt, &packet, len, missing > 0);
+        lacks(&rt, &packet, missing, missing == 0);
     }
     let mut header = IPV6_PACKET;
     header[5] = 0;
@@ -186,17 +196,17 @@ fn payload_lengths(rt: HostRuntime) {
 #[test]
 fn short_lengths(rt: HostRuntime) {
     let total = LenSource::Ipv4HeaderTotalLen;
-    for (short_len, total_len, len, incomplete, source) in [
-        (0u8, 24u8, 4, false, total),
-        (30, 24, 4, false, total),
-        (28, 22, 2, false, total),
-        (28, 24, 2, true, LenSource::Slice),
-        (47, 24, 4, false, total),
-        (47, 0, 4, true, LenSource::Slice),
-        (63, 23, 3, false, total),
-        (63, 25, 4, true, LenSource::Slice),
-        (63, 19, 4, true, LenSource::Slice),
-        (30, 0, 4, false, LenSource::Slice),
+    for (short_len, total_len, len, incomplete, source, is_frame) in [
+        (0u8, 24u8, 4, false, total, true),
+        (30, 24, 4, false, total, true),
+        (28, 22, 2, false, total, true),
+        (28, 24, 2, true, LenSource::Slice, false),
+        (47, 24, 4, false, total, false),
+        (47, 0, 4, true, LenSource::Slice, false),
+        (63, 23, 3, false, total, false),
+        (63, 25, 4, true, LenSource::Slice, false),
+        (63, 19, 4, true, LenSource::Slice, false),
+        (30, 0, 4, false, LenSource::Slice, false),
     ] {
         let mut bytes = MACSEC_PACKET;
         bytes[1] = short_len;
@@ -206,6 +216,7 @@ fn short_lengths(rt: HostRuntime) {
         same(&rt, &packet.vlan_ids().len(), &1);
         has_ip(&rt, &packet, len, incomplete, source);
         ends_in(&rt, &packet, len, incomplete);
+        same(&rt, &packet.is_frame(), &is_frame);
     }
 }
 
@@ -275,6 +286,7 @@ fn modified_payloads(rt: HostRuntime) {
         bytes[1] = short_len;
         let packet = read(&rt, MACSEC, &bytes);
         ends_in(&rt, &packet, len, incomplete);
+        lacks(&rt, &packet, 0, !incomplete);
         same(&rt, &packet.ether_payload().is_none(), &true);
     }
 }
@@ -287,6 +299,9 @@ fn truncated_datagrams(rt: HostRuntime) {
         let mut packet = LaxSlicedPacket::new();
         let done = packet.slice_into(Entry::Ethernet, bytes);
         same(&rt, &done.is_ok(), &(n >= 14));
+        if n >= 34 {
+            lacks(&rt, &packet, 50 - n, false);
+        }
         if n >= 42 {
             ends_in(&rt, &packet, n - 42, true);
         } else if n >= 34 {
@@ -319,6 +334,7 @@ fn truncated_chains(rt: HostRuntime) {
         let bytes = FRAGMENT_TWICE.get(..n).expect(&rt, "a front of it");
         let packet = read(&rt, IPV6, bytes);
         same(&rt, &packet.transport.is_none(), &true);
+        lacks(&rt, &packet, 64 - n, false);
         if n >= 56 {
             ends_in(&rt, &packet, n - 56, true);
             same(&rt, &packet.is_ip_payload_fragmented(), &true);

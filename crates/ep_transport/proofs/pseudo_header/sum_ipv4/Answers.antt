@@ -2,8 +2,8 @@ use Rattle.std.proofs.Common.{◌≡◌, ◌++◌, ℕ, List, [], ◌∷◌, len
 use Rattle.std.specs.Int.{w16, to_be_bytes}
 use Rattle.std.proofs.lemmas.List.{length-append}
 use Rattle.ep_base.specs.Checksum.{ones_sum, ones_add}
-use Rattle.ep_base.proofs.SumLemmas.{ones_add-none}
-use Rattle.ep_transport.proofs.SumLemmas.{sum_more, sum_piece}
+use Rattle.ep_base.proofs.SumLemmas.{ones_add-none, sum_more}
+use Rattle.ep_transport.proofs.SumLemmas.{sum_piece}
 use Rattle.ep_transport.proofs.pseudo_header.sum_ipv4.Goals as goal
 
 pub returns-clause-sum : goal.returns-clause-sum

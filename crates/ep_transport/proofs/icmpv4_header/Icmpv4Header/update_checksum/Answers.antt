@@ -1,9 +1,8 @@
 use Rattle.std.proofs.Common.{◌≡◌, ◌-◌, ◌%◌, ℕ, length, ap, ◌∙◌, sym}
 use Rattle.ep_base.specs.Checksum.{ones_sum, ones_add}
-use Rattle.ep_base.proofs.SumLemmas.{ones_add-none}
+use Rattle.ep_base.proofs.SumLemmas.{ones_add-none, sum_more}
 use Rattle.ep_transport.specs.Icmpv4.{icmpv4_bytes, icmpv4_kind}
 use Rattle.ep_transport.proofs.Icmpv4Lemmas.{len_even}
-use Rattle.ep_transport.proofs.SumLemmas.{sum_more}
 use Rattle.ep_transport.proofs.icmpv4_header.Icmpv4Header.update_checksum.Goals as goal
 
 pub returns : goal.returns

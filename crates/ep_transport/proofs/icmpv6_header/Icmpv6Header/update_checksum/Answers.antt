@@ -5,7 +5,8 @@ use Rattle.ep_base.specs.Checksum.{ones_sum}
 use Rattle.ep_base.specs.IpNumbers.{icmpv6_number}
 use Rattle.ep_transport.specs.Icmpv6.{icmpv6_bytes}
 use Rattle.ep_transport.specs.PseudoHeaders.{pseudo_header_ipv6}
-use Rattle.ep_transport.proofs.SumLemmas.{sum_more, sum_piece}
+use Rattle.ep_base.proofs.SumLemmas.{sum_more}
+use Rattle.ep_transport.proofs.SumLemmas.{sum_piece}
 use Rattle.ep_transport.proofs.icmpv6_header.Icmpv6Header.update_checksum.Goals as goal
 
 pub returns : goal.returns

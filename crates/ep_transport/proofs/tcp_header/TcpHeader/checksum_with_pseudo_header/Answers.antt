@@ -1,7 +1,7 @@
 use Rattle.std.proofs.Common.{◌≡◌, ◌-◌, ◌%◌, ◌++◌, ℕ, List, length, sym, ap, ◌∙◌, append_assoc, arith}
 use Rattle.std.proofs.lemmas.List.{length-append}
 use Rattle.ep_base.specs.Checksum.{ones_sum, ones_add}
-use Rattle.ep_transport.proofs.SumLemmas.{sum_more}
+use Rattle.ep_base.proofs.SumLemmas.{sum_more}
 use Rattle.ep_transport.proofs.tcp_header.TcpHeader.checksum_with_pseudo_header.Goals as goal
 
 pub returns : goal.returns

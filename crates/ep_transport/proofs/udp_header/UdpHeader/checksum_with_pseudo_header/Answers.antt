@@ -2,7 +2,8 @@ use Rattle.std.proofs.Common.{◌≡◌, ◌-◌, ◌%◌, ◌++◌, ℕ, List, 
 use Rattle.std.specs.Int.{w16, to_be_bytes}
 use Rattle.std.proofs.lemmas.List.{length-append}
 use Rattle.ep_base.specs.Checksum.{ones_sum, no_zero}
-use Rattle.ep_transport.proofs.SumLemmas.{sum_more, sum_piece}
+use Rattle.ep_base.proofs.SumLemmas.{sum_more}
+use Rattle.ep_transport.proofs.SumLemmas.{sum_piece}
 use Rattle.ep_transport.proofs.udp_header.UdpHeader.checksum_with_pseudo_header.Goals as goal
 
 pub returns : goal.returns

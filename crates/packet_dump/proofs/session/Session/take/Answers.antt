@@ -1,8 +1,12 @@
-use Rattle.std.proofs.Common.{refl}
+use Rattle.std.proofs.Common.{◌++◌}
 use Rattle.std.proofs.lemmas.Result.{on_ok_weaker}
-use Rattle.packet_dump.proofs.SessionLemmas.{takes}
+use Rattle.packet_dump.proofs.SessionLemmas.{processed_same}
 use Rattle.packet_dump.proofs.session.Session.take.Goals as goal
 
-pub returns-clause-has_read : goal.returns-clause-has_read
-returns-clause-has_read c =
-    on_ok_weaker c.take.result (λ more. takes c.args.self.now _ c.args.piece.now refl refl refl refl refl more) c.take.ensures.ok
+pub returns-clause-processed : goal.returns-clause-processed
+returns-clause-processed c =
+    let self = c.args.self.now in
+    on_ok_weaker c.take.result
+    (λ more options read written was.
+    processed_same options self (record self { capture = c.take.new.self }) read (read ++ c.args.piece.now) written
+    written.saved was (more read was.items was.has_read.reads) was.saves) c.take.ensures.ok

@@ -1,9 +1,0 @@
-use Rattle.ep_transport.specs.TcpOptionSteps.{options_left}
-use Rattle.detail_texts.proofs.TcpLemmas.{IsAppending}
-use Rattle.detail_texts.proofs.tcp.push_options.Given as goal
-
-abbrev pub invariant-loop-item : goal.invariant-loop-item
-invariant-loop-item l =
-    IsAppending l.initial.output.items l.output.items (options_left l.fn.options) (options_left l.item-iterator)
-    × (goal.iterator-loop-item).can_next l.item-iterator
-    × (goal.iterator-loop-item).is_finite l.item-iterator

@@ -1,5 +1,0 @@
-use Rattle.packet_dump.proofs.AddressLemmas.{pair-in_table}
-use Rattle.packet_dump.proofs.addresses.hex_pair.Goals as goal
-
-pub returns : goal.returns
-returns c = rw c.from-at.ensures (pair-in_table c.args.byte c.ranges.byte.fits)

@@ -1,5 +1,0 @@
-use Rattle.packet_dump.proofs.RowLemmas.{AreCharacters}
-use Rattle.packet_dump.proofs.rows.push_characters.Given as goal
-
-abbrev pub invariant-loop-at : goal.invariant-loop-at
-invariant-loop-at l = AreCharacters l.row l.at l.text

@@ -1,0 +1,50 @@
+use Rattle.std.proofs.Common.{◌<◌, ◌≤◌, ◌++◌, ℕ, List, Option, ap, refl, subst, sym, ◌∙◌}
+use Rattle.std.proofs.lemmas.Result.{on_ok_weaker}
+use Rattle.capture_reader.specs.Readers.{shown_of}
+use Rattle.packet_dump.specs.Decoding.{packet_with}
+use Rattle.packet_dump.specs.Sessions.{AwaitsPacket}
+use Rattle.packet_dump.specs.Shown.{first_after, instant_in, latest_after}
+use Rattle.packet_dump.specs.declared.decoded.CapturedPacket.{CapturedPacket}
+use Rattle.packet_dump.proofs.DecodedLemmas.{is_decoded}
+use Rattle.packet_dump.proofs.PoolLemmas.{passed_number}
+use Rattle.packet_dump.proofs.session.Session.process_packet.Goals as goal
+
+pub returns-clause-packet : goal.returns-clause-packet
+returns-clause-packet c =
+    let self = c.args.self.now in
+    let options = self.options in
+    let decoded = c.decode.new.self in
+    let same = c.decode.ensures.captured ∙ c.new-packet.ensures in
+    let number = ap (λ (p : CapturedPacket). p.number) same in
+    let shown = c.shown-shown.ensures in
+    let this = c.instant_in-this.ensures ∙ ap instant_in shown in
+    let first = c.first_after-first.ensures ∙ ap (λ (t : Option ℕ). first_after self.first t) this in
+    let latest = c.latest_after-latest.ensures ∙ ap (λ (t : Option ℕ). latest_after self.latest t) this in
+    let appended = c.in_ok-append_line.ensures in
+    let one = packet_with decoded appended.0 in
+    on_ok_weaker c.reassemble.result
+    (λ reassembled before awaits.
+    let passed = reassembled before
+    (subst (λ (n : ℕ). AwaitsPacket before n self.pooling) (sym number) awaits) in
+    record {
+      one = one;
+      answer = passed.0;
+      after = passed.1;
+      options = refl;
+      decoded = is_decoded options decoded appended.0 c.decode.ensures.decoded appended.1;
+      follows = λ stage. record {
+        number = number;
+        first = ap (λ (p : CapturedPacket). p.first) same ∙ first;
+        latest = ap (λ (p : CapturedPacket). p.latest) same ∙ latest;
+        shown = ap (λ (p : CapturedPacket). shown_of p.shown) same ∙ shown;
+      };
+      passes = passed.2;
+      pooled = passed.3;
+      given = subst (λ (n : ℕ). passed.1.number ≤ n) number
+          (passed_number options before one passed.0 passed.1 passed.2
+          (subst (λ (n : ℕ). before.number < n) (sym number) awaits.later));
+      output = passed.4 ∙ ap (λ (t : List ℕ). t ++ passed.0) appended.2;
+      counted = c.in_ok-count.ensures;
+      saves = λ packets. c.in_ok-save.ensures.saves options packets appended.0 c.decode.ensures.decoded.selected;
+      progress = λ stage item. rw (first, latest) refl;
+    }) c.reassemble.ensures

@@ -1,0 +1,5 @@
+pub mod AddressLemmas
+pub mod LayerLemmas
+pub mod LineLemmas
+pub mod RowLemmas
+pub mod TcpLemmas

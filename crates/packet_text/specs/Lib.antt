@@ -1,0 +1,15 @@
+pub mod Addresses
+pub mod Links
+pub mod Networks
+pub mod IcmpTexts
+pub mod Transports
+pub mod FullLengths
+pub mod SliceErrorTexts
+pub mod LayerTexts
+pub mod Quotes
+pub mod Rows
+pub mod HeaderDetails
+pub mod TcpDetails
+pub mod ChecksumTexts
+pub mod PacketChecksums
+pub mod PacketDetails
