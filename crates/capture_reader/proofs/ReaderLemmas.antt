@@ -1,7 +1,7 @@
 -- The results of a reader's steps, and its errors.
 use Rattle.std.proofs.Common.{◌≡◌, ℕ, ◌+◌, ◌%◌, ◌<◌, ◌≤◌, ◌==◌, ◌&&◌, min, nat_le, nat_lt, not, is_some, Bool, true}
 use Rattle.std.proofs.Common.{false}
-use Rattle.std.proofs.Common.{List, [], ◌∷◌, ◌++◌, Some, Result, Ok, Err, length, drop}
+use Rattle.std.proofs.Common.{List, [], ◌∷◌, ◌++◌, Some, Result, Ok, Err, length}
 use Rattle.std.proofs.Common.{refl, sym, ap, subst, ◌∙◌, append_assoc, length-append, length-drop, arith}
 use Rattle.std.proofs.lemmas.Bool.{and_parts, le-leb, le-ltb, leb-true, ltb-false, ltb-true}
 use Rattle.std.proofs.lemmas.List.{append-nil}
@@ -103,14 +103,13 @@ still_reads reader next taken items same reads = record {
   offset = same.offset ∙ reads.offset;
 }
 
--- A reader that takes a chunk has taken these bytes too, and has read the same items.
+-- A reader whose unread bytes are extended by a chunk has taken these bytes too, and has read the same items.
 pub takes_more : (reader next : CaptureReader) (piece : List ℕ) → next.state ≡ reader.state
-    → next.interfaces.items ≡ reader.interfaces.items → next.buffer.items ≡ reader_rest reader ++ piece → next.end ≡ 0
+    → next.interfaces.items ≡ reader.interfaces.items → reader_rest next ≡ reader_rest reader ++ piece
     → next.offset ≡ reader.offset → (taken : List ℕ) (items : List Item) → Reads reader taken items
     → Reads next (taken ++ piece) items
-takes_more reader next piece state interfaces buffer end offset taken items reads =
+takes_more reader next piece state interfaces rest offset taken items reads =
     let before = items_bytes at_start items in
-    let rest : reader_rest next ≡ reader_rest reader ++ piece = ap (λ (n : ℕ). drop n next.buffer.items) end ∙ buffer in
     record {
       fits = reads.fits;
       parts = ap (λ (s : List ℕ). s ++ piece) reads.parts ∙ append_assoc before (reader_rest reader) piece

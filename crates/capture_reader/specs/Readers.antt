@@ -49,7 +49,7 @@ reader_rest reader = drop reader.end reader.buffer.items
 abbrev pub reader_unread : CaptureReader → ℕ
 reader_unread reader = length reader.buffer.items - reader.end
 
--- the number of bytes in the reader's buffer, read or not
+-- the length of the reader's buffer
 abbrev pub reader_buffered : CaptureReader → ℕ
 reader_buffered reader = length reader.buffer.items
 

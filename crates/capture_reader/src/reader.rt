@@ -1,7 +1,7 @@
 //! A reader of pcap and pcapng captures that arrive in chunks.
 
 ghost use Rattle.std.specs.Prelude.{◌≡◌, ◌≤◌, ◌<◌, ◌+◌, ◌-◌, ◌^◌, ◌++◌, [], ℕ, List, IfErr, IfOk, IfSome, OnErr, OnOk};
-ghost use Rattle.std.specs.Prelude.{◌*◌, ◌/◌, ◌⊎◌, false, true, drop, length, vec_capacity, vec_len};
+ghost use Rattle.std.specs.Prelude.{◌*◌, ◌/◌, ◌⊎◌, false, true, drop, length, take, vec_capacity, vec_len};
 ghost use Rattle.capture_reader.specs.Captures.{begins_long, begins_section};
 ghost use Rattle.capture_reader.specs.States.{described_at_start};
 
@@ -14,6 +14,7 @@ use crate::parts::{MOST_STRETCH, begins_long, check_trailing_len, parse_long_len
 use crate::refusal::{CaptureError, Refusal};
 use crate::shown::{Known, Shown};
 use std::alloc::{AllocError, Global};
+use std::mem::swap;
 
 /// State of a capture reader: the format of the capture, and what comes next in it.
 #[derive(Clone, Copy, Debug)]
@@ -38,7 +39,7 @@ pub enum State {
 /// block longer than 320 KiB).
 #[derive(Clone, Copy, Debug, PartialEq, Eq)]
 pub enum Advance {
-    /// The capture reader has read a packet, which is available until the next call of `advance` or `take`.
+    /// The capture reader has read a packet, which is available until the next call of `advance`, `take` or `exchange`.
     Packet,
     /// The capture reader has read a file header, a pcapng block without a packet, or one part of a block longer than
     /// 320 KiB.
@@ -54,7 +55,7 @@ pub enum Advance {
 #[derive(Drop)]
 pub struct CaptureReader {
     state: State,
-    /// Bytes of the capture that the reader was given; the bytes from index `end` on are not yet read.
+    /// Bytes that were read or are no longer needed, and from index `end` on the bytes that are not yet read.
     buffer: Vec<u8>,
     /// Index in the capture reader's buffer at which the bytes of the last packet start.
     start: usize,
@@ -113,7 +114,7 @@ impl CaptureReader {
         }
     }
 
-    /// Number of bytes of the capture that the reader was given so far by calls of `take`.
+    /// Number of bytes of the capture that the reader was given so far by calls of `take` and `exchange`.
     pub fn taken(&self) -> u64
         ensures { result ≡ reader_offset self.now + reader_unread self.now }
     {
@@ -149,6 +150,53 @@ impl CaptureReader {
         self.end = 0;
         self.buffer.extend_from_slice(chunk)?;
         Ok(())
+    }
+
+    /// Gives the next chunk of the capture to the reader, the `count` bytes of `buffer` from index `start`, by exchanging
+    /// `buffer` for the reader's own buffer. The unread bytes are copied to just before `start`. If they do not fit
+    /// there, or if the chunk ends before `buffer` does, the chunk is copied instead. `buffer` keeps its length; its
+    /// contents are unspecified. Allocates if the reader's buffer or the list of interfaces has to grow. If an allocation
+    /// fails, nothing changes.
+    pub fn exchange(
+        &mut self,
+        buffer: &mut Vec<u8>,
+        start: usize,
+        count: usize,
+    ) -> Result<(), AllocError>
+        requires fits { reader_offset self.old + reader_unread self.old + count < 2 ^ 64 }
+        requires within { start + count ≤ vec_len buffer.old }
+        ensures ok { OnOk result ((taken : List ℕ) (items : List Item) → Reads self.old taken items →
+            Reads self.new (taken ++ take count (drop start buffer.old.items)) items) }
+        ensures err { OnErr result ((taken : List ℕ) (items : List Item) → Reads self.old taken items →
+            Reads self.new taken items) }
+        ensures unchanged { OnErr result (buffer.new.items ≡ buffer.old.items) }
+        ensures unread { OnOk result (reader_unread self.new ≡ reader_unread self.old + count) }
+        ensures buffered { OnOk result (reader_buffered self.new ≤ vec_len buffer.old + reader_unread self.new) }
+        ensures offset { reader_offset self.new ≡ reader_offset self.old }
+        ensures len { vec_len buffer.new ≡ vec_len buffer.old }
+
+        // An allocation fails only if the length of `buffer` or the unread bytes exceed the capacity, or if the interfaces
+        // do, at one for each 20 bytes.
+        ensures full { let unread = reader_unread self.old + count in
+            OnErr result ((bytes_capacity self.old < vec_len buffer.old) ⊎ (bytes_capacity self.old < unread)
+            ⊎ (interfaces_capacity self.old < interfaces_described self.old + unread / 20)) }
+    {
+        let end = start + count;
+        let len = buffer.len();
+        let unread = self.buffer.len() - self.end;
+        if start < unread || end < len {
+            return self.take(&buffer.as_slice()[start..end]);
+        }
+        // Both allocations come first, so that a failure changes nothing.
+        self.buffer.reserve(len.saturating_sub(self.buffer.len()))?;
+        self.interfaces.reserve((unread + count) / Interface::LEN)?;
+        write_before(buffer, start, self.rest());
+        swap(&mut self.buffer, buffer);
+        self.start = 0;
+        self.last = 0;
+        self.end = start - unread;
+        // This cannot fail, because the capacity was reserved above.
+        buffer.resize(len, 0)
     }
 
     /// Reads the next file header, packet record or pcapng block (or the next part of a block longer than 320 KiB) of
@@ -450,6 +498,18 @@ fn begins_section(bytes: &[u8]) -> bool
     ensures { result ≡ begins_section bytes.now }
 {
     bytes.len() >= 4 && ByteOrder::Big.word32(bytes, 0) == SECTION
+}
+
+/// Overwrites the bytes just before index `end` of a vector with `part`.
+fn write_before(bytes: &mut Vec<u8>, end: usize, part: &[u8])
+    requires part { length part.now ≤ end }
+    requires within { end ≤ vec_len bytes.old }
+    ensures items { bytes.new.items
+        ≡ take (end - length part.now) bytes.old.items ++ (part.now ++ drop end bytes.old.items) }
+    ensures len { vec_len bytes.new ≡ vec_len bytes.old }
+    ensures capacity { vec_capacity bytes.new ≡ vec_capacity bytes.old }
+{
+    bytes.as_mut_slice()[end - part.len()..end].copy_from_slice(part);
 }
 
 /// Removes the first `count` bytes of a vector, and moves the others to the start.

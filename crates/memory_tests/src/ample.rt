@@ -55,11 +55,14 @@ fn fragments(rt: HostRuntime) {
     same(&rt, &buffer.data().len(), &9600);
 }
 
-/// Tests a capture reader that is passed 2 MB of a capture at once.
+/// Tests capture readers that are passed 2 MB of a capture at once, as a slice or in exchange for the reader's buffer.
 #[test]
-fn piece(rt: HostRuntime) {
-    let piece = vec![in rt.alloc(); 0; 2_000_000].expect(&rt, "refused");
+fn chunk(rt: HostRuntime) {
+    let mut chunk = vec![in rt.alloc(); 0; 2_000_000].expect(&rt, "refused");
     let mut reader = CaptureReader::new(rt.alloc());
-    same(&rt, &reader.take(piece.as_slice()), &Ok(()));
+    same(&rt, &reader.take(chunk.as_slice()), &Ok(()));
     same(&rt, &reader.taken(), &2_000_000);
+    let mut exchanging = CaptureReader::new(rt.alloc());
+    same(&rt, &exchanging.exchange(&mut chunk, 0, 2_000_000), &Ok(()));
+    same(&rt, &exchanging.taken(), &2_000_000);
 }

@@ -1,9 +1,10 @@
 //! Main loop: reads a capture from a reader and writes the lines of its packets to a writer.
 
-ghost use Rattle.std.specs.Prelude.{◌≡◌, ◌≤◌, ◌<◌, ◌*◌, ◌+◌, ◌^◌, ◌⊎◌, ◌↔◌, false, true, IfOk, List, OnErr, OnOk, ℕ};
-ghost use Rattle.std.specs.Io.KnownBytes.{Appends, IsAtEnd};
+ghost use Rattle.std.specs.Prelude.{◌≡◌, ◌≤◌, ◌<◌, ◌==◌, ◌*◌, ◌+◌, ◌^◌, ◌⊎◌, ◌↔◌, false, true, IfErr, IfOk, List, OnErr, OnOk, ℕ};
+ghost use Rattle.std.specs.Prelude.{MatchResult, drop, is_err, vec_len};
+ghost use Rattle.std.specs.Io.KnownBytes.{Appends, IsAtEnd, ReadConsumes};
 ghost use Rattle.line_io.specs.Transfers.{Transfers};
-ghost use Rattle.line_io.specs.WatchedWords.{has_ended, has_failed, inner_of, reads_left};
+ghost use Rattle.line_io.specs.WatchedWords.{has_ended, has_failed, inner_of, is_at_end, reads_left};
 ghost use Rattle.packet_dump.specs.Dumps.{BeginsDump, IsDump};
 ghost use Rattle.packet_dump.specs.Saves.{BeginsSaved, IsCopy, asks, is_failed};
 ghost use Rattle.packet_dump.specs.Runs.{WritesRun};
@@ -15,8 +16,12 @@ use crate::session::Session;
 use line_io::{RunError, Watched, zeros};
 use std::io::{Read, Write};
 
-/// Length of the buffer that the capture is read into, in bytes: the maximum length of one read.
-const PIECE_LEN: usize = 65_536;
+/// Length of a chunk of the capture, in bytes: the maximum length of one read.
+const CHUNK_LEN: usize = 65_536;
+
+/// Length of the space before a chunk in its buffer, in bytes. It receives the bytes of the previous chunk that are not
+/// yet parsed, usually a part of one packet; if they do not fit, the chunk is copied.
+const UNREAD_LEN: usize = 4_096;
 
 /// Maximum number of reads of a capture: 2^47 reads of 64 KiB each, so that the number of bytes fits in 64 bits.
 pub const MOST_READS: u64 = 0x8000_0000_0000;
@@ -77,9 +82,8 @@ pub fn run<R: Read, W: Write, F: Write>(
     ensures read { (result ≡ Err RunError.Read) ↔ (has_failed reader.new ≡ true) }
     ensures write { (result ≡ Err RunError.Write) ↔ (has_failed writer.new ≡ true) }
 {
-    let mut buffer = zeros(*session.output.allocator(), PIECE_LEN)?;
-    let piece = buffer.as_mut_slice();
-    'pieces: loop {
+    let mut buffer = zeros(*session.output.allocator(), UNREAD_LEN + CHUNK_LEN)?;
+    'chunks: loop {
         let capture_state = session.drain()?;
         writer.write_all(session.output.as_slice())?;
         if capture_state.ends_run(reader.ended()) {
@@ -89,7 +93,28 @@ pub fn run<R: Read, W: Write, F: Write>(
             return Ok(ending);
         }
         session.saving.flush(file);
-        let count = reader.read(piece)?;
-        session.take(&piece[..count])?;
+        let count = read_chunk(reader, &mut buffer)?;
+        session.take(&mut buffer, UNREAD_LEN, count)?;
     }
+}
+
+/// Reads the next chunk of the capture into `buffer`, from index `UNREAD_LEN` on, and returns its length, 0 at the end of
+/// the capture.
+fn read_chunk<R: Read>(reader: &mut Watched<R>, buffer: &mut Vec<u8>) -> Result<usize, RunError>
+    requires sound { has_failed reader.old ≡ false }
+    requires open { has_ended reader.old ≡ false }
+    requires space { 4096 < vec_len buffer.old }
+    ensures bound { IfOk result (λ count. 4096 + count ≤ vec_len buffer.new) }
+    ensures bytes { ReadConsumes (R.remaining (inner_of reader.old)) (R.remaining (inner_of reader.new)) result
+        (drop 4096 buffer.new.items) }
+    ensures len { vec_len buffer.new ≡ vec_len buffer.old }
+    ensures failed { has_failed reader.new ≡ is_err result }
+    ensures error { IfErr result (λ error. error ≡ RunError.Read) }
+    ensures at_end { MatchResult result (λ count. is_at_end reader.new ≡ (count == 0))
+        (λ _. is_at_end reader.new ≡ false) }
+    ensures end { is_at_end reader.new ≡ true → IsAtEnd (R.remaining (inner_of reader.new)) }
+    ensures counted { reads_left reader.old ≡ reads_left reader.new + 1 }
+{
+    let (_, chunk) = buffer.as_mut_slice().split_at_mut(UNREAD_LEN);
+    reader.read(chunk)
 }

@@ -1,6 +1,6 @@
 //! State of a `packet_dump` run between two chunks of the capture that are read.
 
-ghost use Rattle.std.specs.Prelude.{◌≡◌, ◌<◌, ◌≤◌, ◌+◌, ◌^◌, ◌++◌, ℕ, List, IfOk, OnOk, length};
+ghost use Rattle.std.specs.Prelude.{◌≡◌, ◌<◌, ◌≤◌, ◌+◌, ◌^◌, ◌++◌, ℕ, List, IfOk, OnOk, drop, take, vec_len};
 ghost use Rattle.capture_reader.specs.Readers.{reader_shown};
 ghost use Rattle.packet_dump.specs.PacketCalls.{PoolHistory};
 ghost use Rattle.packet_dump.specs.Saves.{is_failed, new_state};
@@ -89,16 +89,25 @@ impl Session {
         }
     }
 
-    /// Passes the next chunk of bytes of the capture to its parser. Packets in it are not processed yet.
-    pub fn take(&mut self, piece: &[u8]) -> Result<(), AllocError>
-        requires fits { taken_by self.old + length piece.now < 2 ^ 64 }
+    /// Passes the next chunk of the capture to its parser: the `count` bytes of `buffer` from index `start`. The parser
+    /// may exchange `buffer` for another one of the same length. Packets in the chunk are not processed yet.
+    pub fn take(
+        &mut self,
+        buffer: &mut Vec<u8>,
+        start: usize,
+        count: usize,
+    ) -> Result<(), AllocError>
+        requires fits { taken_by self.old + count < 2 ^ 64 }
+        requires within { start + count ≤ vec_len buffer.old }
         ensures processed { OnOk result ((options : DumpOptions) (read : List ℕ) (written : Written) →
-            HasProcessed options self.old read written → HasProcessed options self.new (read ++ piece.now) written) }
-        ensures taken { OnOk result (taken_by self.new ≡ taken_by self.old + length piece.now) }
+            HasProcessed options self.old read written →
+            HasProcessed options self.new (read ++ take count (drop start buffer.old.items)) written) }
+        ensures taken { OnOk result (taken_by self.new ≡ taken_by self.old + count) }
         ensures counts { Counts self.old → Counts self.new }
         ensures saving { self.new.saving ≡ self.old.saving }
+        ensures len { vec_len buffer.new ≡ vec_len buffer.old }
     {
-        self.capture.take(piece)
+        self.capture.exchange(buffer, start, count)
     }
 
     /// Processes the complete packets in the bytes read so far, until `--count` packets are read: builds their lines,

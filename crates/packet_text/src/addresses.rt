@@ -1,6 +1,6 @@
 //! Formatting of bytes, MAC addresses and IP addresses as text.
 
-ghost use Rattle.std.specs.Prelude.{[], ◌∷◌, ◌≡◌, ◌<◌, ◌≤◌, ◌+◌, ◌*◌, ◌++◌, OnOk, codes, if◌then◌else◌, length, take};
+ghost use Rattle.std.specs.Prelude.{◌≡◌, ◌<◌, ◌≤◌, ◌+◌, ◌*◌, ◌++◌, OnOk, codes, drop, length, take};
 ghost use Rattle.std.specs.Fmt.{decimal};
 ghost use Rattle.std.specs.Net.Text.{groups_text, hex, hex_groups_text, longest_zero_run};
 ghost use Rattle.packet_text.specs.Addresses.{further_octets_text, hex_pair, hex_text, ipv4_text, ipv6_text};
@@ -86,6 +86,26 @@ pub fn hex_pair(byte: u8) -> [u8; 2]
     [HEX_PAIRS[at], HEX_PAIRS[at + 1]]
 }
 
+/// Table of the octets of an IPv4 address as text, from `.0` to `.255`: four bytes for each, a dot and the decimal number,
+/// followed by spaces.
+static DOTTED_OCTETS: [u8; 1024] = *b"\
+    .0  .1  .2  .3  .4  .5  .6  .7  .8  .9  .10 .11 .12 .13 .14 .15 \
+    .16 .17 .18 .19 .20 .21 .22 .23 .24 .25 .26 .27 .28 .29 .30 .31 \
+    .32 .33 .34 .35 .36 .37 .38 .39 .40 .41 .42 .43 .44 .45 .46 .47 \
+    .48 .49 .50 .51 .52 .53 .54 .55 .56 .57 .58 .59 .60 .61 .62 .63 \
+    .64 .65 .66 .67 .68 .69 .70 .71 .72 .73 .74 .75 .76 .77 .78 .79 \
+    .80 .81 .82 .83 .84 .85 .86 .87 .88 .89 .90 .91 .92 .93 .94 .95 \
+    .96 .97 .98 .99 .100.101.102.103.104.105.106.107.108.109.110.111\
+    .112.113.114.115.116.117.118.119.120.121.122.123.124.125.126.127\
+    .128.129.130.131.132.133.134.135.136.137.138.139.140.141.142.143\
+    .144.145.146.147.148.149.150.151.152.153.154.155.156.157.158.159\
+    .160.161.162.163.164.165.166.167.168.169.170.171.172.173.174.175\
+    .176.177.178.179.180.181.182.183.184.185.186.187.188.189.190.191\
+    .192.193.194.195.196.197.198.199.200.201.202.203.204.205.206.207\
+    .208.209.210.211.212.213.214.215.216.217.218.219.220.221.222.223\
+    .224.225.226.227.228.229.230.231.232.233.234.235.236.237.238.239\
+    .240.241.242.243.244.245.246.247.248.249.250.251.252.253.254.255";
+
 /// Length of the buffer for the text of an IPv4 address, in bytes: four numbers of up to three digits, with a dot
 /// before each.
 const DOTTED_LEN: usize = 16;
@@ -106,7 +126,8 @@ pub fn push_ipv4(output: &mut Vec<u8>, address: [u8; 4]) -> Result<(), AllocErro
 }
 
 /// Writes a dot and the decimal number of an octet of an IPv4 address at position `at` of the text, and returns the
-/// position after it.
+/// position after it. It always writes four bytes, so that no branch depends on the octet; the spaces at the end are
+/// overwritten by the next octet, or are not part of the text.
 #[inline]
 fn put_octet(text: &mut [u8; DOTTED_LEN], at: usize, octet: u8) -> usize
     requires { at ≤ 12 }
@@ -114,27 +135,12 @@ fn put_octet(text: &mut [u8; DOTTED_LEN], at: usize, octet: u8) -> usize
     ensures grows { at < result }
     ensures bound { result ≤ at + 4 }
 {
-    let tens = octet / 10;
-    text[at] = b'.';
-    let after_first = put_digit(text, at + 1, b'0' + tens / 10, octet >= 100);
-    let after_second = put_digit(text, after_first, b'0' + tens % 10, octet >= 10);
-    put_digit(text, after_second, b'0' + octet % 10, true)
+    let from = 4 * usize::from(octet);
+    text[at..at + 4].copy_from_slice(&DOTTED_OCTETS[from..from + 4]);
+    at + 2 + usize::from(octet >= 10) + usize::from(octet >= 100)
 }
 
-/// Writes a digit at position `at` of the text, and returns the position for the next digit: `at + 1`, or `at` if
-/// `is_kept` is false (the digit is a leading zero, and the next digit overwrites it). No branch depends on the digit.
-#[inline]
-fn put_digit(text: &mut [u8], at: usize, digit: u8, is_kept: bool) -> usize
-    requires { at < length text.old }
-    ensures text { take result text.new ≡ take at text.old ++ (if is_kept then digit ∷ [] else []) }
-    ensures grows { at ≤ result }
-    ensures bound { result ≤ at + 1 }
-{
-    text[at] = digit;
-    at + usize::from(is_kept)
-}
-
-/// Length of the buffer for the text of an IPv6 address, in bytes: eight groups of up to four digits with a colon after
+/// Length of the buffer for the text of an IPv6 address, in bytes: eight groups of up to four digits with a colon before
 /// each, and two more colons.
 const GROUPS_LEN: usize = 42;
 
@@ -159,16 +165,16 @@ fn push_groups(output: &mut Vec<u8>, groups: &[u16; 8]) -> Result<(), AllocError
     ensures { OnOk result (output.new.items ≡ output.old.items ++ hex_groups_text groups.now) }
 {
     let mut text = [0; GROUPS_LEN];
-    let (start, len) = longest_run(groups);
-    let end = if len > 1 {
-        let head = put_groups(&mut text, 0, &groups[..start]);
-        text[head] = b':';
-        text[head + 1] = b':';
-        put_groups(&mut text, head + 2, &groups[start + len..])
+    let (run_start, run_len) = longest_run(groups);
+    let start = if run_len > 1 {
+        let tail = put_groups(&mut text, GROUPS_LEN, &groups[run_start + run_len..]);
+        text[tail - 1] = b':';
+        text[tail - 2] = b':';
+        put_groups(&mut text, tail - 2, &groups[..run_start])
     } else {
-        put_groups(&mut text, 0, groups)
+        put_groups(&mut text, GROUPS_LEN, groups)
     };
-    output.extend_from_slice(&text[..end])
+    output.extend_from_slice(&text[start..])
 }
 
 /// Returns the index (0 to 7) of the first group and the number of groups of the longest run of zero groups of an IPv6
@@ -189,36 +195,42 @@ fn longest_run(groups: &[u16; 8]) -> (usize, usize)
     longest
 }
 
-/// Writes 16-bit groups of an IPv6 address in hexadecimal at position `at` of the text, separated by colons, and
-/// returns the position after them.
-fn put_groups(text: &mut [u8; GROUPS_LEN], at: usize, groups: &[u16]) -> usize
-    requires { at + 5 * length groups.now ≤ 42 }
-    ensures text { take result text.new ≡ take at text.old ++ groups_text groups.now }
-    ensures bound { result ≤ at + 5 * length groups.now }
+/// Writes 16-bit groups of an IPv6 address in hexadecimal, separated by colons, just before index `end` of the text, and
+/// returns the index at which they start. The last group is written first.
+fn put_groups(text: &mut [u8; GROUPS_LEN], end: usize, groups: &[u16]) -> usize
+    requires space { 5 * length groups.now ≤ end }
+    requires within { end ≤ 42 }
+    ensures text { drop result text.new ≡ groups_text groups.now ++ drop end text.old }
+    ensures bound { end ≤ result + 5 * length groups.now }
+    ensures before { result ≤ end }
 {
     let [first, rest @ ..] = groups else {
-        return at;
+        return end;
     };
-    let mut end = put_group(text, at, *first);
-    for group in rest {
-        text[end] = b':';
-        end = put_group(text, end + 1, *group);
+    let mut start = end;
+    for at in (0..rest.len()).rev() {
+        start = put_group(text, start, rest[at]) - 1;
+        text[start] = b':';
     }
-    end
+    put_group(text, start, *first)
 }
 
-/// Writes a 16-bit group of an IPv6 address in hexadecimal at position `at` of the text, without leading zeros, and
-/// returns the position after it.
+/// Writes a 16-bit group of an IPv6 address in hexadecimal, without leading zeros, just before index `end` of the text,
+/// and returns the index at which it starts. It always writes four digits, so that no branch depends on the group; the
+/// leading zeros are overwritten by the group before, or are not part of the text.
 #[inline]
-fn put_group(text: &mut [u8; GROUPS_LEN], at: usize, group: u16) -> usize
-    requires { at + 4 ≤ 42 }
-    ensures text { take result text.new ≡ take at text.old ++ hex group }
-    ensures bound { result ≤ at + 4 }
+fn put_group(text: &mut [u8; GROUPS_LEN], end: usize, group: u16) -> usize
+    requires space { 4 ≤ end }
+    requires within { end ≤ 42 }
+    ensures text { drop result text.new ≡ hex group ++ drop end text.old }
+    ensures bound { end ≤ result + 4 }
+    ensures before { result < end }
 {
     let [first, second] = hex_pair((group / 256) as u8);
     let [third, fourth] = hex_pair((group % 256) as u8);
-    let after_first = put_digit(text, at, first, group >= 0x1000);
-    let after_second = put_digit(text, after_first, second, group >= 0x100);
-    let after_third = put_digit(text, after_second, third, group >= 0x10);
-    put_digit(text, after_third, fourth, true)
+    text[end - 4..end].copy_from_slice(&[first, second, third, fourth]);
+    let kept = usize::from(group >= 0x1000)
+        + usize::from(group >= 0x100)
+        + usize::from(group >= 0x10);
+    end - 1 - kept
 }

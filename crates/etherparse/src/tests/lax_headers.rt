@@ -7,6 +7,7 @@ use crate::err::{Layer, LenError, ip_auth, ip_exts, ipv6_exts, tcp};
 use crate::tests::checks::same;
 use crate::tests::samples::*;
 use crate::*;
+use std::ops::Range;
 use std::process::Abort;
 
 /// An IPv6 packet with two Destination Options headers, of 8 bytes each, and four bytes of payload (next header 59).
@@ -180,351 +181,458 @@ const ARP_TYPE: Entry = Entry::EtherType(EtherType::ARP);
 
 const MACSEC: Entry = Entry::EtherType(EtherType::MACSEC);
 
-/// Asserts the length of the network headers of a packet, its transport header, the kind, bytes and incompleteness of
-/// its payload, and the error at which parsing stopped.
-fn reads(
+/// Parses the first `len` bytes of a packet laxly into a value, and asserts the number of link extensions, the length of
+/// the network headers, the transport header, the kind, place and incompleteness of the payload, and the error at which
+/// parsing stopped.
+fn reads<'a>(
     rt: &impl Abort,
-    packet: &LaxPacketHeaders<'_>,
-    (net, transport): (usize, Option<TransportHeader>),
-    (kind, payload, incomplete): (Kind, &[u8], bool),
+    packet: &mut LaxPacketHeaders<'a>,
+    (entry, bytes, len): (Entry, &'a [u8], usize),
+    (exts, net, transport): (usize, usize, Option<TransportHeader>),
+    (kind, place, incomplete): (Kind, Range<usize>, bool),
     stop: Option<(SliceError, Layer)>,
 ) {
+    let shown = bytes.get(..len).expect(rt, "the first bytes");
+    packet
+        .read_into(entry, shown)
+        .expect(rt, "the first header is valid");
     let net_len = match &packet.net {
         Some(headers) => headers.header_len(),
         None => 0,
     };
-    same(rt, &net_len, &net);
+    same(rt, &(packet.link_exts.len(), net_len), &(exts, net));
     same(rt, &packet.transport, &transport);
+    let payload = shown.get(place).expect(rt, "its payload");
     same(rt, &packet.payload.slice(), &payload);
     same(rt, &kind_of(&packet.payload), &(kind, incomplete));
     same(rt, &packet.stop_err, &stop);
 }
 
-/// Lax parsing into one reused value: of each packet its first bytes, then the number of link extensions, the length of
-/// the network headers, the transport header, the kind, place and incompleteness of the payload, and the error at which
-/// parsing stopped.
+/// Lax parsing of Ethernet II frames, and of a UDP datagram whose length field is above its bytes.
 #[test]
-fn packets(rt: HostRuntime) {
+fn frames(rt: HostRuntime) {
     let mut packet = LaxPacketHeaders::new();
-    for ((entry, bytes, len), (exts, net, transport), (kind, place, incomplete), stop) in [
-        (
-            (Entry::Ethernet, FRAME, 50),
-            (0usize, 20usize, udp(16)),
-            (Kind::Udp, 42..50usize, false),
-            None,
-        ),
-        (
-            (Entry::Ethernet, FRAME, 45),
-            (0, 20, udp(16)),
-            (Kind::Udp, 42..45, true),
-            None,
-        ),
-        (
-            (Entry::Ethernet, FRAME, 40),
-            (0, 20, None),
-            (Kind::Ip, 34..40, true),
-            length_error(Layer::UdpHeader, (34, 8, 6), LenSource::Slice),
-        ),
-        (
-            (Entry::Ethernet, FRAME, 30),
-            (0, 0, None),
-            (Kind::Ether, 14..30, false),
-            length_error(Layer::Ipv4Header, (14, 20, 16), LenSource::Slice),
-        ),
-        (
-            (IPV4, LONG_UDP, 36),
-            (0, 20, udp(17)),
-            (Kind::Udp, 28..36, true),
-            None,
-        ),
-        (
-            (MACSEC, IPV4_IN_MACSEC, 36),
-            (2, 20, None),
-            (Kind::Ip, 32..36, false),
-            None,
-        ),
-        (
-            (MACSEC, IPV4_IN_MACSEC, 34),
-            (2, 20, None),
-            (Kind::Ip, 32..34, true),
-            None,
-        ),
-        (
-            (MACSEC, IPV4_IN_MACSEC, 9),
-            (1, 0, None),
-            (Kind::Ether, 8..9, true),
-            length_error(Layer::VlanHeader, (8, 4, 1), LenSource::Slice),
-        ),
-        (
-            (MACSEC, MODIFIED, 10),
-            (1, 0, None),
-            (Kind::MacsecModified, 6..9, false),
-            None,
-        ),
-        (
-            (MACSEC, MODIFIED, 8),
-            (1, 0, None),
-            (Kind::MacsecModified, 6..8, true),
-            None,
-        ),
-        (
-            (IPV6, OPTIONS_TWICE, 60),
-            (0, 48, None),
-            (Kind::Ip, 48..60, false),
-            None,
-        ),
-        (
-            (IPV6, OPTIONS_TWICE, 52),
-            (0, 48, None),
-            (Kind::Ip, 48..52, true),
-            None,
-        ),
-        (
-            (IPV6, OPTIONS_TWICE, 44),
-            (0, 40, None),
-            (Kind::Ip, 40..44, true),
-            length_error(Layer::Ipv6ExtHeader, (40, 8, 4), LenSource::Slice),
-        ),
-        (
-            (Entry::Ip, AUTHENTICATED, 36),
-            (0, 32, None),
-            (Kind::Ip, 32..36, false),
-            None,
-        ),
-        (
-            (Entry::Ip, AUTHENTICATED, 25),
-            (0, 20, None),
-            (Kind::Ip, 20..25, true),
-            length_error(Layer::IpAuthHeader, (20, 12, 5), LenSource::Slice),
-        ),
-        (
-            (Entry::Ip, FIRST_IPV4, 36),
-            (0, 20, None),
-            (Kind::Ip, 20..36, false),
-            None,
-        ),
-        (
-            (Entry::Ip, FIRST_IPV6, 56),
-            (0, 48, None),
-            (Kind::Ip, 48..56, false),
-            None,
-        ),
-        (
-            (ARP_TYPE, ARP, 28),
-            (0, 28, None),
-            (Kind::Empty, 28..28, false),
-            None,
-        ),
-        (
-            (ARP_TYPE, ARP, 20),
-            (0, 0, None),
-            (Kind::Ether, 0..20, false),
-            length_error(Layer::Arp, (0, 28, 20), LenSource::ArpAddrLengths),
-        ),
-        (
-            (Entry::LinuxSll, NETLINK, 18),
-            (0, 0, None),
-            (Kind::LinuxSll, 16..18, false),
-            None,
-        ),
-    ] {
-        let shown = bytes.get(..len).expect(&rt, "the first bytes");
-        packet
-            .read_into(entry, shown)
-            .expect(&rt, "the first header is valid");
-        same(&rt, &packet.link_exts.len(), &exts);
-        let payload = shown.get(place).expect(&rt, "its payload");
-        reads(
-            &rt,
-            &packet,
-            (net, transport),
-            (kind, payload, incomplete),
-            stop,
-        );
-    }
+    reads(
+        &rt,
+        &mut packet,
+        (Entry::Ethernet, FRAME, 50),
+        (0, 20, udp(16)),
+        (Kind::Udp, 42..50, false),
+        None,
+    );
+    reads(
+        &rt,
+        &mut packet,
+        (Entry::Ethernet, FRAME, 45),
+        (0, 20, udp(16)),
+        (Kind::Udp, 42..45, true),
+        None,
+    );
+    reads(
+        &rt,
+        &mut packet,
+        (Entry::Ethernet, FRAME, 40),
+        (0, 20, None),
+        (Kind::Ip, 34..40, true),
+        length_error(Layer::UdpHeader, (34, 8, 6), LenSource::Slice),
+    );
+    reads(
+        &rt,
+        &mut packet,
+        (Entry::Ethernet, FRAME, 30),
+        (0, 0, None),
+        (Kind::Ether, 14..30, false),
+        length_error(Layer::Ipv4Header, (14, 20, 16), LenSource::Slice),
+    );
+    reads(
+        &rt,
+        &mut packet,
+        (IPV4, LONG_UDP, 36),
+        (0, 20, udp(17)),
+        (Kind::Udp, 28..36, true),
+        None,
+    );
 }
 
-/// Lax parsing of TCP, ICMPv4 and ICMPv6 in IPv4 and IPv6 packets, into one reused value: of each packet its first
-/// bytes, then the length of the IP header, the transport header, the kind, place and incompleteness of the payload,
-/// and the error at which parsing stopped.
+/// Lax parsing of MACsec tags, with a VLAN tag and an IPv4 packet inside, or with a modified payload.
 #[test]
-fn transport_headers(rt: HostRuntime) {
+fn macsec_tags(rt: HostRuntime) {
+    let mut packet = LaxPacketHeaders::new();
+    reads(
+        &rt,
+        &mut packet,
+        (MACSEC, IPV4_IN_MACSEC, 36),
+        (2, 20, None),
+        (Kind::Ip, 32..36, false),
+        None,
+    );
+    reads(
+        &rt,
+        &mut packet,
+        (MACSEC, IPV4_IN_MACSEC, 34),
+        (2, 20, None),
+        (Kind::Ip, 32..34, true),
+        None,
+    );
+    reads(
+        &rt,
+        &mut packet,
+        (MACSEC, IPV4_IN_MACSEC, 9),
+        (1, 0, None),
+        (Kind::Ether, 8..9, true),
+        length_error(Layer::VlanHeader, (8, 4, 1), LenSource::Slice),
+    );
+    reads(
+        &rt,
+        &mut packet,
+        (MACSEC, MODIFIED, 10),
+        (1, 0, None),
+        (Kind::MacsecModified, 6..9, false),
+        None,
+    );
+    reads(
+        &rt,
+        &mut packet,
+        (MACSEC, MODIFIED, 8),
+        (1, 0, None),
+        (Kind::MacsecModified, 6..8, true),
+        None,
+    );
+}
+
+/// Lax parsing of repeated and truncated extension headers, and of first fragments.
+#[test]
+fn extension_headers(rt: HostRuntime) {
+    let mut packet = LaxPacketHeaders::new();
+    reads(
+        &rt,
+        &mut packet,
+        (IPV6, OPTIONS_TWICE, 60),
+        (0, 48, None),
+        (Kind::Ip, 48..60, false),
+        None,
+    );
+    reads(
+        &rt,
+        &mut packet,
+        (IPV6, OPTIONS_TWICE, 52),
+        (0, 48, None),
+        (Kind::Ip, 48..52, true),
+        None,
+    );
+    reads(
+        &rt,
+        &mut packet,
+        (IPV6, OPTIONS_TWICE, 44),
+        (0, 40, None),
+        (Kind::Ip, 40..44, true),
+        length_error(Layer::Ipv6ExtHeader, (40, 8, 4), LenSource::Slice),
+    );
+    reads(
+        &rt,
+        &mut packet,
+        (Entry::Ip, AUTHENTICATED, 36),
+        (0, 32, None),
+        (Kind::Ip, 32..36, false),
+        None,
+    );
+    reads(
+        &rt,
+        &mut packet,
+        (Entry::Ip, AUTHENTICATED, 25),
+        (0, 20, None),
+        (Kind::Ip, 20..25, true),
+        length_error(Layer::IpAuthHeader, (20, 12, 5), LenSource::Slice),
+    );
+    reads(
+        &rt,
+        &mut packet,
+        (Entry::Ip, FIRST_IPV4, 36),
+        (0, 20, None),
+        (Kind::Ip, 20..36, false),
+        None,
+    );
+    reads(
+        &rt,
+        &mut packet,
+        (Entry::Ip, FIRST_IPV6, 56),
+        (0, 48, None),
+        (Kind::Ip, 48..56, false),
+        None,
+    );
+}
+
+/// Lax parsing of ARP packets, and of a cooked capture with a Netlink message.
+#[test]
+fn other_layers(rt: HostRuntime) {
+    let mut packet = LaxPacketHeaders::new();
+    reads(
+        &rt,
+        &mut packet,
+        (ARP_TYPE, ARP, 28),
+        (0, 28, None),
+        (Kind::Empty, 28..28, false),
+        None,
+    );
+    reads(
+        &rt,
+        &mut packet,
+        (ARP_TYPE, ARP, 20),
+        (0, 0, None),
+        (Kind::Ether, 0..20, false),
+        length_error(Layer::Arp, (0, 28, 20), LenSource::ArpAddrLengths),
+    );
+    reads(
+        &rt,
+        &mut packet,
+        (Entry::LinuxSll, NETLINK, 18),
+        (0, 0, None),
+        (Kind::LinuxSll, 16..18, false),
+        None,
+    );
+}
+
+/// Lax parsing of TCP headers in IPv4 and IPv6 packets.
+#[test]
+fn tcp_headers(rt: HostRuntime) {
     let mut packet = LaxPacketHeaders::new();
     let small_offset = SliceError::Tcp(tcp::HeaderError::DataOffsetTooSmall { data_offset: 4 });
-    for ((bytes, len), headers, (kind, place, incomplete), stop) in [
-        (
-            (SEGMENT, 48),
-            (20usize, tcp(&rt, MSS)),
-            (Kind::Tcp, 44..48usize, false),
-            None,
+    reads(
+        &rt,
+        &mut packet,
+        (Entry::Ip, SEGMENT, 48),
+        (0, 20, tcp(&rt, MSS)),
+        (Kind::Tcp, 44..48, false),
+        None,
+    );
+    reads(
+        &rt,
+        &mut packet,
+        (Entry::Ip, NO_OPTIONS, 42),
+        (0, 20, tcp(&rt, b"")),
+        (Kind::Tcp, 40..42, false),
+        None,
+    );
+    reads(
+        &rt,
+        &mut packet,
+        (Entry::Ip, SEGMENT, 46),
+        (0, 20, tcp(&rt, MSS)),
+        (Kind::Tcp, 44..46, true),
+        None,
+    );
+    reads(
+        &rt,
+        &mut packet,
+        (Entry::Ip, SEGMENT, 42),
+        (0, 20, None),
+        (Kind::Ip, 20..42, true),
+        length_error(Layer::TcpHeader, (20, 24, 22), LenSource::Slice),
+    );
+    reads(
+        &rt,
+        &mut packet,
+        (Entry::Ip, SEGMENT, 33),
+        (0, 20, None),
+        (Kind::Ip, 20..33, true),
+        length_error(Layer::TcpHeader, (20, 20, 13), LenSource::Slice),
+    );
+    reads(
+        &rt,
+        &mut packet,
+        (Entry::Ip, SMALL_OFFSET, 40),
+        (0, 20, None),
+        (Kind::Ip, 20..40, false),
+        Some((small_offset, Layer::TcpHeader)),
+    );
+    reads(
+        &rt,
+        &mut packet,
+        (Entry::Ip, SEGMENT_IPV6, 68),
+        (0, 40, tcp(&rt, MSS)),
+        (Kind::Tcp, 64..68, false),
+        None,
+    );
+    reads(
+        &rt,
+        &mut packet,
+        (Entry::Ip, SEGMENT_IPV6, 64),
+        (0, 40, tcp(&rt, MSS)),
+        (Kind::Tcp, 64..64, true),
+        None,
+    );
+    reads(
+        &rt,
+        &mut packet,
+        (Entry::Ip, SEGMENT_IPV6, 63),
+        (0, 40, None),
+        (Kind::Ip, 40..63, true),
+        length_error(Layer::TcpHeader, (40, 24, 23), LenSource::Slice),
+    );
+    reads(
+        &rt,
+        &mut packet,
+        (Entry::Ip, SEGMENT_IPV6, 50),
+        (0, 40, None),
+        (Kind::Ip, 40..50, true),
+        length_error(Layer::TcpHeader, (40, 20, 10), LenSource::Slice),
+    );
+}
+
+/// Lax parsing of ICMPv4 messages in IPv4 and IPv6 packets.
+#[test]
+fn icmpv4_messages(rt: HostRuntime) {
+    let mut packet = LaxPacketHeaders::new();
+    reads(
+        &rt,
+        &mut packet,
+        (Entry::Ip, ECHO, 32),
+        (0, 20, echo()),
+        (Kind::Icmpv4, 28..32, false),
+        None,
+    );
+    reads(
+        &rt,
+        &mut packet,
+        (Entry::Ip, ECHO, 30),
+        (0, 20, echo()),
+        (Kind::Icmpv4, 28..30, true),
+        None,
+    );
+    reads(
+        &rt,
+        &mut packet,
+        (Entry::Ip, ECHO, 27),
+        (0, 20, None),
+        (Kind::Ip, 20..27, true),
+        length_error(Layer::Icmpv4, (20, 8, 7), LenSource::Slice),
+    );
+    reads(
+        &rt,
+        &mut packet,
+        (Entry::Ip, ICMPV4_IN_IPV6, 52),
+        (0, 40, echo()),
+        (Kind::Icmpv4, 48..52, false),
+        None,
+    );
+    reads(
+        &rt,
+        &mut packet,
+        (Entry::Ip, ICMPV4_IN_IPV6, 44),
+        (0, 40, None),
+        (Kind::Ip, 40..44, true),
+        length_error(Layer::Icmpv4, (40, 8, 4), LenSource::Slice),
+    );
+    reads(
+        &rt,
+        &mut packet,
+        (Entry::Ip, TIMESTAMP, 40),
+        (0, 20, timestamp()),
+        (Kind::Icmpv4, 40..40, false),
+        None,
+    );
+    reads(
+        &rt,
+        &mut packet,
+        (Entry::Ip, TIMESTAMP, 36),
+        (0, 20, None),
+        (Kind::Ip, 20..36, true),
+        length_error(Layer::Icmpv4Timestamp, (20, 20, 16), LenSource::Slice),
+    );
+    reads(
+        &rt,
+        &mut packet,
+        (Entry::Ip, TIMESTAMP, 26),
+        (0, 20, None),
+        (Kind::Ip, 20..26, true),
+        length_error(Layer::Icmpv4, (20, 8, 6), LenSource::Slice),
+    );
+    reads(
+        &rt,
+        &mut packet,
+        (Entry::Ip, LONG_TIMESTAMP, 44),
+        (0, 20, None),
+        (Kind::Ip, 20..44, false),
+        length_error(
+            Layer::Icmpv4Timestamp,
+            (20, 20, 24),
+            LenSource::Ipv4HeaderTotalLen,
         ),
-        (
-            (NO_OPTIONS, 42),
-            (20, tcp(&rt, b"")),
-            (Kind::Tcp, 40..42, false),
-            None,
+    );
+    reads(
+        &rt,
+        &mut packet,
+        (Entry::Ip, LONG_TIMESTAMP, 42),
+        (0, 20, None),
+        (Kind::Ip, 20..42, true),
+        length_error(Layer::Icmpv4Timestamp, (20, 20, 22), LenSource::Slice),
+    );
+    reads(
+        &rt,
+        &mut packet,
+        (Entry::Ip, LONG_TIMESTAMP, 40),
+        (0, 20, timestamp()),
+        (Kind::Icmpv4, 40..40, true),
+        None,
+    );
+    reads(
+        &rt,
+        &mut packet,
+        (Entry::Ip, LONG_REPLY, 44),
+        (0, 20, None),
+        (Kind::Ip, 20..44, false),
+        length_error(
+            Layer::Icmpv4TimestampReply,
+            (20, 20, 24),
+            LenSource::Ipv4HeaderTotalLen,
         ),
-        (
-            (SEGMENT, 46),
-            (20, tcp(&rt, MSS)),
-            (Kind::Tcp, 44..46, true),
-            None,
-        ),
-        (
-            (SEGMENT, 42),
-            (20, None),
-            (Kind::Ip, 20..42, true),
-            length_error(Layer::TcpHeader, (20, 24, 22), LenSource::Slice),
-        ),
-        (
-            (SEGMENT, 33),
-            (20, None),
-            (Kind::Ip, 20..33, true),
-            length_error(Layer::TcpHeader, (20, 20, 13), LenSource::Slice),
-        ),
-        (
-            (SMALL_OFFSET, 40),
-            (20, None),
-            (Kind::Ip, 20..40, false),
-            Some((small_offset, Layer::TcpHeader)),
-        ),
-        (
-            (SEGMENT_IPV6, 68),
-            (40, tcp(&rt, MSS)),
-            (Kind::Tcp, 64..68, false),
-            None,
-        ),
-        (
-            (SEGMENT_IPV6, 64),
-            (40, tcp(&rt, MSS)),
-            (Kind::Tcp, 64..64, true),
-            None,
-        ),
-        (
-            (SEGMENT_IPV6, 63),
-            (40, None),
-            (Kind::Ip, 40..63, true),
-            length_error(Layer::TcpHeader, (40, 24, 23), LenSource::Slice),
-        ),
-        (
-            (SEGMENT_IPV6, 50),
-            (40, None),
-            (Kind::Ip, 40..50, true),
-            length_error(Layer::TcpHeader, (40, 20, 10), LenSource::Slice),
-        ),
-        (
-            (ECHO, 32),
-            (20, echo()),
-            (Kind::Icmpv4, 28..32, false),
-            None,
-        ),
-        ((ECHO, 30), (20, echo()), (Kind::Icmpv4, 28..30, true), None),
-        (
-            (ECHO, 27),
-            (20, None),
-            (Kind::Ip, 20..27, true),
-            length_error(Layer::Icmpv4, (20, 8, 7), LenSource::Slice),
-        ),
-        (
-            (ICMPV4_IN_IPV6, 52),
-            (40, echo()),
-            (Kind::Icmpv4, 48..52, false),
-            None,
-        ),
-        (
-            (ICMPV4_IN_IPV6, 44),
-            (40, None),
-            (Kind::Ip, 40..44, true),
-            length_error(Layer::Icmpv4, (40, 8, 4), LenSource::Slice),
-        ),
-        (
-            (TIMESTAMP, 40),
-            (20, timestamp()),
-            (Kind::Icmpv4, 40..40, false),
-            None,
-        ),
-        (
-            (TIMESTAMP, 36),
-            (20, None),
-            (Kind::Ip, 20..36, true),
-            length_error(Layer::Icmpv4Timestamp, (20, 20, 16), LenSource::Slice),
-        ),
-        (
-            (TIMESTAMP, 26),
-            (20, None),
-            (Kind::Ip, 20..26, true),
-            length_error(Layer::Icmpv4, (20, 8, 6), LenSource::Slice),
-        ),
-        (
-            (LONG_TIMESTAMP, 44),
-            (20, None),
-            (Kind::Ip, 20..44, false),
-            length_error(
-                Layer::Icmpv4Timestamp,
-                (20, 20, 24),
-                LenSource::Ipv4HeaderTotalLen,
-            ),
-        ),
-        (
-            (LONG_TIMESTAMP, 42),
-            (20, None),
-            (Kind::Ip, 20..42, true),
-            length_error(Layer::Icmpv4Timestamp, (20, 20, 22), LenSource::Slice),
-        ),
-        (
-            (LONG_TIMESTAMP, 40),
-            (20, timestamp()),
-            (Kind::Icmpv4, 40..40, true),
-            None,
-        ),
-        (
-            (LONG_REPLY, 44),
-            (20, None),
-            (Kind::Ip, 20..44, false),
-            length_error(
-                Layer::Icmpv4TimestampReply,
-                (20, 20, 24),
-                LenSource::Ipv4HeaderTotalLen,
-            ),
-        ),
-        (
-            (ECHO_IPV6, 52),
-            (40, echo_ipv6()),
-            (Kind::Icmpv6, 48..52, false),
-            None,
-        ),
-        (
-            (ECHO_IPV6, 49),
-            (40, echo_ipv6()),
-            (Kind::Icmpv6, 48..49, true),
-            None,
-        ),
-        (
-            (ECHO_IPV6, 45),
-            (40, None),
-            (Kind::Ip, 40..45, true),
-            length_error(Layer::Icmpv6, (40, 8, 5), LenSource::Slice),
-        ),
-        (
-            (ICMPV6_IN_IPV4, 32),
-            (20, echo_ipv6()),
-            (Kind::Icmpv6, 28..32, false),
-            None,
-        ),
-        (
-            (ICMPV6_IN_IPV4, 22),
-            (20, None),
-            (Kind::Ip, 20..22, true),
-            length_error(Layer::Icmpv6, (20, 8, 2), LenSource::Slice),
-        ),
-    ] {
-        let shown = bytes.get(..len).expect(&rt, "the first bytes");
-        packet
-            .read_into(Entry::Ip, shown)
-            .expect(&rt, "the IP header is valid");
-        let payload = shown.get(place).expect(&rt, "its payload");
-        reads(&rt, &packet, headers, (kind, payload, incomplete), stop);
-    }
+    );
+}
+
+/// Lax parsing of ICMPv6 messages in IPv6 and IPv4 packets.
+#[test]
+fn icmpv6_messages(rt: HostRuntime) {
+    let mut packet = LaxPacketHeaders::new();
+    reads(
+        &rt,
+        &mut packet,
+        (Entry::Ip, ECHO_IPV6, 52),
+        (0, 40, echo_ipv6()),
+        (Kind::Icmpv6, 48..52, false),
+        None,
+    );
+    reads(
+        &rt,
+        &mut packet,
+        (Entry::Ip, ECHO_IPV6, 49),
+        (0, 40, echo_ipv6()),
+        (Kind::Icmpv6, 48..49, true),
+        None,
+    );
+    reads(
+        &rt,
+        &mut packet,
+        (Entry::Ip, ECHO_IPV6, 45),
+        (0, 40, None),
+        (Kind::Ip, 40..45, true),
+        length_error(Layer::Icmpv6, (40, 8, 5), LenSource::Slice),
+    );
+    reads(
+        &rt,
+        &mut packet,
+        (Entry::Ip, ICMPV6_IN_IPV4, 32),
+        (0, 20, echo_ipv6()),
+        (Kind::Icmpv6, 28..32, false),
+        None,
+    );
+    reads(
+        &rt,
+        &mut packet,
+        (Entry::Ip, ICMPV6_IN_IPV4, 22),
+        (0, 20, None),
+        (Kind::Ip, 20..22, true),
+        length_error(Layer::Icmpv6, (20, 8, 2), LenSource::Slice),
+    );
 }
 
 /// Each entry parses a packet, and rejects one whose first header is truncated.

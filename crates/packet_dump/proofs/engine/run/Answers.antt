@@ -1,4 +1,4 @@
-use Rattle.std.proofs.Common.{◌≡◌, [], true, rules, ap, subst, sym, take, arith, ◌∙◌}
+use Rattle.std.proofs.Common.{◌≡◌, [], true, rules, ap, drop, subst, sym, take, arith, ◌∙◌}
 use Rattle.std.proofs.KnownBytes.{Consumes-kept, Consumes-nil}
 use Rattle.std.proofs.lemmas.Grind.{common_steps}
 use Rattle.line_io.specs.WatchedWords.{has_ended, inner_of}
@@ -10,12 +10,12 @@ use Rattle.packet_dump.proofs.RunLemmas.{run_begins, run_begins_saved, run_flush
 use Rattle.packet_dump.proofs.RunLemmas.{run_new, run_prefix, run_taken, run_written, sound_new}
 use Rattle.packet_dump.proofs.engine.run.Goals as goal
 
-pub pieces-init : goal.pieces-init
-pieces-init g c = record {
+pub chunks-init : goal.chunks-init
+chunks-init g c = record {
   ran = run_new c.args.session.now _ c.requires.new;
   reader_sound = c.requires.reader_sound;
   writer_sound = c.requires.writer_sound;
-  piece = grind (arith, common_steps);
+  buffer = grind (arith, common_steps);
   counts = omega (arith, ap (λ p. p.number) c.requires.new.read.progress);
   taken = grind (arith, common_steps, c.requires.new.taken, c.requires.reads);
   end = search rules;
@@ -37,50 +37,50 @@ returns-in_err-buffer-clause-begun g c =
 
 pub returns-in_err-capture_state-clause-err : goal.returns-in_err-capture_state-clause-err
 returns-in_err-capture_state-clause-err g c =
-    at_exit c.from_residual-in_err-capture_state.result (run_begins _ [] c.pieces.invariant.ran (Consumes-nil _))
+    at_exit c.from_residual-in_err-capture_state.result (run_begins _ [] c.chunks.invariant.ran (Consumes-nil _))
 
 pub returns-in_err-capture_state-clause-begun : goal.returns-in_err-capture_state-clause-begun
 returns-in_err-capture_state-clause-begun g c =
-    at_exit c.from_residual-in_err-capture_state.result (run_begins_saved _ [] c.pieces.invariant.ran (Consumes-nil _))
+    at_exit c.from_residual-in_err-capture_state.result (run_begins_saved _ [] c.chunks.invariant.ran (Consumes-nil _))
 
 pub returns-in_err-write_all-clause-err : goal.returns-in_err-write_all-clause-err
 returns-in_err-write_all-clause-err g c =
     at_exit c.from_residual-in_err-write_all.result
-    (run_prefix c.drain.new.self _ (g.W.Write.contents (inner_of c.write_all.new.self)) _ c.pieces.invariant.ran
+    (run_prefix c.drain.new.self _ (g.W.Write.contents (inner_of c.write_all.new.self)) _ c.chunks.invariant.ran
     c.in_ok-capture_state.ensures.drains c.as_slice.ensures.value c.in_err-write_all.ensures.prefix)
 
 pub returns-in_err-write_all-clause-begun : goal.returns-in_err-write_all-clause-begun
 returns-in_err-write_all-clause-begun g c =
-    at_exit c.from_residual-in_err-write_all.result (run_begins_saved _ [] c.pieces.invariant.ran (Consumes-nil _))
+    at_exit c.from_residual-in_err-write_all.result (run_begins_saved _ [] c.chunks.invariant.ran (Consumes-nil _))
 
 pub returns-in_err-close-clause-err : goal.returns-in_err-close-clause-err
 returns-in_err-close-clause-err g c =
     at_exit c.from_residual-in_err-close.result
     (run_begins _ []
-    (run_lines c.drain.new.self _ (g.W.Write.contents (inner_of c.write_all.new.self)) _ c.pieces.invariant.ran
+    (run_lines c.drain.new.self _ (g.W.Write.contents (inner_of c.write_all.new.self)) _ c.chunks.invariant.ran
     c.in_ok-capture_state.ensures.drains c.as_slice.ensures.value c.in_ok-write_all.ensures.all) (Consumes-nil _))
 
 pub returns-in_err-close-clause-begun : goal.returns-in_err-close-clause-begun
 returns-in_err-close-clause-begun g c =
     at_exit c.from_residual-in_err-close.result
-    (rw c.in_err-close.ensures.err (run_begins_saved _ [] c.pieces.invariant.ran (Consumes-nil _)))
+    (rw c.in_err-close.ensures.err (run_begins_saved _ [] c.chunks.invariant.ran (Consumes-nil _)))
 
 pub returns-in_err-count-clause-err : goal.returns-in_err-count-clause-err
 returns-in_err-count-clause-err g c =
-    let in_2 = g.R.Read.remaining (inner_of c.pieces.reader) in
+    let in_2 = g.R.Read.remaining (inner_of c.chunks.reader) in
     at_exit c.from_residual-in_err-count.result
     (run_begins _ []
-    (run_lines c.drain.new.self _ (g.W.Write.contents (inner_of c.write_all.new.self)) _ c.pieces.invariant.ran
+    (run_lines c.drain.new.self _ (g.W.Write.contents (inner_of c.write_all.new.self)) _ c.chunks.invariant.ran
     c.in_ok-capture_state.ensures.drains c.as_slice.ensures.value c.in_ok-write_all.ensures.all)
     (Consumes-kept in_2 in_2 _ [] (Consumes-nil in_2) c.in_err-count.ensures.bytes))
 
 pub returns-in_err-count-clause-begun : goal.returns-in_err-count-clause-begun
 returns-in_err-count-clause-begun g c =
-    let in_2 = g.R.Read.remaining (inner_of c.pieces.reader) in
+    let in_2 = g.R.Read.remaining (inner_of c.chunks.reader) in
     at_exit c.from_residual-in_err-count.result
     (run_begins_saved _ []
     (run_flushed c.flush.new.self (g.F.Write.contents (inner_of c.flush.new.file))
-    (run_lines c.drain.new.self _ (g.W.Write.contents (inner_of c.write_all.new.self)) _ c.pieces.invariant.ran
+    (run_lines c.drain.new.self _ (g.W.Write.contents (inner_of c.write_all.new.self)) _ c.chunks.invariant.ran
     c.in_ok-capture_state.ensures.drains c.as_slice.ensures.value c.in_ok-write_all.ensures.all)
     c.flush.ensures.flushes c.flush.ensures.bytes)
     (Consumes-kept in_2 in_2 _ [] (Consumes-nil in_2) c.in_err-count.ensures.bytes))
@@ -88,17 +88,17 @@ returns-in_err-count-clause-begun g c =
 pub returns-in_err-take-clause-err : goal.returns-in_err-take-clause-err
 returns-in_err-take-clause-err g c =
     at_exit c.from_residual-in_err-take.result
-    (run_begins _ (take c.in_ok-count.count c.read.new.piece)
-    (run_lines c.drain.new.self _ (g.W.Write.contents (inner_of c.write_all.new.self)) _ c.pieces.invariant.ran
+    (run_begins _ (take c.in_ok-count.count (drop 4096 c.read_chunk.new.buffer.items))
+    (run_lines c.drain.new.self _ (g.W.Write.contents (inner_of c.write_all.new.self)) _ c.chunks.invariant.ran
     c.in_ok-capture_state.ensures.drains c.as_slice.ensures.value c.in_ok-write_all.ensures.all)
     c.in_ok-count.ensures.bytes.0)
 
 pub returns-in_err-take-clause-begun : goal.returns-in_err-take-clause-begun
 returns-in_err-take-clause-begun g c =
     at_exit c.from_residual-in_err-take.result
-    (run_begins_saved _ (take c.in_ok-count.count c.read.new.piece)
+    (run_begins_saved _ (take c.in_ok-count.count (drop 4096 c.read_chunk.new.buffer.items))
     (run_flushed c.flush.new.self (g.F.Write.contents (inner_of c.flush.new.file))
-    (run_lines c.drain.new.self _ (g.W.Write.contents (inner_of c.write_all.new.self)) _ c.pieces.invariant.ran
+    (run_lines c.drain.new.self _ (g.W.Write.contents (inner_of c.write_all.new.self)) _ c.chunks.invariant.ran
     c.in_ok-capture_state.ensures.drains c.as_slice.ensures.value c.in_ok-write_all.ensures.all)
     c.flush.ensures.flushes c.flush.ensures.bytes) c.in_ok-count.ensures.bytes.0)
 
@@ -107,9 +107,9 @@ returns-in_err-take-clause-begun g c =
 pub returns-then-ends_run-clause-one_list : goal.returns-then-ends_run-clause-one_list
 returns-then-ends_run-clause-one_list g c =
     rw (c.count_pool.ensures.saving, c.ending-ending.ensures)
-    (run_written c.drain.new.self c.in_ok-capture_state.capture_state (has_ended c.pieces.reader)
+    (run_written c.drain.new.self c.in_ok-capture_state.capture_state (has_ended c.chunks.reader)
     (g.W.Write.contents (inner_of c.write_all.new.self)) (g.F.Write.contents (inner_of c.close.new.file)) _
-    c.close.new.self (plain_of c.count_pool.new.self.summary) c.pieces.invariant.ran
+    c.close.new.self (plain_of c.count_pool.new.self.summary) c.chunks.invariant.ran
     c.in_ok-capture_state.ensures.drains
     (subst (λ e. ends_run c.in_ok-capture_state.capture_state e ≡ true) c.ended.ensures (sym c.if-ends_run.ensures))
     c.as_slice.ensures.value c.in_ok-write_all.ensures.all c.in_ok-close.ensures.closes c.count_pool.ensures.counts)
@@ -134,22 +134,22 @@ returns-then-ends_run-clause-saved g c =
 
 -- ---- the loop
 
-pub pieces-preserved : goal.pieces-preserved
-pieces-preserved g c =
+pub chunks-preserved : goal.chunks-preserved
+chunks-preserved g c =
     let drained = c.in_ok-capture_state.ensures in
     let taken = c.in_ok-take.ensures in
     let counted = c.in_ok-count.ensures.counted in
-    let before = c.pieces.invariant.taken in
+    let before = c.chunks.invariant.taken in
     record {
-      ran = run_taken c.take.new.self (g.R.Read.remaining (inner_of c.read.new.self))
-          (take c.in_ok-count.count c.read.new.piece)
+      ran = run_taken c.take.new.self (g.R.Read.remaining (inner_of c.read_chunk.new.reader))
+          (take c.in_ok-count.count (drop 4096 c.read_chunk.new.buffer.items))
           (run_flushed c.flush.new.self (g.F.Write.contents (inner_of c.flush.new.file))
-          (run_lines c.drain.new.self _ (g.W.Write.contents (inner_of c.write_all.new.self)) _ c.pieces.invariant.ran
+          (run_lines c.drain.new.self _ (g.W.Write.contents (inner_of c.write_all.new.self)) _ c.chunks.invariant.ran
           drained.drains c.as_slice.ensures.value c.in_ok-write_all.ensures.all)
           c.flush.ensures.flushes c.flush.ensures.bytes) c.in_ok-count.ensures.bytes.0 taken.processed;
       reader_sound = c.in_ok-count.ensures.failed;
       writer_sound = c.in_ok-write_all.ensures.failed;
-      piece = grind (arith, common_steps);
+      buffer = grind (arith, common_steps);
       counts = taken.counts drained.counts;
       taken = grind (arith, common_steps, taken.taken, drained.taken, counted, before);
       end = c.in_ok-count.ensures.end;

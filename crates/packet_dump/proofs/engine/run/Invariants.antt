@@ -1,4 +1,4 @@
-use Rattle.std.proofs.Common.{◌≡◌, ◌≤◌, ◌*◌, ◌+◌, ◌^◌, false, true, length}
+use Rattle.std.proofs.Common.{◌≡◌, ◌≤◌, ◌*◌, ◌+◌, ◌^◌, false, true, vec_len}
 use Rattle.std.specs.Io.KnownBytes.{IsAtEnd}
 use Rattle.line_io.specs.WatchedWords.{has_failed, inner_of, is_at_end, reads_left}
 use Rattle.packet_dump.specs.Saves.{is_failed}
@@ -6,8 +6,8 @@ use Rattle.packet_dump.specs.Sessions.{Counts, taken_by}
 use Rattle.packet_dump.proofs.RunLemmas.{HasRun}
 use Rattle.packet_dump.proofs.engine.run.Given as goal
 
-abbrev pub invariant-pieces : goal.invariant-pieces
-invariant-pieces g l = record {
+abbrev pub invariant-chunks : goal.invariant-chunks
+invariant-chunks g l = record {
   ran : HasRun l.initial.session
       (record {
         input = g.R.Read.remaining (inner_of l.initial.reader);
@@ -22,12 +22,12 @@ invariant-pieces g l = record {
       l.session;
   reader_sound : has_failed l.reader ≡ false;
   writer_sound : has_failed l.writer ≡ false;
-  piece : length l.piece ≡ 65536;
+  buffer : vec_len l.buffer ≡ 69632;
   counts : Counts l.session;
   taken : taken_by l.session + 65536 * reads_left l.reader ≤ 2 ^ 63;
   end : is_at_end l.reader ≡ true → IsAtEnd (g.R.Read.remaining (inner_of l.reader));
   file_sound : has_failed l.file ≡ is_failed l.session.saving.state;
 }
 
-abbrev pub decreases-pieces : goal.decreases-pieces
-decreases-pieces g l = reads_left l.reader
+abbrev pub decreases-chunks : goal.decreases-chunks
+decreases-chunks g l = reads_left l.reader

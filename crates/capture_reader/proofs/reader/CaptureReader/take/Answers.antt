@@ -9,4 +9,4 @@ returns-clause-ok c =
     let self = c.args.self.now in
     let buffer : c.extend_from_slice.new.self.items ≡ reader_rest self ++ c.args.chunk.now =
     grind (arith, common_steps) in
-    takes_more self _ c.args.chunk.now refl c.reserve-2.ensures.items buffer refl refl
+    takes_more self _ c.args.chunk.now refl c.reserve-2.ensures.items buffer refl
