@@ -152,11 +152,11 @@ impl CaptureReader {
         Ok(())
     }
 
-    /// Gives the next chunk of the capture to the reader, the `count` bytes of `buffer` from index `start`, by exchanging
-    /// `buffer` for the reader's own buffer. The unread bytes are copied to just before `start`. If they do not fit
-    /// there, or if the chunk ends before `buffer` does, the chunk is copied instead. `buffer` keeps its length; its
-    /// contents are unspecified. Allocates if the reader's buffer or the list of interfaces has to grow. If an allocation
-    /// fails, nothing changes.
+    /// Gives the next chunk of the capture to the reader, the `count` bytes of `buffer` from index `start`, by
+    /// exchanging `buffer` for the reader's own buffer. The unread bytes are copied to just before `start`. If they do
+    /// not fit there, or if the chunk ends before `buffer` does, the chunk is copied instead. `buffer` keeps its
+    /// length; its contents are unspecified. Allocates if the reader's buffer or the list of interfaces has to grow. If
+    /// an allocation fails, nothing changes.
     pub fn exchange(
         &mut self,
         buffer: &mut Vec<u8>,
@@ -175,8 +175,8 @@ impl CaptureReader {
         ensures offset { reader_offset self.new ≡ reader_offset self.old }
         ensures len { vec_len buffer.new ≡ vec_len buffer.old }
 
-        // An allocation fails only if the length of `buffer` or the unread bytes exceed the capacity, or if the interfaces
-        // do, at one for each 20 bytes.
+        // An allocation fails only if the length of `buffer` or the unread bytes exceed the capacity, or if the
+        // interfaces do, at one for each 20 bytes.
         ensures full { let unread = reader_unread self.old + count in
             OnErr result ((bytes_capacity self.old < vec_len buffer.old) ⊎ (bytes_capacity self.old < unread)
             ⊎ (interfaces_capacity self.old < interfaces_described self.old + unread / 20)) }
