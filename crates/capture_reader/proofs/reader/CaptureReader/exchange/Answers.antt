@@ -14,9 +14,9 @@ returns-then-start-unread-clause-ok c =
     let count = c.args.count in
     let same : (start + count) - start ≡ count = omega arith in
     let Took : ℕ → List ℕ → Type 0 = λ n bytes. OnOk c.take.result ((taken : List ℕ) (items : List Item)
-        → Reads c.args.self.now taken items → Reads c.take.new.self (taken ++ take n (drop start bytes)) items) in
+    → Reads c.args.self.now taken items → Reads c.take.new.self (taken ++ take n (drop start bytes)) items) in
     subst (λ n. Took n c.args.buffer.now.items) same
-        (subst (λ bytes. Took ((start + count) - start) bytes) c.as_slice.ensures.value c.take.ensures.ok)
+    (subst (λ bytes. Took ((start + count) - start) bytes) c.as_slice.ensures.value c.take.ensures.ok)
 
 always : {T E P : Type 0} (r : Result T E) → P → OnOk r P
 always (Ok x) p = p
@@ -29,7 +29,7 @@ drop_front bytes part end part_fits within =
     let front = take (end - length part) bytes in
     let len : length front ≡ end - length part = grind (arith, common_steps) in
     subst (λ n. drop n (front ++ (part ++ drop end bytes)) ≡ part ++ drop end bytes) len
-        (drop-append_seam front (part ++ drop end bytes))
+    (drop-append_seam front (part ++ drop end bytes))
 
 pub returns-clause-ok : goal.returns-clause-ok
 returns-clause-ok c =
