@@ -83,7 +83,7 @@ def loopback(payloads):
 
 
 def macsec(rng, payloads):
-    """MACsec frames: all bits of the tag's first byte, and short lengths, some of which do not fit."""
+    """MACsec frames: all bits of the tag's first byte, and short lengths, some too long."""
     for at, (kind, payload) in zip(range(128), itertools.cycle(payloads)):
         tag = struct.pack(">BBI", 2 * at, (0, 0, 1, 20, 47, 63)[at % 6], at) + rng.randbytes(at // 16 % 2 * 8)
         yield corpora.ethernet(rng, 0x88E5, tag + struct.pack(">H", kind) + payload)
@@ -98,7 +98,7 @@ def icmp_errors(rng, payloads):
 
 
 def with_options(rng):
-    """TCP segments with several options, some of which are unknown, truncated or of a wrong length."""
+    """TCP segments with several options, some unknown, truncated or of a wrong length."""
     options = list(map(bytes.fromhex, (
         "00 01 02040578 030307 0402 050a0000000100000002 051200000001000000020000000300000004 080a0102030405060708 "
         "1e04abcd 02030578 0303 05 080b0102030405060708 fe00 0501").split()))
@@ -151,7 +151,7 @@ def make_captures(folder):
 
 
 def ran(program, words, capture):
-    """What a run writes, and its status."""
+    """The outputs of a run, and its status."""
     with tempfile.TemporaryDirectory() as folder:
         done = subprocess.run([program, *words, capture], cwd=folder, stdin=subprocess.DEVNULL, capture_output=True,
                               timeout=120)
