@@ -101,6 +101,10 @@ pub takes_none : (pool : IpDefragPool Arrival ℕ) (carried : Option PacketFragm
 takes_none pool None at is = (refl, refl)
 takes_none pool (Some carried) at is = cc
 
+pub none_named : (carried : Option PacketFragment) → is_some carried ≡ false → None ≡ option_map named_fragment carried
+none_named None none = refl
+none_named (Some carried) none = absurd (false≢true (sym none))
+
 -- ---- counts of fragments
 
 counts_more : (limit : ℕ) (calls earlier : List NumberCall) (call : NumberCall) (old between new : Fates)

@@ -1,7 +1,7 @@
 //! IP fragments in packets that lax slicing read: offset and bytes of a fragment, and the identifier of its stream (the
 //! fragments of one datagram).
 
-ghost use Rattle.std.specs.Prelude.{◌≡◌};
+ghost use Rattle.std.specs.Prelude.{◌≡◌, is_some};
 ghost use Rattle.std.specs.Option.{option_and_then, option_map};
 ghost use Rattle.etherparse.specs.FragmentHeaderSlices.{fragment_slice_header};
 ghost use Rattle.etherparse.specs.FrameFragments.{first_fragment, ipv4_fragment as fragment_of_ipv4};
@@ -28,6 +28,21 @@ pub struct Carried<'a> {
     pub name: IpFragId<u64>,
     /// The fragment: its fragment offset, its more-fragments flag and its bytes.
     pub fragment: Fragment<'a>,
+}
+
+/// Returns whether a packet carries an IP fragment: an IP payload with an offset above 0 or with more fragments to come.
+/// It is faster than `carried_fragment`, whose result is large.
+pub fn carries_fragment(read: &LaxSlicedPacket<'_>) -> bool
+    ensures { result ≡ is_some (fragment_in (lax_layers_of read.now)) }
+{
+    match &read.net {
+        Some(LaxNetSlice::Ipv4(ip)) => ip.header().is_fragmenting_payload(),
+        Some(LaxNetSlice::Ipv6(ip)) => match first_fragment_header(ip.extensions()) {
+            Some(part) => part.is_fragmenting_payload(),
+            None => false,
+        },
+        Some(LaxNetSlice::Arp(_)) | None => false,
+    }
 }
 
 /// Returns the IP fragment in a packet, or `None` if its payload is not fragmented or it has no IP layer.

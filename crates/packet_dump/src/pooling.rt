@@ -19,7 +19,7 @@ ghost use Rattle.packet_dump.specs.Summaries.{AreFragments, with_answer};
 
 use crate::decoded::Decoded;
 use crate::dump_options::DumpOptions;
-use crate::fragments::{Carried, carried_fragment};
+use crate::fragments::{Carried, carried_fragment, carries_fragment};
 use crate::pool_lines::push_answer;
 use crate::summary::Fragments;
 use etherparse::LaxSlicedPacket;
@@ -113,6 +113,9 @@ impl Pooling {
             ProcessesFrame options.now packet.now before self.new output.old.items output.new.items) }
     {
         one_more_call::<Arrival, u64, Arrival>();
+        if !carries_fragment(&packet.read) {
+            return Ok(());
+        }
         match carried_fragment(&packet.read) {
             Some(carried) => self.process_fragment(output, options, packet, carried),
             None => Ok(()),

@@ -1,7 +1,7 @@
 -- Lemmas about the digits of a fraction of a second: the digits of a number after a leading 1, which keeps the leading
 -- zeros.
 use Rattle.std.proofs.Common.{◌≡◌, ℕ, zero, suc, ◌+◌, ◌/◌, ◌%◌, ◌^◌, ◌<◌, List, [], ◌∷◌, ◌++◌, drop}
-use Rattle.std.proofs.Common.{ap, ◌∙◌, arith}
+use Rattle.std.proofs.Common.{ap, sym, ◌∙◌, arith}
 use Rattle.std.specs.Fmt.{decimal}
 use Rattle.std.proofs.Math.Nat.{one-le-pow, pow-succ'}
 use Rattle.std.proofs.lemmas.Fmt.{decimal_digit, decimal_step}
@@ -29,28 +29,7 @@ behind_one (suc count) number below fits =
     (behind_one count (number / 10) (omega (arith, power, below)) (omega (arith, power, fits)))
     ∙ ap (λ n. (49 ∷ last_digits count (number / 10)) ++ (48 + n) ∷ []) last
 
-pub six_digits : (number : ℕ) → number < 1000000
-    → drop 1 (decimal (1000000 + number))
-    ≡ digit (number / 100000) ∷ digit (number / 10000) ∷ digit (number / 1000) ∷ digit (number / 100)
-    ∷ digit (number / 10) ∷ digit number ∷ []
-six_digits number below =
-    let first : number / 100000 ≡ number / 10 / 10 / 10 / 10 / 10 = omega arith in
-    let second : number / 10000 ≡ number / 10 / 10 / 10 / 10 = omega arith in
-    let third : number / 1000 ≡ number / 10 / 10 / 10 = omega arith in
-    let fourth : number / 100 ≡ number / 10 / 10 = omega arith in
-    rw (first, second, third, fourth) (ap (λ t. drop 1 t) (behind_one 6 number below (omega (arith, below))))
-
-pub nine_digits : (number : ℕ) → number < 1000000000
-    → drop 1 (decimal (1000000000 + number))
-    ≡ digit (number / 100000000) ∷ digit (number / 10000000) ∷ digit (number / 1000000) ∷ digit (number / 100000)
-    ∷ digit (number / 10000) ∷ digit (number / 1000) ∷ digit (number / 100) ∷ digit (number / 10) ∷ digit number ∷ []
-nine_digits number below =
-    let first : number / 100000000 ≡ number / 10 / 10 / 10 / 10 / 10 / 10 / 10 / 10 = omega arith in
-    let second : number / 10000000 ≡ number / 10 / 10 / 10 / 10 / 10 / 10 / 10 = omega arith in
-    let third : number / 1000000 ≡ number / 10 / 10 / 10 / 10 / 10 / 10 = omega arith in
-    let fourth : number / 100000 ≡ number / 10 / 10 / 10 / 10 / 10 = omega arith in
-    let fifth : number / 10000 ≡ number / 10 / 10 / 10 / 10 = omega arith in
-    let sixth : number / 1000 ≡ number / 10 / 10 / 10 = omega arith in
-    let seventh : number / 100 ≡ number / 10 / 10 = omega arith in
-    rw (first, second, third, fourth, fifth, sixth, seventh)
-    (ap (λ t. drop 1 t) (behind_one 9 number below (omega (arith, below))))
+pub starts_with_one : (count number : ℕ) → number < 10 ^ count → 10 ^ count + number < 2 ^ 64
+    → decimal (10 ^ count + number) ≡ 49 ∷ drop 1 (decimal (10 ^ count + number))
+starts_with_one count number below fits =
+    let one = behind_one count number below fits in one ∙ ap (λ t. 49 ∷ drop 1 t) (sym one)

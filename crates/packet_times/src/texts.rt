@@ -1,6 +1,6 @@
 //! Texts of timestamps and time spans.
 
-ghost use Rattle.std.specs.Prelude.{◌≡◌, ◌<◌, ◌+◌, ◌*◌, ◌/◌, ◌%◌, ◌^◌, ◌++◌, IfSome, OnOk, codes, drop};
+ghost use Rattle.std.specs.Prelude.{◌≡◌, ◌<◌, ◌*◌, ◌/◌, ◌%◌, ◌^◌, ◌∷◌, ◌++◌, IfSome, OnOk, codes};
 ghost use Rattle.std.specs.Fmt.{decimal};
 ghost use Rattle.packet_times.specs.TimeTexts.{calendar_seconds, clock_text, date_text, digit, epoch_text};
 ghost use Rattle.packet_times.specs.TimeTexts.{fraction_text, moment_text, seconds_in, since_text, span_text, utc_text};
@@ -200,49 +200,27 @@ fn nanos_in(span: u128) -> u32
 }
 
 /// Appends a decimal point and the fraction of a second `nanos`: nine digits if `fine`, or else six (truncated to
-/// microseconds).
+/// microseconds). The digits are appended after a 1, in whose place the decimal point is then written.
 fn push_fraction(output: &mut Vec<u8>, fine: bool, nanos: u32) -> Result<(), AllocError>
     requires { nanos < 1000000000 }
     ensures { OnOk result (output.new.items ≡ output.old.items ++ (codes "." ++ fraction_text fine nanos)) }
 {
-    if fine {
-        push_nanos(output, nanos)
-    } else {
-        push_micros(output, nanos / 1_000)
-    }
+    let start = output.len();
+    decimals::push(output, one_and_fraction(fine, nanos))?;
+    output.as_mut_slice()[start] = b'.';
+    Ok(())
 }
 
-/// Appends a decimal point and nine digits: a fraction of a second in nanoseconds.
-fn push_nanos(output: &mut Vec<u8>, nanos: u32) -> Result<(), AllocError>
+/// Returns the number whose decimal digits are a 1, which keeps leading zeros, and the digits of the fraction of a second
+/// `nanos`: nine if `fine`, or else six.
+#[inline]
+fn one_and_fraction(fine: bool, nanos: u32) -> u64
     requires { nanos < 1000000000 }
-    ensures { OnOk result (output.new.items ≡ output.old.items ++ (codes "." ++ drop 1 (decimal (1000000000 + nanos)))) }
+    ensures { decimal result ≡ 49 ∷ fraction_text fine nanos }
 {
-    output.extend_from_slice(&[
-        b'.',
-        digit(nanos / 100_000_000),
-        digit(nanos / 10_000_000),
-        digit(nanos / 1_000_000),
-        digit(nanos / 100_000),
-        digit(nanos / 10_000),
-        digit(nanos / 1_000),
-        digit(nanos / 100),
-        digit(nanos / 10),
-        digit(nanos),
-    ])
-}
-
-/// Appends a decimal point and six digits: a fraction of a second in microseconds.
-fn push_micros(output: &mut Vec<u8>, micros: u32) -> Result<(), AllocError>
-    requires { micros < 1000000 }
-    ensures { OnOk result (output.new.items ≡ output.old.items ++ (codes "." ++ drop 1 (decimal (1000000 + micros)))) }
-{
-    output.extend_from_slice(&[
-        b'.',
-        digit(micros / 100_000),
-        digit(micros / 10_000),
-        digit(micros / 1_000),
-        digit(micros / 100),
-        digit(micros / 10),
-        digit(micros),
-    ])
+    if fine {
+        1_000_000_000 + u64::from(nanos)
+    } else {
+        1_000_000 + u64::from(nanos / 1_000)
+    }
 }
