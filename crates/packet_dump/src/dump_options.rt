@@ -179,7 +179,10 @@ impl DumpOptions {
     fn meets(&self, read: &LaxSlicedPacket<'_>) -> bool
         ensures { result ≡ meets self.now.words (packet (lax_layers_of read.now)) }
     {
-        self.words.iter().all(|slot| slot_holds(slot, read))
+        match &self.words {
+            [None, None, None, None, None, None] => true,
+            words => words.iter().all(|slot| slot_holds(slot, read)),
+        }
     }
 
     /// Returns whether there is no filter option (`--host`, `--port`, `--net`, `--vlan`).
