@@ -102,8 +102,9 @@ def definitions_in(text):
     for line in text.split("\n"):
         head = re.match(r"( {0,2})((?:(?:abbrev|unfoldable|pub|data|record) )*)([^\W\d][\w'-]*)(?: [({].*)? :(?: |$)", line)
         again = re.match(r"( {0,2})([^\W\d][\w'-]*)(?: |$)", line)
-        if re.match(r" {0,2}(use|pub use|module|mod|pub mod|--)( |$)", line):
-            name = name if is_data and line.startswith("  ") else ""
+        apart = re.match(r"( {0,2})(use|pub use|module|mod|pub mod|--)( |$)", line)
+        if apart:
+            name = name if is_data and len(apart[1]) > depth else ""
         elif name and head and is_data and len(head[1]) > depth:
             given[name][0].add(head[3])
         elif head and (not name or len(head[1]) <= depth):

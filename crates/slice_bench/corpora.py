@@ -20,6 +20,11 @@ ascending    a payload of 65,528 bytes in fragments of 8 bytes, from the first t
 descending   the fragments of ascending, from the last to the first
 shuffled     the fragments of ascending, in random order
 alternating  the fragments of ascending, first every second one, then the others
+honest       1,000 streams of 4 fragments of 64 bytes, one after the other
+firsts       4,000 first fragments of 64 bytes, each of its own stream
+long         500 first fragments of 65,512 bytes, each of its own stream
+flood        a million first fragments as in firsts, with the fragments of honest evenly distributed among them
+far          as flood, but with a million fragments without bytes at offset 65,528
 """
 import os
 import random
@@ -29,6 +34,9 @@ import sys
 FRAMES = 1000
 STREAMS = 1000
 CROWD = 100_000
+FIRSTS = 4_000
+LONG = 500
+FLOOD = 1_000_000
 
 
 def checksum(data):
@@ -164,6 +172,22 @@ def stream_fragments(rng, count, size=64):
         yield ethernet(rng, 0x0800, packet)
 
 
+def first_fragments(rng, count, offset=0, payload=bytes(64)):
+    """Fragments that are not the last ones, each of its own UDP datagram."""
+    for number in range(count):
+        addresses = struct.pack(">II", 10 << 24, number)
+        packet = ipv4(rng, 17, payload, b"", addresses, number & 0xFFFF, 0x2000 | offset // 8)
+        yield ethernet(rng, 0x0800, packet)
+
+
+def among(few, many, count):
+    """The frames of `few` in `count` frames of `many`, evenly distributed."""
+    for at, frame in enumerate(many):
+        yield frame
+        if at % (count // len(few)) == 0:
+            yield few[min(at // (count // len(few)), len(few) - 1)]
+
+
 def write(folder, name, frames):
     with open(f"{folder}/{name}", "wb") as file:
         for frame in frames:
@@ -200,6 +224,12 @@ def main(arguments):
     write(folder, "tcp64", [tcp_frame(rng, 64) for _ in range(FRAMES)])
     write(folder, "udp64ipv6", [udp_ipv6_frame(rng, 64) for _ in range(FRAMES)])
     write(folder, "raw64", [ethernet(rng, 0x0800, ipv4(rng, 253, rng.randbytes(64))) for _ in range(FRAMES)])
+    honest = [frame for _ in range(STREAMS) for frame in stream_fragments(rng, 4)]
+    write(folder, "honest", honest)
+    write(folder, "firsts", first_fragments(rng, FIRSTS))
+    write(folder, "long", first_fragments(rng, LONG, 0, bytes(65512)))
+    write(folder, "flood", among(honest, first_fragments(rng, FLOOD), FLOOD))
+    write(folder, "far", among(honest, first_fragments(rng, FLOOD, 65528, b""), FLOOD))
 
 
 if __name__ == "__main__":

@@ -226,6 +226,17 @@ module _ (range : IpFragRange) (ordered : IsOrdered range) (sections : List IpFr
       split
       (joined range ordered (take from sections) between (drop to sections) parts)
 
+  -- The neighbours are the sections that merge with the range.
+  pub near_sections : filter (merges range) sections ≡ take (to - from) (drop from sections)
+  near_sections =
+      ap (λ all. filter (merges range) all) (sym split)
+      ∙ taken range ordered (take from sections) between (drop to sections) parts
+
+  pub near_apart : AreSeparate (take (to - from) (drop from sections))
+  near_apart =
+      to_apart (least_behind 0 (take from sections)) between
+      (split_behind range ordered (take from sections) between (drop to sections) parts).0
+
   is_apart : AreSeparate (take from sections ++ fold hull range between ∷ drop to sections)
   is_apart =
       to_apart 0 (take from sections ++ fold hull range between ∷ drop to sections)

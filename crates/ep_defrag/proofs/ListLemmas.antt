@@ -2,7 +2,7 @@
 use Rattle.std.proofs.Common.{◌≡◌, ℕ, suc, zero, ◌+◌, ◌<◌, ◌≤◌, Bool, true, false, cond, not, ◌||◌, List, [], ◌∷◌, ◌++◌}
 use Rattle.std.proofs.Common.{length, take, get_or, sym, refl, ap, ◌∙◌, arith, inl, inr}
 use Rattle.std.specs.List.{list_any, list_all, filter, count_by, range_with_len}
-use Rattle.std.proofs.lemmas.Bool.{cases_Bool, false≢true, and_parts, and_from, cases_eq}
+use Rattle.std.proofs.lemmas.Bool.{cases_Bool, false≢true, and_parts, and_from, cases_eq, or_right}
 use Rattle.std.proofs.lemmas.List.{append-nil}
 use Rattle.std.proofs.lemmas.List.Folds.{list_any-append}
 use Rattle.std.proofs.lemmas.List.Sorted.{list_any-IsPermutation, IsPermutation-filter_both}
@@ -41,6 +41,15 @@ each_of_range p from (suc n) all k low high =
       | inl same ↦ rw same parts.0
       | inr other ↦ each_of_range p (from + 1) n parts.1 k (omega arith) (omega arith)
     ]
+
+-- A number of a range that passes a test.
+pub any_of_range : (p : ℕ → Bool) (from n k : ℕ) → from ≤ k → k < from + n → p k ≡ true
+    → list_any p (range_with_len from n) ≡ true
+any_of_range p from zero k low high passes = absurd (omega arith)
+any_of_range p from (suc n) k low high passes = elim (cases_eq k from) [
+  | inl same ↦ ap (λ t. t || list_any p (range_with_len (from + 1) n)) (ap p (sym same) ∙ passes)
+  | inr other ↦ or_right (p from) _ (any_of_range p (from + 1) n k (omega arith) (omega arith) passes)
+]
 
 -- If an element passes, the count is at least 1.
 pub count_by-positive : {X : Type 0} (p : X → Bool) (xs : List X) → list_any p xs ≡ true → 1 ≤ count_by p xs

@@ -233,15 +233,19 @@ answer_is_allocation_failure answer.Returned = false
 pub record TakesFragment {T C : Type 0} (eq : C → C → Bool) (old new : IpDefragPool T C) (id : IpFragId C)
     (fragment : IpFragment) (timestamp : T) (result : Result (Option IpDefragPayloadVec) IpDefragError) : Type 0 where
   -- The fragment is answered as if its stream were alone, and only the entry of that stream changes.
-  pub answer : IsFalse (is_allocation_failure_in result) → (table : IpFragId C → Option (Kept T)) → HoldsTable eq old table
+  pub answer : IsFalse (is_allocation_failure_in result) → (table : IpFragId C → Option (Kept T))
+      → HoldsTable eq old table
       → plain_frame_answer result ≡ answer_with (limit_of old) id (table id) fragment
-  pub holds : IsFalse (is_allocation_failure_in result) → (table : IpFragId C → Option (Kept T)) → HoldsTable eq old table
+  pub holds : IsFalse (is_allocation_failure_in result) → (table : IpFragId C → Option (Kept T))
+      → HoldsTable eq old table
       → HoldsTable eq new (table_with_fragment (limit_of old) eq table id fragment timestamp)
   -- An allocation can fail only for a fragment that fits and is not in place, and this changes nothing.
-  pub memory : IsTrue (is_allocation_failure_in result) → (table : IpFragId C → Option (Kept T)) → HoldsTable eq old table
+  pub memory : IsTrue (is_allocation_failure_in result) → (table : IpFragId C → Option (Kept T))
+      → HoldsTable eq old table
       → MayNeedMemoryWithin (limit_of old) (accepted_in (table id)) fragment
       × (result ≡ Err (AllocationFailure (fragment_end fragment)))
-  pub keeps : IsTrue (is_allocation_failure_in result) → (table : IpFragId C → Option (Kept T)) → HoldsTable eq old table
+  pub keeps : IsTrue (is_allocation_failure_in result) → (table : IpFragId C → Option (Kept T))
+      → HoldsTable eq old table
       → HoldsTable eq new table
   -- In an open stream it fails only if the buffer's capacity is too small.
   pub lacks_capacity : IsTrue (is_allocation_failure_in result) → (stream : Stream T C)

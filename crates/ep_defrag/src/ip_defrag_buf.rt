@@ -1,19 +1,20 @@
 //! The buffer that reassembles the payload of one fragmented IP datagram.
 
-ghost use Rattle.std.specs.Prelude.{◌≡◌, ◌≢◌, ◌↔◌, ◌⊎◌, ℕ, ◌+◌, ◌<◌, ◌≤◌, List, [], ◌∷◌, ◌++◌, length, if◌then◌else◌, ◌&&◌, is_some, IsTrue, IsFalse, IfOk, IfErr, OnOk, OnErr, IsOk, MatchResult, MatchOption, None, Some, Err, vec_len, vec_capacity};
-ghost use Rattle.std.specs.List.{list_any, Any};
+ghost use Rattle.std.specs.Prelude.{◌≡◌, ◌≢◌, ◌↔◌, ◌⊎◌, ℕ, ◌+◌, ◌*◌, ◌^◌, ◌<◌, ◌≤◌, Bool, List, [], ◌∷◌, ◌++◌, length, if◌then◌else◌, ◌&&◌, is_some, IsTrue, IsFalse, IfOk, IfErr, OnOk, OnErr, IsOk, MatchResult, MatchOption, None, Some, Err, vec_len, vec_capacity};
+ghost use Rattle.std.specs.List.{list_any, filter, Any};
 ghost use Rattle.std.specs.List.Sorted.{IsPermutation};
 ghost use Rattle.ep_defrag.specs.Ranges.{merges, SharePoint, AreSeparate};
 ghost use Rattle.ep_defrag.specs.IpFragments.{IpFragment, fragment_with, fragment_end, range_of, IsComplete};
 ghost use Rattle.ep_defrag.specs.FragmentRefusals.{Fits, RefusesFragment, MayNeedMemory, refusal_at, is_allocation_failure};
 
 use crate::MAX_IP_DEFRAG_LEN_U16;
-use crate::ip_defrag_bytes::{reserve_to, write_fragment};
+use crate::ip_defrag_bytes::{reserve_to, write_fragment, write_missing};
 use crate::ip_defrag_error::IpDefragError;
-use crate::ip_defrag_sections::{is_payload_complete, join, neighbours};
+use crate::ip_defrag_sections::{includes, is_payload_complete, join, neighbours, overlaps};
 use crate::ip_frag_range::IpFragRange;
 use ep_base::{IpFragOffset, IpNumber};
 use std::alloc::AllocError;
+use std::ops::Range;
 
 /// Reassembles the payload of one IP datagram from its fragments, which may come in any order.
 #[derive(Debug, PartialEq, Eq, PartialOrd, Ord, Hash, Drop)]
@@ -32,8 +33,9 @@ pub struct IpDefragBuf {
 }
 
 impl IpDefragBuf {
-    ghost use Rattle.ep_defrag.specs.Buffers.{ip_number_of, data_of, sections_of, known_end_of, IsUnchanged, HoldsFragments, data_after, data_with, end_after, sections_after, is_gapless};
-    ghost use Rattle.ep_defrag.specs.Capacities.{data_capacity_of, sections_capacity_of, KeepsCapacity, LacksCapacity};
+    ghost use Rattle.ep_defrag.specs.Buffers.{ip_number_of, data_of, sections_of, known_end_of, IsUnchanged, HoldsFragments, AreNeighbours, data_after, data_with, end_after, sections_after, is_gapless};
+    ghost use Rattle.ep_defrag.specs.BoundedOverlaps.{contradicts, yielding, data_with_missing};
+    ghost use Rattle.ep_defrag.specs.Capacities.{data_capacity_of, sections_capacity_of, room_of, KeepsCapacity, SameCapacity, LacksCapacity};
 
     /// Returns an empty reassembly buffer for a payload of the protocol `ip_number`. It uses the memory of the two
     /// vectors that are passed, and discards their contents.
@@ -192,6 +194,7 @@ impl IpDefragBuf {
 
         // In all cases no capacity becomes smaller. An allocation fails only if the capacity is too small.
         ensures keeps_capacity { KeepsCapacity self.old self.new }
+        ensures err_capacity { OnErr result (SameCapacity self.old self.new) }
         ensures lacks_capacity { let fragment = fragment_with offset more_fragments payload.now in
             IfErr result (λ error. IsTrue (is_allocation_failure error) → LacksCapacity self.old fragment) }
     {
@@ -202,6 +205,108 @@ impl IpDefragBuf {
             });
         }
         Ok(())
+    }
+
+    /// Adds a fragment as [`add`](IpDefragBuf::add) does, but where fragments overlap, the bytes of the one added first
+    /// are kept.
+    ///
+    /// # Errors
+    ///
+    /// Those of [`add`](IpDefragBuf::add).
+    pub(crate) fn add_missing(
+        &mut self,
+        offset: IpFragOffset,
+        more_fragments: bool,
+        payload: &[u8],
+    ) -> Result<(), IpDefragError>
+        ensures fits { OnOk result ((accepted : List IpFragment) → HoldsFragments self.old accepted →
+            let fragment = fragment_with offset more_fragments payload.now in Fits accepted fragment) }
+        ensures holds { OnOk result ((accepted : List IpFragment) → HoldsFragments self.old accepted →
+            let fragment = fragment_with offset more_fragments payload.now in
+            HoldsFragments self.new (accepted ++ yielding accepted fragment ∷ [])) }
+        ensures refused { IfErr result (λ error. (accepted : List IpFragment) → HoldsFragments self.old accepted →
+            let fragment = fragment_with offset more_fragments payload.now in
+            RefusesFragment accepted fragment error
+            ⊎ (MayNeedMemory accepted fragment × (error ≡ IpDefragError.AllocationFailure (fragment_end fragment)))) }
+        ensures err { OnErr result (IsUnchanged self.old self.new) }
+        ensures ip_number { ip_number_of self.new ≡ ip_number_of self.old }
+        ensures keeps_capacity { KeepsCapacity self.old self.new }
+        ensures err_capacity { OnErr result (SameCapacity self.old self.new) }
+        ensures lacks_capacity { let fragment = fragment_with offset more_fragments payload.now in
+            IfErr result (λ error. IsTrue (is_allocation_failure error) → LacksCapacity self.old fragment) }
+    {
+        let filled = checked_range(self.end, self.reach(), offset, more_fragments, payload)?;
+        if self
+            .accept_missing(filled, more_fragments, payload)
+            .is_err()
+        {
+            return Err(IpDefragError::AllocationFailure {
+                len: usize::from(filled.end),
+            });
+        }
+        Ok(())
+    }
+
+    /// Returns the error that [`add`](IpDefragBuf::add) returns for a fragment if no allocation fails, and changes
+    /// nothing.
+    pub(crate) fn check(
+        &self,
+        offset: IpFragOffset,
+        more_fragments: bool,
+        payload: &[u8],
+    ) -> Result<(), IpDefragError>
+        ensures { (accepted : List IpFragment) → HoldsFragments self.now accepted →
+            let fragment = fragment_with offset more_fragments payload.now in
+            MatchResult result (λ _. Fits accepted fragment) (λ error. RefusesFragment accepted fragment error) }
+    {
+        checked_range(self.end, self.reach(), offset, more_fragments, payload)?;
+        Ok(())
+    }
+
+    /// Returns whether a fragment overlaps the accepted ones and does not only repeat their bytes. Its end is at most
+    /// 65535, as [`check`](IpDefragBuf::check) checks.
+    pub(crate) fn contradicts(&self, offset: IpFragOffset, payload: &[u8]) -> bool
+        requires { 8 * offset + length payload.now ≤ 65535 }
+        ensures { (accepted : List IpFragment) (more : Bool) → HoldsFragments self.now accepted →
+            result ≡ contradicts accepted (fragment_with offset more payload.now) }
+    {
+        let start = offset.byte_offset();
+        let range = IpFragRange {
+            start,
+            end: start + payload.len() as u16,
+        };
+        let near = self.near(range);
+        if !overlaps(near, range) {
+            return false;
+        }
+        if !includes(near, range) {
+            return true;
+        }
+        match self
+            .bytes
+            .get(usize::from(range.start)..usize::from(range.end))
+        {
+            Some(came) => came != payload,
+            None => true,
+        }
+    }
+
+    /// Byte ranges of accepted fragments that overlap or touch a range.
+    fn near(&self, range: IpFragRange) -> &[IpFragRange]
+        requires { range.start ≤ range.end }
+        ensures { result.now ≡ filter (merges range) (sections_of self.now) }
+    {
+        let near = neighbours(&self.sections, range);
+        &self.sections[near.start..near.end]
+    }
+
+    /// Memory of the two vectors in bytes, by their capacity: 1 for each payload byte, and 4 for each byte range.
+    #[inline]
+    pub fn room(&self) -> u128
+        ensures shown { result ≡ room_of self.now }
+        ensures fits { result < 2 ^ 67 }
+    {
+        self.bytes.capacity() as u128 + 4 * self.sections.capacity() as u128
     }
 
     /// Greatest end of the fragments accepted so far, in bytes from the start of the payload; 0 without fragments. A
@@ -231,6 +336,62 @@ impl IpDefragBuf {
         ensures ip_number { ip_number_of self.new ≡ ip_number_of self.old }
         ensures err { OnErr result (IsUnchanged self.old self.new) }
         ensures keeps_capacity { KeepsCapacity self.old self.new }
+        ensures err_capacity { OnErr result (SameCapacity self.old self.new) }
+        ensures in_place { range.end ≤ length (data_of self.old) →
+            IsTrue (list_any (merges range) (sections_of self.old)) → IsOk result }
+        ensures lacks_capacity { OnErr result ((data_capacity_of self.old < range.end)
+            ⊎ ((sections_capacity_of self.old ≤ length (sections_of self.old))
+            × IsFalse (list_any (merges range) (sections_of self.old)))) }
+    {
+        let near = self.reserve(range)?;
+        write_fragment(&mut self.bytes, range, payload);
+        self.merge(range, more_fragments, near);
+        Ok(())
+    }
+
+    /// Adds a fragment as [`accept`](IpDefragBuf::accept) does, but keeps the bytes of earlier fragments.
+    fn accept_missing(
+        &mut self,
+        range: IpFragRange,
+        more_fragments: bool,
+        payload: &[u8],
+    ) -> Result<(), AllocError>
+        requires { range.end ≡ range.start + length payload.now }
+        ensures data { OnOk result
+            (data_of self.new ≡ data_with_missing (data_of self.old) (sections_of self.old) range payload.now) }
+        ensures sections { OnOk result
+            (IsPermutation (sections_of self.new) (sections_after range (sections_of self.old))) }
+        ensures end { OnOk result
+            (known_end_of self.new ≡ (if more_fragments then known_end_of self.old else Some range.end)) }
+        ensures ip_number { ip_number_of self.new ≡ ip_number_of self.old }
+        ensures err { OnErr result (IsUnchanged self.old self.new) }
+        ensures keeps_capacity { KeepsCapacity self.old self.new }
+        ensures err_capacity { OnErr result (SameCapacity self.old self.new) }
+        ensures in_place { range.end ≤ length (data_of self.old) →
+            IsTrue (list_any (merges range) (sections_of self.old)) → IsOk result }
+        ensures lacks_capacity { OnErr result ((data_capacity_of self.old < range.end)
+            ⊎ ((sections_capacity_of self.old ≤ length (sections_of self.old))
+            × IsFalse (list_any (merges range) (sections_of self.old)))) }
+    {
+        let near = self.reserve(range)?;
+        let kept = &self.sections[near.start..near.end];
+        write_missing(&mut self.bytes, kept, range, payload);
+        self.merge(range, more_fragments, near);
+        Ok(())
+    }
+
+    /// Reserves capacity for a fragment that fills `range`: for its bytes, and for a section if it neither overlaps nor
+    /// touches any. Returns the indices of the sections that it overlaps or touches. If an allocation fails, both
+    /// capacities are unchanged: the list of sections is copied to a new vector, which is dropped then.
+    fn reserve(&mut self, range: IpFragRange) -> Result<Range<usize>, AllocError>
+        requires { range.start ≤ range.end }
+        ensures near { IfOk result (λ near. AreNeighbours range (sections_of self.new) near.start near.end) }
+        ensures data { OnOk result (range.end ≤ data_capacity_of self.new) }
+        ensures place { IfOk result (λ near. near.start ≡ near.end →
+            length (sections_of self.new) < sections_capacity_of self.new) }
+        ensures same { IsUnchanged self.old self.new }
+        ensures keeps_capacity { KeepsCapacity self.old self.new }
+        ensures err_capacity { OnErr result (SameCapacity self.old self.new) }
         ensures in_place { range.end ≤ length (data_of self.old) →
             IsTrue (list_any (merges range) (sections_of self.old)) → IsOk result }
         ensures lacks_capacity { OnErr result ((data_capacity_of self.old < range.end)
@@ -238,14 +399,31 @@ impl IpDefragBuf {
             × IsFalse (list_any (merges range) (sections_of self.old)))) }
     {
         let near = neighbours(&self.sections, range);
-        self.sections.reserve(usize::from(near.is_empty()))?;
+        if !near.is_empty() || self.sections.len() < self.sections.capacity() {
+            reserve_to(&mut self.bytes, range.end)?;
+            return Ok(near);
+        }
+        let grown = grown_sections(&self.sections)?;
         reserve_to(&mut self.bytes, range.end)?;
-        write_fragment(&mut self.bytes, range, payload);
+        self.sections = grown;
+        Ok(near)
+    }
+
+    /// Merges the range of a fragment into the sections, and sets the end of the payload if no more fragments follow.
+    fn merge(&mut self, range: IpFragRange, more_fragments: bool, near: Range<usize>)
+        requires ordered { range.start ≤ range.end }
+        requires near { AreNeighbours range (sections_of self.old) near.start near.end }
+        requires place { near.start ≡ near.end → length (sections_of self.old) < sections_capacity_of self.old }
+        ensures sections { IsPermutation (sections_of self.new) (sections_after range (sections_of self.old)) }
+        ensures end { known_end_of self.new ≡ (if more_fragments then known_end_of self.old else Some range.end) }
+        ensures data { data_of self.new ≡ data_of self.old }
+        ensures ip_number { ip_number_of self.new ≡ ip_number_of self.old }
+        ensures keeps_capacity { KeepsCapacity self.old self.new }
+    {
         join(&mut self.sections, range, near);
         if !more_fragments {
             self.end = Some(range.end);
         }
-        Ok(())
     }
 }
 
@@ -294,6 +472,17 @@ fn checked_range(
         });
     }
     Ok(IpFragRange { start, end })
+}
+
+/// Returns a copy of a list of sections with more capacity: twice that of the list, and at least 4.
+fn grown_sections(sections: &Vec<IpFragRange>) -> Result<Vec<IpFragRange>, AllocError>
+    ensures items { IfOk result (λ grown. grown.items ≡ sections.now.items) }
+    ensures capacity { IfOk result (λ grown. vec_capacity sections.now < vec_capacity grown) }
+{
+    let capacity = sections.capacity().saturating_mul(2).max(4);
+    let mut grown = Vec::with_capacity(*sections.allocator(), capacity)?;
+    grown.extend_from_slice(sections)?;
+    Ok(grown)
 }
 
 /// Returns the position after the last byte of a fragment, or `None` if this position is above 65535.

@@ -338,7 +338,7 @@ fn add(limit: u16, buffer: &mut IpDefragBuf, fragment: &Fragment) -> Result<bool
 }
 
 /// Returns whether a fragment ends above `limit` bytes from the start of the payload.
-fn is_too_long(limit: u16, fragment: &Fragment) -> bool
+pub(crate) fn is_too_long(limit: u16, fragment: &Fragment) -> bool
     ensures { IsTrue result ↔ (limit < fragment_end fragment.now) }
 {
     usize::from(limit) < usize::from(fragment.offset.byte_offset()) + fragment.payload.len()
@@ -346,7 +346,7 @@ fn is_too_long(limit: u16, fragment: &Fragment) -> bool
 
 /// Returns the reassembled payload with the bytes `payload`. Its protocol number and its length source (the length
 /// field of the IP version) are taken from `id`, the identifier of its stream.
-fn payload_of<CustomChannelId>(
+pub(crate) fn payload_of<CustomChannelId>(
     id: &IpFragId<CustomChannelId>,
     payload: Vec<u8>,
 ) -> IpDefragPayloadVec

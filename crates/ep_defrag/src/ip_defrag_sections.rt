@@ -5,6 +5,7 @@ ghost use Rattle.std.specs.List.{AllWithin, HoldsAt, list_any, remove_range};
 ghost use Rattle.std.specs.List.Sorted.{IsPermutation};
 ghost use Rattle.ep_defrag.specs.Ranges.{merges, AreSeparate};
 ghost use Rattle.ep_defrag.specs.Buffers.{AreNeighbours, is_gapless, sections_after};
+ghost use Rattle.ep_defrag.specs.BoundedOverlaps.{overlap, includes};
 
 use crate::ip_frag_range::IpFragRange;
 use std::ops::Range;
@@ -107,4 +108,18 @@ fn take_out(sections: &mut Vec<IpFragRange>, from: usize, to: usize)
     if from < to {
         sections.drain(from..to);
     }
+}
+
+/// Returns whether a range has a byte at a position of one of the `sections`.
+pub(crate) fn overlaps(sections: &[IpFragRange], range: IpFragRange) -> bool
+    ensures { result ≡ list_any (overlap range) sections.now }
+{
+    sections.iter().any(|section| range.overlaps(*section))
+}
+
+/// Returns whether one of the `sections` has each position of a range.
+pub(crate) fn includes(sections: &[IpFragRange], range: IpFragRange) -> bool
+    ensures { result ≡ list_any (λ section. includes section range) sections.now }
+{
+    sections.iter().any(|section| section.includes(range))
 }

@@ -2,6 +2,7 @@
 
 ghost use Rattle.std.specs.Prelude.{◌≡◌};
 ghost use Rattle.ep_defrag.specs.Ranges.{touches, merges, hull, merge_of};
+ghost use Rattle.ep_defrag.specs.BoundedOverlaps.{overlap, includes};
 
 /// A range of byte positions in a payload that is reassembled, for example the range that a fragment fills.
 #[derive(Clone, Copy, Debug, PartialEq, Eq, PartialOrd, Ord, Hash)]
@@ -29,6 +30,20 @@ impl IpFragRange {
             || self.touches(other.end)
             || other.touches(self.start)
             || other.touches(self.end)
+    }
+
+    /// Returns whether this range and `other` have a byte at a common position.
+    pub(crate) fn overlaps(&self, other: IpFragRange) -> bool
+        ensures { result ≡ overlap self.now other }
+    {
+        self.start.max(other.start) < self.end.min(other.end)
+    }
+
+    /// Returns whether this range has each position of `other`.
+    pub(crate) fn includes(&self, other: IpFragRange) -> bool
+        ensures { result ≡ includes self.now other }
+    {
+        self.start <= other.start && other.end <= self.end
     }
 
     /// Returns the range from the lesser start to the greater end of two ranges, even if there is a gap between them.

@@ -22,6 +22,11 @@ ghost use Rattle.ep_defrag.specs.BuiltCuts.{BuiltCut, IsBuiltCut, IsUnder, answe
 ghost use Rattle.ep_defrag.specs.BuiltCuts.{cut_call, cut_fragment, frames_to, complete_payload_of};
 ghost use Rattle.ep_defrag.specs.FrameCalls.{ReadCall, HasBytes, IsOnlyRead, pool_calls, frame_answers_to, pool_answers_in, read_answer};
 
+pub use crate::bounded_laws::{
+    alone_until_evicted, bounded_clones, bounded_clones_succeed, bounded_comparisons,
+    bounded_constants, counters_add_up, evicted_exactly, keys_change_nothing, no_ambiguity,
+    payloads_agree, within_limits,
+};
 use crate::frame_run::{FrameAnswer, FrameCall};
 use crate::ip_defrag_buf::IpDefragBuf;
 use crate::ip_defrag_error::IpDefragError;

@@ -1,9 +1,18 @@
 //! Reassembly of fragmented IP payloads (RFC 791, 3.2 and RFC 8200, 4.5).
 #![tactic(auto)]
 
+mod bounded_defrag_error;
+mod bounded_defrag_pool;
+mod bounded_laws;
+mod bounded_limits;
 mod carried_fragment;
+mod defrag_statistics;
+mod departure;
+mod evicted_stream;
 mod fragment;
 mod frame_run;
+mod held_stream;
+mod holdings;
 mod ip_defrag_buf;
 mod ip_defrag_bytes;
 mod ip_defrag_error;
@@ -12,6 +21,7 @@ mod ip_defrag_pool;
 mod ip_defrag_sections;
 mod ip_frag_id;
 mod ip_frag_range;
+mod keyed_hash;
 pub mod laws;
 mod name_hasher;
 mod pool_run;
@@ -19,6 +29,10 @@ mod run;
 mod spare_buffers;
 
 pub use arrayvec::ArrayVec;
+pub use bounded_defrag_error::BoundedDefragError;
+pub use bounded_defrag_pool::BoundedDefragPool;
+pub use bounded_limits::{BOUNDED_NAME_MEMORY, DefragLimits, OverlapPolicy};
+pub use defrag_statistics::DefragStatistics;
 pub use ep_base::err::{
     Layer, LenError, ip, ip_auth, ipv4, ipv6, ipv6_exts, linux_sll, macsec, tcp,
 };
@@ -32,6 +46,7 @@ pub use ep_link::{
 pub use ep_packet::err::SliceError;
 pub use ep_packet::{Entry, NetSlice, SlicedPacket};
 pub use ep_transport::{Icmpv4Slice, Icmpv6Slice, TcpSlice, TransportSlice, UdpSlice};
+pub use evicted_stream::{EvictedStream, EvictionCause};
 pub use fragment::Fragment;
 pub use frame_run::{FrameAnswer, FrameCall, run_frames};
 pub use ip_defrag_buf::IpDefragBuf;

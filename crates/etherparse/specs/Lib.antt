@@ -141,9 +141,20 @@ pub use Rattle.ep_defrag.specs.Capacities
 pub use Rattle.ep_defrag.specs.Runs
 pub use Rattle.ep_defrag.specs.Streams
 pub use Rattle.ep_defrag.specs.IpDefragErrorTexts
+pub use Rattle.ep_defrag.specs.BoundedLimits
+pub use Rattle.ep_defrag.specs.BoundedErrorTexts
+pub use Rattle.ep_defrag.specs.BoundedOverlaps
+pub use Rattle.ep_defrag.specs.BoundedSteps
+pub use Rattle.ep_defrag.specs.BoundedRuns
+pub use Rattle.ep_defrag.specs.BoundedCounts
+pub use Rattle.ep_defrag.specs.BoundedGiven
+pub use Rattle.ep_defrag.specs.BoundedNames
+pub use Rattle.ep_defrag.specs.BoundedAnswers
+pub use Rattle.ep_defrag.specs.BoundedPools
 -- constants of modules
 pub use Rattle.ep_base.specs.declared.ether_type.TheConstants as EtherTypeConstants
 pub use Rattle.ep_base.specs.declared.ip_number.TheConstants as IpNumberConstants
 pub use Rattle.ep_transport.specs.declared.icmpv4.TheConstants as Icmpv4Constants
 pub use Rattle.ep_transport.specs.declared.icmpv6.TheConstants as Icmpv6Constants
 pub use Rattle.ep_defrag.specs.declared.TheConstants as DefragConstants
+pub use Rattle.ep_defrag.specs.declared.bounded_limits.TheConstants as BoundedConstants

@@ -145,6 +145,13 @@ pub use Rattle.ep_build.specs.declared.err.build_write_error.BuildWriteError
 pub use Rattle.ep_build.specs.declared.link_part.LinkPart
 pub use Rattle.ep_build.specs.declared.packet_builder.PacketBuilderStep
 -- reassembly of fragments
+pub use Rattle.ep_defrag.specs.declared.bounded_defrag_error.BoundedDefragError
+pub use Rattle.ep_defrag.specs.declared.bounded_defrag_pool.BoundedDefragPool
+pub use Rattle.ep_defrag.specs.declared.bounded_limits.DefragLimits
+pub use Rattle.ep_defrag.specs.declared.bounded_limits.OverlapPolicy
+pub use Rattle.ep_defrag.specs.declared.defrag_statistics.DefragStatistics
+pub use Rattle.ep_defrag.specs.declared.evicted_stream.EvictedStream
+pub use Rattle.ep_defrag.specs.declared.evicted_stream.EvictionCause
 pub use Rattle.ep_defrag.specs.declared.frame_run.FrameAnswer
 pub use Rattle.ep_defrag.specs.declared.frame_run.FrameCall
 pub use Rattle.ep_defrag.specs.declared.ip_defrag_buf.IpDefragBuf

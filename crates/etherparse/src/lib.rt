@@ -54,12 +54,16 @@
 //!
 //! # Reassembling fragments
 //!
-//! [`defrag::IpDefragPool`] takes sliced packets and returns each payload when it is complete. A stream is the
-//! fragments of one datagram. `with_limit` limits the bytes of each stream, `return_buf` reuses the memory of a
-//! returned payload for the next one, and `retain` drops the streams whose last timestamp fails the caller's test.
-//! [`defrag::IpDefragBuf`] reassembles a single payload, for callers who separate the streams themselves.
-//! [`defrag::run_calls`] runs a list of calls with sliced packets, and [`defrag::run_frames`] a list of calls with
-//! frames as bytes.
+//! [`defrag::BoundedDefragPool`] takes sliced packets and returns each payload when it is complete. A stream is the
+//! fragments of one datagram. [`defrag::DefragLimits`] limit the number of streams, their memory and their age, and
+//! decide what happens if fragments overlap; `evicted` and `statistics` report each stream that is not completed. So
+//! hostile traffic cannot exhaust the memory.
+//!
+//! [`defrag::IpDefragPool`] has no limits of its own: `retain` drops the streams whose last timestamp fails the
+//! caller's test, `with_limit` limits the bytes of each stream, and `return_buf` reuses the memory of a returned
+//! payload for the next one. [`defrag::IpDefragBuf`] reassembles a single payload, for callers who separate the streams
+//! themselves. [`defrag::run_calls`] runs a list of calls with sliced packets, and [`defrag::run_frames`] a list of
+//! calls with frames as bytes.
 //!
 //! # Contracts that cite the library
 //!
@@ -67,10 +71,10 @@
 //! (`Types.Entry`, `Types.UdpHeader`), and every other file under its own name. `Frame.IsFrame entry bytes layers`
 //! holds if the bytes are a frame with these layers, and `FrameRefusals.RefusesFrame` if they are rejected with this
 //! error; `Layers.layers_of` is the layers of a sliced packet; `BuiltFrames.built_frame` is the frame that the builder
-//! writes; `Pools` and `Calls` define the state and the answers of a pool. Facts about the definitions themselves, as
-//! that bytes are either one frame or rejected with one error, are the contracts of the functions in [`laws`]. So a
-//! crate needs to list `etherparse` only. The crates `example_filter`, `example_flows`, `example_generators` and
-//! `example_reader` are small programs with such contracts.
+//! writes; `Pools` and `Calls` define the state and the answers of a pool, `BoundedPools` and `BoundedSteps` those of a
+//! bounded pool. Facts about the definitions themselves, as that bytes are either one frame or rejected with one error,
+//! are the contracts of the functions in [`laws`]. So a crate needs to list `etherparse` only. The crates
+//! `example_filter`, `example_flows`, `example_generators` and `example_reader` are small programs with such contracts.
 #![tactic(auto)]
 
 #[cfg(test)]
@@ -190,10 +194,11 @@ pub use ep_transport::icmpv6;
 /// Reassembly of fragmented IP payloads.
 pub mod defrag {
     pub use ep_defrag::{
-        Fragment, FrameAnswer, FrameCall, IpDefragBuf, IpDefragError, IpDefragPayloadVec,
-        IpDefragPool, IpFragId, IpFragRange, IpFragVersionSpecId, MAX_IP_DEFRAG_LEN,
-        MAX_IP_DEFRAG_LEN_U16, PoolAnswer, PoolCall, RunStop, add_all, run_calls,
-        run_calls_with_limit, run_frames,
+        BOUNDED_NAME_MEMORY, BoundedDefragError, BoundedDefragPool, DefragLimits, DefragStatistics,
+        EvictedStream, EvictionCause, Fragment, FrameAnswer, FrameCall, IpDefragBuf, IpDefragError,
+        IpDefragPayloadVec, IpDefragPool, IpFragId, IpFragRange, IpFragVersionSpecId,
+        MAX_IP_DEFRAG_LEN, MAX_IP_DEFRAG_LEN_U16, OverlapPolicy, PoolAnswer, PoolCall, RunStop,
+        add_all, run_calls, run_calls_with_limit, run_frames,
     };
 }
 

@@ -1,23 +1,23 @@
--- The pool after a frame is added, and after streams are dropped by time.
-use Rattle.std.specs.Prelude.{ℕ, Bool, Option, Result, nat_le}
+-- The pool after a frame is added, and after datagrams are evicted by time.
+use Rattle.std.specs.Prelude.{ℕ, Bool, Option, None, Result, List}
 use Rattle.std.specs.Option.{option_map}
-use Rattle.etherparse.specs.Calls.{Kept, kept_by}
-use Rattle.etherparse.specs.Layers.{Layers}
+use Rattle.etherparse.specs.BoundedPools.{HoldsRows, DoesStep, TakesBoundedFrame}
+use Rattle.etherparse.specs.BoundedSteps.{Row, expires_names}
 use Rattle.etherparse.specs.FrameFragments.{fragment_of}
-use Rattle.etherparse.specs.Pools.{HoldsTable, TakesFrame}
+use Rattle.etherparse.specs.Layers.{Layers}
 use Rattle.etherparse.specs.Streams.{packet_fragment}
-use Rattle.etherparse.specs.Types.IpDefragError.{IpDefragError}
+use Rattle.etherparse.specs.Types.BoundedDefragError.{BoundedDefragError}
+use Rattle.etherparse.specs.Types.BoundedDefragPool.{BoundedDefragPool}
 use Rattle.etherparse.specs.Types.IpDefragPayloadVec.{IpDefragPayloadVec}
-use Rattle.etherparse.specs.Types.IpDefragPool.{IpDefragPool}
-use Rattle.etherparse.specs.Types.IpFragId.{IpFragId}
 
 -- The pool is passed a frame with these layers at this time, and returns this result.
-abbrev pub Takes : (Unit {0} → Unit {0} → Bool) → Layers → ℕ → IpDefragPool ℕ (Unit {0}) → IpDefragPool ℕ (Unit {0})
-    → Result (Option IpDefragPayloadVec) IpDefragError → Type 0
+abbrev pub Takes : (Unit {0} → Unit {0} → Bool) → Layers → ℕ → BoundedDefragPool (Unit {0}) → BoundedDefragPool (Unit {0})
+    → Result (Option IpDefragPayloadVec) BoundedDefragError → Type 0
 Takes eq layers time old new answer =
-    TakesFrame eq old new (option_map packet_fragment (fragment_of layers)) time tt answer
+    TakesBoundedFrame eq old new (option_map packet_fragment (fragment_of layers)) time tt answer
 
--- The pool keeps exactly the streams whose last accepted fragment arrived at this time or later, unchanged.
-abbrev pub DropsBefore : (Unit {0} → Unit {0} → Bool) → ℕ → IpDefragPool ℕ (Unit {0}) → IpDefragPool ℕ (Unit {0}) → Type 0
-DropsBefore eq oldest old new = (table : IpFragId (Unit {0}) → Option (Kept ℕ)) → HoldsTable eq old table
-    → HoldsTable eq new (λ name. kept_by (nat_le oldest) (table name))
+-- The pool evicts exactly the datagrams that are older than its age, or idle for longer than this.
+abbrev pub Expires : (Unit {0} → Unit {0} → Bool) → ℕ → ℕ → BoundedDefragPool (Unit {0}) → BoundedDefragPool (Unit {0})
+    → Type 0
+Expires eq time idle old new = (rows : List (Row (Unit {0}))) (number : ℕ) → HoldsRows eq old rows
+    → DoesStep eq old new (expires_names time idle) number None rows

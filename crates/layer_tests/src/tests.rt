@@ -1,4 +1,4 @@
-//! Tests of each crate that parses and writes headers, and the helpers that the tests share.
+//! Tests of each crate that parses and writes headers, of `lru_table`, and the helpers that the tests share.
 
 mod base;
 mod checks;
@@ -6,4 +6,5 @@ mod derives;
 mod ext;
 mod ip;
 mod link;
+mod lru_tables;
 mod transport;

@@ -10,6 +10,8 @@
 #[cfg(test)]
 mod ample;
 #[cfg(test)]
+mod bounded;
+#[cfg(test)]
 mod buffers;
 #[cfg(test)]
 mod checks;

@@ -1,7 +1,7 @@
 //! Laws about the measurements of the benchmark program. Each is the contract of a function with an empty body.
 
 ghost use Rattle.std.specs.Prelude.{◌≡◌, ◌↔◌, ◌∷◌, [], IsTrue};
-ghost use Rattle.slice_bench.specs.declared.measure.Measurement.TheVariants.{Building, BuildingFromAddresses};
+ghost use Rattle.slice_bench.specs.declared.measure.Measurement.TheVariants.{Bounded, BoundedByDefault, Building, BuildingFromAddresses};
 ghost use Rattle.slice_bench.specs.declared.measure.Measurement.TheVariants.{BuildingWithSize};
 ghost use Rattle.slice_bench.specs.declared.measure.Measurement.TheVariants.{Decoding, Filling, LaxFilling};
 ghost use Rattle.slice_bench.specs.declared.measure.Measurement.TheVariants.{ReadingIpHeaders, Reassembly, Rereading};
@@ -13,7 +13,7 @@ use crate::measure::Measurement;
 /// made.
 pub fn constants()
     ensures { Measurement.ALL ≡ Slicing ∷ SlicingNotInlined ∷ Filling ∷ LaxFilling ∷ Decoding ∷ Rereading ∷ SlicingIpv4
-        ∷ ReadingIpHeaders ∷ Building ∷ BuildingFromAddresses ∷ BuildingWithSize ∷ Reassembly ∷ [] }
+        ∷ ReadingIpHeaders ∷ Building ∷ BuildingFromAddresses ∷ BuildingWithSize ∷ Reassembly ∷ Bounded ∷ BoundedByDefault ∷ [] }
 {}
 
 /// States that `==` of two `Measurement` values is true if and only if they are the same measurement.

@@ -9,7 +9,8 @@ use crate::columns::{
     Decoding, Filling, LaxFilling, ReadingIpHeaders, Rereading, Slicing, SlicingIpv4,
     SlicingNotInlined, total,
 };
-use crate::reassembly::reassembled_len;
+use crate::reassembly::{bounded_len, reassembled_len, unlimited};
+use etherparse::defrag::DefragLimits;
 use std::alloc::Global;
 use std::rt::Clock;
 use std::time::Instant;
@@ -54,11 +55,17 @@ pub enum Measurement {
     BuildingWithSize,
     /// Slices each Ethernet frame and passes it to a reassembly pool, which is new in each round.
     Reassembly,
+    /// Slices each Ethernet frame and passes it to a bounded reassembly pool without limits that it reaches, which is new
+    /// in each round.
+    Bounded,
+    /// Slices each Ethernet frame and passes it to a bounded reassembly pool with the default limits, which is new in each
+    /// round.
+    BoundedByDefault,
 }
 
 impl Measurement {
     /// All measurements of the benchmark program, in the order in which they are made.
-    pub const ALL: [Measurement; 12] = [
+    pub const ALL: [Measurement; 14] = [
         Measurement::Slicing,
         Measurement::SlicingNotInlined,
         Measurement::Filling,
@@ -71,6 +78,8 @@ impl Measurement {
         Measurement::BuildingFromAddresses,
         Measurement::BuildingWithSize,
         Measurement::Reassembly,
+        Measurement::Bounded,
+        Measurement::BoundedByDefault,
     ];
 
     /// Name of the measurement, as the argument MEASUREMENT and in the printed results.
@@ -90,6 +99,8 @@ impl Measurement {
             Measurement::BuildingFromAddresses => "building-from-addresses",
             Measurement::BuildingWithSize => "building-with-size",
             Measurement::Reassembly => "reassembly",
+            Measurement::Bounded => "bounded",
+            Measurement::BoundedByDefault => "bounded-by-default",
         }
     }
 
@@ -103,7 +114,9 @@ impl Measurement {
             | Measurement::LaxFilling
             | Measurement::Decoding
             | Measurement::Rereading
-            | Measurement::Reassembly => corpus.frames.len(),
+            | Measurement::Reassembly
+            | Measurement::Bounded
+            | Measurement::BoundedByDefault => corpus.frames.len(),
             Measurement::SlicingIpv4 | Measurement::ReadingIpHeaders => corpus.ip_packets.len(),
             Measurement::Building
             | Measurement::BuildingFromAddresses
@@ -133,6 +146,10 @@ impl Measurement {
             }
             Measurement::BuildingWithSize => built_with_size(alloc, corpus.frame_parts.as_slice()),
             Measurement::Reassembly => reassembled_len(alloc, corpus.frames.as_slice()),
+            Measurement::Bounded => bounded_len(alloc, unlimited(), corpus.frames.as_slice()),
+            Measurement::BoundedByDefault => {
+                bounded_len(alloc, DefragLimits::default(), corpus.frames.as_slice())
+            }
         }
     }
 }

@@ -8,6 +8,7 @@ use crate::*;
 use std::alloc::{AllocError, Global};
 use std::process::Abort;
 
+mod bounded;
 mod buffers;
 mod drops;
 mod frames;

@@ -12,6 +12,8 @@ use std::hash::Hash;
 
 fn copies_and_orders<T: Copy + Clone + Debug + Hash + Ord>() {}
 
+fn copies_and_hashes<T: Copy + Clone + Debug + Hash + Eq>() {}
+
 fn clones_and_orders<T: Clone + Debug + Hash + Ord>() {}
 
 fn clones_and_hashes<T: Clone + Debug + Hash + Eq>() {}
@@ -55,10 +57,16 @@ fn derives_of_defrag() {
     orders::<IpDefragBuf>();
     hashes::<IpFragId<u8>>();
     compares::<IpDefragPayloadVec>();
+    copies_and_hashes::<DefragLimits>();
+    copies_and_hashes::<OverlapPolicy>();
+    copies_and_hashes::<EvictionCause>();
+    copies::<DefragStatistics>();
+    clones::<BoundedDefragError>();
     compares::<PoolAnswer>();
     compares::<FrameAnswer>();
     compares::<RunStop>();
     is_printed::<Fragment<'_>>();
+    is_printed::<EvictedStream<u8>>();
     is_printed::<PoolCall<'_, u64, u8, u64>>();
     is_printed::<FrameCall<'_, u64, u8, u64>>();
 }

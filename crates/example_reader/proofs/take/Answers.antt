@@ -4,7 +4,7 @@ use Rattle.example_reader.proofs.take.Goals as goal
 
 pub returns-in-Ok : goal.returns-in-Ok
 returns-in-Ok c = record {
-  frames = λ layers is. rw (sym (c.in-Ok.ensures.only layers is)) c.process_sliced_packet.ensures;
+  frames = λ layers is. rw (sym (c.in-Ok.ensures.only layers is)) c.process_sliced_packet.ensures.takes;
   others = λ none. absurd (none (layers_of c.slice_into.new.self) c.in-Ok.ensures.ok);
 }
 

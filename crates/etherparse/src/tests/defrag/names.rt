@@ -94,16 +94,15 @@ fn push(rt: &impl Abort, frame: &mut Vec<u8>, bytes: &[u8]) {
     frame.extend_from_slice(bytes).expect(rt, "no memory");
 }
 
-/// Passes a fragment of at most 100 payload bytes to a reassembly pool and returns its answer. `part` is a pair: the
-/// offset in units of 8 bytes, and 1 if more fragments follow, else 0.
-pub(crate) fn answer_to(
+/// Returns an Ethernet II frame with a fragment of at most 100 payload bytes. `part` is a pair: the offset in units of
+/// 8 bytes, and 1 if more fragments follow, else 0.
+pub(crate) fn frame_of(
     rt: &impl Abort,
     alloc: Global,
-    pool: &mut IpDefragPool<u64, u8>,
     (version, tags, source, number): Stream,
     part: (u8, u8),
     payload: &[u8],
-) -> Answer {
+) -> Vec<u8> {
     let len = u8::try_from(payload.len()).unwrap_or(0);
     let mut frame = Vec::new(alloc);
     push(
@@ -118,6 +117,20 @@ pub(crate) fn answer_to(
         push(rt, &mut frame, &ipv6(source, number, part, len));
     }
     push(rt, &mut frame, payload);
+    frame
+}
+
+/// Passes a fragment of at most 100 payload bytes to a reassembly pool and returns its answer. `part` is a pair: the
+/// offset in units of 8 bytes, and 1 if more fragments follow, else 0.
+pub(crate) fn answer_to(
+    rt: &impl Abort,
+    alloc: Global,
+    pool: &mut IpDefragPool<u64, u8>,
+    stream: Stream,
+    part: (u8, u8),
+    payload: &[u8],
+) -> Answer {
+    let frame = frame_of(rt, alloc, stream, part, payload);
     let packet = SlicedPacket::from_ethernet(&frame).expect(rt, "refused");
     pool.process_sliced_packet(&packet, 1, 0)
 }

@@ -1,0 +1,2 @@
+pub mod PoolCalls
+pub mod Words

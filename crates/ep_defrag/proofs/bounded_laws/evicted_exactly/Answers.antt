@@ -1,0 +1,31 @@
+use Rattle.std.proofs.Common.{[], ◌∷◌, ◌++◌, append_assoc}
+use Rattle.ep_defrag.proofs.BoundedLimitLemmas.{remaining-end, remaining-beyond, are_within-one, are_within-shares}
+use Rattle.ep_defrag.proofs.BoundedStayLemmas.{others_stay, rejected_stays}
+use Rattle.ep_defrag.proofs.bounded_laws.evicted_exactly.Goals as goal
+
+pub returns-clause-stays : goal.returns-clause-stays
+returns-clause-stays g c limits earlier later row own room fits =
+    let stays = remaining-end limits earlier (row ∷ later ++ own ∷ []) fits in (
+      stays.0,
+      rw (append_assoc earlier (row ∷ later) (own ∷ []), append_assoc stays.0 (row ∷ later) (own ∷ [])) stays.1,
+    )
+
+pub returns-clause-goes : goal.returns-clause-goes
+returns-clause-goes g c limits earlier later row own room unfit =
+    rw (append_assoc earlier (row ∷ later) (own ∷ [])) (remaining-beyond limits earlier row (later ++ own ∷ []) unfit)
+
+pub returns-clause-own : goal.returns-clause-own
+returns-clause-own g c limits others own room =
+    remaining-end limits others (own ∷ []) (are_within-one limits own room)
+
+pub returns-clause-survival : goal.returns-clause-survival
+returns-clause-survival g c limits rows shares few = are_within-shares limits rows shares few
+
+pub returns-clause-others : goal.returns-clause-others
+returns-clause-others g c limits rows name other fragment now number granted differs answer =
+    others_stay g.CustomChannelId.PartialEq.eq g.met.CustomChannelId.Eq.laws limits rows name other fragment now number
+    granted differs answer
+
+pub returns-clause-rejected : goal.returns-clause-rejected
+returns-clause-rejected g c limits rows name fragment now number granted error answer =
+    rejected_stays limits g.CustomChannelId.PartialEq.eq rows name fragment now number granted error answer

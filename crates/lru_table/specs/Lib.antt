@@ -1,0 +1,3 @@
+pub mod LruTable
+pub mod SlotHashes
+pub mod TableLends
