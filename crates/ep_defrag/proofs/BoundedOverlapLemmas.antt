@@ -24,8 +24,9 @@ use Rattle.ep_defrag.specs.BoundedOverlaps.{overlap, includes, yielding, is_miss
 use Rattle.ep_defrag.proofs.ListLemmas.{any_of_range, each_of_range, list_all-range}
 use Rattle.ep_defrag.proofs.SectionLemmas.{IsOrdered}
 use Rattle.ep_defrag.proofs.ApartLemmas.{AreApartFrom, from_apart, none_before, has_byte_at}
-use Rattle.ep_defrag.proofs.DataLemmas.{fits_at, refusal_at-fits, covered_below_reach, end_is_greatest, get_or-assembled}
-use Rattle.ep_defrag.proofs.DataLemmas.{get_or-append_zeros, length-extended, length-overwritten, get_or-overwritten}
+use Rattle.ep_defrag.proofs.DataLemmas.{fits_at, refusal_at-fits, covered_below_reach, uncovered_from_reach, end_is_greatest}
+use Rattle.ep_defrag.proofs.DataLemmas.{get_or-assembled, get_or-append_zeros, length-extended, length-overwritten}
+use Rattle.ep_defrag.proofs.DataLemmas.{get_or-overwritten}
 use Rattle.ep_defrag.proofs.HeldLemmas.{data_len, HoldsFragments-push}
 
 -- ---- a fragment with the bytes of earlier ones
@@ -244,6 +245,14 @@ module _ (buffer : IpDefragBuf) (accepted : List IpFragment) (fragment : IpFragm
   pub no_contradiction : list_any (overlap (range_of fragment)) (sections_of buffer) ≡ false
       → contradicts accepted fragment ≡ false
   no_contradiction none = rw (shares-sections ∙ none) refl
+
+  -- A fragment that begins at the end of the data or after it overlaps nothing.
+  pub no_contradiction-after : length (data_of buffer) ≤ fragment_start fragment
+      → contradicts accepted fragment ≡ false
+  no_contradiction-after after =
+      rw (none_of_range (is_covered accepted) (fragment_start fragment) (length fragment.bytes)
+      (λ position low high. uncovered_from_reach accepted position
+      (omega (arith, after, low, data_len buffer accepted held)))) refl
 
   module _ (some : list_any (overlap (range_of fragment)) (sections_of buffer) ≡ true) where
     against : repeats_bytes accepted fragment ≡ false → contradicts accepted fragment ≡ true

@@ -4,15 +4,27 @@ use Rattle.std.proofs.Common.{sym, ap, ◌∙◌, refl, arith, inl, inr}
 use Rattle.std.proofs.lemmas.Bool.{cases_lt}
 use Rattle.std.proofs.Math.Seq.{take-append-add, drop-append_seam}
 use Rattle.std.proofs.lemmas.List.{append-nil, take-append-drop, take-append-le, drop_all, take_all, take-replicate}
-use Rattle.std.proofs.lemmas.List.{length-take-le}
+use Rattle.std.proofs.lemmas.List.{length-take-le, length-append, length-replicate, replicate-append-replicate}
 use Rattle.ep_defrag.specs.Buffers.{extended, overwritten}
 use Rattle.ep_defrag.proofs.DataLemmas.{length-extended}
 
 -- Data that reaches the end is not extended.
-extended-within : (contents : List ℕ) (end : ℕ) → end ≤ length contents → extended contents end ≡ contents
+pub extended-within : (contents : List ℕ) (end : ℕ) → end ≤ length contents → extended contents end ≡ contents
 extended-within contents end within =
     let none : end - length contents ≡ 0 = omega arith in
     rw none (append-nil contents)
+
+-- Data that was extended in part is extended to the same end.
+pub extended-more : (contents : List ℕ) (end count : ℕ) → count ≤ end - length contents
+    → extended (contents ++ replicate count 0) end ≡ extended contents end
+extended-more contents end count below =
+    let longer : length (contents ++ replicate count 0) ≡ length contents + count =
+    length-append contents (replicate count 0) ∙ ap (λ n. length contents + n) (length-replicate {A = ℕ} count 0) in
+    let rest = end - length (contents ++ replicate count 0) in
+    let parts : count + rest ≡ end - length contents = omega (arith, longer, below) in
+    append_assoc contents (replicate count 0) (replicate rest 0)
+    ∙ ap (λ (zeros : List ℕ). contents ++ zeros)
+    (replicate-append-replicate count rest 0 ∙ ap (λ n. replicate {A = ℕ} n 0) parts)
 
 -- The bytes before a position do not depend on how far after it the data is extended.
 take-extended : (contents : List ℕ) (start end : ℕ) → start ≤ end

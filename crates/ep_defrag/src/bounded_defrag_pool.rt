@@ -10,7 +10,7 @@ use crate::bounded_defrag_error::BoundedDefragError;
 use crate::bounded_limits::DefragLimits;
 use crate::carried_fragment::carried_fragment;
 use crate::defrag_statistics::DefragStatistics;
-use crate::evicted_stream::EvictedStream;
+use crate::evicted_stream::{EvictedStream, EvictionCause};
 use crate::fragment::Fragment;
 use crate::held_stream::HeldStream;
 use crate::holdings::Holdings;
@@ -183,9 +183,11 @@ impl<CustomChannelId: Eq + Hash + Drop> BoundedDefragPool<CustomChannelId> {
         self.holdings.statistics.fit();
         self.holdings.evicted.clear();
         let limits = self.limits;
-        let answer = match self.holdings.find(&id) {
+        let (lookup, expired) = self.holdings.find_expired(&limits, &id, now);
+        let answer = match lookup {
             Lookup::Present(slot) => {
-                if self.holdings.evict_expired(&limits, slot, now) {
+                if expired {
+                    self.holdings.evict(slot, EvictionCause::Expired);
                     self.holdings.begin_stream(&limits, slot, id, fragment, now)
                 } else {
                     self.holdings

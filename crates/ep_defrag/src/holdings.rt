@@ -51,7 +51,7 @@ impl<CustomChannelId: Eq + Hash + Drop> Holdings<CustomChannelId> {
     ghost use Rattle.ep_defrag.specs.declared.ip_frag_id.IpFragId.{IpFragId};
     ghost use Rattle.std.specs.Prelude.{◌≢◌, ◌<◌, ◌^◌, nat_lt, IsTrue, IsFalse, true, is_some, [], ◌∷◌, ◌++◌, Some, None, Ok, Err, IfOk, OnOk, OnErr, IfSome, vec_len, List, if◌then◌else◌};
     ghost use Rattle.std.specs.List.{AllZip};
-    ghost use Rattle.lru_table.specs.LruTable.{entry_at, without, with_newest, IsTaken, IsPresent, IsVacant, Finds};
+    ghost use Rattle.lru_table.specs.LruTable.{entry_at, found_value, without, with_newest, IsTaken, IsPresent, IsVacant, Finds};
     ghost use Rattle.ep_defrag.specs.KeyedHashes.{name_hash};
     ghost use Rattle.ep_defrag.specs.BoundedCounts.{counted, no_statistics};
     ghost use Rattle.ep_defrag.specs.BoundedLimits.{most_names};
@@ -85,6 +85,27 @@ impl<CustomChannelId: Eq + Hash + Drop> Holdings<CustomChannelId> {
             (name_hash CustomChannelId.hash_input self.now.keys id.now) id.now result }
     {
         self.table.find(hash_of(&self.keys, id), id)
+    }
+
+    /// Returns what [`find`](Holdings::find) returns, and whether the stream in this slot is older than the age of the
+    /// limits.
+    pub(crate) fn find_expired(
+        &self,
+        limits: &DefragLimits,
+        id: &IpFragId<CustomChannelId>,
+        now: u128,
+    ) -> (Lookup, bool)
+        ensures found { Finds ⟦<IpFragId<CustomChannelId> as PartialEq>⟧.eq self.now.table
+            (name_hash CustomChannelId.hash_input self.now.keys id.now) id.now result.0 }
+        ensures expired { IfSome (found_value result.0 self.now.table)
+            (λ stream. result.1 ≡ nat_lt (stream.first + limits.now.age) now) }
+    {
+        let (lookup, stream) = self.table.find_value(hash_of(&self.keys, id), id);
+        let expired = match stream {
+            Some(stream) => stream.is_expired(limits, now),
+            None => false,
+        };
+        (lookup, expired)
     }
 
     /// Removes a name from the table, subtracts it from the sums, and counts its stream if it was open. Returns `None`
@@ -140,30 +161,6 @@ impl<CustomChannelId: Eq + Hash + Drop> Holdings<CustomChannelId> {
                 first: stream.first,
             });
         }
-    }
-
-    /// Evicts the stream in a slot if it is older than the age of the limits, and returns whether it does so.
-    pub(crate) fn evict_expired(&mut self, limits: &DefragLimits, slot: Slot, now: u128) -> bool
-        requires taken { IsTaken slot self.old.table }
-        requires reportable { vec_len self.old.evicted < vec_capacity self.old.evicted }
-        ensures evicted { IsTrue result →
-            IfSome (entry_at slot self.old.table) (EvictsName self.old self.new slot EvictionCause.Expired) }
-        ensures stays { IsFalse result → self.new ≡ self.old }
-        ensures vacated { IsTrue result → (id : IpFragId CustomChannelId) →
-            IsPresent ⟦<IpFragId<CustomChannelId> as PartialEq>⟧.eq self.old.table slot id →
-            IsVacant ⟦<IpFragId<CustomChannelId> as PartialEq>⟧.eq self.new.table slot id }
-        ensures expired { IfSome (entry_at slot self.old.table)
-            (λ name. result ≡ nat_lt (name.1.first + limits.now.age) now) }
-        ensures left { AreLeft self.old self.new }
-    {
-        let expired = match self.table.get(slot) {
-            Some((_, stream)) => stream.is_expired(limits, now),
-            None => false,
-        };
-        if expired {
-            self.evict(slot, EvictionCause::Expired);
-        }
-        expired
     }
 
     /// Returns whether `expire` evicts the stream in a slot: it is older than the age of the limits, or its last

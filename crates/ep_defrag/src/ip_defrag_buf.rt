@@ -264,13 +264,16 @@ impl IpDefragBuf {
     }
 
     /// Returns whether a fragment overlaps the accepted ones and does not only repeat their bytes. Its end is at most
-    /// 65535, as [`check`](IpDefragBuf::check) checks.
+    /// 65535, as [`check`](IpDefragBuf::check) checks. A fragment after all others, as in order, takes no search.
     pub(crate) fn contradicts(&self, offset: IpFragOffset, payload: &[u8]) -> bool
         requires { 8 * offset + length payload.now ≤ 65535 }
         ensures { (accepted : List IpFragment) (more : Bool) → HoldsFragments self.now accepted →
             result ≡ contradicts accepted (fragment_with offset more payload.now) }
     {
         let start = offset.byte_offset();
+        if start >= self.reach() {
+            return false;
+        }
         let range = IpFragRange {
             start,
             end: start + payload.len() as u16,

@@ -9,6 +9,9 @@ ghost use Rattle.ep_defrag.specs.BoundedOverlaps.{data_with_missing};
 use crate::ip_frag_range::IpFragRange;
 use std::alloc::AllocError;
 
+/// Bytes of a gap, which are copied faster than they are pushed one by one.
+const ZEROS: [u8; 1024] = [0; 1024];
+
 /// Reserves capacity for the payload bytes up to position `end`. A vector that has to grow at least doubles its
 /// capacity, to at most twice `end`, so that fragments that arrive in order seldom cause a reallocation.
 #[inline]
@@ -95,8 +98,9 @@ fn fill_gap(bytes: &mut Vec<u8>, start: usize)
     ensures items { bytes.new.items ≡ extended bytes.old.items start }
     ensures capacity { vec_capacity bytes.old ≤ vec_capacity bytes.new }
 {
-    if bytes.len() < start {
-        bytes.resize(start, 0).unwrap();
+    while bytes.len() < start {
+        let count = ZEROS.len().min(start - bytes.len());
+        bytes.extend_from_slice(&ZEROS[..count]).unwrap();
     }
 }
 

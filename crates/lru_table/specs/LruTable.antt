@@ -2,7 +2,7 @@
 -- first.
 use Rattle.std.specs.Prelude.{◌≡◌, ℕ, zero, suc, ◌+◌, ◌^◌, ◌<◌, Bool, true, false, cond, ◌==◌, ◌&&◌, List, [], ◌∷◌, ◌++◌, Option, Some, None, Contains}
 use Rattle.std.specs.List.{IsDistinct}
-use Rattle.std.specs.Option.{option_map_or}
+use Rattle.std.specs.Option.{option_map, option_map_or}
 use Rattle.std.specs.Map.{keys_of, lookup, lookup_entry, remove_entry}
 use Rattle.lru_table.specs.declared.slot.Slot.{Slot}
 use Rattle.lru_table.specs.declared.lookup.Lookup.{Lookup}
@@ -20,6 +20,11 @@ module _ {K V : Type 0} where
   -- the key and the value in a slot, or none if the slot is free
   abbrev pub entry_at : Slot → Entries K V → Option (K × V)
   entry_at slot = lookup (same_slot slot)
+
+  -- the value of the entry that a look-up found, or none if it found none
+  abbrev pub found_value : Lookup → Entries K V → Option V
+  found_value (Present slot) entries = option_map (λ e. e.1) (entry_at slot entries)
+  found_value (Vacant slot) entries = None
 
   -- an entry is in the slot
   abbrev pub IsTaken : Slot → Entries K V → Type 0

@@ -1,8 +1,8 @@
 //! The table, over a cache of the crate `lru` whose keys are slots.
 
-ghost use Rattle.std.specs.Prelude.{◌≡◌, ◌==◌, ◌^◌, ◌<◌, [], ◌∷◌, ◌++◌, length, drop, slice_get, option_map, IsTrue, IfOk, OnOk, OnErr};
+ghost use Rattle.std.specs.Prelude.{◌≡◌, ◌==◌, ◌^◌, ◌<◌, [], ◌∷◌, ◌++◌, length, drop, slice_get, option_map, option_copied, IsTrue, IfOk, OnOk, OnErr};
 ghost use Rattle.std.specs.Map.Iter.{deref_pair};
-ghost use Rattle.lru_table.specs.LruTable.{entry_at, without, with_newest, IsPresent, IsVacant, Finds, IsTable};
+ghost use Rattle.lru_table.specs.LruTable.{entry_at, found_value, without, with_newest, IsPresent, IsVacant, Finds, IsTable};
 
 use crate::lookup::Lookup;
 use crate::slot::{Slot, SlotHasher};
@@ -83,26 +83,37 @@ impl<K: Eq, V> LruTable<K, V> {
 
     /// Returns the slot of the entry with this hash and an equal key, or if there is none, the free slot of this hash
     /// with the least number. An entry for the key can be inserted there.
+    #[inline]
     pub fn find(&self, hash: u64, key: &K) -> Lookup
         ensures found { Finds K.eq self.now hash key.now result }
         ensures valid { IsTable K.eq self.now }
     {
+        self.find_value(hash, key).0
+    }
+
+    /// Returns what [`find`](LruTable::find) returns, with the value of the entry if it is present. This does not count
+    /// as a use.
+    pub fn find_value(&self, hash: u64, key: &K) -> (Lookup, Option<&V>)
+        ensures found { Finds K.eq self.now hash key.now result.0 }
+        ensures value { option_copied result.1 ≡ found_value result.0 self.now }
+        ensures valid { IsTable K.eq self.now }
+    {
         if self.cache.len() == 0 {
-            return Lookup::Vacant(Slot { hash, number: 0 });
+            return (Lookup::Vacant(Slot { hash, number: 0 }), None);
         }
         let mut free = self.numbers;
         for number in 0..self.numbers {
             let slot = Slot { hash, number };
             match self.cache.peek(&slot) {
-                Some((stored, _)) => {
+                Some((stored, value)) => {
                     if *key == *stored {
-                        return Lookup::Present(slot);
+                        return (Lookup::Present(slot), Some(value));
                     }
                 }
                 None => free = free.min(number),
             }
         }
-        Lookup::Vacant(Slot { hash, number: free })
+        (Lookup::Vacant(Slot { hash, number: free }), None)
     }
 
     /// Returns the key and the value in a slot, or `None` if the slot is free. This does not count as a use.

@@ -48,6 +48,7 @@ fn keys_that_collide(rt: HostRuntime) {
     }
     let second = Slot { hash: 7, number: 1 };
     assert!(rt; table.find(7, &2) == Lookup::Present(second));
+    assert!(rt; table.find_value(7, &2) == (Lookup::Present(second), Some(&2)));
     assert!(rt; table.find(8, &2) == Lookup::Vacant(Slot { hash: 8, number: 1 }));
     if let Some(value) = table.get_mut(second) {
         *value = 20;

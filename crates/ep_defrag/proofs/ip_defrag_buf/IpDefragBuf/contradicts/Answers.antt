@@ -2,9 +2,16 @@ use Rattle.std.proofs.Common.{◌≡◌, ℕ, ◌+◌, ◌*◌, List, length, sy
 use Rattle.std.specs.List.{slice_range}
 use Rattle.ep_defrag.specs.IpFragments.{fragment_with}
 use Rattle.ep_defrag.specs.Buffers.{data_of}
-use Rattle.ep_defrag.proofs.BoundedOverlapLemmas.{overlap_found, inclusion_found, no_contradiction, contradicts-beyond}
-use Rattle.ep_defrag.proofs.BoundedOverlapLemmas.{within_data, contradicts-compared}
+use Rattle.ep_defrag.proofs.BoundedOverlapLemmas.{overlap_found, inclusion_found, no_contradiction}
+use Rattle.ep_defrag.proofs.BoundedOverlapLemmas.{no_contradiction-after, contradicts-beyond, within_data}
+use Rattle.ep_defrag.proofs.BoundedOverlapLemmas.{contradicts-compared}
 use Rattle.ep_defrag.proofs.ip_defrag_buf.IpDefragBuf.contradicts.Goals as goal
+
+pub returns-then-start-reach : goal.returns-then-start-reach
+returns-then-start-reach c accepted more held =
+    sym
+    (no_contradiction-after c.args.self.now accepted (fragment_with c.args.offset more c.args.payload.now) held
+    (omega (arith, c.byte_offset-start.ensures, c.reach.ensures, c.if-start-reach.true)))
 
 pub returns-then-not-overlaps : goal.returns-then-not-overlaps
 returns-then-not-overlaps c accepted more held =

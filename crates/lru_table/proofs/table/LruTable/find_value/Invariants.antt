@@ -1,6 +1,6 @@
 use Rattle.std.proofs.Common.{reverse}
 use Rattle.lru_table.proofs.SearchLemmas.{IsSearched}
-use Rattle.lru_table.proofs.table.LruTable.find.Given as goal
+use Rattle.lru_table.proofs.table.LruTable.find_value.Given as goal
 
 abbrev pub invariant-loop-number : goal.invariant-loop-number
 invariant-loop-number g l =

@@ -1,15 +1,19 @@
-use Rattle.std.proofs.Common.{◌≡◌, Bool, true, Some, ◌^◌, ◌<◌, length, reverse, refl, sym, subst, arith}
+use Rattle.std.proofs.Common.{◌≡◌, Bool, true, Some, ◌^◌, ◌<◌, length, reverse, option_map, refl, sym, subst, arith}
 use Rattle.std.proofs.lemmas.List.{length-reverse}
 use Rattle.lru_table.specs.declared.slot.Slot.{Slot}
 use Rattle.lru_table.specs.LruTable.{Entries, entry_at, IsPresent}
 use Rattle.lru_table.proofs.TableLemmas.{reversed}
 use Rattle.lru_table.proofs.SearchLemmas.{slot_of, IsSearched, searched_other, searched_free, searched_all}
-use Rattle.lru_table.proofs.table.LruTable.find.Goals.{in-Some+else-eq, in-None}
-use Rattle.lru_table.proofs.table.LruTable.find.Goals as goal
+use Rattle.lru_table.proofs.table.LruTable.find_value.Goals.{in-Some+else-eq, in-None}
+use Rattle.lru_table.proofs.table.LruTable.find_value.Goals as goal
 
 present_in : {K V : Type 0} (eq : K → K → Bool) (es : Entries K V) (slot : Slot) (key : K) (e : K × V)
     → Some e ≡ entry_at slot es → eq key e.0 ≡ true → IsPresent eq es slot key
 present_in eq es slot key e found same = (e, sym found, same)
+
+value_in : {K V : Type 0} (es : Entries K V) (slot : Slot) (e : K × V) → Some e ≡ entry_at slot es
+    → Some e.1 ≡ option_map (λ e. e.1) (entry_at slot es)
+value_in es slot e found = rw (← found) refl
 
 pub returns-then-eq-clause-found : goal.returns-then-eq-clause-found
 returns-then-eq-clause-found g c =
@@ -21,6 +25,13 @@ returns-then-eq-clause-found g c =
           (slot_of c.args.hash c.loop-number.number) c.args.key.now c.in-Some.field-0.now
           (rw (← at.value) c.in-Some.ensures) (rw (← c.eq.ensures) c.if-eq.true),
     )
+
+pub returns-then-eq-clause-value : goal.returns-then-eq-clause-value
+returns-then-eq-clause-value g c =
+    let at = reversed (slot_of c.args.hash c.loop-number.number) c.self.inside.cache.entries
+    c.self.invariant.0.distinct in
+    rw (← c.self.view_is) (value_in (reverse c.self.inside.cache.entries)
+    (slot_of c.args.hash c.loop-number.number) c.in-Some.field-0.now (rw (← at.value) c.in-Some.ensures))
 
 pub loop-number-preserved : goal.loop-number-preserved
 loop-number-preserved g c =
