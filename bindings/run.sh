@@ -41,7 +41,7 @@ if gcc --version > /dev/null 2>&1; then
     build examples filter "$heap"
     "$work/filter" 1234 "$work/capture" | tee "$work/filter.out"
     cmp "$work/filter.out" c/examples/filter.out
-    for name in build reassemble; do
+    for name in build reassemble bounded; do
         build examples "$name" "$heap"
         "$work/$name" | tee "$work/$name.out"
         cmp "$work/$name.out" "c/examples/$name.out"
@@ -53,7 +53,7 @@ if gcc --version > /dev/null 2>&1; then
         cmp "$work/$name.out" "c/tests/$name.out"
     done
     # Mistakes of a caller that a compiler must reject, and a header of another layout, which must not link.
-    for mistake in NULL_PACKET NULL_FRAME STATUS_IGNORED STATUS_FORGOTTEN; do
+    for mistake in NULL_PACKET NULL_FRAME SHORT_SEED STATUS_IGNORED STATUS_FORGOTTEN; do
         if gcc -std=c99 -Wall -Wextra -Werror -O2 -Ic -D"$mistake" -c c/tests/mistakes.c -o "$work/mistake.o" \
             2> /dev/null; then
             echo "bindings: the compiler says nothing of $mistake" && exit 1

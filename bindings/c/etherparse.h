@@ -15,10 +15,11 @@
  * - A call that allocates, or that uses a pool, must not be used in a signal handler, nor in the forked child of a
  *   process with threads.
  * - size_t has 64 bits.
- * - A call needs at most ETHERPARSE_STACK bytes of stack (slicing and pushing about 1,700, building 1,100, a text 500,
- *   the others 300; measured on x86-64), except etherparse_build_fragment, whose headers are large values: it needs at
- *   most ETHERPARSE_STACK_OF_FRAGMENTS. If functions of the C library are bound at their first call, that binding needs
- *   about 3,000 more.
+ * - A call needs at most ETHERPARSE_STACK bytes of stack (slicing about 1,700, building 1,100, a text 500, the others
+ *   300; measured on x86-64), except the calls on pools, which need at most ETHERPARSE_STACK_OF_POOLS (pushing 1,800,
+ *   or 5,600 if the fragment connects three or more parts of its payload; to a bounded pool 4,200 or 6,900), and
+ *   etherparse_build_fragment, whose headers are large values: it needs at most ETHERPARSE_STACK_OF_FRAGMENTS. If
+ *   functions of the C library are bound at their first call, that binding needs about 3,000 more.
  *
  * Link with the archive libetherparse_c.a or with the shared object of a release. The archive that `rt lib` leaves in
  * crates/etherparse_c/out also needs etherparse_heap.c. The calls are inline functions over exports; the names of the
@@ -37,6 +38,7 @@
 
 /* Maximum stack that a call needs, in bytes. */
 #define ETHERPARSE_STACK 2048
+#define ETHERPARSE_STACK_OF_POOLS 8192
 #define ETHERPARSE_STACK_OF_FRAGMENTS 65536
 
 /* Compiler attributes, if supported: for results that must be used, for parameters that are never null, and for the
@@ -76,7 +78,9 @@ enum etherparse_status {
     ETHERPARSE_OUT_OF_MEMORY = 5, /* an allocation failed */
     ETHERPARSE_COMPLETE = 6,      /* a payload is complete, and is in the buffer */
     ETHERPARSE_FRAGMENT_REFUSED = 7, /* the fragment in a frame is rejected; the answer has the reason */
-    ETHERPARSE_PAYLOAD_WAITS = 8  /* a payload waits in the pool, which takes no frame until it is taken */
+    ETHERPARSE_PAYLOAD_WAITS = 8, /* a payload waits in the pool, which takes no frame until it is taken */
+    ETHERPARSE_DISCARDED = 9,     /* the stream of a fragment is discarded, since its fragments contradict each other */
+    ETHERPARSE_OVER_BUDGET = 10   /* the stream of a fragment alone needs more memory than the limits allow */
 };
 
 /* First header of a frame. */
@@ -98,6 +102,11 @@ struct etherparse_tcp_fields;
 struct etherparse_fragment_fields;
 struct etherparse_pool;
 struct etherparse_pool_answer;
+struct etherparse_bounded_pool;
+struct etherparse_defrag_limits;
+struct etherparse_defrag_statistics;
+struct etherparse_stream_id;
+struct etherparse_evicted_stream;
 
 uint32_t etherparse_1_version(void);
 uint32_t etherparse_1_slice(uint32_t entry, uint16_t ether_type, const uint8_t *bytes, size_t len,
@@ -147,6 +156,27 @@ void etherparse_1_pool_discard(struct etherparse_pool *pool);
 void etherparse_1_pool_drop_older(struct etherparse_pool *pool, uint64_t timestamp);
 size_t etherparse_1_pool_streams(struct etherparse_pool *pool);
 size_t etherparse_1_pool_bytes(struct etherparse_pool *pool);
+void etherparse_1_defrag_limits_default(struct etherparse_defrag_limits *limits);
+uint32_t etherparse_1_bounded_pool_new(const struct etherparse_defrag_limits *limits, const uint8_t *seed,
+                                       struct etherparse_bounded_pool **pool);
+void etherparse_1_bounded_pool_free(struct etherparse_bounded_pool *pool);
+uint32_t etherparse_1_bounded_pool_push(struct etherparse_bounded_pool *pool, uint32_t entry, uint16_t ether_type,
+                                        const uint8_t *bytes, size_t len, uint64_t timestamp, uint64_t channel,
+                                        uint8_t *buffer, size_t buffer_len, struct etherparse_pool_answer *answer);
+uint32_t etherparse_1_bounded_pool_take(struct etherparse_bounded_pool *pool, uint8_t *buffer, size_t buffer_len,
+                                        struct etherparse_pool_answer *answer);
+void etherparse_1_bounded_pool_discard(struct etherparse_bounded_pool *pool);
+size_t etherparse_1_bounded_pool_expire(struct etherparse_bounded_pool *pool, uint64_t now, uint64_t idle);
+size_t etherparse_1_bounded_pool_remove(struct etherparse_bounded_pool *pool, const struct etherparse_stream_id *id);
+void etherparse_1_bounded_pool_clear(struct etherparse_bounded_pool *pool);
+size_t etherparse_1_bounded_pool_streams(struct etherparse_bounded_pool *pool);
+size_t etherparse_1_bounded_pool_discarded_streams(struct etherparse_bounded_pool *pool);
+size_t etherparse_1_bounded_pool_held_bytes(struct etherparse_bounded_pool *pool);
+void etherparse_1_bounded_pool_statistics(struct etherparse_bounded_pool *pool,
+                                          struct etherparse_defrag_statistics *statistics);
+size_t etherparse_1_bounded_pool_evicted_count(struct etherparse_bounded_pool *pool);
+uint32_t etherparse_1_bounded_pool_evicted(struct etherparse_bounded_pool *pool, size_t index,
+                                           struct etherparse_evicted_stream *evicted);
 
 /* The version of the archive that is linked, to be compared with ETHERPARSE_VERSION. */
 ETHERPARSE_MUST_USE static inline uint32_t etherparse_version(void) {
@@ -543,8 +573,9 @@ etherparse_build_fragment(const struct etherparse_tagged_route *route, const str
  * be used by one call at a time. It may be passed to another thread between two calls, by a lock or by starting or
  * joining a thread; other threads may have their own pools.
  *
- * If frames may be hostile, create the pool with a limit and drop old streams: only etherparse_pool_drop_older bounds
- * the number of incomplete streams, and without it memory grows without bound. A stream holds its bytes from 0 up to
+ * If frames may be hostile, use a bounded pool (etherparse_bounded_pool_new, below), or create the pool with a limit
+ * and drop old streams: only etherparse_pool_drop_older bounds the number of incomplete streams, and without it memory
+ * grows without bound. A stream holds its bytes from 0 up to
  * the greatest end of its fragments, with zeros in the gaps: so a fragment without payload at the greatest offset costs
  * up to the limit in bytes (65,528 without a limit), for the 20 to 40 bytes of its headers. etherparse_pool_streams and
  * etherparse_pool_bytes return the size of a pool. Streams are found by a hash with a fixed seed, so an attacker who
@@ -651,6 +682,210 @@ etherparse_pool_streams(struct etherparse_pool *pool) {
 ETHERPARSE_MUST_USE ETHERPARSE_NONNULL((1)) static inline size_t
 etherparse_pool_bytes(struct etherparse_pool *pool) {
     return etherparse_1_pool_bytes(pool);
+}
+
+/* ---- Reassembling hostile traffic within limits
+ *
+ * A bounded pool reassembles as a pool does, but whatever frames it gets, it stays within limits for the number of
+ * streams, their memory and their age. It finds streams by a hash with a secret seed. The limits also choose what
+ * happens to fragments that overlap earlier ones. The pool reports each stream that it evicts or discards, with the
+ * cause, and counts streams and fragments. The rules for memory and threads are those of a pool. */
+
+/* Rule for fragments that overlap earlier ones of their stream. */
+enum etherparse_overlap {
+    ETHERPARSE_OVERLAP_LAST_WINS = 0,  /* each byte is that of the last accepted fragment, as in a pool */
+    ETHERPARSE_OVERLAP_FIRST_WINS = 1, /* each byte is that of the first accepted fragment */
+    ETHERPARSE_OVERLAP_DISCARD = 2     /* a fragment that contradicts earlier ones discards the stream (RFC 8200, 4.5,
+                                        * and RFC 5722, 4); a mere repeat of bytes is accepted */
+};
+
+/* Limits of a bounded pool. To change some of them, start with etherparse_defrag_limits_default. */
+struct etherparse_defrag_limits {
+    size_t streams;   /* greatest number of streams, open and discarded ones; 0 counts as 1; default 4096 */
+    size_t bytes;     /* greatest memory of all streams in bytes: the capacities of their buffers; default 32 MiB */
+    uint64_t age;     /* time that a stream may stay after its first accepted fragment, in the unit of the timestamps;
+                       * default 60000, which are the 60 seconds of RFC 8200, 4.5, in milliseconds */
+    uint32_t overlap; /* enum etherparse_overlap; default ETHERPARSE_OVERLAP_DISCARD */
+    uint16_t payload; /* greatest length of a payload in bytes; default 65535 */
+};
+
+/* Stores the default limits. */
+ETHERPARSE_NONNULL((1)) static inline void etherparse_defrag_limits_default(struct etherparse_defrag_limits *limits) {
+    etherparse_1_defrag_limits_default(limits);
+}
+
+/* Creates an empty bounded pool and stores its address in `pool`. If `limits` is null, the pool has the default limits.
+ * `seed` is the secret of the hash: 16 random bytes, from a source that a sender of frames cannot predict, as
+ * getrandom(). Streams, answers and counters do not depend on it. Besides limits->bytes a pool uses about 512 bytes for
+ * each stream (measured); during a call one buffer may grow beyond that, and a payload that waits does not count.
+ * Returns
+ * - ETHERPARSE_OK;
+ * - ETHERPARSE_UNKNOWN_CHOICE: limits->overlap is another number;
+ * - ETHERPARSE_OUT_OF_MEMORY.
+ * Except for ETHERPARSE_OK `*pool` is unchanged. The previous value of `*pool` is neither read nor freed. */
+ETHERPARSE_MUST_USE ETHERPARSE_NONNULL((2, 3)) static inline enum etherparse_status
+etherparse_bounded_pool_new(const struct etherparse_defrag_limits *limits, const uint8_t seed[16],
+                            struct etherparse_bounded_pool **pool) {
+    struct etherparse_defrag_limits defaults;
+    if (!limits) etherparse_1_defrag_limits_default(&defaults);
+    return ETHERPARSE_AS_STATUS(etherparse_1_bounded_pool_new(limits ? limits : &defaults, seed, pool));
+}
+
+/* Frees a bounded pool, which must not be used again. Does nothing if `pool` is null. */
+static inline void etherparse_bounded_pool_free(struct etherparse_bounded_pool *pool) {
+    if (pool) etherparse_1_bounded_pool_free(pool);
+}
+
+/* Passes a frame to a bounded pool. The parameters are those of etherparse_pool_push. If the first accepted fragment of
+ * the frame's stream came more than the age before `timestamp`, that stream is evicted first, whatever the status, and
+ * the fragment begins a new one. An accepted fragment that does not complete its payload may evict other streams, those
+ * whose last accepted fragment is oldest, until the pool is within its limits. Returns
+ * - ETHERPARSE_COMPLETE, ETHERPARSE_TOO_SMALL, ETHERPARSE_OK: as etherparse_pool_push;
+ * - ETHERPARSE_DISCARDED: the stream is discarded, by this fragment or an earlier one (only with
+ *   ETHERPARSE_OVERLAP_DISCARD); its identifier counts as a stream until it expires, or is evicted or removed;
+ * - ETHERPARSE_OVER_BUDGET: the stream alone needs more memory than limits.bytes, and is evicted with this fragment;
+ * - ETHERPARSE_FRAGMENT_REFUSED, ETHERPARSE_OUT_OF_MEMORY (for the fragment): the streams are unchanged, unless the
+ *   fragment's own had expired;
+ * - ETHERPARSE_REFUSED, ETHERPARSE_UNKNOWN_CHOICE, ETHERPARSE_PAYLOAD_WAITS: as etherparse_pool_push, and the streams
+ *   are unchanged.
+ * Except for ETHERPARSE_COMPLETE the buffer is unchanged. `bytes` and `buffer` may be null if their length is 0. */
+ETHERPARSE_MUST_USE ETHERPARSE_NONNULL((1, 10)) ETHERPARSE_READS(4, 5) ETHERPARSE_WRITES(8, 9)
+static inline enum etherparse_status
+etherparse_bounded_pool_push(struct etherparse_bounded_pool *pool, uint32_t entry, uint16_t ether_type,
+                             const uint8_t *bytes, size_t len, uint64_t timestamp, uint64_t channel, uint8_t *buffer,
+                             size_t buffer_len, struct etherparse_pool_answer *answer) {
+    const uint8_t none = 0;
+    uint8_t no_room;
+    return ETHERPARSE_AS_STATUS(etherparse_1_bounded_pool_push(pool, entry, ether_type, bytes ? bytes : &none, len,
+                                                               timestamp, channel, buffer ? buffer : &no_room,
+                                                               buffer_len, answer));
+}
+
+/* Copies the payload that waits in a bounded pool to the start of `buffer`. Returns as etherparse_pool_take. `buffer`
+ * may be null if its length is 0. */
+ETHERPARSE_MUST_USE ETHERPARSE_NONNULL((1, 4)) ETHERPARSE_WRITES(2, 3) static inline enum etherparse_status
+etherparse_bounded_pool_take(struct etherparse_bounded_pool *pool, uint8_t *buffer, size_t buffer_len,
+                             struct etherparse_pool_answer *answer) {
+    uint8_t no_room;
+    return ETHERPARSE_AS_STATUS(etherparse_1_bounded_pool_take(pool, buffer ? buffer : &no_room, buffer_len, answer));
+}
+
+/* Discards the payload that waits in a bounded pool, if any, and frees its memory. */
+ETHERPARSE_NONNULL((1)) static inline void etherparse_bounded_pool_discard(struct etherparse_bounded_pool *pool) {
+    etherparse_1_bounded_pool_discard(pool);
+}
+
+/* Evicts each stream that is older than the age of the limits, or whose last accepted fragment came more than `idle`
+ * before `now`, and returns their number. With UINT64_MAX for `idle` only the age counts. Iterates over all streams, so
+ * call it once in a while and not for each packet: without it old streams stay, but within the limits. */
+ETHERPARSE_NONNULL((1)) static inline size_t etherparse_bounded_pool_expire(struct etherparse_bounded_pool *pool,
+                                                                            uint64_t now, uint64_t idle) {
+    return etherparse_1_bounded_pool_expire(pool, now, idle);
+}
+
+/* Removes the stream with the identifier `id`, open or discarded, from a bounded pool. Identifiers are as
+ * etherparse_bounded_pool_evicted stores them. Returns the number of removed streams: 1, or 0 if no stream has the
+ * identifier, or if the numbers are not a valid one. A payload that waits stays. */
+ETHERPARSE_NONNULL((1, 2)) static inline size_t
+etherparse_bounded_pool_remove(struct etherparse_bounded_pool *pool, const struct etherparse_stream_id *id) {
+    return etherparse_1_bounded_pool_remove(pool, id);
+}
+
+/* Removes all streams from a bounded pool. Its counters stay, and so does a payload that waits. */
+ETHERPARSE_NONNULL((1)) static inline void etherparse_bounded_pool_clear(struct etherparse_bounded_pool *pool) {
+    etherparse_1_bounded_pool_clear(pool);
+}
+
+/* Returns the number of open streams in a bounded pool: those that are incomplete, and not discarded. */
+ETHERPARSE_MUST_USE ETHERPARSE_NONNULL((1)) static inline size_t
+etherparse_bounded_pool_streams(struct etherparse_bounded_pool *pool) {
+    return etherparse_1_bounded_pool_streams(pool);
+}
+
+/* Returns the number of discarded streams whose identifiers still count as streams of the limits. */
+ETHERPARSE_MUST_USE ETHERPARSE_NONNULL((1)) static inline size_t
+etherparse_bounded_pool_discarded_streams(struct etherparse_bounded_pool *pool) {
+    return etherparse_1_bounded_pool_discarded_streams(pool);
+}
+
+/* Returns the memory of all streams in a bounded pool in bytes: the capacities of their buffers, at most limits.bytes.
+ * A payload that waits does not count. */
+ETHERPARSE_MUST_USE ETHERPARSE_NONNULL((1)) static inline size_t
+etherparse_bounded_pool_held_bytes(struct etherparse_bounded_pool *pool) {
+    return etherparse_1_bounded_pool_held_bytes(pool);
+}
+
+/* Counters of a bounded pool since it was created. A counter that reached UINT64_MAX stays there. `begun` is the sum
+ * of the six counters after it and the number of open streams. Identifiers of discarded streams that leave the pool are
+ * not counted again. */
+struct etherparse_defrag_statistics {
+    uint64_t begun;               /* streams that began with an accepted fragment */
+    uint64_t completed;           /* streams whose payload was returned */
+    uint64_t discarded;           /* streams that were discarded, since two versions of their payload came */
+    uint64_t expired;             /* open streams evicted for their age, or by etherparse_bounded_pool_expire */
+    uint64_t evicted_for_streams; /* open streams evicted since there were too many */
+    uint64_t evicted_for_bytes;   /* open streams evicted since all, or the stream alone, used too much memory */
+    uint64_t removed;             /* open streams that etherparse_bounded_pool_remove or _clear removed */
+    uint64_t accepted;            /* fragments that were accepted */
+    uint64_t rejected_unaligned;  /* fragments that were rejected as ETHERPARSE_FRAGMENT_UNALIGNED */
+    uint64_t rejected_too_big;    /* fragments that were rejected as ETHERPARSE_FRAGMENT_TOO_BIG */
+    uint64_t rejected_conflicting_end; /* fragments that were rejected as ETHERPARSE_FRAGMENT_CONFLICTING_END */
+    uint64_t rejected_out_of_memory;   /* fragments for which an allocation failed */
+    uint64_t rejected_discarded;       /* fragments that were rejected with ETHERPARSE_DISCARDED */
+    uint64_t rejected_over_budget;     /* fragments that were rejected with ETHERPARSE_OVER_BUDGET */
+};
+
+/* Stores the counters of a bounded pool. */
+ETHERPARSE_NONNULL((1, 2)) static inline void
+etherparse_bounded_pool_statistics(struct etherparse_bounded_pool *pool,
+                                   struct etherparse_defrag_statistics *statistics) {
+    etherparse_1_bounded_pool_statistics(pool, statistics);
+}
+
+/* Cause for which a stream was evicted or discarded. */
+enum etherparse_eviction_cause {
+    ETHERPARSE_EVICTED_EXPIRED = 1, /* its first accepted fragment came too long ago, or for
+                                     * etherparse_bounded_pool_expire its last one */
+    ETHERPARSE_EVICTED_OVERLAP = 2, /* two versions of its payload came: it is discarded, and its identifier stays */
+    ETHERPARSE_EVICTED_STREAMS = 3, /* there were more streams than the limits allow */
+    ETHERPARSE_EVICTED_BYTES = 4    /* all streams, or this one alone, used more memory than the limits allow */
+};
+
+/* Identifier of a stream: what all its fragments share. */
+struct etherparse_stream_id {
+    uint64_t channel;
+    uint32_t identification;
+    uint32_t vlan_id_count; /* number of VLAN tags, 0 to 3 */
+    uint16_t vlan_ids[3];   /* VLAN identifiers from the outermost on, then 0 */
+    uint8_t version;        /* 4 or 6 */
+    uint8_t ip_number;      /* IP number (protocol) of the payload */
+    uint8_t ipv4_source[4]; /* addresses; those of the other version are 0 */
+    uint8_t ipv4_destination[4];
+    uint8_t ipv6_source[16];
+    uint8_t ipv6_destination[16];
+};
+
+/* A stream that was evicted or discarded, or a discarded one whose identifier was evicted. */
+struct etherparse_evicted_stream {
+    struct etherparse_stream_id id;
+    uint64_t first; /* timestamp of its first accepted fragment */
+    uint32_t cause; /* enum etherparse_eviction_cause */
+};
+
+/* Returns the number of streams that the last push, expiry, removal or clearing of a bounded pool evicted or discarded:
+ * 0 after a push that processed no fragment, and after a removal or clearing. */
+ETHERPARSE_MUST_USE ETHERPARSE_NONNULL((1)) static inline size_t
+etherparse_bounded_pool_evicted_count(struct etherparse_bounded_pool *pool) {
+    return etherparse_1_bounded_pool_evicted_count(pool);
+}
+
+/* Stores one of the streams that the last push, expiry, removal or clearing evicted or discarded; `index` counts from
+ * 0. The stream of the pushed fragment is first, if it had expired; the others are in the order of their last accepted
+ * fragments. Returns ETHERPARSE_OK; or ETHERPARSE_UNKNOWN_CHOICE if there are fewer, and `evicted` is unchanged. */
+ETHERPARSE_MUST_USE ETHERPARSE_NONNULL((1, 3)) static inline enum etherparse_status
+etherparse_bounded_pool_evicted(struct etherparse_bounded_pool *pool, size_t index,
+                                struct etherparse_evicted_stream *evicted) {
+    return ETHERPARSE_AS_STATUS(etherparse_1_bounded_pool_evicted(pool, index, evicted));
 }
 
 /* ---- Memory

@@ -2,9 +2,9 @@
  *
  * An input is the number of an entry, an ether type in two bytes, and frames, each after its length in two bytes. Each
  * frame is sliced separately, laxly and with its neighbour; errors are formatted; each payload is built into a frame,
- * which is sliced again; and all frames are pushed to one pool. Each frame ends before an unreadable page, and the
- * bytes after the end of each buffer are checked. The archive has no coverage counters for libFuzzer, so results are
- * counted instead. */
+ * which is sliced again; and all frames are pushed to one pool, and to one bounded pool, whose limits are numbers of
+ * the ether type. Each frame ends before an unreadable page, and the bytes after the end of each buffer are checked.
+ * The archive has no coverage counters for libFuzzer, so results are counted instead. */
 #include <etherparse.h>
 #include <stdio.h>
 #include <stdlib.h>
@@ -221,6 +221,63 @@ static void look_at_pool(struct etherparse_pool *pool, uint32_t entry, uint16_t 
     }
 }
 
+/* Checks that a bounded pool stays within its limits, that its counters add up, and that it reports what it evicts. */
+static void look_at_bounded(struct etherparse_bounded_pool *pool, const struct etherparse_defrag_limits *limits,
+                            uint32_t entry, uint16_t ether_type, const uint8_t *frame, size_t len, uint64_t time,
+                            enum etherparse_status sliced) {
+    uint8_t buffer[LIMIT + 1];
+    struct etherparse_pool_answer answer;
+    struct etherparse_defrag_statistics before, after;
+    struct etherparse_evicted_stream evicted;
+    memset(buffer, MARK, sizeof buffer);
+    size_t room = time % 2 == 0 ? LIMIT : 24; /* with a shorter buffer payloads wait */
+    etherparse_bounded_pool_statistics(pool, &before);
+    enum etherparse_status status =
+        etherparse_bounded_pool_push(pool, entry, ether_type, frame, len, time, time % 3 == 2, buffer, room, &answer);
+    etherparse_bounded_pool_statistics(pool, &after);
+    see(70, status * 8 + answer.fragment_refusal);
+    WANT((status == ETHERPARSE_REFUSED) == (sliced == ETHERPARSE_REFUSED));
+    WANT((status == ETHERPARSE_UNKNOWN_CHOICE) == (sliced == ETHERPARSE_UNKNOWN_CHOICE));
+    if (status == ETHERPARSE_COMPLETE) {
+        WANT(answer.len <= room && buffer[answer.len] == MARK);
+    } else {
+        WANT(buffer[0] == MARK && buffer[room] == MARK);
+    }
+    if (status == ETHERPARSE_TOO_SMALL) {
+        WANT(answer.len > room && answer.len <= LIMIT);
+        size_t waits = answer.len;
+        WANT(etherparse_bounded_pool_take(pool, buffer, waits - 1, &answer) == ETHERPARSE_TOO_SMALL);
+        WANT(etherparse_bounded_pool_take(pool, buffer, LIMIT, &answer) == ETHERPARSE_COMPLETE && answer.len == waits);
+        WANT(buffer[waits] == MARK);
+    }
+    WANT(status != ETHERPARSE_DISCARDED || limits->overlap == ETHERPARSE_OVERLAP_DISCARD);
+    size_t open = etherparse_bounded_pool_streams(pool), gone = etherparse_bounded_pool_evicted_count(pool);
+    WANT(open + etherparse_bounded_pool_discarded_streams(pool) <= (limits->streams == 0 ? 1 : limits->streams));
+    WANT(etherparse_bounded_pool_held_bytes(pool) <= limits->bytes);
+    WANT(after.begun == after.completed + after.discarded + after.expired + after.evicted_for_streams
+                            + after.evicted_for_bytes + after.removed + open);
+    WANT(after.begun - before.begun <= 1 && after.accepted - before.accepted <= 1);
+    WANT(etherparse_bounded_pool_evicted(pool, gone, &evicted) == ETHERPARSE_UNKNOWN_CHOICE);
+    for (size_t i = 0; i < gone; i++) {
+        WANT(etherparse_bounded_pool_evicted(pool, i, &evicted) == ETHERPARSE_OK && evicted.first <= time);
+        WANT(evicted.cause >= ETHERPARSE_EVICTED_EXPIRED && evicted.cause <= ETHERPARSE_EVICTED_BYTES);
+        WANT((evicted.id.version == 4 || evicted.id.version == 6) && evicted.id.vlan_id_count <= 3);
+        see(71, evicted.cause);
+        /* of these only a discarded stream is still there, or that of the fragment */
+        const struct etherparse_stream_id id = evicted.id;
+        size_t left = etherparse_bounded_pool_discarded_streams(pool);
+        if (i + 1 == gone && time % 4 == 1) {
+            size_t removed = etherparse_bounded_pool_remove(pool, &id);
+            WANT(removed <= 1 && etherparse_bounded_pool_evicted_count(pool) == 0);
+            WANT(open + left == etherparse_bounded_pool_streams(pool)
+                                    + etherparse_bounded_pool_discarded_streams(pool) + removed);
+            WANT(evicted.cause != ETHERPARSE_EVICTED_OVERLAP || removed == 1);
+            WANT(etherparse_bounded_pool_remove(pool, &id) == 0);
+            see(72, (uint32_t)removed);
+        }
+    }
+}
+
 /* Checks that the halves of the bytes are sliced in one call as by a call for each. */
 static void look_at_many(uint32_t entry, uint16_t ether_type, const uint8_t *frame, size_t len) {
     const size_t ends[2] = {len / 2, len};
@@ -252,6 +309,11 @@ int LLVMFuzzerTestOneInput(const uint8_t *input, size_t left) {
     input += 3, left -= 3;
     struct etherparse_pool *pool;
     WANT(etherparse_pool_with_limit(LIMIT, &pool) == ETHERPARSE_OK);
+    const struct etherparse_defrag_limits limits = {
+        .streams = input[-1] % 4, .bytes = 40u * (input[-2] % 16u), .age = input[-1] % 7, .overlap = input[-2] % 3u,
+        .payload = LIMIT};
+    struct etherparse_bounded_pool *bounded;
+    WANT(etherparse_bounded_pool_new(&limits, (const uint8_t[16]){7}, &bounded) == ETHERPARSE_OK);
     for (uint64_t time = 0; left >= 2 && time < 16; time++) {
         size_t len = (size_t)(input[0] << 8 | input[1]);
         input += 2, left -= 2;
@@ -282,7 +344,10 @@ int LLVMFuzzerTestOneInput(const uint8_t *input, size_t left) {
         look_at_many(entry, ether_type, frame, len);
         look_at_pool(pool, entry, ether_type, frame, len, time, status);
         if (time % 5 == 4) etherparse_pool_drop_older(pool, time - 2);
+        look_at_bounded(bounded, &limits, entry, ether_type, frame, len, time, status);
+        if (time % 5 == 3) WANT(etherparse_bounded_pool_expire(bounded, time, 1) <= 4);
     }
+    etherparse_bounded_pool_free(bounded);
     WANT(etherparse_pool_bytes(pool) <= etherparse_pool_streams(pool) * LIMIT);
     etherparse_pool_free(pool);
     return 0;

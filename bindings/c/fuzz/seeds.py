@@ -95,7 +95,8 @@ def inputs():
         entry, ether_type, frame = chosen[i * 6]
         yield bytes([entry]) + word(ether_type) + word(len(frame) * (i + 1) // 13) + frame
     for order, version in itertools.product(itertools.permutations(range(3)), (4, 6)):
-        yield bytes([IP, 0, 0]) + b"".join(word(len(part)) + part for part in fragments(order, version))
+        # the ether type, which is not read for this entry, is the limits of a bounded pool
+        yield bytes([IP, 15, 3]) + b"".join(word(len(part)) + part for part in fragments(order, version))
 
 
 def main():

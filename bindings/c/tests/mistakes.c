@@ -8,6 +8,11 @@ int mistakes(const uint8_t *frame, size_t len, struct etherparse_packet *packet)
 #if defined(NULL_PACKET)
     (void)packet;
     enum etherparse_status status = etherparse_slice(ETHERPARSE_ENTRY_IP, 0, frame, len, NULL);
+#elif defined(SHORT_SEED)
+    (void)frame, (void)len, (void)packet;
+    const uint8_t seed[8] = {1};
+    struct etherparse_bounded_pool *pool;
+    enum etherparse_status status = etherparse_bounded_pool_new(NULL, seed, &pool);
 #elif defined(NULL_FRAME)
     (void)frame, (void)len;
     enum etherparse_status status = etherparse_slice(ETHERPARSE_ENTRY_IP, 0, NULL, 14, packet);

@@ -76,6 +76,32 @@ static void pool_drop_older(void) { etherparse_pool_drop_older(pool, 2); }
 static void pool_streams(void) { written = etherparse_pool_streams(pool); }
 static void pool_bytes(void) { written = etherparse_pool_bytes(pool); }
 static void pool_free(void) { etherparse_pool_free(pool); }
+static struct etherparse_bounded_pool *bounded;
+static struct etherparse_defrag_limits limits;
+static struct etherparse_defrag_statistics statistics;
+static struct etherparse_evicted_stream evicted;
+static void limits_default(void) { etherparse_defrag_limits_default(&limits); }
+static void bounded_pool_new(void) {
+    const uint8_t seed[16] = {0};
+    limits.streams = 8;
+    status = etherparse_bounded_pool_new(&limits, seed, &bounded);
+}
+static void bounded_pool_push(void) {
+    status = etherparse_bounded_pool_push(bounded, ETHERPARSE_ENTRY_ETHERNET, 0, frame, frame_len, 1, 0, buffer, 8,
+                                          &answer);
+}
+static void bounded_pool_take(void) { status = etherparse_bounded_pool_take(bounded, buffer, ROOM, &answer); }
+static void bounded_pool_discard(void) { etherparse_bounded_pool_discard(bounded); }
+static void bounded_pool_expire(void) { written = etherparse_bounded_pool_expire(bounded, 2, 0); }
+static void bounded_pool_remove(void) { written = etherparse_bounded_pool_remove(bounded, &evicted.id); }
+static void bounded_pool_clear(void) { etherparse_bounded_pool_clear(bounded); }
+static void bounded_pool_streams(void) { written = etherparse_bounded_pool_streams(bounded); }
+static void bounded_pool_discarded_streams(void) { written = etherparse_bounded_pool_discarded_streams(bounded); }
+static void bounded_pool_held_bytes(void) { written = etherparse_bounded_pool_held_bytes(bounded); }
+static void bounded_pool_statistics(void) { etherparse_bounded_pool_statistics(bounded, &statistics); }
+static void bounded_pool_evicted_count(void) { written = etherparse_bounded_pool_evicted_count(bounded); }
+static void bounded_pool_evicted(void) { status = etherparse_bounded_pool_evicted(bounded, 0, &evicted); }
+static void bounded_pool_free(void) { etherparse_bounded_pool_free(bounded); }
 
 /* ---- a call on a painted stack */
 
@@ -126,6 +152,7 @@ static void needs(const char *name, void (*call)(void), uint32_t wanted, size_t 
     if (taken > most) printf("%s: %zu bytes of stack, above %zu\n", name, taken, most), failed = 1;
 }
 #define NEEDS(call, wanted) needs(#call, call, wanted, ETHERPARSE_STACK, LEAST)
+#define POOL_NEEDS(call, wanted) needs(#call, call, wanted, ETHERPARSE_STACK_OF_POOLS, LEAST)
 
 /* Builds the frame that is pushed next: the fragment with these bytes. */
 static void cut(size_t from, size_t to, uint8_t more) {
@@ -155,35 +182,87 @@ int main(void) {
         NEEDS(build_tagged_tcp, ETHERPARSE_OK);
         NEEDS(build_tagged_icmp_echo, ETHERPARSE_OK);
         needs("build_fragment", build_fragment, ETHERPARSE_OK, ETHERPARSE_STACK_OF_FRAGMENTS, 1 << 17);
-        NEEDS(pool_new, ETHERPARSE_OK);
-        NEEDS(pool_free, ETHERPARSE_OK);
-        NEEDS(pool_with_limit, ETHERPARSE_OK);
+        POOL_NEEDS(pool_new, ETHERPARSE_OK);
+        POOL_NEEDS(pool_free, ETHERPARSE_OK);
+        POOL_NEEDS(pool_with_limit, ETHERPARSE_OK);
         cut(16, 32, 1);
-        NEEDS(pool_push, ETHERPARSE_OK);
+        POOL_NEEDS(pool_push, ETHERPARSE_OK);
         cut(32, 40, 0);
-        NEEDS(pool_push, ETHERPARSE_OK);
-        NEEDS(pool_streams, ETHERPARSE_OK);
-        NEEDS(pool_bytes, ETHERPARSE_OK);
+        POOL_NEEDS(pool_push, ETHERPARSE_OK);
+        POOL_NEEDS(pool_streams, ETHERPARSE_OK);
+        POOL_NEEDS(pool_bytes, ETHERPARSE_OK);
         cut(0, 16, 1);
-        NEEDS(pool_push, ETHERPARSE_TOO_SMALL);
-        NEEDS(pool_push, ETHERPARSE_PAYLOAD_WAITS);
-        NEEDS(pool_take, ETHERPARSE_COMPLETE);
+        POOL_NEEDS(pool_push, ETHERPARSE_TOO_SMALL);
+        POOL_NEEDS(pool_push, ETHERPARSE_PAYLOAD_WAITS);
+        POOL_NEEDS(pool_take, ETHERPARSE_COMPLETE);
         for (size_t i = 0; i < 64; i++) { /* growing tables */
             fragment.identification = (uint32_t)(100 + i);
             cut(8, 16, 1);
-            NEEDS(pool_push, ETHERPARSE_OK);
+            POOL_NEEDS(pool_push, ETHERPARSE_OK);
         }
         cut(24, 32, 0), status = etherparse_pool_push(pool, 0, 0, frame, frame_len, 1, 0, buffer, 8, &answer);
         cut(16, 24, 1), status = etherparse_pool_push(pool, 0, 0, frame, frame_len, 1, 0, buffer, 8, &answer);
         cut(0, 8, 1);
-        NEEDS(pool_push, ETHERPARSE_TOO_SMALL);
-        NEEDS(pool_discard, ETHERPARSE_OK);
-        NEEDS(pool_drop_older, ETHERPARSE_OK);
-        NEEDS(pool_free, ETHERPARSE_OK);
+        POOL_NEEDS(pool_push, ETHERPARSE_TOO_SMALL);
+        POOL_NEEDS(pool_discard, ETHERPARSE_OK);
+        for (size_t at = 8; at < 96; at += 16) { /* parts with gaps between them, four of which are then connected */
+            cut(at, at + 8, 1);
+            POOL_NEEDS(pool_push, ETHERPARSE_OK);
+        }
+        cut(16, 56, 1);
+        POOL_NEEDS(pool_push, ETHERPARSE_OK);
+        POOL_NEEDS(pool_drop_older, ETHERPARSE_OK);
+        POOL_NEEDS(pool_free, ETHERPARSE_OK);
         fragment.identification = 7;
+        NEEDS(limits_default, ETHERPARSE_OK);
+        POOL_NEEDS(bounded_pool_new, ETHERPARSE_OK);
+        cut(16, 32, 1);
+        POOL_NEEDS(bounded_pool_push, ETHERPARSE_OK);
+        cut(32, 40, 0);
+        POOL_NEEDS(bounded_pool_push, ETHERPARSE_OK);
+        cut(0, 16, 1);
+        POOL_NEEDS(bounded_pool_push, ETHERPARSE_TOO_SMALL);
+        POOL_NEEDS(bounded_pool_push, ETHERPARSE_PAYLOAD_WAITS);
+        POOL_NEEDS(bounded_pool_take, ETHERPARSE_COMPLETE);
+        for (size_t i = 0; i < 64; i++) { /* growing tables, and evictions */
+            fragment.identification = (uint32_t)(100 + i);
+            cut(8, 16, 1);
+            POOL_NEEDS(bounded_pool_push, ETHERPARSE_OK);
+        }
+        POOL_NEEDS(bounded_pool_evicted_count, ETHERPARSE_OK);
+        POOL_NEEDS(bounded_pool_evicted, ETHERPARSE_OK);
+        cut(8, 24, 1); /* covers bytes that came and others, so the stream is discarded */
+        POOL_NEEDS(bounded_pool_push, ETHERPARSE_DISCARDED);
+        POOL_NEEDS(bounded_pool_evicted, ETHERPARSE_OK);
+        POOL_NEEDS(bounded_pool_streams, ETHERPARSE_OK);
+        POOL_NEEDS(bounded_pool_discarded_streams, ETHERPARSE_OK);
+        POOL_NEEDS(bounded_pool_held_bytes, ETHERPARSE_OK);
+        POOL_NEEDS(bounded_pool_statistics, ETHERPARSE_OK);
+        POOL_NEEDS(bounded_pool_remove, ETHERPARSE_OK); /* the discarded one, and then none */
+        POOL_NEEDS(bounded_pool_remove, ETHERPARSE_OK);
+        evicted.id.version = 0;
+        POOL_NEEDS(bounded_pool_remove, ETHERPARSE_OK);
+        POOL_NEEDS(bounded_pool_expire, ETHERPARSE_OK);
+        fragment.identification = 7;
+        cut(8, 16, 1);
+        POOL_NEEDS(bounded_pool_push, ETHERPARSE_OK);
+        POOL_NEEDS(bounded_pool_clear, ETHERPARSE_OK);
+        POOL_NEEDS(bounded_pool_discard, ETHERPARSE_OK);
+        POOL_NEEDS(bounded_pool_free, ETHERPARSE_OK);
+        for (limits.overlap = 0; limits.overlap < ETHERPARSE_OVERLAP_DISCARD; limits.overlap++) {
+            POOL_NEEDS(bounded_pool_new, ETHERPARSE_OK);
+            for (size_t at = 8; at < 96; at += 16) {
+                cut(at, at + 8, 1);
+                POOL_NEEDS(bounded_pool_push, ETHERPARSE_OK);
+            }
+            cut(16, 56, 1);
+            POOL_NEEDS(bounded_pool_push, ETHERPARSE_OK);
+            POOL_NEEDS(bounded_pool_free, ETHERPARSE_OK);
+        }
     }
     if (!failed)
-        printf("stack: each call on a thread of %d bytes needs at most %d, and building a fragment at most %d\n", LEAST,
-               ETHERPARSE_STACK, ETHERPARSE_STACK_OF_FRAGMENTS);
+        printf("stack: each call on a thread of %d bytes needs at most %d, on a pool at most %d, "
+               "and building a fragment at most %d\n",
+               LEAST, ETHERPARSE_STACK, ETHERPARSE_STACK_OF_POOLS, ETHERPARSE_STACK_OF_FRAGMENTS);
     return failed;
 }

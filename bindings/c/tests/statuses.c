@@ -439,6 +439,285 @@ static void pools(void) {
     printf("pools: without memory the streams are as they were; a pool is freed with all that it holds\n");
 }
 
+/* ---- bounded pools */
+
+static const uint8_t seed[16] = {1, 2, 3};
+
+static uint32_t bounded_push(struct etherparse_bounded_pool *pool, uint8_t stream, size_t from, size_t to, bool more,
+                             uint64_t time, size_t room, struct etherparse_pool_answer *told) {
+    uint8_t frame[ROOM];
+    size_t len = fragment(frame, stream, from, to, more);
+    return etherparse_bounded_pool_push(pool, ETHERPARSE_ENTRY_IP, 0, frame, len, time, 7, buffer, room, told);
+}
+
+/* Whether the last call evicted or discarded this stream alone. */
+static bool gone(struct etherparse_bounded_pool *pool, uint8_t stream, uint32_t cause, uint64_t first) {
+    struct etherparse_evicted_stream it, before;
+    const uint8_t source[4] = {10, 0, 0, 1}, destination[4] = {10, 0, 0, 2}, none[16] = {0};
+    memset(&it, 0x5a, sizeof it);
+    memcpy(&before, &it, sizeof it);
+    if (etherparse_bounded_pool_evicted(pool, 1, &it) != ETHERPARSE_UNKNOWN_CHOICE) return false;
+    if (memcmp(&before, &it, sizeof it) != 0 || etherparse_bounded_pool_evicted_count(pool) != 1) return false;
+    if (etherparse_bounded_pool_evicted(pool, 0, &it) != ETHERPARSE_OK) return false;
+    return it.cause == cause && it.first == first && it.id.channel == 7 && it.id.identification == stream
+           && it.id.version == 4 && it.id.ip_number == 17 && it.id.vlan_id_count == 0 && it.id.vlan_ids[0] == 0
+           && it.id.vlan_ids[1] == 0 && it.id.vlan_ids[2] == 0 && memcmp(it.id.ipv4_source, source, 4) == 0
+           && memcmp(it.id.ipv4_destination, destination, 4) == 0 && memcmp(it.id.ipv6_source, none, 16) == 0
+           && memcmp(it.id.ipv6_destination, none, 16) == 0;
+}
+
+/* Pushes a fragment; each allocation fails once before it succeeds, and then nothing is evicted or counted but the
+ * fragment itself. */
+static uint32_t bounded_pushed(struct etherparse_bounded_pool *pool, uint8_t stream, size_t from, size_t to, bool more,
+                               uint64_t time, struct etherparse_pool_answer *told) {
+    for (unsigned long i = 1;; i++) {
+        struct etherparse_defrag_statistics before, after;
+        etherparse_bounded_pool_statistics(pool, &before);
+        size_t held = etherparse_bounded_pool_held_bytes(pool), streams = etherparse_bounded_pool_streams(pool);
+        requests = 0, refused = i;
+        uint32_t status = bounded_push(pool, stream, from, to, more, time, ROOM, told);
+        refused = 0;
+        if (status != ETHERPARSE_OUT_OF_MEMORY) return status;
+        WANT(requests == i && is_untouched(0) && told->len == 0 && told->fragment_refusal == 0);
+        WANT(etherparse_bounded_pool_held_bytes(pool) == held && etherparse_bounded_pool_streams(pool) == streams);
+        WANT(etherparse_bounded_pool_evicted_count(pool) == 0);
+        etherparse_bounded_pool_statistics(pool, &after);
+        before.rejected_out_of_memory++;
+        WANT(memcmp(&before, &after, sizeof before) == 0);
+    }
+}
+
+/* Limits, and pools that cannot be created. */
+static void bounded_limits(void) {
+    struct etherparse_bounded_pool *pool, *before = (struct etherparse_bounded_pool *)buffer;
+    struct etherparse_defrag_limits limits;
+    memset(&limits, 0xff, sizeof limits);
+    etherparse_defrag_limits_default(&limits);
+    WANT(limits.streams == 4096 && limits.bytes == 32 << 20 && limits.payload == ETHERPARSE_MAX_PAYLOAD);
+    WANT(limits.age == 60000 && limits.overlap == ETHERPARSE_OVERLAP_DISCARD);
+    for (limits.overlap = 3; limits.overlap != 2; limits.overlap = limits.overlap < 20 ? limits.overlap + 1 : 2) {
+        pool = before;
+        WANT(etherparse_bounded_pool_new(&limits, seed, &pool) == ETHERPARSE_UNKNOWN_CHOICE && pool == before);
+    }
+    limits.overlap = UINT32_MAX;
+    WANT(etherparse_bounded_pool_new(&limits, seed, &pool) == ETHERPARSE_UNKNOWN_CHOICE && blocks == 0);
+    limits.overlap = ETHERPARSE_OVERLAP_LAST_WINS;
+    for (unsigned long i = 1;; i++) {
+        requests = 0, refused = i, pool = before;
+        uint32_t status = etherparse_bounded_pool_new(i % 2 ? &limits : NULL, seed, &pool);
+        refused = 0;
+        if (status == ETHERPARSE_OK) break;
+        WANT(status == ETHERPARSE_OUT_OF_MEMORY && pool == before && blocks == 0);
+    }
+    WANT(pool != before && blocks > 0);
+    etherparse_bounded_pool_free(pool);
+    etherparse_bounded_pool_free(NULL);
+    WANT(blocks == 0);
+}
+
+/* Fragments that overlap, by each rule. */
+static void bounded_overlaps(void) {
+    for (uint32_t rule = 0; rule < 3; rule++) {
+        struct etherparse_bounded_pool *pool;
+        struct etherparse_pool_answer told;
+        struct etherparse_defrag_limits limits;
+        etherparse_defrag_limits_default(&limits);
+        limits.overlap = rule;
+        WANT(etherparse_bounded_pool_new(&limits, seed, &pool) == ETHERPARSE_OK);
+        memcpy(buffer, untouched, ROOM);
+        WANT(bounded_pushed(pool, 1, 8, 16, true, 1, &told) == ETHERPARSE_OK);
+        WANT(bounded_pushed(pool, 1, 8, 16, true, 2, &told) == ETHERPARSE_OK); /* a repeat */
+        uint8_t frame[ROOM];
+        size_t len = fragment(frame, 1, 8, 16, true);
+        frame[20] = 99; /* another byte at position 8 */
+        uint32_t status = etherparse_bounded_pool_push(pool, ETHERPARSE_ENTRY_IP, 0, frame, len, 3, 7, buffer, ROOM,
+                                                       &told);
+        if (rule == ETHERPARSE_OVERLAP_DISCARD) {
+            WANT(status == ETHERPARSE_DISCARDED && gone(pool, 1, ETHERPARSE_EVICTED_OVERLAP, 1));
+            WANT(told.len == 0 && told.fragment_refusal == 0 && told.refusal.kind == 0 && is_untouched(0));
+            WANT(etherparse_bounded_pool_streams(pool) == 0 && etherparse_bounded_pool_discarded_streams(pool) == 1);
+            WANT(etherparse_bounded_pool_held_bytes(pool) == 0);
+            WANT(bounded_push(pool, 1, 0, 8, true, 4, ROOM, &told) == ETHERPARSE_DISCARDED);
+            WANT(etherparse_bounded_pool_evicted_count(pool) == 0);
+            /* it stays until it expires; an end elsewhere discards a stream too */
+            WANT(bounded_push(pool, 1, 16, 17, false, 60001, ROOM, &told) == ETHERPARSE_DISCARDED);
+            WANT(bounded_push(pool, 1, 16, 17, false, 60002, ROOM, &told) == ETHERPARSE_OK);
+            WANT(gone(pool, 1, ETHERPARSE_EVICTED_EXPIRED, 1));
+            WANT(bounded_push(pool, 1, 16, 24, true, 60003, ROOM, &told) == ETHERPARSE_DISCARDED);
+            WANT(gone(pool, 1, ETHERPARSE_EVICTED_OVERLAP, 60002));
+            /* or until it is removed, which is not counted again */
+            struct etherparse_evicted_stream it;
+            struct etherparse_defrag_statistics before, after;
+            WANT(etherparse_bounded_pool_evicted(pool, 0, &it) == ETHERPARSE_OK);
+            etherparse_bounded_pool_statistics(pool, &before);
+            WANT(etherparse_bounded_pool_remove(pool, &it.id) == 1);
+            WANT(etherparse_bounded_pool_discarded_streams(pool) == 0);
+            WANT(etherparse_bounded_pool_evicted_count(pool) == 0);
+            etherparse_bounded_pool_statistics(pool, &after);
+            WANT(memcmp(&before, &after, sizeof before) == 0);
+            WANT(bounded_push(pool, 1, 16, 24, true, 60004, ROOM, &told) == ETHERPARSE_OK);
+        } else {
+            WANT(status == ETHERPARSE_OK && etherparse_bounded_pool_evicted_count(pool) == 0);
+            WANT(bounded_pushed(pool, 1, 16, 17, false, 4, &told) == ETHERPARSE_OK);
+            WANT(bounded_push(pool, 1, 16, 24, true, 4, ROOM, &told) == ETHERPARSE_FRAGMENT_REFUSED);
+            WANT(told.fragment_refusal == ETHERPARSE_FRAGMENT_CONFLICTING_END);
+            WANT(bounded_push(pool, 1, 0, 8, true, 5, ROOM, &told) == ETHERPARSE_COMPLETE && told.len == 17);
+            for (size_t i = 0; i < 17; i++)
+                WANT(buffer[i] == (i == 8 && rule == ETHERPARSE_OVERLAP_LAST_WINS ? 99 : i));
+            WANT(is_untouched(17));
+        }
+        etherparse_bounded_pool_free(pool);
+        WANT(blocks == 0);
+    }
+}
+
+/* Removes streams by their identifiers from a pool without streams and for at most two. */
+static void bounded_removals(struct etherparse_bounded_pool *pool) {
+    const struct etherparse_stream_id id = {.channel = 7, .identification = 1, .version = 4, .ip_number = 17,
+                                            .ipv4_source = {10, 0, 0, 1}, .ipv4_destination = {10, 0, 0, 2}};
+    struct etherparse_pool_answer told;
+    struct etherparse_defrag_statistics before, after;
+    WANT(etherparse_bounded_pool_remove(pool, &id) == 0);
+    WANT(bounded_pushed(pool, 1, 8, 16, true, 30, &told) == ETHERPARSE_OK);
+    WANT(bounded_pushed(pool, 2, 8, 16, true, 30, &told) == ETHERPARSE_OK);
+    etherparse_bounded_pool_statistics(pool, &before);
+    size_t held = etherparse_bounded_pool_held_bytes(pool);
+    /* identifiers of no stream here, and numbers that are none */
+    for (int i = 0; i < 16; i++) {
+        struct etherparse_stream_id other = id;
+        if (i == 0) other.channel = 8;
+        if (i == 1) other.identification = 3;
+        if (i == 2) other.identification = 65536 + 1;
+        if (i == 3) other.vlan_id_count = 1;
+        if (i == 4) other.vlan_id_count = 4;
+        if (i == 5) other.vlan_id_count = UINT32_MAX;
+        if (i == 6) other.vlan_ids[0] = 1;
+        if (i == 7) other.vlan_ids[2] = 4096;
+        if (i == 8) other.version = 6;
+        if (i == 9) other.version = 0;
+        if (i == 10) other.ip_number = 6;
+        if (i == 11) other.ipv4_source[3] = 2;
+        if (i == 12) other.ipv4_destination[0] = 0;
+        if (i == 13) other.ipv6_source[0] = 1;
+        if (i == 14) other.ipv6_destination[15] = 1;
+        if (i == 15) other.version = 255;
+        WANT(etherparse_bounded_pool_remove(pool, &other) == 0 && etherparse_bounded_pool_evicted_count(pool) == 0);
+    }
+    etherparse_bounded_pool_statistics(pool, &after);
+    WANT(memcmp(&before, &after, sizeof before) == 0 && etherparse_bounded_pool_held_bytes(pool) == held);
+    WANT(etherparse_bounded_pool_streams(pool) == 2);
+    /* an open stream, and then the other one */
+    unsigned long all = blocks;
+    WANT(etherparse_bounded_pool_remove(pool, &id) == 1 && etherparse_bounded_pool_streams(pool) == 1);
+    WANT(blocks < all && etherparse_bounded_pool_evicted_count(pool) == 0);
+    WANT(etherparse_bounded_pool_remove(pool, &id) == 0 && etherparse_bounded_pool_streams(pool) == 1);
+    struct etherparse_stream_id second = id;
+    second.identification = 2;
+    WANT(etherparse_bounded_pool_remove(pool, &second) == 1 && etherparse_bounded_pool_held_bytes(pool) == 0);
+}
+
+static void bounded_pools(void) {
+    struct etherparse_bounded_pool *pool;
+    struct etherparse_pool_answer told;
+    struct etherparse_defrag_statistics counted, zero;
+    struct etherparse_evicted_stream it;
+    bounded_limits();
+    bounded_overlaps();
+
+    struct etherparse_defrag_limits limits = {.streams = 2, .bytes = 1024, .age = 10, .payload = 700};
+    WANT(etherparse_bounded_pool_new(&limits, seed, &pool) == ETHERPARSE_OK);
+    memset(&zero, 0, sizeof zero);
+    memset(&counted, 0xff, sizeof counted);
+    etherparse_bounded_pool_statistics(pool, &counted);
+    WANT(memcmp(&counted, &zero, sizeof zero) == 0 && etherparse_bounded_pool_evicted_count(pool) == 0);
+    WANT(etherparse_bounded_pool_evicted(pool, 0, &it) == ETHERPARSE_UNKNOWN_CHOICE);
+    memcpy(buffer, untouched, ROOM);
+    /* one stream too many: the one whose last fragment is oldest goes */
+    WANT(bounded_pushed(pool, 1, 8, 16, true, 0, &told) == ETHERPARSE_OK);
+    WANT(bounded_pushed(pool, 2, 8, 16, true, 1, &told) == ETHERPARSE_OK);
+    WANT(bounded_pushed(pool, 1, 24, 32, true, 2, &told) == ETHERPARSE_OK);
+    WANT(etherparse_bounded_pool_streams(pool) == 2 && etherparse_bounded_pool_held_bytes(pool) > 0);
+    WANT(bounded_pushed(pool, 3, 8, 16, true, 3, &told) == ETHERPARSE_OK);
+    WANT(gone(pool, 2, ETHERPARSE_EVICTED_STREAMS, 1) && etherparse_bounded_pool_streams(pool) == 2);
+    /* bytes that are not a frame, and an unknown entry: nothing is reported again */
+    WANT(etherparse_bounded_pool_push(pool, ETHERPARSE_ENTRY_IP, 0, payload, 9, 3, 7, buffer, ROOM, &told)
+         == ETHERPARSE_REFUSED);
+    WANT(told.refusal.kind != ETHERPARSE_REFUSAL_NONE && etherparse_bounded_pool_evicted_count(pool) == 0);
+    WANT(bounded_push(pool, 2, 8, 16, true, 3, ROOM, &told) == ETHERPARSE_OK);
+    WANT(gone(pool, 1, ETHERPARSE_EVICTED_STREAMS, 0));
+    WANT(etherparse_bounded_pool_push(pool, 4, 0, payload, 9, 3, 7, buffer, ROOM, &told) == ETHERPARSE_UNKNOWN_CHOICE);
+    WANT(etherparse_bounded_pool_evicted_count(pool) == 0 && etherparse_bounded_pool_streams(pool) == 2);
+    /* a stream that needs more than all may: it goes, and a rejected fragment leaves it */
+    WANT(bounded_push(pool, 2, 0, 7, true, 3, ROOM, &told) == ETHERPARSE_FRAGMENT_REFUSED);
+    WANT(told.fragment_refusal == ETHERPARSE_FRAGMENT_UNALIGNED);
+    WANT(bounded_push(pool, 2, 696, 701, false, 3, ROOM, &told) == ETHERPARSE_FRAGMENT_REFUSED);
+    WANT(told.fragment_refusal == ETHERPARSE_FRAGMENT_TOO_BIG);
+    WANT(bounded_push(pool, 2, 640, 648, true, 3, ROOM, &told) == ETHERPARSE_OK);
+    WANT(etherparse_bounded_pool_evicted_count(pool) == 0 && etherparse_bounded_pool_held_bytes(pool) <= 1024);
+    /* old, and idle */
+    WANT(etherparse_bounded_pool_expire(pool, 13, UINT64_MAX) == 0 && etherparse_bounded_pool_streams(pool) == 2);
+    WANT(bounded_push(pool, 3, 0, 8, true, 8, ROOM, &told) == ETHERPARSE_OK);
+    WANT(etherparse_bounded_pool_expire(pool, 9, 5) == 1 && gone(pool, 2, ETHERPARSE_EVICTED_EXPIRED, 3));
+    WANT(etherparse_bounded_pool_expire(pool, 14, UINT64_MAX) == 1 && gone(pool, 3, ETHERPARSE_EVICTED_EXPIRED, 3));
+    WANT(etherparse_bounded_pool_expire(pool, UINT64_MAX, 0) == 0 && etherparse_bounded_pool_held_bytes(pool) == 0);
+    /* the payload is longer than the buffer, and waits */
+    WANT(bounded_push(pool, 4, 8, 16, false, 20, ROOM, &told) == ETHERPARSE_OK);
+    WANT(bounded_push(pool, 5, 8, 16, false, 20, ROOM, &told) == ETHERPARSE_OK);
+    WANT(bounded_push(pool, 4, 0, 8, true, 20, 15, &told) == ETHERPARSE_TOO_SMALL && told.len == 16);
+    WANT(bounded_push(pool, 5, 0, 8, true, 20, 16, &told) == ETHERPARSE_PAYLOAD_WAITS && told.len == 16);
+    WANT(is_untouched(0) && etherparse_bounded_pool_evicted_count(pool) == 0);
+    etherparse_bounded_pool_clear(pool);
+    WANT(etherparse_bounded_pool_streams(pool) == 0 && etherparse_bounded_pool_evicted_count(pool) == 0);
+    WANT(etherparse_bounded_pool_take(pool, buffer, 15, &told) == ETHERPARSE_TOO_SMALL && is_untouched(0));
+    unsigned long held = blocks;
+    WANT(etherparse_bounded_pool_take(pool, buffer, 16, &told) == ETHERPARSE_COMPLETE && blocks == held - 1);
+    WANT(told.len == 16 && told.ip_number == 17 && told.len_source == ETHERPARSE_END_IPV4);
+    for (size_t i = 0; i < 16; i++) WANT(buffer[i] == i);
+    WANT(is_untouched(16));
+    memcpy(buffer, untouched, ROOM);
+    WANT(etherparse_bounded_pool_take(pool, buffer, ROOM, &told) == ETHERPARSE_OK && told.len == 0 && is_untouched(0));
+    WANT(bounded_push(pool, 4, 8, 16, false, 20, ROOM, &told) == ETHERPARSE_OK);
+    WANT(bounded_push(pool, 4, 0, 8, true, 20, 15, &told) == ETHERPARSE_TOO_SMALL);
+    held = blocks;
+    etherparse_bounded_pool_discard(pool);
+    etherparse_bounded_pool_discard(pool);
+    WANT(blocks == held - 1);
+    WANT(etherparse_bounded_pool_take(pool, NULL, 0, &told) == ETHERPARSE_OK && told.len == 0);
+    WANT(etherparse_bounded_pool_push(pool, ETHERPARSE_ENTRY_IP, 0, NULL, 0, 20, 7, NULL, 0, &told)
+         == ETHERPARSE_REFUSED);
+    bounded_removals(pool);
+    etherparse_bounded_pool_statistics(pool, &counted);
+    WANT(counted.begun == 9 && counted.completed == 2 && counted.discarded == 0 && counted.expired == 2);
+    WANT(counted.evicted_for_streams == 2 && counted.evicted_for_bytes == 0 && counted.removed == 3);
+    WANT(counted.accepted == 14 && counted.rejected_unaligned == 1 && counted.rejected_too_big == 1);
+    WANT(counted.rejected_conflicting_end == 0 && counted.rejected_discarded == 0);
+    WANT(counted.rejected_out_of_memory > 0 && counted.rejected_over_budget == 0);
+    /* a pool is freed with its waiting payload and its streams */
+    WANT(bounded_push(pool, 6, 8, 16, false, 20, ROOM, &told) == ETHERPARSE_OK);
+    WANT(bounded_push(pool, 6, 0, 8, true, 20, 15, &told) == ETHERPARSE_TOO_SMALL);
+    etherparse_bounded_pool_discard(pool);
+    WANT(bounded_push(pool, 7, 8, 16, false, 20, ROOM, &told) == ETHERPARSE_OK);
+    WANT(bounded_push(pool, 8, 8, 16, false, 20, ROOM, &told) == ETHERPARSE_OK);
+    WANT(bounded_push(pool, 8, 0, 8, true, 20, 15, &told) == ETHERPARSE_TOO_SMALL);
+    etherparse_bounded_pool_free(pool);
+    WANT(blocks == 0 && is_untouched(0));
+
+    /* a stream for which another one goes, and then a stream that alone is above the limit */
+    limits.bytes = 100, limits.streams = 9;
+    WANT(etherparse_bounded_pool_new(&limits, seed, &pool) == ETHERPARSE_OK);
+    WANT(bounded_push(pool, 1, 8, 40, true, 1, ROOM, &told) == ETHERPARSE_OK);
+    WANT(bounded_push(pool, 2, 8, 40, true, 2, ROOM, &told) == ETHERPARSE_OK);
+    WANT(gone(pool, 1, ETHERPARSE_EVICTED_BYTES, 1) && etherparse_bounded_pool_held_bytes(pool) <= 100);
+    WANT(bounded_push(pool, 2, 80, 160, true, 3, ROOM, &told) == ETHERPARSE_OVER_BUDGET);
+    WANT(gone(pool, 2, ETHERPARSE_EVICTED_BYTES, 2) && told.len == 0 && told.fragment_refusal == 0);
+    WANT(etherparse_bounded_pool_held_bytes(pool) == 0 && is_untouched(0));
+    etherparse_bounded_pool_statistics(pool, &counted);
+    WANT(counted.begun == 2 && counted.evicted_for_bytes == 2 && counted.rejected_over_budget == 1);
+    etherparse_bounded_pool_free(pool);
+    WANT(blocks == 0);
+    printf("bounded pools: each status, limit and cause; without memory nothing changes; all is freed\n");
+}
+
 int main(void) {
     for (size_t i = 0; i < ROOM; i++) untouched[i] = (uint8_t)(200 + i % 50);
     writes("etherparse_build_udp", udp, 50);
@@ -465,5 +744,6 @@ int main(void) {
     many(&lax);
     nulls();
     pools();
+    bounded_pools();
     return failed;
 }

@@ -26,10 +26,11 @@ from typing import Any, Iterable, Iterator, NamedTuple, Optional, Sequence, Tupl
 
 __all__ = [
     "VERSION", "MAX_PAYLOAD", "Status", "Entry", "LinkKind", "ExtKind", "NetKind", "TransportKind", "LenSource",
-    "RefusalKind", "Layer", "TcpFlag", "FragmentRefusal", "Packet", "Packets", "Part", "LinkExt", "Ip", "Payload",
-    "Refusal", "Route", "TcpFields", "FragmentFields", "EtherparseError", "Refused", "FragmentRefused", "TooLong",
-    "UnknownChoice", "Pool", "PoolPayload", "slice", "slice_lax", "slice_many", "slice_lax_many", "build_udp",
-    "build_tcp", "build_icmp_echo", "build_fragment", "checksum", "version",
+    "RefusalKind", "Layer", "TcpFlag", "FragmentRefusal", "OverlapPolicy", "EvictionCause", "Packet", "Packets", "Part",
+    "LinkExt", "Ip", "Payload", "Refusal", "Route", "TcpFields", "FragmentFields", "EtherparseError", "Refused",
+    "FragmentRefused", "StreamDiscarded", "OverBudget", "TooLong", "UnknownChoice", "Pool", "PoolPayload",
+    "BoundedPool", "DefragLimits", "DefragStatistics", "StreamId", "EvictedStream", "slice", "slice_lax", "slice_many",
+    "slice_lax_many", "build_udp", "build_tcp", "build_icmp_echo", "build_fragment", "checksum", "version",
 ]
 
 VERSION = 100
@@ -53,6 +54,8 @@ class Status(enum.IntEnum):
     COMPLETE = 6
     FRAGMENT_REFUSED = 7
     PAYLOAD_WAITS = 8
+    DISCARDED = 9
+    OVER_BUDGET = 10
 
 
 class Entry(enum.IntEnum):
@@ -171,6 +174,24 @@ class FragmentRefusal(enum.IntEnum):
     UNALIGNED = 1
     TOO_BIG = 2
     CONFLICTING_END = 3
+
+
+class OverlapPolicy(enum.IntEnum):
+    """Rule of a bounded pool for fragments that overlap earlier ones of their stream: each byte is that of the last or
+    of the first accepted fragment, or a fragment that contradicts earlier ones discards the stream."""
+
+    LAST_WINS = 0
+    FIRST_WINS = 1
+    DISCARD = 2
+
+
+class EvictionCause(enum.IntEnum):
+    """Cause for which a bounded pool evicts or discards a stream."""
+
+    EXPIRED = 1
+    OVERLAP = 2
+    STREAMS = 3
+    BYTES = 4
 
 
 class _Struct(ctypes.Structure):
@@ -355,6 +376,14 @@ class FragmentRefused(EtherparseError, ValueError):
         return type(self), (int(self.fragment_refusal),)
 
 
+class StreamDiscarded(EtherparseError, ValueError):
+    """The stream of a fragment is discarded, by this fragment or an earlier one: two versions of its payload came."""
+
+
+class OverBudget(EtherparseError, ValueError):
+    """The stream of a fragment alone needs more memory than the limits allow, and is evicted with this fragment."""
+
+
 class TooLong(EtherparseError, ValueError):
     """The payload or the TCP options are too long for the headers."""
 
@@ -479,6 +508,66 @@ class _PoolAnswer(ctypes.Structure):
     ]
 
 
+class _DefragLimits(ctypes.Structure):
+    _fields_ = [
+        ("streams", ctypes.c_size_t), ("bytes", ctypes.c_size_t), ("age", ctypes.c_uint64),
+        ("overlap", ctypes.c_uint32), ("payload", ctypes.c_uint16),
+    ]
+
+
+class DefragStatistics(_Struct):
+    """Counters of a bounded pool since it was created. `begun` is the sum of the six counters after it and the number
+    of open streams."""
+
+    begun: int
+    """Streams that began with an accepted fragment."""
+    completed: int
+    """Streams whose payload was returned."""
+    discarded: int
+    """Streams that were discarded, since two versions of their payload came."""
+    expired: int
+    """Open streams that were evicted for their age, or by `expire`."""
+    evicted_for_streams: int
+    """Open streams that were evicted, since there were too many."""
+    evicted_for_bytes: int
+    """Open streams that were evicted, since all or the stream alone used too much memory."""
+    removed: int
+    """Open streams that `remove` or `clear` removed."""
+    accepted: int
+    """Fragments that were accepted."""
+    rejected_unaligned: int
+    """Fragments that were rejected as FragmentRefusal.UNALIGNED."""
+    rejected_too_big: int
+    """Fragments that were rejected as FragmentRefusal.TOO_BIG."""
+    rejected_conflicting_end: int
+    """Fragments that were rejected as FragmentRefusal.CONFLICTING_END."""
+    rejected_out_of_memory: int
+    """Fragments for which an allocation failed."""
+    rejected_discarded: int
+    """Fragments that were rejected with StreamDiscarded."""
+    rejected_over_budget: int
+    """Fragments that were rejected with OverBudget."""
+    _fields_ = [
+        (name, ctypes.c_uint64) for name in (
+            "begun", "completed", "discarded", "expired", "evicted_for_streams", "evicted_for_bytes", "removed",
+            "accepted", "rejected_unaligned", "rejected_too_big", "rejected_conflicting_end", "rejected_out_of_memory",
+            "rejected_discarded", "rejected_over_budget")
+    ]
+
+
+class _StreamId(ctypes.Structure):
+    _fields_ = [
+        ("channel", ctypes.c_uint64), ("identification", ctypes.c_uint32), ("vlan_id_count", ctypes.c_uint32),
+        ("vlan_ids", ctypes.c_uint16 * 3), ("version", ctypes.c_uint8), ("ip_number", ctypes.c_uint8),
+        ("ipv4_source", ctypes.c_uint8 * 4), ("ipv4_destination", ctypes.c_uint8 * 4),
+        ("ipv6_source", ctypes.c_uint8 * 16), ("ipv6_destination", ctypes.c_uint8 * 16),
+    ]
+
+
+class _EvictedStream(ctypes.Structure):
+    _fields_ = [("id", _StreamId), ("first", ctypes.c_uint64), ("cause", ctypes.c_uint32)]
+
+
 _u8, _u16, _u32, _u64, _size = ctypes.c_uint8, ctypes.c_uint16, ctypes.c_uint32, ctypes.c_uint64, ctypes.c_size_t
 _bytes_in = (ctypes.c_char_p, _size)  # as stored by Python, never null
 _bytes_out = (ctypes.POINTER(_u8), _size)
@@ -510,6 +599,20 @@ _CALLS: dict[str, tuple[Any, tuple[Any, ...]]] = {
     "pool_drop_older": (None, (_pool, _u64)),
     "pool_streams": (_size, (_pool,)),
     "pool_bytes": (_size, (_pool,)),
+    "defrag_limits_default": (None, (ctypes.POINTER(_DefragLimits),)),
+    "bounded_pool_new": (_u32, (ctypes.POINTER(_DefragLimits), ctypes.c_char_p, ctypes.POINTER(_pool))),
+    "bounded_pool_free": (None, (_pool,)),
+    "bounded_pool_push": (
+        _u32, (_pool, _u32, _u16, *_bytes_in, _u64, _u64, *_bytes_out, ctypes.POINTER(_PoolAnswer))),
+    "bounded_pool_expire": (_size, (_pool, _u64, _u64)),
+    "bounded_pool_remove": (_size, (_pool, ctypes.POINTER(_StreamId))),
+    "bounded_pool_clear": (None, (_pool,)),
+    "bounded_pool_streams": (_size, (_pool,)),
+    "bounded_pool_discarded_streams": (_size, (_pool,)),
+    "bounded_pool_held_bytes": (_size, (_pool,)),
+    "bounded_pool_statistics": (None, (_pool, ctypes.POINTER(DefragStatistics))),
+    "bounded_pool_evicted_count": (_size, (_pool,)),
+    "bounded_pool_evicted": (_u32, (_pool, _size, ctypes.POINTER(_EvictedStream))),
 }
 """Result and parameter types of each export that is called here, by its name without the first words."""
 
@@ -691,24 +794,19 @@ class PoolPayload(NamedTuple):
     len_source: LenSource
 
 
-class Pool:
-    """Reassembles the fragmented payloads of many streams, each as if it were alone.
+class _AnyPool:
+    """Base class of pools and bounded pools. Their calls wait for each other."""
 
-    If frames may be hostile, set a limit, and drop old streams once in a while. Its calls wait for each other. A `with`
-    statement closes it and frees its memory at the end; later calls raise ValueError.
-    """
+    _push: Any
+    _streams: Any
+    _free: Any
 
-    def __init__(self, limit: int = MAX_PAYLOAD) -> None:
+    def __init__(self, limit: int) -> None:
         self._pool: Optional[int] = None
         self._lock = threading.Lock()
-        _number("limit", limit, 16)
         # as long as the longest payload can be, so that none waits in the pool
         self._buffer = (_u8 * max(limit, 1))()
         self._limit = limit
-        pool = _pool()
-        if _library.etherparse_1_pool_with_limit(limit, ctypes.byref(pool)) != Status.OK:
-            raise MemoryError
-        self._pool = pool.value
 
     def _open(self) -> int:
         if self._pool is None:
@@ -720,13 +818,14 @@ class Pool:
         """Passes a frame to the pool, and returns the payload that it completes, if any.
 
         Raises Refused if the bytes are not a frame, FragmentRefused if its fragment is rejected, MemoryError and
-        UnknownChoice; the streams are then unchanged.
+        UnknownChoice; the streams are then unchanged. A bounded pool also raises StreamDiscarded and OverBudget, and
+        first evicts the stream of the fragment if it had expired.
         """
         frame, answer = _as_bytes(frame), _PoolAnswer()
         arguments = (_number("entry", entry, 32), _number("ether_type", ether_type, 16), frame, len(frame),
                      _number("timestamp", timestamp, 64), _number("channel", channel, 64))
         with self._lock:
-            status = _library.etherparse_1_pool_push(self._open(), *arguments, self._buffer, self._limit, answer)
+            status = self._push(self._open(), *arguments, self._buffer, self._limit, answer)
             if status == Status.COMPLETE:
                 data = ctypes.string_at(self._buffer, answer.len)
                 return PoolPayload(data, answer.ip_number, LenSource(answer.len_source))
@@ -738,34 +837,23 @@ class Pool:
             raise FragmentRefused(answer.fragment_refusal)
         if status == Status.OUT_OF_MEMORY:
             raise MemoryError
+        if status == Status.DISCARDED:
+            raise StreamDiscarded("its fragments contradict each other")
+        if status == Status.OVER_BUDGET:
+            raise OverBudget("it needs more memory than the limits allow")
         raise UnknownChoice(f"entry is {entry}")
 
-    def drop_older(self, timestamp: int) -> None:
-        """Drops the streams whose last accepted fragment came before `timestamp`."""
-        _number("timestamp", timestamp, 64)
-        with self._lock:
-            _library.etherparse_1_pool_drop_older(self._open(), timestamp)
-
     def streams(self) -> int:
-        """Returns the number of streams."""
+        """Returns the number of streams; of a bounded pool only the open ones."""
         with self._lock:
-            return int(_library.etherparse_1_pool_streams(self._open()))
-
-    def bytes(self) -> int:
-        """Returns the number of payload bytes, of each stream up to the greatest end of its fragments."""
-        with self._lock:
-            return int(_library.etherparse_1_pool_bytes(self._open()))
+            return int(self._streams(self._open()))
 
     def close(self) -> None:
         """Frees the memory of the pool; further calls do nothing."""
         with self._lock:
             pool, self._pool = self._pool, None
             if pool is not None:
-                _library.etherparse_1_pool_free(pool)
-
-    def __enter__(self) -> Pool:
-        self._open()
-        return self
+                self._free(pool)
 
     def __exit__(self, *_: object) -> None:
         self.close()
@@ -773,3 +861,186 @@ class Pool:
     def __del__(self) -> None:
         if getattr(self, "_pool", None) is not None and _library is not None:  # as may be the case when Python exits
             self.close()
+
+
+class Pool(_AnyPool):
+    """Reassembles the fragmented payloads of many streams, each as if it were alone.
+
+    If frames may be hostile, use a BoundedPool. Its calls wait for each other. A `with` statement closes it and frees
+    its memory at the end; later calls raise ValueError.
+    """
+
+    _push, _streams = _library.etherparse_1_pool_push, _library.etherparse_1_pool_streams
+    _free = _library.etherparse_1_pool_free
+
+    def __init__(self, limit: int = MAX_PAYLOAD) -> None:
+        super().__init__(_number("limit", limit, 16))
+        pool = _pool()
+        if _library.etherparse_1_pool_with_limit(limit, ctypes.byref(pool)) != Status.OK:
+            raise MemoryError
+        self._pool = pool.value
+
+    def drop_older(self, timestamp: int) -> None:
+        """Drops the streams whose last accepted fragment came before `timestamp`."""
+        _number("timestamp", timestamp, 64)
+        with self._lock:
+            _library.etherparse_1_pool_drop_older(self._open(), timestamp)
+
+    def bytes(self) -> int:
+        """Returns the number of payload bytes, of each stream up to the greatest end of its fragments."""
+        with self._lock:
+            return int(_library.etherparse_1_pool_bytes(self._open()))
+
+    def __enter__(self) -> Pool:
+        self._open()
+        return self
+
+
+@dataclass(frozen=True)
+class DefragLimits:
+    """Limits of a bounded pool. A value that is not given is that of the library."""
+
+    streams: Optional[int] = None
+    """Greatest number of streams, open and discarded ones; 0 counts as 1."""
+    bytes: Optional[int] = None
+    """Greatest memory of all streams in bytes: the capacities of their buffers."""
+    payload: Optional[int] = None
+    """Greatest length of a payload in bytes. A fragment that ends above it is rejected."""
+    age: Optional[int] = None
+    """Time that a stream may stay after its first accepted fragment, in the unit of the timestamps."""
+    overlap: Optional[int] = None
+    """Rule for fragments that overlap earlier ones: an OverlapPolicy."""
+
+    def _to_c(self) -> _DefragLimits:
+        limits = _DefragLimits()
+        _library.etherparse_1_defrag_limits_default(ctypes.byref(limits))
+        for name, bits in (("streams", 64), ("bytes", 64), ("payload", 16), ("age", 64), ("overlap", 32)):
+            value = getattr(self, name)
+            if value is not None:
+                setattr(limits, name, _number(name, value, bits))
+        return limits
+
+
+class StreamId(NamedTuple):
+    """Identifier of a stream: what all its fragments share. Addresses have 4 bytes in IPv4, and 16 in IPv6."""
+
+    source: bytes
+    destination: bytes
+    identification: int
+    ip_number: int
+    vlan_ids: Tuple[int, ...]
+    channel: int
+
+    def _to_c(self) -> _StreamId:
+        length = len(self.source)
+        if length not in (4, 16) or len(self.destination) != length:
+            raise ValueError(f"the addresses have {length} and {len(self.destination)} bytes")
+        if len(self.vlan_ids) > 3:
+            raise ValueError("there are more than three VLAN tags")
+        raw = _StreamId(
+            _number("channel", self.channel, 64), _number("identification", self.identification, 32),
+            len(self.vlan_ids), version=4 if length == 4 else 6, ip_number=_number("ip_number", self.ip_number, 8))
+        for i, vlan_id in enumerate(self.vlan_ids):
+            raw.vlan_ids[i] = _number("vlan_ids", vlan_id, 16)
+        source, destination = (
+            (raw.ipv4_source, raw.ipv4_destination) if length == 4 else (raw.ipv6_source, raw.ipv6_destination))
+        source[:], destination[:] = self.source, self.destination
+        return raw
+
+
+class EvictedStream(NamedTuple):
+    """Stream that a bounded pool evicted or discarded, or a discarded one whose identifier it evicted; `first` is the
+    timestamp of its first accepted fragment."""
+
+    id: StreamId
+    cause: EvictionCause
+    first: int
+
+
+def _evicted_stream(raw: _EvictedStream) -> EvictedStream:
+    id = raw.id
+    source, destination = (
+        (id.ipv4_source, id.ipv4_destination) if id.version == 4 else (id.ipv6_source, id.ipv6_destination))
+    stream = StreamId(
+        bytes(source), bytes(destination), id.identification, id.ip_number, tuple(id.vlan_ids[: id.vlan_id_count]),
+        id.channel)
+    return EvictedStream(stream, EvictionCause(raw.cause), raw.first)
+
+
+class BoundedPool(_AnyPool):
+    """Reassembles the fragmented payloads of hostile traffic: within limits for streams, memory and age, with a rule
+    for fragments that overlap, and with a hash whose seed a sender does not know.
+
+    `seed` is 16 random bytes; without it they come from os.urandom. Its calls wait for each other. A `with` statement
+    closes it and frees its memory at the end; later calls raise ValueError.
+    """
+
+    _push, _streams = _library.etherparse_1_bounded_pool_push, _library.etherparse_1_bounded_pool_streams
+    _free = _library.etherparse_1_bounded_pool_free
+
+    def __init__(self, limits: DefragLimits = DefragLimits(), seed: Optional[Bytes] = None) -> None:
+        given = limits._to_c()
+        super().__init__(given.payload)
+        self.limits = DefragLimits(given.streams, given.bytes, given.payload, given.age, given.overlap)
+        """Limits of the pool."""
+        seed = os.urandom(16) if seed is None else _as_bytes(seed)
+        if len(seed) != 16:
+            raise ValueError(f"the seed has {len(seed)} bytes, and not 16")
+        pool = _pool()
+        status = _library.etherparse_1_bounded_pool_new(ctypes.byref(given), seed, ctypes.byref(pool))
+        if status == Status.UNKNOWN_CHOICE:
+            raise UnknownChoice(f"overlap is {given.overlap}")
+        if status != Status.OK:
+            raise MemoryError
+        self._pool = pool.value
+
+    def expire(self, now: int, idle: int = (1 << 64) - 1) -> int:
+        """Evicts each stream that is older than the age of the limits, or whose last accepted fragment came more than
+        `idle` before `now`, and returns their number."""
+        _number("now", now, 64), _number("idle", idle, 64)
+        with self._lock:
+            return int(_library.etherparse_1_bounded_pool_expire(self._open(), now, idle))
+
+    def remove(self, id: StreamId) -> bool:
+        """Removes the stream with this identifier, open or discarded, and returns whether there was one."""
+        raw = id._to_c()
+        with self._lock:
+            return bool(_library.etherparse_1_bounded_pool_remove(self._open(), ctypes.byref(raw)))
+
+    def clear(self) -> None:
+        """Removes all streams. The counters stay."""
+        with self._lock:
+            _library.etherparse_1_bounded_pool_clear(self._open())
+
+    def discarded_streams(self) -> int:
+        """Returns the number of discarded streams whose identifiers still count as streams of the limits."""
+        with self._lock:
+            return int(_library.etherparse_1_bounded_pool_discarded_streams(self._open()))
+
+    def held_bytes(self) -> int:
+        """Returns the memory of all streams in bytes: the capacities of their buffers."""
+        with self._lock:
+            return int(_library.etherparse_1_bounded_pool_held_bytes(self._open()))
+
+    def statistics(self) -> DefragStatistics:
+        """Returns the counters since the pool was created."""
+        statistics = DefragStatistics()
+        with self._lock:
+            _library.etherparse_1_bounded_pool_statistics(self._open(), statistics)
+        return statistics
+
+    def evicted(self) -> Tuple[EvictedStream, ...]:
+        """Returns the streams that the last push, expire, remove or clear evicted or discarded, of whatever thread:
+        first that of the fragment, if it had expired, then the others in the order of their last accepted fragments.
+        Threads that share a pool need a lock of their own around a call and this one."""
+        with self._lock:
+            pool, raw = self._open(), _EvictedStream()
+            streams = []
+            for index in range(_library.etherparse_1_bounded_pool_evicted_count(pool)):
+                _library.etherparse_1_bounded_pool_evicted(pool, index, raw)
+                streams.append(_evicted_stream(raw))
+        return tuple(streams)
+
+    def __enter__(self) -> BoundedPool:
+        self._open()
+        return self

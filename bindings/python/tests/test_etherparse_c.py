@@ -142,7 +142,8 @@ class Header(unittest.TestCase):
         named = {name: int(number) for name, number in re.findall(r"ETHERPARSE_(\w+) = (\d+)", self.text)}
         kinds = {"ENTRY_": ep.Entry, "LINK_": ep.LinkKind, "EXT_": ep.ExtKind, "NET_": ep.NetKind,
                  "TRANSPORT_": ep.TransportKind, "END_": ep.LenSource, "REFUSAL_": ep.RefusalKind, "LAYER_": ep.Layer,
-                 "TCP_": ep.TcpFlag, "FRAGMENT_": ep.FragmentRefusal}
+                 "TCP_": ep.TcpFlag, "FRAGMENT_": ep.FragmentRefusal, "OVERLAP_": ep.OverlapPolicy,
+                 "EVICTED_": ep.EvictionCause}
         here = {first + it.name: it.value for first, kind in kinds.items() for it in kind}
         here.update((it.name, it.value) for it in ep.Status)
         self.assertEqual(here, named)
@@ -153,7 +154,9 @@ class Header(unittest.TestCase):
     def test_structs(self):
         here = {"part": ep.Part, "link_ext": ep.LinkExt, "ip": ep.Ip, "payload": ep.Payload, "refusal": ep.Refusal,
                 "packet": ep.Packet, "route": ep._Route, "tagged_route": ep._TaggedRoute, "tcp_fields": ep._TcpFields,
-                "fragment_fields": ep._FragmentFields, "pool_answer": ep._PoolAnswer}
+                "fragment_fields": ep._FragmentFields, "pool_answer": ep._PoolAnswer,
+                "defrag_limits": ep._DefragLimits, "defrag_statistics": ep.DefragStatistics,
+                "stream_id": ep._StreamId, "evicted_stream": ep._EvictedStream}
         for name, struct_here in here.items():
             body = re.search(rf"^struct etherparse_{name} {{\n(.*?)^}};", self.text, re.MULTILINE | re.DOTALL)[1]
             body = re.sub(r"/\*.*?\*/", "", body, flags=re.DOTALL)
@@ -309,6 +312,78 @@ class Pools(unittest.TestCase):
             with self.assertRaises(ValueError):
                 call()
         pool.close()
+
+    def test_bounded_pool(self):
+        limits = ep.DefragLimits(streams=2, age=10, payload=4096)
+        with ep.BoundedPool(limits) as pool:
+            self.assertEqual(pool.limits, ep.DefragLimits(2, 32 << 20, 4096, 10, ep.OverlapPolicy.DISCARD))
+            parts = list(fragments(7, self.payload, 512))
+            for part in parts[1:]:
+                self.assertIsNone(pool.push(part, 1, entry=ep.Entry.IP))
+            self.assertEqual((pool.streams(), pool.held_bytes() >= 2048, pool.evicted()), (1, True, ()))
+            self.assertEqual(pool.push(parts[0], 2, entry=ep.Entry.IP), (self.payload, 17, ep.LenSource.IPV4))
+            self.assertEqual((pool.streams(), pool.held_bytes()), (0, 0))
+            # a repeat is accepted, and other bytes discard the stream
+            pool.push(parts[0], 3, channel=5, entry=ep.Entry.IP)
+            pool.push(parts[0], 4, channel=5, entry=ep.Entry.IP)
+            other = list(fragments(7, bytes(2048), 512))[0]
+            with self.assertRaises(ep.StreamDiscarded):
+                pool.push(other, 5, channel=5, entry=ep.Entry.IP)
+            id = ep.StreamId(bytes([10, 0, 0, 1]), bytes([10, 0, 0, 2]), 7, 17, (), 5)
+            self.assertEqual(pool.evicted(), ((id, ep.EvictionCause.OVERLAP, 3),))
+            self.assertEqual((pool.streams(), pool.discarded_streams()), (0, 1))
+            # its removal, and identifiers that no stream has
+            others = (id._replace(channel=4), id._replace(identification=65536 + 7), id._replace(vlan_ids=(0,)),
+                      id._replace(vlan_ids=(4096,)), id._replace(source=bytes(16), destination=bytes(16)))
+            for other_id in others:
+                self.assertIs(pool.remove(other_id), False)
+            self.assertEqual((pool.remove(id), pool.remove(id), pool.discarded_streams()), (True, False, 0))
+            self.assertEqual(pool.evicted(), ())
+            for wrong in (id._replace(source=b"abc"), id._replace(source=bytes(16)), id._replace(vlan_ids=(1, 2, 3, 4)),
+                          id._replace(channel=-1), id._replace(ip_number=256)):
+                with self.assertRaises(ValueError):
+                    pool.remove(wrong)
+            pool.push(parts[0], 5, channel=5, entry=ep.Entry.IP)
+            with self.assertRaises(ep.StreamDiscarded):
+                pool.push(other, 5, channel=5, entry=ep.Entry.IP)
+            with self.assertRaises(ep.Refused):
+                pool.push(b"\x45", 5, entry=ep.Entry.IP)
+            self.assertEqual(pool.evicted(), ())
+            # too many streams, and old ones
+            pool.push(parts[0], 6, channel=1, entry=ep.Entry.IP)
+            pool.push(parts[0], 7, channel=2, entry=ep.Entry.IP)
+            self.assertEqual([(gone.id.channel, gone.cause) for gone in pool.evicted()],
+                             [(5, ep.EvictionCause.STREAMS)])
+            self.assertEqual(pool.expire(17), 1)
+            self.assertEqual([(gone.id.channel, gone.first) for gone in pool.evicted()], [(1, 6)])
+            self.assertEqual(pool.expire(10, idle=2), 1)
+            with self.assertRaises(ep.FragmentRefused):
+                pool.push(list(fragments(9, bytes(4104), 4096))[1], 8, entry=ep.Entry.IP)
+            pool.push(parts[0], 8, entry=ep.Entry.IP)
+            pool.clear()
+            counted = pool.statistics()
+            self.assertEqual((counted.begun, counted.completed, counted.discarded, counted.expired), (6, 1, 2, 2))
+            self.assertEqual((counted.removed, counted.accepted, counted.rejected_discarded), (1, 10, 2))
+            self.assertEqual((counted.rejected_too_big, counted.evicted_for_streams), (1, 0))
+            with self.assertRaises(ep.UnknownChoice):
+                pool.push(parts[0], 5, entry=4)
+        for call in (pool.streams, pool.held_bytes, pool.statistics, pool.evicted, pool.clear, lambda: pool.expire(0),
+                     lambda: pool.push(b"", 0), lambda: pool.remove(id), pool.discarded_streams, pool.__enter__):
+            with self.assertRaises(ValueError):
+                call()
+        with ep.BoundedPool(ep.DefragLimits(bytes=100), bytes(16)) as pool:
+            with self.assertRaises(ep.OverBudget):
+                pool.push(parts[1], 1, entry=ep.Entry.IP)
+            self.assertEqual([gone.cause for gone in pool.evicted()], [ep.EvictionCause.BYTES])
+        for rule, byte in ((ep.OverlapPolicy.LAST_WINS, 0), (ep.OverlapPolicy.FIRST_WINS, 1)):
+            with ep.BoundedPool(ep.DefragLimits(overlap=rule)) as pool:
+                for part in (parts[0], other, *parts[1:]):
+                    whole = pool.push(part, 1, entry=ep.Entry.IP)
+                self.assertEqual((whole.data[1], whole.data[512:]), (byte, self.payload[512:]))
+        with self.assertRaises(ValueError):
+            ep.BoundedPool(seed=bytes(15))
+        with self.assertRaises(ep.UnknownChoice):
+            ep.BoundedPool(ep.DefragLimits(overlap=3))
 
     def test_threads(self):
         """Many threads on one pool: each payload is returned once."""

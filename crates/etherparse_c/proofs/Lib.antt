@@ -1,11 +1,15 @@
 pub mod AnswerLemmas
+pub mod BoundedAnswerLemmas
 pub mod PointerStepLemmas
+pub mod BoundedPointerLemmas
 pub mod LaxLemmas
 pub mod ManyLemmas
 pub mod SentLemmas
 pub mod PlaceLemmas
 pub mod PlainLemmas
 pub mod LimitLemmas
+pub mod BoundedLimitLemmas
+pub mod RemovalLemmas
 pub mod TagLemmas
 pub mod TaggedLemmas
 pub mod TextLemmas

@@ -42,7 +42,7 @@ row_is_off true error others none = grind arith
 row_is_off false error others none = refl
 
 -- A fragment that is not rejected ends within the limit.
-ends_within : (limit : ℕ) (accepted : List IpFragment) (fragment : IpFragment)
+pub ends_within : (limit : ℕ) (accepted : List IpFragment) (fragment : IpFragment)
     → refusal_within limit accepted fragment ≡ None → fragment_end fragment ≤ limit
 ends_within limit accepted fragment fits =
     let off : nat_lt limit (fragment_end fragment) ≡ false =

@@ -11,4 +11,7 @@ pub mod Placing
 pub mod Plain
 pub mod PoolOwnership
 pub mod PoolAnswers
+pub mod BoundedStateOwnership
+pub mod BoundedPoolOwnership
+pub mod BoundedPoolAnswers
 pub mod RefusalTexts

@@ -149,16 +149,17 @@ IsPushAnswer entry bytes timestamp channel old = IsPushAnswerWith entry old.wait
 -- ---- the waiting payload
 
 -- The waiting payload is returned; if none waits, the status is 0, and nothing is changed.
-abbrev pub IsTakenWith : Option IpDefragPayloadVec → State → List ℕ → List ℕ → PoolAnswer → ℕ → Type 0
-IsTakenWith None new old_buffer new_buffer answer status =
-    (status ≡ 0) × (new.waiting ≡ None) × (new_buffer ≡ old_buffer) × (answer ≡ empty_answer)
-IsTakenWith (Some payload) new old_buffer new_buffer answer status =
-    ReturnsPayload payload new.waiting old_buffer new_buffer answer status
+abbrev pub IsTakenWith : Option IpDefragPayloadVec → Option IpDefragPayloadVec → List ℕ → List ℕ → PoolAnswer → ℕ
+    → Type 0
+IsTakenWith None waiting old_buffer new_buffer answer status =
+    (status ≡ 0) × (waiting ≡ None) × (new_buffer ≡ old_buffer) × (answer ≡ empty_answer)
+IsTakenWith (Some payload) waiting old_buffer new_buffer answer status =
+    ReturnsPayload payload waiting old_buffer new_buffer answer status
 
 -- Answer of a call that takes the waiting payload; the streams are unchanged.
 abbrev pub IsTakeAnswer : State → State → List ℕ → List ℕ → PoolAnswer → ℕ → Type 0
 IsTakeAnswer old new old_buffer new_buffer answer status =
-    (new.pool ≡ old.pool) × IsTakenWith old.waiting new old_buffer new_buffer answer status
+    (new.pool ≡ old.pool) × IsTakenWith old.waiting new.waiting old_buffer new_buffer answer status
 
 -- The waiting payload, if any, is discarded; the streams are unchanged.
 pub record Discards (old new : State) : Type 0 where
@@ -168,7 +169,7 @@ pub record Discards (old new : State) : Type 0 where
 -- ---- sizes of a pool
 
 -- A call returns a number of a pool, which is unchanged.
-pub record ReturnsNumber (number_of : State → ℕ) (number : ℕ) (old new : State) : Type 0 where
+pub record ReturnsNumber {S : Type 0} (number_of : S → ℕ) (number : ℕ) (old new : S) : Type 0 where
   pub same : new ≡ old
   pub returned : number ≡ number_of old
 

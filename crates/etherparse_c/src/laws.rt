@@ -12,9 +12,15 @@ ghost use Rattle.etherparse_c.specs.Description.{description, payload_offset};
 ghost use Rattle.etherparse_c.specs.LaxAnswers.{DescribesLax, lax_description};
 ghost use Rattle.etherparse_c.specs.Places.{Describes, HeaderLens};
 ghost use Rattle.etherparse_c.specs.PoolAnswers.{IsPushAnswer, Table, pool_of, waiting_in};
+ghost use Rattle.etherparse.specs.BoundedPools.{HoldsRows, limits_in};
+ghost use Rattle.etherparse.specs.BoundedSteps.{Row};
+ghost use Rattle.etherparse_c.specs.BoundedPoolAnswers.{IsBoundedPush, bounded_pool_of, bounded_waiting};
 ghost use Rattle.etherparse_c.specs.RefusalTexts.{AreTextsOfRefusals, text_of_number};
 
+use crate::bounded_handle::BoundedHandle;
+use crate::bounded_state::BoundedState;
 use crate::handle::Handle;
+use crate::owned_bounded_pool::OwnedBoundedPool;
 use crate::owned_pool::OwnedPool;
 use crate::packet::{Packet, Refusal};
 use crate::pool_answer::PoolAnswer;
@@ -85,11 +91,24 @@ pub fn limit_fits_payloads()
     etherparse::laws::defrag::data_within_limit::<u64, u64>();
 }
 
+/// States that a buffer of the payload length of the limits is large enough for every payload of a bounded pool. After
+/// a push with such a buffer, no complete payload is left in the pool if none was before.
+pub fn bounded_limit_fits_payloads()
+    ensures { (entry : Option Entry) (bytes : List ℕ) (timestamp channel : ℕ) (old new : BoundedState)
+        (old_buffer new_buffer : List ℕ) (answer : PoolAnswer) (status : ℕ) (rows : List (Row ℕ))
+        → HoldsRows nat_eq (bounded_pool_of old) rows → bounded_waiting old ≡ None
+        → (limits_in (bounded_pool_of old)).payload ≤ length old_buffer
+        → IsBoundedPush entry bytes timestamp channel old_buffer new_buffer answer status old new
+        → bounded_waiting new ≡ None }
+{}
+
 /// Proves that the pointers to a reassembly pool that C holds implement `Send`: a pool can go to another thread between
 /// two calls.
 pub fn pools_are_send() {
     moves::<Handle>();
     moves::<OwnedPool>();
+    moves::<BoundedHandle>();
+    moves::<OwnedBoundedPool>();
 }
 
 /// Does nothing; a call compiles only if `T` implements `Send`.

@@ -6,16 +6,25 @@
 //! documents the numbers.
 #![tactic(auto)]
 
+mod bounded_handle;
+mod bounded_pool;
+mod bounded_pooling;
+mod bounded_state;
+mod bounded_state_pointer;
 mod building;
 mod building_tagged;
 mod checksum;
+mod defrag_describing;
+mod defrag_values;
 mod describing;
 mod handle;
+mod hash_seed;
 pub mod laws;
 mod lax_describing;
 mod lax_slicing;
 mod net_part;
 mod numbers;
+mod owned_bounded_pool;
 mod owned_pool;
 mod packet;
 mod placing;
@@ -36,14 +45,28 @@ mod texts;
 mod version;
 mod vlans;
 
+pub use bounded_handle::BoundedHandle;
+pub use bounded_pool::BoundedPool;
+pub use bounded_pooling::{
+    etherparse_1_bounded_pool_clear, etherparse_1_bounded_pool_discard,
+    etherparse_1_bounded_pool_discarded_streams, etherparse_1_bounded_pool_evicted,
+    etherparse_1_bounded_pool_evicted_count, etherparse_1_bounded_pool_expire,
+    etherparse_1_bounded_pool_free, etherparse_1_bounded_pool_held_bytes,
+    etherparse_1_bounded_pool_new, etherparse_1_bounded_pool_push,
+    etherparse_1_bounded_pool_remove, etherparse_1_bounded_pool_statistics,
+    etherparse_1_bounded_pool_streams, etherparse_1_bounded_pool_take,
+    etherparse_1_defrag_limits_default,
+};
 pub use building::{etherparse_1_build_icmp_echo, etherparse_1_build_tcp, etherparse_1_build_udp};
 pub use building_tagged::{
     etherparse_1_build_fragment, etherparse_1_build_tagged_icmp_echo,
     etherparse_1_build_tagged_tcp, etherparse_1_build_tagged_udp,
 };
 pub use checksum::etherparse_1_checksum;
+pub use defrag_values::{DefragLimits, DefragStatistics, EvictedStream, StreamId};
 pub use handle::Handle;
 pub use lax_slicing::etherparse_1_slice_lax;
+pub use owned_bounded_pool::OwnedBoundedPool;
 pub use owned_pool::OwnedPool;
 pub use packet::{Ip, LinkExt, Packet, Part, Payload, Refusal};
 pub use pool::Pool;

@@ -21,6 +21,12 @@ pub const FRAGMENT_REFUSED: u32 = 7;
 /// Status 8 of a C call to a reassembly pool: the frame is not processed, since the pool still keeps a complete payload
 /// that did not fit into an earlier buffer.
 pub const PAYLOAD_WAITS: u32 = 8;
+/// Status 9 of a C call to a bounded reassembly pool: the stream of the frame's fragment is discarded, since two
+/// versions of its payload arrived.
+pub const DISCARDED: u32 = 9;
+/// Status 10 of a C call to a bounded reassembly pool: the stream of the frame's fragment alone needs more memory than
+/// the limits allow, and is evicted.
+pub const OVER_BUDGET: u32 = 10;
 
 /// Kind of a link header in the C interface: Ethernet II.
 pub const LINK_ETHERNET2: u32 = 1;

@@ -99,7 +99,7 @@ pub extern "C" fn etherparse_1_pool_take(
     ensures { Changes pool.old pool.new (λ old new. IsTakeAnswer old new buffer.old buffer.new answer.new result) }
 {
     let mut state = take_state(alloc, &mut pool.pointer);
-    let status = copy_waiting_payload(&mut state, buffer, answer);
+    let status = copy_waiting_payload(&mut state.waiting, buffer, answer);
     pool.pointer = pointer_to(state);
     status
 }
@@ -203,10 +203,10 @@ fn pointer_to(state: Box<State>) -> StatePointer
 
 /// Frame that C passes to a reassembly pool, with its timestamp and channel (numbers of the caller's own).
 #[derive(Drop)]
-struct TimedFrame<'a> {
-    bytes: &'a [u8],
-    timestamp: u64,
-    channel: u64,
+pub(crate) struct TimedFrame<'a> {
+    pub(crate) bytes: &'a [u8],
+    pub(crate) timestamp: u64,
+    pub(crate) channel: u64,
 }
 
 /// Passes a frame to a reassembly pool and returns the status for C: 2 if `entry`, the number of the frame's first
@@ -268,20 +268,23 @@ fn push_frame(
 
 /// Copies the complete payload that a reassembly pool keeps to the buffer. Returns status 6 if it is copied, 3 if the
 /// buffer is too small (the payload is kept), or 0 if there is none.
-fn copy_waiting_payload(state: &mut State, buffer: &mut [u8], answer: &mut PoolAnswer) -> u32
-    ensures pool { state.new.pool ≡ state.old.pool }
-    ensures taken { IsTakenWith state.old.waiting state.new buffer.old buffer.new answer.new result }
+pub(crate) fn copy_waiting_payload(
+    waiting: &mut Option<IpDefragPayloadVec>,
+    buffer: &mut [u8],
+    answer: &mut PoolAnswer,
+) -> u32
+    ensures { IsTakenWith waiting.old waiting.new buffer.old buffer.new answer.new result }
 {
     *answer = empty_answer();
-    match replace(&mut state.waiting, None) {
-        Some(payload) => copy_payload(payload, &mut state.waiting, buffer, answer),
+    match replace(waiting, None) {
+        Some(payload) => copy_payload(payload, waiting, buffer, answer),
         None => numbers::OK,
     }
 }
 
 /// Copies a complete reassembled payload to the caller's buffer and returns status 6. If the buffer is too small, the
 /// pool keeps the payload, and the status is 3.
-fn copy_payload(
+pub(crate) fn copy_payload(
     payload: IpDefragPayloadVec,
     waiting: &mut Option<IpDefragPayloadVec>,
     buffer: &mut [u8],
@@ -300,7 +303,7 @@ fn copy_payload(
 }
 
 /// Returns the result of a pool call with neither a payload nor an error: all fields are 0.
-fn empty_answer() -> PoolAnswer
+pub(crate) fn empty_answer() -> PoolAnswer
     ensures { result ≡ empty_answer }
 {
     PoolAnswer {
@@ -314,7 +317,7 @@ fn empty_answer() -> PoolAnswer
 
 /// Returns the result of a pool call for a complete reassembled payload: its length, IP protocol number and length
 /// source.
-fn payload_answer(payload: &IpDefragPayloadVec) -> PoolAnswer
+pub(crate) fn payload_answer(payload: &IpDefragPayloadVec) -> PoolAnswer
     ensures { result ≡ payload_answer payload.now }
 {
     PoolAnswer {
@@ -328,7 +331,7 @@ fn payload_answer(payload: &IpDefragPayloadVec) -> PoolAnswer
 
 /// Stores the number (1 to 3) of the reason why the reassembly pool rejects a fragment, and returns status 7; stores 0
 /// and returns 5 if an allocation failed.
-fn store_fragment_refusal(error: &IpDefragError, answer: &mut PoolAnswer) -> u32
+pub(crate) fn store_fragment_refusal(error: &IpDefragError, answer: &mut PoolAnswer) -> u32
     requires { answer.old ≡ empty_answer }
     ensures answer { answer.new ≡ error_answer error.now }
     ensures status { result ≡ refused_status error.now }

@@ -8,6 +8,7 @@ use Rattle.packet_dump.specs.Options.{IsJoined, IsOptionWord}
 use Rattle.packet_dump.specs.OptionSteps.{joined_from, joined_in, option_with, parts_at_equals, word_named}
 use Rattle.packet_dump.specs.declared.options.Awaited.{Awaited}
 use Rattle.packet_dump.specs.declared.options.Awaited.TheVariants.{Count, Only, Time, Timeout, Limit, Write, Streams, Filter, Input}
+use Rattle.packet_dump.specs.declared.options.Awaited.TheVariants.{FragmentBytes, FragmentAge, Overlap}
 use Rattle.packet_dump.specs.declared.options.FilterKind.TheVariants.{Host, Port, Vlan, Net}
 use Rattle.packet_dump.specs.declared.options.Word.{Word}
 use Rattle.packet_dump.specs.declared.options.Word.TheVariants as word
@@ -104,6 +105,9 @@ joined_by Timeout value name is = from_name Timeout value name (codes "--timeout
 joined_by Limit value name is = from_name Limit value name (codes "--limit") is (refl, refl)
 joined_by Write value name is = from_name Write value name (codes "--write") is (refl, refl)
 joined_by Streams value name is = from_name Streams value name (codes "--streams") is (refl, refl)
+joined_by FragmentBytes value name is = from_name FragmentBytes value name (codes "--fragment-bytes") is (refl, refl)
+joined_by FragmentAge value name is = from_name FragmentAge value name (codes "--fragment-age") is (refl, refl)
+joined_by Overlap value name is = from_name Overlap value name (codes "--overlap") is (refl, refl)
 joined_by (Filter Host) value name is = from_name (Filter Host) value name (codes "--host") is (refl, refl)
 joined_by (Filter Port) value name is = from_name (Filter Port) value name (codes "--port") is (refl, refl)
 joined_by (Filter Vlan) value name is = from_name (Filter Vlan) value name (codes "--vlan") is (refl, refl)
@@ -124,6 +128,9 @@ option_named Timeout name is = ap word_named is
 option_named Limit name is = ap word_named is
 option_named Write name is = ap word_named is
 option_named Streams name is = ap word_named is
+option_named FragmentBytes name is = ap word_named is
+option_named FragmentAge name is = ap word_named is
+option_named Overlap name is = ap word_named is
 option_named (Filter Host) name is = ap word_named is
 option_named (Filter Port) name is = ap word_named is
 option_named (Filter Vlan) name is = ap word_named is

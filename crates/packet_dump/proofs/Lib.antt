@@ -3,8 +3,8 @@ pub mod SessionLemmas
 pub mod SummaryLemmas
 pub mod RunLemmas
 pub mod SavingLemmas
-pub mod OpenLemmas
 pub mod PoolLemmas
+pub mod MemoryLemmas
 pub mod DecodedLemmas
 pub mod ValueLemmas
 pub mod JoinedLemmas

@@ -11,13 +11,14 @@ use Rattle.packet_dump.specs.Options.{default_settings, dump, filter, options_wi
 use Rattle.packet_dump.specs.Options.{fault_of, file, help, hex, hex_frame, inputs, is_dashed, is_input, is_known, limit}
 use Rattle.packet_dump.specs.Options.{no_names, no_value, only, option_word, quiet, reassemble, second_file, standard_input}
 use Rattle.packet_dump.specs.Options.{streams, strict, summary, texts, time, timeout, unknown_option, verbose, version}
-use Rattle.packet_dump.specs.Options.{with_item, write}
+use Rattle.packet_dump.specs.Options.{with_item, write, fragment_age, fragment_bytes, overlap}
 use Rattle.packet_dump.specs.OptionSteps.{State, Step, done, input_or_item_step, joined_step, value_step, word_step}
 use Rattle.packet_dump.specs.OptionSteps.{filtered, finished}
 use Rattle.packet_dump.specs.OptionSteps.{first_state, input_in, joined_in, more, step}
 use Rattle.packet_dump.specs.OptionSteps.{value_in, word_named}
 use Rattle.packet_dump.specs.declared.options.Awaited.{Awaited}
 use Rattle.packet_dump.specs.declared.options.Awaited.TheVariants.{Count, Only, Time, Timeout, Limit, Write, Streams, Filter, Input}
+use Rattle.packet_dump.specs.declared.options.Awaited.TheVariants.{FragmentBytes, FragmentAge, Overlap}
 use Rattle.packet_dump.specs.declared.options.Request.{Request}
 use Rattle.packet_dump.specs.declared.options.UsageError.{UsageError}
 use Rattle.packet_dump.specs.declared.options.Word.{Word}
@@ -112,6 +113,9 @@ value_item Timeout value (timeout seconds) own spelled says = (Timeout, value, s
 value_item Limit value (limit bytes) own spelled says = (Limit, value, spelled, says)
 value_item Write value (write name) own spelled says = (Write, value, spelled, says)
 value_item Streams value (streams number) own spelled says = (Streams, value, spelled, says)
+value_item FragmentBytes value (fragment_bytes number) own spelled says = (FragmentBytes, value, spelled, says)
+value_item FragmentAge value (fragment_age number) own spelled says = (FragmentAge, value, spelled, says)
+value_item Overlap value (overlap policy) own spelled says = (Overlap, value, spelled, says)
 value_item (Filter kind) value (filter other said) own spelled says = (Filter kind, value, spelled, says)
 value_item Input value (file name) own spelled says = inr (Input, value, spelled, says)
 value_item Input value standard_input own spelled says = inr (Input, value, spelled, says)
@@ -128,6 +132,9 @@ inputs_only Timeout value (timeout seconds) says is = let never : ⊥ = cc in ab
 inputs_only Limit value (limit bytes) says is = let never : ⊥ = cc in absurd never
 inputs_only Write value (write name) says is = let never : ⊥ = cc in absurd never
 inputs_only Streams value (streams number) says is = let never : ⊥ = cc in absurd never
+inputs_only FragmentBytes value (fragment_bytes number) says is = let never : ⊥ = cc in absurd never
+inputs_only FragmentAge value (fragment_age number) says is = let never : ⊥ = cc in absurd never
+inputs_only Overlap value (overlap policy) says is = let never : ⊥ = cc in absurd never
 inputs_only (Filter kind) value (filter other said) says is = let never : ⊥ = cc in absurd never
 inputs_only option value item says is = absurd says
 
@@ -330,6 +337,12 @@ item_step (limit bytes) own words settings named is fits =
     option_step (limit bytes) own words settings named is fits
 item_step (streams number) own words settings named is fits =
     option_step (streams number) own words settings named is fits
+item_step (fragment_bytes number) own words settings named is fits =
+    option_step (fragment_bytes number) own words settings named is fits
+item_step (fragment_age number) own words settings named is fits =
+    option_step (fragment_age number) own words settings named is fits
+item_step (overlap policy) own words settings named is fits =
+    option_step (overlap policy) own words settings named is fits
 item_step (write name) own words settings named is fits = option_step (write name) own words settings named is fits
 item_step (filter kind text) own words settings named is fits =
     option_step (filter kind text) own words settings named is fits
@@ -490,6 +503,12 @@ set_item Limit text (limit bytes) state options says is plain =
     ap (λ o. record state { settings = record state.settings { options = o } }) is
 set_item Streams text (streams number) state options says is plain =
     ap (λ o. record state { settings = record state.settings { options = o } }) is
+set_item FragmentBytes text (fragment_bytes number) state options says is plain =
+    ap (λ o. record state { settings = record state.settings { options = o } }) is
+set_item FragmentAge text (fragment_age number) state options says is plain =
+    ap (λ o. record state { settings = record state.settings { options = o } }) is
+set_item Overlap text (overlap policy) state options says is plain =
+    ap (λ o. record state { settings = record state.settings { options = o } }) is
 set_item Write text (write name) state options says is plain =
     ap (λ o. filtered (record state { settings = record state.settings { options = o } }) Write text) is
     ∙ ap (λ t. record state { settings = with_item state.settings (write t) }) says
@@ -512,6 +531,9 @@ no_input Timeout value (timeout seconds) says never = refl
 no_input Limit value (limit bytes) says never = refl
 no_input Write value (write name) says never = refl
 no_input Streams value (streams number) says never = refl
+no_input FragmentBytes value (fragment_bytes number) says never = refl
+no_input FragmentAge value (fragment_age number) says never = refl
+no_input Overlap value (overlap policy) says never = refl
 no_input (Filter kind) value (filter other said) says never = refl
 no_input option value item says never = absurd says
 

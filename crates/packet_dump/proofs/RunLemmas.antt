@@ -77,7 +77,7 @@ run_new session first new =
       processed = record {
         items = [];
         packets = [];
-        history = new_pool options.limit;
+        history = new_pool options;
         has_read = new.read;
         lines = (refl, refl);
         counted = refl;
@@ -248,7 +248,7 @@ pub run_written : {old session : Session} {first now : Streams} (next : Session)
     → HasRun old first now session → Draining session next capture_state → ends_run capture_state ended ≡ true
     → lines ≡ next.output.items → Appends now.output output lines → Closes next.saving closed now.file file
     → ((history : PoolHistory) → HoldsPooling history next.pooling
-    → CountsFragments next.options.reassemble history (plain_of next.summary) last)
+    → CountsFragments next.options history (plain_of next.summary) last)
     → (saved : List ℕ) × Appends first.file file saved
     × Moves (WritesRun old.options (asks old.saving.state) ended (ending_of capture_state next.number)
     (plain_of old.summary) last closed.state saved) first.input now.input first.output output
@@ -270,8 +270,8 @@ run_written {old} {first} {now} next capture_state ended output file lines close
           is_run options ended next capture_state ran.read _ ends drains,
           done.history,
           subst (λ (t : List ℕ). AreAllLines options done.packets (ran.lines ++ t) done.history) (sym same) done.lines,
-          subst (λ (s : PlainSummary). CountsFragments options.reassemble done.history s last) done.counted
-              (subst (λ o. CountsFragments o.reassemble done.history (plain_of next.summary) last)
+          subst (λ (s : PlainSummary). CountsFragments options done.history s last) done.counted
+              (subst (λ o. CountsFragments o done.history (plain_of next.summary) last)
               done.has_read.options_is (count done.history done.has_read.pooled)),
           flushed.2,
         ),

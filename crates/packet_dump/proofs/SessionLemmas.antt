@@ -13,7 +13,7 @@ use Rattle.packet_dump.specs.Dumps.{AreAllLines, AreFewer}
 use Rattle.packet_dump.specs.PacketCalls.{PoolHistory, new_pool}
 use Rattle.packet_dump.specs.PacketLines.{line_of}
 use Rattle.packet_dump.specs.Saves.{Saves}
-use Rattle.packet_dump.specs.Sessions.{AwaitsPacket, Drains, HasProcessed, HasRead, HasState, HoldsPooling}
+use Rattle.packet_dump.specs.Sessions.{Drains, HasProcessed, HasRead, HasState, HoldsPooling}
 use Rattle.packet_dump.specs.Sessions.{ProcessesPacket, Written, progress_of, with_lines}
 use Rattle.packet_dump.specs.Summaries.{counted_one}
 use Rattle.packet_dump.specs.declared.dump_options.DumpOptions.{DumpOptions}
@@ -41,7 +41,6 @@ processed_same options old new read next written saved was reads saves = record 
     progress = was.has_read.progress;
     decoded = was.has_read.decoded;
     pooled = was.has_read.pooled;
-    given = was.has_read.given;
   };
   lines = was.lines;
   counted = was.counted;
@@ -66,10 +65,10 @@ has_read_more : (old new : Session) (read : List ℕ) (items : List Item) (packe
     → progress_with (progress_of (stage_after_items at_start items) old) item shown
     ≡ progress_of (stage_after (stage_after_items at_start items) item) new
     → IsItemDecoded old.options (progress_of (stage_after_items at_start items) old) shown one
-    → HoldsPooling after new.pooling → after.number ≤ new.number
+    → HoldsPooling after new.pooling
     → HasRead old.options new read (items ++ item ∷ []) (packets ++ one) after
 has_read_more old new read items packets one history after item shown was same reads shows within progressed decoded
-    pooled given =
+    pooled =
     let options = old.options in
     let stage = stage_after_items at_start items in
     record {
@@ -83,7 +82,6 @@ has_read_more old new read items packets one history after item shown was same r
           (subst (λ p. IsItemDecoded options p (shown_in p.stage item) one) (sym was.progress)
           (subst (λ (s : Option PlainShown). IsItemDecoded options (progress_of stage old) s one) (sym shows) decoded));
       pooled = pooled;
-      given = given;
     }
 
 -- the effect of advancing a parser to this item
@@ -94,7 +92,7 @@ Advancing old new advance =
 -- A packet was read and processed.
 pub processed_packet : (old new : Session) (moved : CaptureReader) (read : List ℕ) (written : Written)
     → Advancing old.capture moved Packet
-    → ((before : PoolHistory) → AwaitsPacket before (old.number + 1) old.pooling
+    → ((before : PoolHistory) → HoldsPooling before old.pooling
     → ProcessesPacket (record old { capture = moved }) new before (reader_shown moved))
     → new.capture ≡ moved → old.number ≢ old.options.most
     → HasProcessed old.options old read (with_lines written old.output.items)
@@ -103,8 +101,7 @@ processed_packet old new moved read written advanced process capture fewer was =
     let has_read = was.has_read in
     let (item, reads, shows) = advanced read was.items has_read.reads in
     let stage = stage_after_items at_start was.items in
-    let given : was.history.number ≤ old.number = has_read.given in
-    let done = process was.history (record { holds = has_read.pooled; later = omega arith }) in
+    let done = process was.history has_read.pooled in
     let number : new.number ≡ old.number + 1 = ap (λ p. p.number) (sym (done.progress at_start item)) in
     let within : old.number ≤ old.options.most = has_read.within in
     let same : written.lines ++ old.output.items ++ line_of old.options done.one ++ done.answer
@@ -116,10 +113,10 @@ processed_packet old new moved read written advanced process capture fewer was =
       has_read = has_read_more old new read was.items was.packets (done.one ∷ []) was.history done.after item
           (Some (reader_shown moved)) has_read done.options
           (subst (λ r. ReadsMore r read was.items item) (sym capture) reads) shows.shown (omega arith)
-          (done.progress stage item) (done.one, done.follows stage, done.decoded, refl) done.pooled done.given;
+          (done.progress stage item) (done.one, done.follows stage, done.decoded, refl) done.pooled;
       lines = subst (λ (t : List ℕ). AreAllLines old.options (was.packets ++ done.one ∷ []) t done.after)
           same
-          (lines_more old.options was.packets (new_pool old.options.limit) was.history done.after done.one
+          (lines_more old.options was.packets (new_pool old.options) was.history done.after done.one
           (written.lines ++ old.output.items) done.answer was.lines done.passes);
       counted = done.counted ∙ ap (counted_one done.one) was.counted
           ∙ sym (counted_more was.packets done.one written.start);
@@ -141,7 +138,7 @@ processed_other old moved read written advanced was =
           (λ (p : List DecodedPacket). HasRead old.options (record old { capture = moved }) read
           (was.items ++ item ∷ []) p was.history) (append-nil was.packets)
           (has_read_more old (record old { capture = moved }) read was.items was.packets [] was.history was.history item
-          None has_read refl reads other has_read.within refl refl has_read.pooled has_read.given);
+          None has_read refl reads other has_read.within refl refl has_read.pooled);
       lines = was.lines;
       counted = was.counted;
       saves = was.saves;

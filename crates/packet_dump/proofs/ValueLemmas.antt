@@ -12,10 +12,14 @@ use Rattle.std.proofs.lemmas.Bool.Decides.{Decides-and, Decides-ltb}
 use Rattle.std.proofs.lemmas.Slice.Eq.{bytes_eq-Decides}
 use Rattle.packet_dump.specs.Options.{IsNumber, IsOptionWord, IsValue, Item, count, form_name, is_dashed, is_known, kind_name, limit, only, time}
 use Rattle.packet_dump.specs.Options.{file, filter, is_input, options_with, standard_input}
-use Rattle.packet_dump.specs.Options.{streams, timeout, write}
+use Rattle.packet_dump.specs.Options.{streams, timeout, write, fragment_age, fragment_bytes, overlap, policy_name}
 use Rattle.packet_dump.specs.OptionSteps.{form_named, input_in, kind_named, number_in, value_in, word_in, word_named, word_table}
+use Rattle.packet_dump.specs.OptionSteps.{policy_named}
+use Rattle.etherparse.specs.Types.OverlapPolicy.{OverlapPolicy}
+use Rattle.etherparse.specs.Types.OverlapPolicy.TheVariants.{LastWins, FirstWins, Discard}
 use Rattle.packet_dump.specs.declared.options.Awaited.{Awaited}
 use Rattle.packet_dump.specs.declared.options.Awaited.TheVariants.{Count, Only, Time, Timeout, Limit, Write, Streams, Filter, Input}
+use Rattle.packet_dump.specs.declared.options.Awaited.TheVariants.{FragmentBytes, FragmentAge, Overlap}
 use Rattle.packet_dump.specs.declared.options.FilterKind.{FilterKind}
 use Rattle.packet_dump.specs.declared.options.Word.{Word}
 use Rattle.packet_dump.specs.declared.options.Word.TheVariants as word
@@ -135,6 +139,22 @@ form_named-name Utc = refl
 form_named-some : (name : List ℕ) (sought : TimeForm) → name ≡ form_name sought → form_named name ≡ Some sought
 form_named-some name sought is = ap form_named is ∙ form_named-name sought
 
+-- ---- policies for overlaps
+
+policy_named-is : (name : List ℕ) (sought : OverlapPolicy) → policy_named name ≡ Some sought → name ≡ policy_name sought
+policy_named-is name sought is =
+    (bytes_eq-Decides name (policy_name sought)).0 (found_passes (λ p. bytes_eq name (policy_name p))
+    (LastWins ∷ FirstWins ∷ Discard ∷ []) sought is)
+
+policy_named-name : (sought : OverlapPolicy) → policy_named (policy_name sought) ≡ Some sought
+policy_named-name LastWins = refl
+policy_named-name FirstWins = refl
+policy_named-name Discard = refl
+
+policy_named-some : (name : List ℕ) (sought : OverlapPolicy) → name ≡ policy_name sought
+    → policy_named name ≡ Some sought
+policy_named-some name sought is = ap policy_named is ∙ policy_named-name sought
+
 -- ---- input
 
 pub input_is : (text : List ℕ) → is_input (input_in text) ≡ true
@@ -165,6 +185,11 @@ value_in-some Timeout text (timeout number) says = ap (option_map timeout) (numb
 value_in-some Limit text (limit number) says = ap (option_map limit) (number_in-some 16 text number says)
 value_in-some Write text (write said) says = ap (λ t. Some (write t)) says
 value_in-some Streams text (streams number) says = ap (option_map streams) (number_in-some 64 text number says)
+value_in-some FragmentBytes text (fragment_bytes number) says =
+    ap (option_map fragment_bytes) (number_in-some 64 text number says)
+value_in-some FragmentAge text (fragment_age number) says =
+    ap (option_map fragment_age) (number_in-some 32 text number says)
+value_in-some Overlap text (overlap sought) says = ap (option_map overlap) (policy_named-some text sought says)
 value_in-some (Filter kind) text (filter other said) says =
     ap (λ k. Some (filter k text)) says.0 ∙ ap (λ t. Some (filter other t)) says.1
 value_in-some Input text (file name) says =
@@ -208,6 +233,15 @@ value_in-is Write text item is =
 value_in-is Streams text item is =
     let (number, there, same) = some_of streams (number_in 64 text) item is in
     subst (λ (i : Item). IsValue Streams text i) same (number_in-is 64 text number there)
+value_in-is FragmentBytes text item is =
+    let (number, there, same) = some_of fragment_bytes (number_in 64 text) item is in
+    subst (λ (i : Item). IsValue FragmentBytes text i) same (number_in-is 64 text number there)
+value_in-is FragmentAge text item is =
+    let (number, there, same) = some_of fragment_age (number_in 32 text) item is in
+    subst (λ (i : Item). IsValue FragmentAge text i) same (number_in-is 32 text number there)
+value_in-is Overlap text item is =
+    let (sought, there, same) = some_of overlap (policy_named text) item is in
+    subst (λ (i : Item). IsValue Overlap text i) same (policy_named-is text sought there)
 value_in-is (Filter kind) text item is =
     let same : filter kind text ≡ item = cc in
     subst (λ (i : Item). IsValue (Filter kind) text i) same (refl, refl)
@@ -298,5 +332,5 @@ IsWord text word.Unknown = (is_dashed text ≡ true) × (is_known text ≡ false
 
 pub is_word : (text : List ℕ) → IsWord text (word_named text)
 is_word text =
-    by_rows text (IsWord text) word_table (λ e. inl e, (λ e. inr e, (λ e. inl e, (λ e. inr e, (λ e. e, (λ e. e, (λ e. e, (λ e. e, (λ e. e, (λ e. e, (λ e. e, (λ e. inl e, (λ e. inr e, (λ e. inl e, (λ e. e, (λ e. e, (λ e. e, (λ e. e, (λ e. e, (λ e. e, (λ e. e, (λ e. e, (λ e. e, (λ e. e, (λ e. inr e, (λ e. e, (λ e. e, tt)))))))))))))))))))))))))))
+    by_rows text (IsWord text) word_table (λ e. inl e, (λ e. inr e, (λ e. inl e, (λ e. inr e, (λ e. e, (λ e. e, (λ e. e, (λ e. e, (λ e. e, (λ e. e, (λ e. e, (λ e. inl e, (λ e. inr e, (λ e. inl e, (λ e. e, (λ e. e, (λ e. e, (λ e. e, (λ e. e, (λ e. e, (λ e. e, (λ e. e, (λ e. e, (λ e. e, (λ e. e, (λ e. e, (λ e. e, (λ e. inr e, (λ e. e, (λ e. e, tt))))))))))))))))))))))))))))))
     (λ none. branch (IsWord text) (is_dashed text) word.Unknown word.File (λ dashed. (dashed, none)) (λ plain. plain))

@@ -12,8 +12,8 @@ use Rattle.packet_dump.specs.declared.ending.Ending.TheVariants.{Complete, Enoug
 
 -- ---- lines
 
--- The text is the lines of these packets, each followed by that of the pool's answer to the fragment in it; `after` is
--- the state of the pool.
+-- The text is the lines of these packets, each followed by those of the streams that leave the pool at it, and by that of
+-- the pool's answer to the fragment in it; `after` is the state of the pool.
 abbrev pub AreLines : DumpOptions → PoolHistory → List DecodedPacket → List ℕ → PoolHistory → Type 0
 AreLines options pool [] text after = (text ≡ []) × (after ≡ pool)
 AreLines options pool (one ∷ others) text after =
@@ -22,7 +22,7 @@ AreLines options pool (one ∷ others) text after =
 
 -- The text is the lines of these packets from the start of a capture, on a new pool.
 abbrev pub AreAllLines : DumpOptions → List DecodedPacket → List ℕ → PoolHistory → Type 0
-AreAllLines options packets text after = AreLines options (new_pool options.limit) packets text after
+AreAllLines options packets text after = AreLines options (new_pool options) packets text after
 
 -- ---- where a run ends
 

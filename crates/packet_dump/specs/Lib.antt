@@ -5,7 +5,8 @@ pub mod CarriedFragments
 pub mod Details
 pub mod Dumps
 pub mod PacketLines
-pub mod OpenStreams
+pub mod EvictionLines
+pub mod StreamMemory
 pub mod PacketCalls
 pub mod PoolLines
 pub mod Saves

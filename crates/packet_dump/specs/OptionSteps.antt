@@ -11,9 +11,10 @@ use Rattle.packet_dump.specs.Options.{default_settings, dump, filter, filter_tex
 use Rattle.packet_dump.specs.Options.{fault_of, file, form_name, help, hex, hex_frame, is_dashed, is_input, kind_name}
 use Rattle.packet_dump.specs.Options.{limit, no_names, no_value, only, option_word, quiet, reassemble, second_file}
 use Rattle.packet_dump.specs.Options.{standard_input, streams, strict, summary, time, timeout, unknown_option, verbose}
-use Rattle.packet_dump.specs.Options.{version, with_item, write}
+use Rattle.packet_dump.specs.Options.{version, with_item, write, fragment_age, fragment_bytes, overlap, policy_name}
 use Rattle.packet_dump.specs.declared.options.Awaited.{Awaited}
 use Rattle.packet_dump.specs.declared.options.Awaited.TheVariants.{Count, Only, Time, Timeout, Limit, Write, Streams, Filter, Input}
+use Rattle.packet_dump.specs.declared.options.Awaited.TheVariants.{FragmentBytes, FragmentAge, Overlap}
 use Rattle.packet_dump.specs.declared.options.FilterKind.TheVariants.{Host, Port, Vlan, Net}
 use Rattle.packet_dump.specs.declared.options.Joined.{Joined}
 use Rattle.packet_dump.specs.declared.options.Reading.{Reading}
@@ -25,6 +26,8 @@ use Rattle.packet_dump.specs.declared.dump_options.Kind.{Kind}
 use Rattle.packet_dump.specs.declared.dump_options.Kind.TheVariants as kind
 use Rattle.packet_dump.specs.declared.dump_options.TimeForm.{TimeForm}
 use Rattle.packet_dump.specs.declared.dump_options.TimeForm.TheVariants.{Relative, Epoch, Utc}
+use Rattle.etherparse.specs.Types.OverlapPolicy.{OverlapPolicy}
+use Rattle.etherparse.specs.Types.OverlapPolicy.TheVariants.{LastWins, FirstWins, Discard}
 
 -- the arguments that begin with `-`, with their meaning
 abbrev pub word_table : List (List ℕ × Word)
@@ -38,6 +41,8 @@ word_table =
     ∷ (codes "--time", word.Option Time) ∷ (codes "--timeout", word.Option Timeout)
     ∷ (codes "--limit", word.Option Limit) ∷ (codes "--write", word.Option Write)
     ∷ (codes "--streams", word.Option Streams)
+    ∷ (codes "--fragment-bytes", word.Option FragmentBytes)
+    ∷ (codes "--fragment-age", word.Option FragmentAge) ∷ (codes "--overlap", word.Option Overlap)
     ∷ (codes "--host", word.Option (Filter Host)) ∷ (codes "--port", word.Option (Filter Port))
     ∷ (codes "--vlan", word.Option (Filter Vlan)) ∷ (codes "--net", word.Option (Filter Net))
     ∷ (codes "-c", word.Option Count) ∷ (codes "-r", word.Option Input) ∷ (codes "-", word.StandardInput) ∷ []
@@ -89,6 +94,10 @@ kind_named name =
 abbrev pub form_named : List ℕ → Option TimeForm
 form_named name = find (λ form. bytes_eq name (form_name form)) (Relative ∷ Epoch ∷ Utc ∷ [])
 
+-- the policy for overlapping fragments with the given name
+abbrev pub policy_named : List ℕ → Option OverlapPolicy
+policy_named name = find (λ policy. bytes_eq name (policy_name policy)) (LastWins ∷ FirstWins ∷ Discard ∷ [])
+
 -- the input that an argument names
 abbrev pub input_in : List ℕ → Item
 input_in word = if bytes_eq word (codes "-") then standard_input else file word
@@ -102,6 +111,9 @@ value_in Timeout word = option_map timeout (number_in 32 word)
 value_in Limit word = option_map limit (number_in 16 word)
 value_in Write word = Some (write word)
 value_in Streams word = option_map streams (number_in 64 word)
+value_in FragmentBytes word = option_map fragment_bytes (number_in 64 word)
+value_in FragmentAge word = option_map fragment_age (number_in 32 word)
+value_in Overlap word = option_map overlap (policy_named word)
 value_in (Filter kind) word = Some (filter kind word)
 value_in Input word = Some (input_in word)
 

@@ -7,6 +7,7 @@ use Rattle.std.specs.Str.{bytes_eq}
 use Rattle.std.specs.Str.Parse.{IsNumeral, digits_value, without_leading_plus}
 use Rattle.packet_dump.specs.declared.options.Awaited.{Awaited}
 use Rattle.packet_dump.specs.declared.options.Awaited.TheVariants.{Count, Only, Time, Timeout, Limit, Write, Streams, Filter, Input}
+use Rattle.packet_dump.specs.declared.options.Awaited.TheVariants.{FragmentBytes, FragmentAge, Overlap}
 use Rattle.packet_dump.specs.declared.options.FilterKind.{FilterKind}
 use Rattle.packet_dump.specs.declared.options.FilterKind.TheVariants.{Host, Port, Vlan, Net}
 use Rattle.packet_dump.specs.declared.options.FilterText.{FilterText}
@@ -20,6 +21,8 @@ use Rattle.packet_dump.specs.declared.dump_options.Kind.TheVariants as kind
 use Rattle.packet_dump.specs.declared.dump_options.DumpOptions.{DumpOptions}
 use Rattle.packet_dump.specs.declared.dump_options.TimeForm.{TimeForm}
 use Rattle.packet_dump.specs.declared.dump_options.TimeForm.TheVariants.{Relative, Epoch, Utc}
+use Rattle.etherparse.specs.Types.OverlapPolicy.{OverlapPolicy}
+use Rattle.etherparse.specs.Types.OverlapPolicy.TheVariants as policy
 
 -- the name of a kind of packets on the command line
 abbrev pub kind_name : Kind → List ℕ
@@ -35,6 +38,12 @@ abbrev pub form_name : TimeForm → List ℕ
 form_name Relative = codes "relative"
 form_name Epoch = codes "epoch"
 form_name Utc = codes "utc"
+
+-- the name of a policy for overlapping fragments on the command line
+abbrev pub policy_name : OverlapPolicy → List ℕ
+policy_name policy.LastWins = codes "last"
+policy_name policy.FirstWins = codes "first"
+policy_name policy.Discard = codes "discard"
 
 -- the option that adds a filter primitive
 abbrev pub filter_option : FilterKind → List ℕ
@@ -52,6 +61,9 @@ option_word Timeout = codes "--timeout"
 option_word Limit = codes "--limit"
 option_word Write = codes "--write"
 option_word Streams = codes "--streams"
+option_word FragmentBytes = codes "--fragment-bytes"
+option_word FragmentAge = codes "--fragment-age"
+option_word Overlap = codes "--overlap"
 option_word (Filter kind) = filter_option kind
 option_word Input = codes "-r"
 
@@ -80,8 +92,9 @@ known_words =
     codes "-h" ∷ codes "--help" ∷ codes "-V" ∷ codes "--version" ∷ codes "--hex" ∷ codes "--hex=frame"
     ∷ codes "--strict" ∷ codes "--verbose" ∷ codes "--summary" ∷ codes "--quiet" ∷ codes "--reassemble"
     ∷ codes "-n" ∷ codes "-nn" ∷ codes "--count" ∷ codes "--only" ∷ codes "--time" ∷ codes "--timeout"
-    ∷ codes "--limit" ∷ codes "--write" ∷ codes "--streams" ∷ codes "--host" ∷ codes "--port" ∷ codes "--vlan"
-    ∷ codes "--net" ∷ codes "-c" ∷ codes "-r" ∷ codes "-" ∷ []
+    ∷ codes "--limit" ∷ codes "--write" ∷ codes "--streams" ∷ codes "--fragment-bytes" ∷ codes "--fragment-age"
+    ∷ codes "--overlap" ∷ codes "--host" ∷ codes "--port" ∷ codes "--vlan" ∷ codes "--net" ∷ codes "-c" ∷ codes "-r"
+    ∷ codes "-" ∷ []
 
 -- True if an argument is one of the known ones.
 abbrev pub is_known : List ℕ → Bool
@@ -110,6 +123,9 @@ pub data Item : Type 0 where
   limit : ℕ → Item
   write : List ℕ → Item
   streams : ℕ → Item
+  fragment_bytes : ℕ → Item
+  fragment_age : ℕ → Item
+  overlap : OverlapPolicy → Item
   filter : FilterKind → List ℕ → Item
   file : List ℕ → Item
   standard_input : Item
@@ -123,6 +139,9 @@ IsValue Timeout word (timeout seconds) = IsNumber 32 word seconds
 IsValue Limit word (limit bytes) = IsNumber 16 word bytes
 IsValue Write word (write name) = word ≡ name
 IsValue Streams word (streams number) = IsNumber 64 word number
+IsValue FragmentBytes word (fragment_bytes bytes) = IsNumber 64 word bytes
+IsValue FragmentAge word (fragment_age seconds) = IsNumber 32 word seconds
+IsValue Overlap word (overlap policy) = word ≡ policy_name policy
 IsValue (Filter kind) word (filter other said) = (kind ≡ other) × (word ≡ said)
 IsValue Input word (file name) = (word ≡ name) × (word ≢ codes "-")
 IsValue Input word standard_input = word ≡ codes "-"
@@ -206,6 +225,9 @@ default_settings = record {
     timeout = 30;
     limit = 65535;
     streams = 256;
+    fragment_bytes = None;
+    fragment_age = None;
+    overlap = None;
   };
   filters = replicate 6 None;
   crowded = false;
@@ -228,6 +250,9 @@ options_with options (time form) = record options { time = form }
 options_with options (timeout seconds) = record options { timeout = seconds }
 options_with options (limit bytes) = record options { limit = bytes }
 options_with options (streams number) = record options { streams = number }
+options_with options (fragment_bytes bytes) = record options { fragment_bytes = Some bytes }
+options_with options (fragment_age seconds) = record options { fragment_age = Some seconds }
+options_with options (overlap policy) = record options { overlap = Some policy }
 options_with options item = options
 
 -- the settings after an item
@@ -283,6 +308,9 @@ fault_of (usage.NotATimeForm word) = bad_value Time word.now
 fault_of (usage.NotATimeout word) = bad_value Timeout word.now
 fault_of (usage.NotALimit word) = bad_value Limit word.now
 fault_of (usage.NotAStreamCount word) = bad_value Streams word.now
+fault_of (usage.NotAByteCount word) = bad_value FragmentBytes word.now
+fault_of (usage.NotAnAge word) = bad_value FragmentAge word.now
+fault_of (usage.NotAPolicy word) = bad_value Overlap word.now
 fault_of (usage.SecondFile word) = second_file word.now
 fault_of usage.CrowdedFilter = crowded_filter
 

@@ -1,92 +1,101 @@
--- Calls on the program's pool for the packets of a capture. Its timestamps are arrivals of packets, as are the limits
--- of its drops, and its channels are numbers.
-use Rattle.std.specs.Prelude.{◌≡◌, ◌↔◌, ℕ, ◌+◌, ◌&&◌, Bool, nat_eq, nat_le, nat_lt, if◌then◌else◌, List, [], ◌∷◌, ◌++◌}
-use Rattle.std.specs.Prelude.{length, Option, Some, Contains}
-use Rattle.std.specs.List.Sorted.{IsStrictlySortedBy}
-use Rattle.std.specs.Option.{option_map}
-use Rattle.std.specs.Ordering.{nat_cmp}
-use Rattle.etherparse.specs.Types.IpDefragPool.{IpDefragPool}
+-- Calls on the program's pool for the packets of a capture. Its timestamps are nanoseconds, its channels are numbers, and
+-- the number of a call is that of its packet.
+use Rattle.std.specs.Prelude.{ℕ, ◌*◌, ◌-◌, ◌^◌, ◌||◌, Bool, false, nat_eq, if◌then◌else◌, List, [], Option, Some, None}
+use Rattle.std.specs.Prelude.{◌≡◌, IsFalse, is_some, unwrap_or}
+use Rattle.std.specs.List.{list_any}
+use Rattle.std.specs.Option.{option_map, option_map_or}
+use Rattle.etherparse.specs.Types.DefragLimits.{DefragLimits}
+use Rattle.etherparse.specs.Types.DefragStatistics.{DefragStatistics}
 use Rattle.etherparse.specs.Types.IpFragId.{IpFragId}
-use Rattle.etherparse.specs.Calls.{Call, gives_frame, drops_streams, Kept, table_after}
-use Rattle.etherparse.specs.Pools.{limit_of, HoldsTable}
-use Rattle.etherparse.specs.Streams.{packet_fragment}
+use Rattle.etherparse.specs.Types.OverlapPolicy.TheVariants.{LastWins}
+use Rattle.etherparse.specs.BoundedCounts.{no_statistics, statistics_with}
+use Rattle.etherparse.specs.BoundedSteps.{BoundedCall, Gone, Row, Step, call_step, clears_names, expires_names}
+use Rattle.etherparse.specs.BoundedSteps.{gives_fragment, is_for_bytes}
 use Rattle.etherparse.specs.FrameFragments.{fragment_of}
+use Rattle.etherparse.specs.IpFragments.{IpFragment}
 use Rattle.etherparse.specs.Layers.{Layers}
-use Rattle.packet_dump.specs.declared.pooling.Arrival.{Arrival}
+use Rattle.etherparse.specs.Streams.{packet_fragment}
+use Rattle.packet_dump.specs.CarriedFragments.{named_fragment}
+use Rattle.packet_dump.specs.declared.dump_options.DumpOptions.{DumpOptions}
 
--- a call on the program's pool
-abbrev pub NumberCall : Type 0
-NumberCall = Call Arrival ℕ Arrival
+-- ---- limits
 
--- The call for a frame with this arrival: with its fragment, if its layers have one. All frames use one channel.
-abbrev pub frame_call : Layers → Arrival → NumberCall
-frame_call layers at = gives_frame (option_map packet_fragment (fragment_of layers)) at 0
+-- the nanoseconds of a number of seconds
+abbrev pub nanoseconds : ℕ → ℕ
+nanoseconds seconds = seconds * 1000000000
 
--- The history of the pool: its limit, the second in which streams were last checked for expiry, the number of the last
--- packet whose frame was passed to it, and the calls on it in order.
+-- The limits of the pool: those of the options. Without `--fragment-bytes` and `--fragment-age` they are the greatest
+-- numbers of their types, and without `--overlap` the last fragment decides.
+abbrev pub limits_of : DumpOptions → DefragLimits
+limits_of options = record {
+  streams = options.streams;
+  bytes = unwrap_or options.fragment_bytes (2 ^ 64 - 1);
+  payload = options.limit;
+  age = option_map_or nanoseconds options.fragment_age (2 ^ 128 - 1);
+  overlap = unwrap_or options.overlap LastWins;
+}
+
+-- ---- the history of the pool
+
+-- The history of the pool: its limits, the second in which streams were last checked for expiry, the names of its table,
+-- and its counters.
 pub record PoolHistory : Type 0 where
-  pub limit : ℕ
+  pub limits : DefragLimits
   pub swept : ℕ
-  pub number : ℕ
-  pub calls : List NumberCall
+  pub rows : List (Row ℕ)
+  pub statistics : DefragStatistics
 
-abbrev pub new_pool : ℕ → PoolHistory
-new_pool limit = record { limit = limit; swept = 0; number = 0; calls = [] }
+abbrev pub new_pool : DumpOptions → PoolHistory
+new_pool options = record { limits = limits_of options; swept = 0; rows = []; statistics = no_statistics }
 
-abbrev pub with_call : PoolHistory → NumberCall → PoolHistory
-with_call before call = record before { calls = before.calls ++ call ∷ [] }
+-- the effect of a call of this number, for which the allocator grants this memory
+abbrev pub step_of : PoolHistory → BoundedCall ℕ → ℕ → Option ℕ → Step ℕ
+step_of before call number granted = call_step before.limits nat_eq before.rows call number granted
 
-abbrev pub with_frame : PoolHistory → Layers → Arrival → PoolHistory
-with_frame before layers at = record before { number = at.number; calls = before.calls ++ frame_call layers at ∷ [] }
+-- the history after a call with this effect
+abbrev pub with_step : PoolHistory → BoundedCall ℕ → Step ℕ → PoolHistory
+with_step before call step =
+    record before { rows = step.rows; statistics = statistics_with before.statistics call step }
 
--- ---- expiry and eviction
+-- ---- expiry
 
--- True if a drop keeps the stream: its last fragment came neither with a packet before that of `oldest` nor before its
--- timestamp.
-abbrev pub is_since : Arrival → Arrival → Bool
-is_since oldest at = nat_le oldest.number at.number && nat_le oldest.instant at.instant
+-- the call that evicts the streams whose last accepted fragment came more than `--timeout` seconds before `now`, or whose
+-- first one came more than `--fragment-age` seconds before `now`
+abbrev pub expiry : DumpOptions → ℕ → BoundedCall ℕ
+expiry options now = expires_names now (nanoseconds options.timeout)
 
-abbrev pub since_instant : ℕ → Arrival
-since_instant instant = record { number = 0; instant = instant }
+-- the effect of this call at the packet of this number
+abbrev pub expiry_step : DumpOptions → PoolHistory → ℕ → ℕ → Step ℕ
+expiry_step options before now number = step_of before (expiry options now) number None
 
-abbrev pub since_packet : ℕ → Arrival
-since_packet number = record { number = number; instant = 0 }
+-- the history after it, at the timestamp `now` in the second `second`
+abbrev pub with_expiry : DumpOptions → PoolHistory → ℕ → ℕ → ℕ → PoolHistory
+with_expiry options before second now number =
+    with_step (record before { swept = second }) (expiry options now) (expiry_step options before now number)
 
--- In each new second of the capture, streams expire that have no accepted fragment since `oldest`.
-abbrev pub with_sweep : PoolHistory → ℕ → ℕ → PoolHistory
-with_sweep before second oldest =
-    if nat_lt before.swept second
-    then with_call (record before { swept = second }) (drops_streams (since_instant oldest))
+-- ---- fragments
+
+-- the fragment of a frame with these layers, if it carries one, with the identifier of its stream in channel 0
+abbrev pub fragment_in_frame : Layers → Option (IpFragId ℕ × IpFragment)
+fragment_in_frame layers = option_map named_fragment (option_map packet_fragment (fragment_of layers))
+
+-- the call for a fragment at this timestamp
+abbrev pub fragment_call : IpFragId ℕ × IpFragment → ℕ → BoundedCall ℕ
+fragment_call given now = gives_fragment (Some given) now
+
+-- Without `--fragment-bytes` no stream is evicted for its memory. So the memory that the allocator grants has no influence
+-- on an answer then.
+abbrev pub KeepsMemory : DumpOptions → List (Gone ℕ) → Type 0
+KeepsMemory options gone =
+    is_some options.fragment_bytes ≡ false → IsFalse (list_any (λ one. is_for_bytes one.cause) gone)
+
+-- the history after the eviction of all streams, if none may stay
+abbrev pub with_eviction : DumpOptions → PoolHistory → ℕ → PoolHistory
+with_eviction options before number =
+    if nat_eq options.streams 0 then with_step before clears_names (step_of before clears_names number None)
     else before
 
--- the table of streams that the pool keeps after its calls
-abbrev pub table_of : PoolHistory → IpFragId ℕ → Option (Kept Arrival)
-table_of history = table_after history.limit nat_eq is_since history.calls
-
--- The pool has the limit and the streams of this history.
-pub record HoldsHistory (history : PoolHistory) (pool : IpDefragPool Arrival ℕ) : Type 0 where
-  pub limit : limit_of pool ≡ history.limit
-  pub table : HoldsTable nat_eq pool (table_of history)
-
--- ---- open streams
-
--- the number of the packet with the last accepted fragment of a stream that is kept
-abbrev pub number_of : Option (Kept Arrival) → Option ℕ
-number_of kept = option_map (λ stream. stream.timestamp.number) kept
-
--- The numbers are those of the open streams, each that of the packet with the last accepted fragment, the oldest first.
--- A packet carries at most one fragment, so no two numbers are equal.
-pub record AreOpen (table : IpFragId ℕ → Option (Kept Arrival)) (numbers : List ℕ) : Type 0 where
-  pub ascending : IsStrictlySortedBy nat_cmp numbers
-  pub each : (number : ℕ) → Contains numbers number ↔ ((name : IpFragId ℕ) × (number_of (table name) ≡ Some number))
-
--- the history after the eviction of the oldest stream, if more than `most` are open
-abbrev pub evicted : ℕ → PoolHistory → List ℕ → PoolHistory
-evicted most before [] = before
-evicted most before (oldest ∷ later) =
-    if nat_lt (length later) most then before else with_call before (drops_streams (since_packet (oldest + 1)))
-
--- The history `after` has the oldest stream evicted, if more than `most` were open.
-abbrev pub IsBounded : ℕ → PoolHistory → PoolHistory → Type 0
-IsBounded most before after =
-    (numbers : List ℕ) × AreOpen (table_of before) numbers × (after ≡ evicted most before numbers)
+-- True if evictions are printed, and counted by their cause: one of the options for hostile traffic is given.
+abbrev pub reports_evictions : DumpOptions → Bool
+reports_evictions options =
+    is_some options.fragment_bytes || is_some options.fragment_age || is_some options.overlap

@@ -1,13 +1,14 @@
--- Lines of reassembled payloads, and of fragments that the pool rejects.
-use Rattle.std.specs.Prelude.{◌≡◌, ℕ, ◌-◌, ◌*◌, ◌/◌, if◌then◌else◌, ◌&&◌, Bool, true, false, List, [], ◌∷◌, ◌++◌, Option, Some, None, codes}
+-- Lines of reassembled payloads, of fragments that the pool rejects, and of streams that it evicts or discards.
+use Rattle.std.specs.Prelude.{◌≡◌, ℕ, ◌/◌, nat_lt, if◌then◌else◌, ◌&&◌, Bool, true, false, List, [], ◌∷◌, ◌++◌, Option, Some, None, codes}
 use Rattle.std.specs.List.{list_all}
 use Rattle.etherparse.specs.Readings.{slices}
 use Rattle.etherparse.specs.Types.TcpHeaderSliceError.{HeaderSliceError}
 use Rattle.etherparse.specs.Types.TcpHeaderSliceError.TheVariants as header_error
-use Rattle.etherparse.specs.Types.IpDefragError.{IpDefragError}
-use Rattle.etherparse.specs.Calls.{Answer, fragment_refused, payload_returned, no_payload, streams_dropped}
-use Rattle.etherparse.specs.Calls.{buffer_returned, answer_to}
-use Rattle.etherparse.specs.IpDefragErrorTexts.{error_text}
+use Rattle.etherparse.specs.Types.BoundedDefragError.{BoundedDefragError}
+use Rattle.etherparse.specs.BoundedErrorTexts.{bounded_error_text}
+use Rattle.etherparse.specs.BoundedSteps.{BoundedAnswer, fragment_rejected, nothing_complete, payload_complete}
+use Rattle.etherparse.specs.IpFragments.{IpFragment}
+use Rattle.etherparse.specs.Types.IpFragId.{IpFragId}
 use Rattle.etherparse.specs.Types.SliceError.{SliceError}
 use Rattle.etherparse.specs.Types.SliceError.TheVariants as slice_error
 use Rattle.etherparse.specs.Layers.{Layers}
@@ -19,10 +20,11 @@ use Rattle.packet_dump.specs.DecodedPackets.{DecodedPacket}
 use Rattle.packet_dump.specs.PacketContents.{bytes_text, header_kind, shows_line}
 use Rattle.packet_dump.specs.PacketLines.{line_start}
 use Rattle.packet_text.specs.LayerTexts.{outer_text, protocol_text}
-use Rattle.packet_dump.specs.PacketCalls.{IsBounded, PoolHistory, frame_call, table_of, with_frame, with_sweep}
+use Rattle.packet_dump.specs.PacketCalls.{KeepsMemory, PoolHistory, expiry_step, fragment_call, fragment_in_frame}
+use Rattle.packet_dump.specs.PacketCalls.{step_of, with_eviction, with_expiry, with_step}
+use Rattle.packet_dump.specs.EvictionLines.{gone_lines, moment_of, cleared_text}
 use Rattle.packet_text.specs.SliceErrorTexts.{refusal_text}
 use Rattle.packet_text.specs.Transports.{len_text, transport_text}
-use Rattle.packet_dump.specs.declared.pooling.Arrival.{Arrival}
 use Rattle.packet_dump.specs.declared.dump_options.Kind.{Kind}
 use Rattle.packet_dump.specs.declared.dump_options.Kind.TheVariants.{Refused}
 use Rattle.packet_dump.specs.declared.dump_options.DumpOptions.{DumpOptions}
@@ -112,57 +114,76 @@ payload_line options start layers number bytes inner =
     (inner_bytes bytes inner)
 
 -- the reason for which the pool rejects a fragment
-abbrev pub pool_refusal_text : IpDefragError → List ℕ
-pool_refusal_text error = codes " not reassembled: " ++ error_text error
+abbrev pub pool_refusal_text : BoundedDefragError → List ℕ
+pool_refusal_text error = codes " not reassembled: " ++ bounded_error_text error
 
 -- the line of a rejected fragment
-abbrev pub refused_line : DumpOptions → List ℕ → Layers → IpDefragError → List ℕ
+abbrev pub refused_line : DumpOptions → List ℕ → Layers → BoundedDefragError → List ℕ
 refused_line options start layers error =
     further_line options start layers (Some Refused) None (pool_refusal_text error) []
 
 -- The text is the line of the pool's answer to a frame of these layers.
-abbrev pub IsAnswerText : DumpOptions → List ℕ → Layers → Answer → List ℕ → Type 0
-IsAnswerText options start layers (payload_returned payload) text =
+abbrev pub IsAnswerText : DumpOptions → List ℕ → Layers → BoundedAnswer → List ℕ → Type 0
+IsAnswerText options start layers (payload_complete payload) text =
     (inner : Inner) × IsInner payload.ip_number.0 payload.bytes inner
     × (text ≡ payload_line options start layers payload.ip_number.0 payload.bytes inner)
-IsAnswerText options start layers (fragment_refused error) text = text ≡ refused_line options start layers error
-IsAnswerText options start layers no_payload text = text ≡ []
-IsAnswerText options start layers streams_dropped text = text ≡ []
-IsAnswerText options start layers buffer_returned text = text ≡ []
+IsAnswerText options start layers (fragment_rejected error) text = text ≡ refused_line options start layers error
+IsAnswerText options start layers nothing_complete text = text ≡ []
 
 -- ---- packets
 
--- the arrival of a packet: its number, and the latest timestamp
-abbrev pub arrival_of : DecodedPacket → Arrival
-arrival_of one = record { number = one.number; instant = one.latest }
+-- the second of the capture in which a packet is read
+abbrev pub second_of : DecodedPacket → ℕ
+second_of one = one.latest / 1000000000
 
--- the timestamp before which streams expire at a packet of time `this`
-abbrev pub oldest_from : DumpOptions → ℕ → ℕ
-oldest_from options this = this - options.timeout * 1000000000
+-- True if streams are checked for expiry at a packet: a second has begun that is later than that of the last check.
+abbrev pub begins_second : PoolHistory → DecodedPacket → Bool
+begins_second before one = nat_lt before.swept (second_of one)
 
 -- the history after the expiry of old streams, if a new second has begun
-abbrev pub swept_at : DumpOptions → PoolHistory → ℕ → PoolHistory
-swept_at options before this = with_sweep before (this / 1000000000) (oldest_from options this)
+abbrev pub swept_at : DumpOptions → PoolHistory → DecodedPacket → PoolHistory
+swept_at options before one =
+    if begins_second before one then with_expiry options before (second_of one) one.latest one.number else before
 
--- The text is the line of the pool's answer to a frame with this arrival.
-abbrev pub IsCallText : DumpOptions → List ℕ → PoolHistory → Layers → Arrival → List ℕ → Type 0
-IsCallText options start before layers at text =
-    IsAnswerText options start layers (answer_to before.limit (table_of before) (frame_call layers at)) text
+-- the lines of the streams that expire
+abbrev pub expired_text : DumpOptions → PoolHistory → DecodedPacket → List ℕ
+expired_text options before one =
+    if begins_second before one
+    then gone_lines options (moment_of options one) (expiry_step options before one.latest one.number).gone else []
 
--- A frame is passed to the pool after old streams have expired, the text is the line of the answer, and then the oldest
--- stream is evicted if more are open than allowed.
-abbrev pub PassesFrame : DumpOptions → List ℕ → PoolHistory → Arrival → Layers → List ℕ → PoolHistory → Type 0
-PassesFrame options start before at layers text after =
-    let swept = swept_at options before at.instant in
-    IsCallText options start swept layers at text × IsBounded options.streams (with_frame swept layers at) after
+-- The fragment of a frame is passed to the pool, for which the allocator grants this memory. The text is the lines of the
+-- streams that are evicted or discarded, and that of the answer.
+abbrev pub PassesFragment : DumpOptions → PoolHistory → DecodedPacket → Layers → IpFragId ℕ × IpFragment → ℕ → List ℕ
+    → PoolHistory → Type 0
+PassesFragment options before one layers given room text after =
+    let call = fragment_call given one.latest in
+    let step = step_of before call one.number (Some room) in
+    (answer : List ℕ) × IsAnswerText options (line_start options.time one) layers step.answer answer
+    × KeepsMemory options step.gone
+    × (text ≡ gone_lines options (moment_of options one) step.gone ++ answer
+    ++ cleared_text options (moment_of options one) given.0 step.answer)
+    × (after ≡ with_eviction options (with_step before call step) one.number)
+
+-- The fragment of a frame is passed to the pool, if it carries one.
+abbrev pub PassesIfFragment : DumpOptions → PoolHistory → DecodedPacket → Layers → Option (IpFragId ℕ × IpFragment)
+    → List ℕ → PoolHistory → Type 0
+PassesIfFragment options before one layers (Some given) text after =
+    (room : ℕ) × PassesFragment options before one layers given room text after
+PassesIfFragment options before one layers None text after = (text ≡ []) × (after ≡ before)
+
+-- The fragment of a frame is passed to the pool after old streams have expired. The text is the lines of both.
+abbrev pub PassesFrame : DumpOptions → PoolHistory → DecodedPacket → Layers → List ℕ → PoolHistory → Type 0
+PassesFrame options before one layers text after =
+    (rest : List ℕ)
+    × PassesIfFragment options (swept_at options before one) one layers (fragment_in_frame layers) rest after
+    × (text ≡ expired_text options before one ++ rest)
 
 -- A frame is passed to the pool, if there is one.
-abbrev pub PassesIfFrame : DumpOptions → List ℕ → PoolHistory → Arrival → Option Layers → List ℕ → PoolHistory → Type 0
-PassesIfFrame options start before at (Some layers) text after = PassesFrame options start before at layers text after
-PassesIfFrame options start before at None text after = (text ≡ []) × (after ≡ before)
+abbrev pub PassesIfFrame : DumpOptions → PoolHistory → DecodedPacket → Option Layers → List ℕ → PoolHistory → Type 0
+PassesIfFrame options before one (Some layers) text after = PassesFrame options before one layers text after
+PassesIfFrame options before one None text after = (text ≡ []) × (after ≡ before)
 
--- The packet is passed to the pool if it is a frame, the text is the line of the answer, and `after` is the state of the
--- pool. A packet that is no frame changes nothing.
+-- The packet is passed to the pool if it is a frame, the text is the lines of what the pool does, and `after` is the
+-- state of the pool. A packet that is no frame changes nothing.
 abbrev pub PassesPacket : DumpOptions → PoolHistory → DecodedPacket → List ℕ → PoolHistory → Type 0
-PassesPacket options before one text after =
-    PassesIfFrame options (line_start options.time one) before (arrival_of one) one.frame text after
+PassesPacket options before one text after = PassesIfFrame options before one one.frame text after

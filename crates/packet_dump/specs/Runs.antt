@@ -16,5 +16,5 @@ abbrev pub WritesRun : DumpOptions → Bool → Bool → Ending → (old new : P
 WritesRun options wanted ended ending old new state saved read written =
     (packets : List DecodedPacket) × IsRun options ended ending read packets
     × (pool : PoolHistory) × AreAllLines options packets written pool
-    × CountsFragments options.reassemble pool (counted_all packets old) new
+    × CountsFragments options pool (counted_all packets old) new
     × Saves options wanted true state packets saved

@@ -1,19 +1,18 @@
 -- State between two chunks of a capture.
-use Rattle.std.specs.Prelude.{◌≡◌, ℕ, ◌+◌, ◌<◌, ◌≤◌, Bool, true, false, List, [], ◌∷◌, ◌++◌, Some}
+use Rattle.std.specs.Prelude.{◌≡◌, ℕ, ◌+◌, ◌≤◌, nat_eq, Bool, true, false, List, [], ◌∷◌, ◌++◌, Some}
 use Rattle.capture_reader.specs.Captures.{IsCapture, Item, PlainShown, RefusesCapture, Stage, at_start, stage_after}
 use Rattle.capture_reader.specs.Captures.{stage_after_items}
 use Rattle.capture_reader.specs.Readers.{Reads, reader_offset, reader_unread}
-use Rattle.etherparse.specs.Types.IpFragId.{IpFragId}
+use Rattle.etherparse.specs.BoundedPools.{HoldsRows, limits_in, statistics_in}
 use Rattle.packet_dump.specs.DecodedPackets.{AreDecoded, DecodedPacket, IsDecoded, IsPacketAfter, Progress, none_read}
 use Rattle.packet_dump.specs.DecodedPackets.{packets_in, progress_after_items, progress_with}
-use Rattle.packet_dump.specs.Decoding.{layers_of, packet_of, start_of}
+use Rattle.packet_dump.specs.Decoding.{layers_of, packet_of}
 use Rattle.packet_dump.specs.Dumps.{AreAllLines, AreFewer, Begin}
-use Rattle.packet_dump.specs.OpenStreams.{IsListed, number_at}
-use Rattle.packet_dump.specs.PacketCalls.{HoldsHistory, PoolHistory, new_pool, with_frame}
+use Rattle.packet_dump.specs.PacketCalls.{PoolHistory, fragment_in_frame, new_pool}
 use Rattle.packet_dump.specs.PacketLines.{line_of}
-use Rattle.packet_dump.specs.PoolLines.{IsCallText, PassesPacket, arrival_of}
+use Rattle.packet_dump.specs.PoolLines.{PassesIfFragment, PassesPacket}
 use Rattle.packet_dump.specs.Saves.{GoesOn, Saves, asks, new_state}
-use Rattle.packet_dump.specs.Summaries.{BecameOf, Fates, PlainSummary, counted_all, counted_one, new_summary, plain_of}
+use Rattle.packet_dump.specs.Summaries.{PlainSummary, counted_all, counted_one, new_summary, plain_of}
 use Rattle.packet_dump.specs.declared.decoded.Decoded.{Decoded}
 use Rattle.packet_dump.specs.declared.dump_options.DumpOptions.{DumpOptions}
 use Rattle.packet_dump.specs.declared.ending.Ending.{Ending}
@@ -23,38 +22,21 @@ use Rattle.packet_dump.specs.declared.session.CaptureState.{CaptureState}
 use Rattle.packet_dump.specs.declared.session.CaptureState.TheVariants.{MayEnd, Enough, Cut, Refused}
 use Rattle.packet_dump.specs.declared.session.Session.{Session}
 
--- The pool has this history, its open streams are listed, and none has a fragment of a packet later than the last one.
-pub record HoldsStreams (history : PoolHistory) (pooling : Pooling) : Type 0 where
-  pub swept : pooling.swept ≡ history.swept
-  pub held : HoldsHistory history pooling.pool
-  pub listed : IsListed pooling.names pooling.pool
-  pub numbered : (name : IpFragId ℕ) (number : ℕ) → number_at name pooling.pool ≡ Some number → number ≤ history.number
-
--- the counts of fragments
-abbrev pub fates_of : Pooling → Fates
-fates_of pooling = record {
-  reassembled = pooling.reassembled;
-  refused = pooling.refused;
-  dropped = pooling.dropped;
-}
-
--- The pool has this history, and its fragments were counted.
+-- The pool has this history.
 pub record HoldsPooling (history : PoolHistory) (pooling : Pooling) : Type 0 where
-  pub streams : HoldsStreams history pooling
-  pub became : BecameOf history (fates_of pooling)
+  pub limits : limits_in pooling.pool ≡ history.limits
+  pub swept : pooling.swept ≡ history.swept
+  pub rows : HoldsRows nat_eq pooling.pool history.rows
+  pub statistics : statistics_in pooling.pool ≡ history.statistics
 
--- The pool has this history, and all packets passed to it came before this number.
-pub record AwaitsPacket (history : PoolHistory) (number : ℕ) (pooling : Pooling) : Type 0 where
-  pub holds : HoldsPooling history pooling
-  pub later : history.number < number
-
--- A packet that is a frame was passed to a pool of this history, after which the pool is `new`, and the line of the
--- answer was appended.
+-- A packet that is a frame was passed to a pool of this history, after which the pool is `new`, and the lines of what
+-- the pool does were appended. Old streams have expired before.
 abbrev pub ProcessesFrame : DumpOptions → Decoded → PoolHistory → Pooling → (items next_items : List ℕ) → Type 0
 ProcessesFrame options decoded before new items next_items =
-    let at = arrival_of (packet_of decoded) in
-    (text : List ℕ) × IsCallText options (start_of options decoded) before (layers_of decoded) at text
-    × HoldsPooling (with_frame before (layers_of decoded) at) new × (next_items ≡ items ++ text)
+    (text : List ℕ) × (after : PoolHistory)
+    × PassesIfFragment options before (packet_of decoded) (layers_of decoded) (fragment_in_frame (layers_of decoded))
+    text after
+    × HoldsPooling after new × (next_items ≡ items ++ text)
 
 -- the progress of a session at this stage of the capture
 abbrev pub progress_of : Stage → Session → Progress
@@ -72,7 +54,6 @@ pub record HasRead (options : DumpOptions) (session : Session) (read : List ℕ)
   pub progress : progress_after_items none_read items ≡ progress_of (stage_after_items at_start items) session
   pub decoded : AreDecoded options none_read items packets
   pub pooled : HoldsPooling history session.pooling
-  pub given : history.number ≤ session.number
 
 -- the number of bytes that were taken
 abbrev pub taken_by : Session → ℕ
@@ -132,7 +113,6 @@ pub record ProcessesPacket (old new : Session) (before : PoolHistory) (shown : P
   pub follows : (stage : Stage) → IsPacketAfter (progress_of stage old) shown one
   pub passes : PassesPacket old.options before one answer after
   pub pooled : HoldsPooling after new.pooling
-  pub given : after.number ≤ new.number
   pub output : new.output.items ≡ old.output.items ++ line_of old.options one ++ answer
   pub counted : plain_of new.summary ≡ counted_one one (plain_of old.summary)
   pub saves : (packets : List DecodedPacket) → GoesOn old.options old.saving new.saving packets (packets ++ one ∷ [])
@@ -141,7 +121,7 @@ pub record ProcessesPacket (old new : Session) (before : PoolHistory) (shown : P
 
 -- The session is that of a run before any byte is read, and nothing was added to the capture file.
 pub record IsUnread (session : Session) : Type 0 where
-  pub read : HasRead session.options session [] [] [] (new_pool session.options.limit)
+  pub read : HasRead session.options session [] [] [] (new_pool session.options)
   pub taken : taken_by session ≡ 0
   pub state : session.saving.state ≡ new_state (asks session.saving.state)
   pub bytes : session.saving.bytes.items ≡ []

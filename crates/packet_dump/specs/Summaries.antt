@@ -1,18 +1,17 @@
 -- Counts of a summary: the packets that were read, each by its content.
-use Rattle.std.specs.Prelude.{◌≡◌, ℕ, ◌≤◌, ◌+◌, ◌-◌, ◌^◌, min, nat_eq, nat_lt, if◌then◌else◌, Bool, true, false, List, [], ◌∷◌, ◌++◌}
+use Rattle.std.specs.Prelude.{◌≡◌, ℕ, ◌≤◌, ◌+◌, ◌-◌, ◌^◌, min, nat_eq, nat_lt, if◌then◌else◌, Bool, true, false, List, [], ◌∷◌}
 use Rattle.std.specs.Prelude.{Option, Some, None, length, map}
 use Rattle.std.specs.Borrow.{Bor}
+use Rattle.std.specs.List.{count_by}
 use Rattle.std.specs.Str.{bytes_eq}
 use Rattle.capture_reader.specs.Captures.{PlainShown}
-use Rattle.etherparse.specs.Calls.{Answer, Kept, answer_to, buffer_returned, drops_streams, fragment_refused}
-use Rattle.etherparse.specs.Calls.{gives_frame, no_payload, payload_returned, returns_buffer, streams_dropped}
-use Rattle.etherparse.specs.Calls.{table_after}
+use Rattle.etherparse.specs.BoundedSteps.{is_open}
 use Rattle.etherparse.specs.Layers.{Layers, NetLayer, arp, carries_fragment, ipv4, ipv6}
 use Rattle.etherparse.specs.LinkExtensions.{LinkExtension, macsec, vlan}
 use Rattle.etherparse.specs.LinkSlices.{LinkLayer, ether_payload, ethernet2, linux_sll, linux_sll_payload}
 use Rattle.etherparse.specs.StrictFrames.{layers_in}
 use Rattle.etherparse.specs.TransportParts.{TransportLayer}
-use Rattle.etherparse.specs.Types.IpFragId.{IpFragId}
+use Rattle.etherparse.specs.Types.DefragStatistics.{DefragStatistics}
 use Rattle.etherparse.specs.Types.Layer.{Layer}
 use Rattle.etherparse.specs.Types.SliceError.{SliceError}
 use Rattle.etherparse.specs.Types.TransportHeader.{TransportHeader}
@@ -20,13 +19,13 @@ use Rattle.etherparse.specs.Types.TransportHeader.TheVariants as header
 use Rattle.packet_dump.specs.DecodedPackets.{DecodedPacket}
 use Rattle.packet_dump.specs.Dumps.{AreAllLines, IsRun}
 use Rattle.link_types.specs.Openings.{is_cooked, opening_of}
-use Rattle.packet_dump.specs.PacketCalls.{AreOpen, NumberCall, PoolHistory, is_since, table_of}
+use Rattle.packet_dump.specs.PacketCalls.{PoolHistory, reports_evictions}
 use Rattle.packet_dump.specs.PacketContents.{Content, other_link, packet, refusal}
 use Rattle.packet_dump.specs.ErrorNames.{error_name}
 use Rattle.packet_dump.specs.declared.dump_options.DumpOptions.{DumpOptions}
 use Rattle.packet_dump.specs.declared.ending.Ending.{Ending}
 use Rattle.link_types.specs.declared.openings.Opening.{Opening}
-use Rattle.packet_dump.specs.declared.pooling.Arrival.{Arrival}
+use Rattle.packet_dump.specs.declared.summary.Evictions.{Evictions}
 use Rattle.packet_dump.specs.declared.summary.Fragments.{Fragments}
 use Rattle.packet_dump.specs.declared.summary.LayerCounts.{LayerCounts}
 use Rattle.packet_dump.specs.declared.summary.Refusals.{Refusals}
@@ -249,62 +248,46 @@ counted_all (one ∷ others) before = counted_all others (counted_one one before
 
 -- ---- fragments
 
--- The number of open streams is `count`.
-abbrev pub HasOpen : (IpFragId ℕ → Option (Kept Arrival)) → ℕ → Type 0
-HasOpen table count = (numbers : List ℕ) × AreOpen table numbers × (count ≡ length numbers)
+-- the number of fragments that the pool rejected
+abbrev pub rejected_in : DefragStatistics → ℕ
+rejected_in counters =
+    more (more (more (more counters.rejected_unaligned counters.rejected_too_big) counters.rejected_conflicting_end)
+    counters.rejected_discarded) counters.rejected_over_budget
 
--- the numbers of returned payloads, of rejected fragments, and of streams that were expired or evicted
-pub record Fates : Type 0 where
-  pub reassembled : ℕ
-  pub refused : ℕ
-  pub dropped : ℕ
+-- The number of streams that were evicted since there were too many. Without `--streams 0` no stream is removed in
+-- another way.
+abbrev pub evicted_for_streams_in : DefragStatistics → ℕ
+evicted_for_streams_in counters = more counters.evicted_for_streams counters.removed
 
-abbrev pub no_fates : Fates
-no_fates = record { reassembled = 0; refused = 0; dropped = 0 }
+-- the number of streams that expired or were evicted
+abbrev pub dropped_in : DefragStatistics → ℕ
+dropped_in counters =
+    more (more counters.expired (evicted_for_streams_in counters)) counters.evicted_for_bytes
 
--- the counts with the pool's answer to a frame
-abbrev pub with_answer : Answer → Fates → Fates
-with_answer (payload_returned payload) before = record before { reassembled = more before.reassembled 1 }
-with_answer (fragment_refused error) before = record before { refused = more before.refused 1 }
-with_answer no_payload before = before
-with_answer streams_dropped before = before
-with_answer buffer_returned before = before
+-- the number of streams that were evicted or discarded, by the cause
+abbrev pub evictions_in : DefragStatistics → Evictions
+evictions_in counters = record {
+  expired = counters.expired;
+  for_streams = evicted_for_streams_in counters;
+  for_bytes = counters.evicted_for_bytes;
+  discarded = counters.discarded;
+}
 
--- the counts with a number of streams that were expired or evicted
-abbrev pub with_dropped : ℕ → Fates → Fates
-with_dropped count before = record before { dropped = more before.dropped count }
+-- the counts of fragments, given the counters of the pool, whether evictions are counted by their cause, and the number of
+-- open streams
+abbrev pub fragments_with : DefragStatistics → Bool → ℕ → Fragments
+fragments_with counters reports incomplete = record {
+  reassembled = counters.completed;
+  not_reassembled = rejected_in counters;
+  dropped = dropped_in counters;
+  evictions = if reports then Some (evictions_in counters) else None;
+  «open» = incomplete;
+}
 
--- The counts after a call on a pool of this limit, given the calls before it: a frame adds its answer, and a drop adds
--- the streams that are open before it and not after it.
-abbrev pub CountsCall : ℕ → List NumberCall → NumberCall → Fates → Fates → Type 0
-CountsCall limit earlier (gives_frame carried at channel) old new =
-    new ≡ with_answer (answer_to {V = Arrival} limit (table_after limit nat_eq is_since earlier)
-    (gives_frame carried at channel)) old
-CountsCall limit earlier (drops_streams oldest) old new =
-    (had has : ℕ) × HasOpen (table_after limit nat_eq is_since earlier) had
-    × HasOpen (table_after limit nat_eq is_since (earlier ++ drops_streams oldest ∷ [])) has
-    × (new ≡ with_dropped (had - has) old)
-CountsCall limit earlier returns_buffer old new = new ≡ old
-
--- The counts after these calls in order.
-abbrev pub CountsCalls : ℕ → List NumberCall → List NumberCall → Fates → Fates → Type 0
-CountsCalls limit earlier [] old new = new ≡ old
-CountsCalls limit earlier (call ∷ calls) old new =
-    (next : Fates) × CountsCall limit earlier call old next
-    × CountsCalls limit (earlier ++ call ∷ []) calls next new
-
--- The counts are those of all calls on a pool.
-abbrev pub BecameOf : PoolHistory → Fates → Type 0
-BecameOf history fates = CountsCalls history.limit [] history.calls no_fates fates
-
--- The counts of the summary are those of all calls on the pool, with the number of streams that are then open.
-pub record AreFragments (history : PoolHistory) (fragments : Fragments) : Type 0 where
-  pub became : BecameOf history (record {
-    reassembled = fragments.reassembled;
-    refused = fragments.not_reassembled;
-    dropped = fragments.dropped;
-  })
-  pub stay : HasOpen (table_of history) fragments.open
+-- the counts of fragments of this pool
+abbrev pub fragments_of : DumpOptions → PoolHistory → Fragments
+fragments_of options pool =
+    fragments_with pool.statistics (reports_evictions options) (count_by is_open pool.rows)
 
 -- ---- complete runs
 
@@ -312,10 +295,9 @@ abbrev pub with_fragments : Fragments → PlainSummary → PlainSummary
 with_fragments fragments before = if before.wanted then record before { fragments = Some fragments } else before
 
 -- The counts of fragments of this pool are in the summary, if payloads are reassembled.
-abbrev pub CountsFragments : Bool → PoolHistory → PlainSummary → PlainSummary → Type 0
-CountsFragments true pool old new =
-    (fragments : Fragments) × AreFragments pool fragments × (new ≡ with_fragments fragments old)
-CountsFragments false pool old new = new ≡ old
+abbrev pub CountsFragments : DumpOptions → PoolHistory → PlainSummary → PlainSummary → Type 0
+CountsFragments options pool old new =
+    new ≡ (if options.reassemble then with_fragments (fragments_of options pool) old else old)
 
 -- The output is the lines of the packets of the input, and all of them were counted, shown or not, and so were their
 -- fragments.
@@ -323,7 +305,7 @@ abbrev pub IsCountedDump : DumpOptions → Bool → Ending → PlainSummary → 
 IsCountedDump options ended ending old new read written =
     (packets : List DecodedPacket) × IsRun options ended ending read packets
     × (pool : PoolHistory) × AreAllLines options packets written pool
-    × CountsFragments options.reassemble pool (counted_all packets old) new
+    × CountsFragments options pool (counted_all packets old) new
 
 -- ---- sums
 

@@ -4,6 +4,7 @@ use Rattle.std.specs.Fmt.{decimal}
 use Rattle.packet_dump.specs.Summaries.{IsCountedDump, PlainRefusals, PlainSummary, more, new_summary}
 use Rattle.packet_dump.specs.declared.dump_options.DumpOptions.{DumpOptions}
 use Rattle.packet_dump.specs.declared.ending.Ending.{Ending}
+use Rattle.packet_dump.specs.declared.summary.Evictions.{Evictions}
 use Rattle.packet_dump.specs.declared.summary.Fragments.{Fragments}
 use Rattle.packet_dump.specs.declared.summary.LayerCounts.{LayerCounts}
 
@@ -64,12 +65,25 @@ added all (entry ∷ others) = added (more all entry.1) others
 abbrev pub unread_text : List (ℕ × ℕ) → List ℕ
 unread_text unread = some_text (codes "not read") (added 0 unread) ++ links_text unread
 
--- the counts of fragments
-abbrev pub pieces_text : Fragments → List ℕ
-pieces_text fragments =
+-- the counts of evicted and discarded streams by their cause, if they are printed
+abbrev pub evictions_text : Option Evictions → List ℕ
+evictions_text (Some evictions) =
+    count_text (codes "  expired") evictions.expired
+    ++ count_text (codes "  too many streams") evictions.for_streams
+    ++ count_text (codes "  too many bytes") evictions.for_bytes
+    ++ count_text (codes "discarded") evictions.discarded
+evictions_text None = []
+
+-- the counts of payloads that are reassembled, expired or evicted, and of rejected fragments
+abbrev pub outcomes_text : Fragments → List ℕ
+outcomes_text fragments =
     count_text (codes "reassembled") fragments.reassembled
     ++ count_text (codes "not reassembled") fragments.not_reassembled
-    ++ count_text (codes "expired or evicted") fragments.dropped ++ count_text (codes "incomplete at the end") fragments.open
+    ++ count_text (codes "expired or evicted") fragments.dropped ++ evictions_text fragments.evictions
+
+-- the counts of fragments
+abbrev pub pieces_text : Fragments → List ℕ
+pieces_text fragments = outcomes_text fragments ++ count_text (codes "incomplete at the end") fragments.open
 
 -- the counts of fragments, if payloads are reassembled
 abbrev pub fragments_text : Option Fragments → List ℕ

@@ -6,11 +6,14 @@ ghost use Rattle.etherparse.specs.LaxPackets.{lax_layers_of};
 ghost use Rattle.etherparse.specs.LaxViews.{lax_net_layer_of};
 ghost use Rattle.etherparse.specs.TransportParts.{transport_layer_of};
 ghost use Rattle.packet_dump.specs.Decoding.{content_in};
+ghost use Rattle.packet_dump.specs.EvictionLines.{shows_evictions};
+ghost use Rattle.packet_dump.specs.PacketCalls.{limits_of, nanoseconds, reports_evictions};
 ghost use Rattle.packet_dump.specs.PacketContents.{asks_nothing, content_kind, frame_kind, is_wanted, meets, packet};
 ghost use Rattle.packet_dump.specs.PacketContents.{same_kind, shows_kind, shows_line, slot_holds};
 ghost use Rattle.packet_dump.specs.PoolLines.{inner_kind, part};
 
 use crate::decoded::{Decoded, Outcome};
+use etherparse::defrag::{DefragLimits, OverlapPolicy};
 use etherparse::{LaxNetSlice, LaxSlicedPacket, TransportSlice};
 use packet_filter::{Word, holds};
 
@@ -131,6 +134,14 @@ pub struct DumpOptions {
     /// Maximum number of incomplete IP payloads that are kept for reassembly (`--streams`). One more evicts the payload
     /// whose last accepted fragment is oldest.
     pub streams: u64,
+    /// Maximum memory of incomplete IP payloads, in bytes (`--fragment-bytes`). More evicts the payload whose last
+    /// accepted fragment is oldest. `None` is no limit.
+    pub fragment_bytes: Option<u64>,
+    /// Seconds after its first accepted fragment at which an incomplete IP payload expires (`--fragment-age`). `None` is
+    /// never.
+    pub fragment_age: Option<u32>,
+    /// Rule for fragments that overlap earlier ones (`--overlap`). `None` is the default: the last fragment decides.
+    pub overlap: Option<OverlapPolicy>,
 }
 
 impl DumpOptions {
@@ -185,6 +196,52 @@ impl DumpOptions {
         }
     }
 
+    /// Limits of the reassembly pool. Without `--fragment-bytes` and `--fragment-age` they are the greatest numbers of
+    /// their types. Times are in nanoseconds.
+    pub fn limits(&self) -> DefragLimits
+        ensures { result ≡ limits_of self.now }
+    {
+        DefragLimits {
+            streams: self.streams as usize,
+            bytes: match self.fragment_bytes {
+                Some(bytes) => bytes as usize,
+                None => usize::MAX,
+            },
+            payload: self.limit,
+            age: match self.fragment_age {
+                Some(seconds) => nanoseconds(seconds),
+                None => u128::MAX,
+            },
+            overlap: match self.overlap {
+                Some(policy) => policy,
+                None => OverlapPolicy::LastWins,
+            },
+        }
+    }
+
+    /// Time without an accepted fragment after which an incomplete IP payload expires (`--timeout`), in nanoseconds.
+    pub fn idle(&self) -> u128
+        ensures { result ≡ nanoseconds self.now.timeout }
+    {
+        nanoseconds(self.timeout)
+    }
+
+    /// Returns whether evictions are printed and counted by their cause: with `--fragment-bytes`, `--fragment-age` or
+    /// `--overlap`.
+    pub fn reports_evictions(&self) -> bool
+        ensures { result ≡ reports_evictions self.now }
+    {
+        self.fragment_bytes.is_some() || self.fragment_age.is_some() || self.overlap.is_some()
+    }
+
+    /// Returns whether the line of a payload that expires, is evicted or discarded is printed: if evictions are
+    /// reported, without `--quiet` and filter options, and unless `--only` selects another kind than `refused`.
+    pub fn shows_evictions(&self) -> bool
+        ensures { result ≡ shows_evictions self.now }
+    {
+        self.reports_evictions() && self.shows(Some(Kind::Refused)) && self.asks_nothing()
+    }
+
     /// Returns whether there is no filter option (`--host`, `--port`, `--net`, `--vlan`).
     fn asks_nothing(&self) -> bool
         ensures { result ≡ asks_nothing self.now.words }
@@ -194,6 +251,13 @@ impl DumpOptions {
             None => true,
         })
     }
+}
+
+/// Converts a number of seconds to nanoseconds.
+fn nanoseconds(seconds: u32) -> u128
+    ensures { result ≡ nanoseconds seconds }
+{
+    u128::from(seconds) * 1_000_000_000
 }
 
 /// Returns whether a packet matches the filter primitive in a slot (such as `port 53`); an empty slot matches every

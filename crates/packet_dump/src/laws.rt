@@ -1,8 +1,14 @@
-//! Laws of the summary that `--summary` prints, each stated as the contract of a function with an empty body.
+//! Laws of the summary that `--summary` prints and of the reassembly pool, each stated as the contract of a function with
+//! an empty body.
 
-ghost use Rattle.std.specs.Prelude.{◌≡◌, ◌<◌, ◌^◌, true, Bool, List, length};
+ghost use Rattle.std.specs.Prelude.{◌≡◌, ◌<◌, ◌^◌, true, Bool, List, length, map, ℕ};
 ghost use Rattle.capture_reader.specs.Captures.{Item};
+ghost use Rattle.etherparse.specs.BoundedSteps.{Row};
+ghost use Rattle.etherparse.specs.IpFragments.{IpFragment};
+ghost use Rattle.etherparse.specs.Types.DefragLimits.{DefragLimits};
+ghost use Rattle.etherparse.specs.Types.IpFragId.{IpFragId};
 ghost use Rattle.packet_dump.specs.DecodedPackets.{AreDecoded, DecodedPacket, none_read, packets_in};
+ghost use Rattle.packet_dump.specs.StreamMemory.{EvictsNoneForMemory, granted_step, step_without_memory, without_memory};
 ghost use Rattle.packet_dump.specs.Summaries.{AddsUp, counted_all, new_summary, parsed_count};
 ghost use Rattle.packet_dump.specs.declared.dump_options.DumpOptions.{DumpOptions};
 
@@ -15,4 +21,16 @@ pub fn sums()
     ensures rows { (packets : List DecodedPacket) (by_cause : Bool) → length packets < 2 ^ 64 →
         AddsUp (parsed_count packets) (counted_all packets (new_summary true by_cause))
         × ((counted_all packets (new_summary true by_cause)).packets ≡ length packets) }
+{}
+
+/// States that the memory that the allocator grants for the streams has no influence on what a fragment does, apart from
+/// that memory itself, if no stream is evicted for its memory. So without `--fragment-bytes`, fragment by fragment, what
+/// `--reassemble` prints is determined by the packets.
+pub fn memory_changes_nothing()
+    ensures { (limits : DefragLimits) (rows other_rows : List (Row ℕ)) (given : IpFragId ℕ × IpFragment)
+        (now number room other_room : ℕ) → map without_memory rows ≡ map without_memory other_rows →
+        EvictsNoneForMemory (granted_step limits rows given now number room) →
+        EvictsNoneForMemory (granted_step limits other_rows given now number other_room) →
+        step_without_memory (granted_step limits rows given now number room)
+        ≡ step_without_memory (granted_step limits other_rows given now number other_room) }
 {}

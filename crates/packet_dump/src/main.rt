@@ -24,6 +24,7 @@ mod details;
 pub mod dump_options;
 pub mod ending;
 pub mod engine;
+mod eviction_lines;
 mod filters;
 mod fragments;
 pub mod laws;
@@ -51,10 +52,12 @@ use crate::target::{NoFile, Target};
 use capture_reader::Refusal;
 use line_io::{RunError, Watched};
 use packet_filter::WordError;
+use std::hash::RandomState;
 use std::io::{IsTerminal, Read, Write};
 use std::process::ExitCode;
+use std::random::RandomSource;
 use std::rt::{Env, Files};
-use std::{env, fs};
+use std::{env, fs, io};
 
 /// Text that `--help` prints.
 const HELP: &str = "usage: packet_dump [OPTION..] [FILE]
@@ -98,6 +101,18 @@ a length field counts 1448 bytes, of which 22 were captured.
   --streams N        with --reassemble: keep at most N incomplete payloads; one
                      more evicts the one whose last accepted fragment is oldest
                      (256)
+  --fragment-bytes N with --reassemble: use at most N bytes of memory for
+                     incomplete payloads; more evicts the one whose last
+                     accepted fragment is oldest
+  --fragment-age SECONDS
+                     with --reassemble: drop a payload whose first accepted
+                     fragment is older than this
+  --overlap POLICY   with --reassemble: if fragments overlap, keep the bytes of
+                     the last one (last, the default) or of the first one
+                     (first), or discard the payload if they contradict each
+                     other (discard); with one of these three options, a line
+                     reports each payload that expires, is evicted or discarded
+                     (not with --quiet, a filter or another kind of --only)
   --write FILE       write the packets that are shown to a new file (pcap, with
                      nanoseconds), up to the first packet that has no time or
                      another link type
@@ -215,6 +230,19 @@ fn refused(rt: &impl Eprint, error: &UsageError<'_>) -> ExitCode
         UsageError::NotAStreamCount(word) => {
             eprintln!(rt; "packet_dump: invalid number of streams '{word}'; a whole number from 0")
         }
+        UsageError::NotAByteCount(word) => {
+            eprintln!(rt; "packet_dump: invalid number of bytes '{word}'; a whole number from 0")
+        }
+        UsageError::NotAnAge(word) => {
+            eprintln!(rt;
+                "packet_dump: invalid fragment age '{word}'; seconds from 0 to 4294967295"
+            )
+        }
+        UsageError::NotAPolicy(word) => {
+            eprintln!(rt;
+                "packet_dump: unknown policy for overlaps '{word}'; one of last, first, discard"
+            )
+        }
         UsageError::CrowdedFilter => {
             eprintln!(rt;
                 "packet_dump: too many filters; at most six of --host, --port, --net and --vlan"
@@ -265,7 +293,16 @@ fn dump(
     target: Option<&str>,
     wanted: bool,
 ) -> ExitCode {
-    let mut session = Session::new(rt.alloc(), options, wanted, target.is_some());
+    let keys = match pool_keys(rt, options.reassemble) {
+        Ok(keys) => keys,
+        Err(error) => {
+            let _ = eprintln!(rt; "packet_dump: no random numbers: {error}");
+            return ExitCode::from(1);
+        }
+    };
+    let Ok(mut session) = Session::new(rt.alloc(), options, keys, wanted, target.is_some()) else {
+        return print_error(rt, "packet_dump: out of memory", 1);
+    };
     let Some(path) = path else {
         let input = Source::new(rt.stdin(), rt, "standard input", None);
         return dump_input(rt, &mut session, None, input, target);
@@ -280,6 +317,26 @@ fn dump(
             let _ = eprintln!(rt; "packet_dump: {path}: {error}");
             ExitCode::from(1)
         }
+    }
+}
+
+/// Returns the keys of the reassembly pool's hash: random ones with `--reassemble`, else zeros, as nothing is hashed.
+fn pool_keys(rt: &HostRuntime, reassembles: bool) -> io::Result<RandomState> {
+    if reassembles {
+        RandomState::new(rt)
+    } else {
+        RandomState::new(&ZeroKeys)
+    }
+}
+
+/// Source of keys that are 0.
+#[derive(Drop)]
+struct ZeroKeys;
+
+impl RandomSource for ZeroKeys {
+    fn fill_bytes(&self, bytes: &mut [u8]) -> io::Result<()> {
+        bytes.fill(0);
+        Ok(())
     }
 }
 

@@ -3,14 +3,17 @@
 ghost use Rattle.std.specs.Prelude.{◌≡◌, IfOk, IfErr, IfSome, IfNone, OnOk};
 ghost use Rattle.std.specs.Option.{option_map};
 ghost use Rattle.packet_dump.specs.Options.{Asked, Fault, IsRequest, IsValue, Item, RefusesWords, answer_of, asked_of};
-ghost use Rattle.packet_dump.specs.Options.{bad_value, fault_of, form_name, is_dashed, kind_name, option_word, texts, options_with};
+ghost use Rattle.packet_dump.specs.Options.{bad_value, fault_of, form_name, is_dashed, kind_name, option_word, options_with};
+ghost use Rattle.packet_dump.specs.Options.{policy_name, texts};
 ghost use Rattle.packet_dump.specs.OptionSteps.{IsStepResult, filtered, finished, first_state, joined_step, value_step};
 ghost use Rattle.packet_dump.specs.OptionSteps.{input_in, joined_in, joined_parts, named_by, option_with, reading_state};
 ghost use Rattle.packet_dump.specs.OptionSteps.{step, value_in, word_named};
+ghost use Rattle.etherparse.specs.Types.OverlapPolicy.{OverlapPolicy};
 ghost use Rattle.packet_dump.specs.declared.dump_options.Kind.{Kind};
 ghost use Rattle.packet_dump.specs.declared.dump_options.TimeForm.{TimeForm};
 
 use crate::dump_options::{DumpOptions, Kind, TimeForm};
+use etherparse::defrag::OverlapPolicy;
 
 /// Request of a command line: print the help text or the version, or dump a capture.
 #[derive(Drop)]
@@ -79,6 +82,12 @@ pub enum UsageError<'a> {
     NotALimit(&'a str),
     /// Value of `--streams` that is no number (of incomplete payloads).
     NotAStreamCount(&'a str),
+    /// Value of `--fragment-bytes` that is no number of bytes.
+    NotAByteCount(&'a str),
+    /// Value of `--fragment-age` that is no number of seconds up to 4294967295.
+    NotAnAge(&'a str),
+    /// Value of `--overlap` that is no known policy (`last`, `first` or `discard`).
+    NotAPolicy(&'a str),
     /// Second input on the command line, where only one is read: a file, or `-` for standard input.
     SecondFile(&'a str),
     /// More than six filter options (`--host`, `--port`, `--net`, `--vlan`).
@@ -95,6 +104,9 @@ pub enum Awaited {
     Limit,
     Write,
     Streams,
+    FragmentBytes,
+    FragmentAge,
+    Overlap,
     Filter(FilterKind),
     /// `-r`: the value is the name of the input file.
     Input,
@@ -113,6 +125,9 @@ impl Awaited {
             Awaited::Limit => "--limit",
             Awaited::Write => "--write",
             Awaited::Streams => "--streams",
+            Awaited::FragmentBytes => "--fragment-bytes",
+            Awaited::FragmentAge => "--fragment-age",
+            Awaited::Overlap => "--overlap",
             Awaited::Filter(FilterKind::Host) => "--host",
             Awaited::Filter(FilterKind::Port) => "--port",
             Awaited::Filter(FilterKind::Vlan) => "--vlan",
@@ -167,6 +182,9 @@ impl Word {
             "--limit" => Word::Option(Awaited::Limit),
             "--write" => Word::Option(Awaited::Write),
             "--streams" => Word::Option(Awaited::Streams),
+            "--fragment-bytes" => Word::Option(Awaited::FragmentBytes),
+            "--fragment-age" => Word::Option(Awaited::FragmentAge),
+            "--overlap" => Word::Option(Awaited::Overlap),
             "--host" => Word::Option(Awaited::Filter(FilterKind::Host)),
             "--port" => Word::Option(Awaited::Filter(FilterKind::Port)),
             "--vlan" => Word::Option(Awaited::Filter(FilterKind::Vlan)),
@@ -252,6 +270,9 @@ impl<'a> Reading<'a> {
                 timeout: 30,
                 limit: u16::MAX,
                 streams: 256,
+                fragment_bytes: None,
+                fragment_age: None,
+                overlap: None,
             },
             filter: FilterTexts {
                 first: None,
@@ -382,6 +403,9 @@ impl<'a> Reading<'a> {
             | Awaited::Timeout
             | Awaited::Limit
             | Awaited::Streams
+            | Awaited::FragmentBytes
+            | Awaited::FragmentAge
+            | Awaited::Overlap
             | Awaited::Input => {}
         }
     }
@@ -460,6 +484,20 @@ fn set<'a>(options: &mut DumpOptions, option: Awaited, text: &'a str) -> Result<
                 .parse::<u64>()
                 .map_err(|_| UsageError::NotAStreamCount(text))?;
         }
+        Awaited::FragmentBytes => {
+            let bytes = text
+                .parse::<u64>()
+                .map_err(|_| UsageError::NotAByteCount(text))?;
+            options.fragment_bytes = Some(bytes);
+        }
+        Awaited::FragmentAge => {
+            let seconds = text.parse::<u32>().map_err(|_| UsageError::NotAnAge(text))?;
+            options.fragment_age = Some(seconds);
+        }
+        Awaited::Overlap => {
+            let policy = policy_of(text).ok_or(UsageError::NotAPolicy(text))?;
+            options.overlap = Some(policy);
+        }
         Awaited::Filter(_) => {}
         Awaited::Input => {}
     }
@@ -492,6 +530,20 @@ fn form_of(name: &str) -> Option<TimeForm>
         "relative" => Some(TimeForm::Relative),
         "epoch" => Some(TimeForm::Epoch),
         "utc" => Some(TimeForm::Utc),
+        _ => None,
+    }
+}
+
+/// Returns the policy for overlapping fragments that `--overlap` selects by this name (`last`, `first` or `discard`), or
+/// `None` for an unknown name.
+fn policy_of(name: &str) -> Option<OverlapPolicy>
+    ensures some { IfSome result (λ policy. name.now ≡ policy_name policy) }
+    ensures none { IfNone result ((policy : OverlapPolicy) → name.now ≡ policy_name policy → ⊥) }
+{
+    match name {
+        "last" => Some(OverlapPolicy::LastWins),
+        "first" => Some(OverlapPolicy::FirstWins),
+        "discard" => Some(OverlapPolicy::Discard),
         _ => None,
     }
 }

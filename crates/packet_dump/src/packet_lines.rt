@@ -86,7 +86,7 @@ pub fn push_start(
 }
 
 /// Appends the number of a packet, a space and its timestamp.
-fn push_moment(
+pub fn push_moment(
     output: &mut Vec<u8>,
     form: TimeForm,
     captured: &CapturedPacket<'_>,

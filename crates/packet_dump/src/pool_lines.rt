@@ -3,9 +3,8 @@
 
 ghost use Rattle.std.specs.Prelude.{◌≡◌, ◌++◌, ℕ, IsFalse, List, OnOk};
 ghost use Rattle.std.specs.Option.{option_map};
-ghost use Rattle.etherparse.specs.Pools.{plain_frame_answer, is_allocation_failure_in};
-ghost use Rattle.etherparse.specs.FragmentRefusals.{is_allocation_failure};
-ghost use Rattle.etherparse.specs.IpDefragErrorTexts.{error_text};
+ghost use Rattle.etherparse.specs.BoundedAnswers.{is_starvation, is_starved, plain_bounded};
+ghost use Rattle.etherparse.specs.BoundedErrorTexts.{bounded_error_text};
 ghost use Rattle.etherparse.specs.LaxPackets.{lax_layers_of};
 ghost use Rattle.etherparse.specs.StrictFrames.{layers_in};
 ghost use Rattle.etherparse.specs.TransportParts.{payload_in, transport_layer_of};
@@ -17,7 +16,7 @@ ghost use Rattle.packet_dump.specs.PoolLines.{refused_line, shows_payload, slot_
 use crate::decoded::Decoded;
 use crate::dump_options::{DumpOptions, Kind};
 use crate::packet_lines::push_start;
-use etherparse::defrag::{IpDefragError, IpDefragPayloadVec};
+use etherparse::defrag::{BoundedDefragError, IpDefragError, IpDefragPayloadVec};
 use etherparse::err::packet::SliceError;
 use etherparse::err::tcp::HeaderSliceError;
 use etherparse::{LaxSlicedPacket, TransportSlice};
@@ -32,12 +31,12 @@ pub fn push_answer(
     output: &mut Vec<u8>,
     options: &DumpOptions,
     packet: &Decoded<'_>,
-    answer: &Result<Option<IpDefragPayloadVec>, IpDefragError>,
+    answer: &Result<Option<IpDefragPayloadVec>, BoundedDefragError>,
 ) -> Result<(), AllocError>
-    ensures memory { OnOk result (IsFalse (is_allocation_failure_in answer.now)) }
+    ensures memory { OnOk result (IsFalse (is_starved answer.now)) }
     ensures text { OnOk result ((text : List ℕ)
         × IsAnswerText options.now (start_of options.now packet.now) (layers_of packet.now)
-        (plain_frame_answer answer.now) text × (output.new.items ≡ output.old.items ++ text)) }
+        (plain_bounded answer.now) text × (output.new.items ≡ output.old.items ++ text)) }
 {
     match answer {
         Ok(Some(payload)) => push_payload(output, options, packet, payload),
@@ -113,13 +112,13 @@ fn push_pool_error(
     output: &mut Vec<u8>,
     options: &DumpOptions,
     packet: &Decoded<'_>,
-    error: &IpDefragError,
+    error: &BoundedDefragError,
 ) -> Result<(), AllocError>
-    ensures memory { OnOk result (IsFalse (is_allocation_failure error.now)) }
+    ensures memory { OnOk result (IsFalse (is_starvation error.now)) }
     ensures text { OnOk result (output.new.items ≡ output.old.items ++ refused_line options.now
         (start_of options.now packet.now) (layers_of packet.now) error.now) }
 {
-    if let IpDefragError::AllocationFailure { .. } = error {
+    if let BoundedDefragError::Rejected(IpDefragError::AllocationFailure { .. }) = error {
         return Err(AllocError);
     }
     if !shows_payload(options, &packet.read, Some(Kind::Refused), &None) {
@@ -227,7 +226,7 @@ fn frame_error(error: HeaderSliceError) -> SliceError
 }
 
 /// Appends ` not reassembled: ` and why the reassembly pool rejects a fragment.
-fn push_pool_refusal(output: &mut Vec<u8>, error: &IpDefragError) -> Result<(), AllocError>
+fn push_pool_refusal(output: &mut Vec<u8>, error: &BoundedDefragError) -> Result<(), AllocError>
     ensures { OnOk result (output.new.items ≡ output.old.items ++ pool_refusal_text error.now) }
 {
     output.extend_from_slice(b" not reassembled: ")?;
@@ -235,8 +234,8 @@ fn push_pool_refusal(output: &mut Vec<u8>, error: &IpDefragError) -> Result<(), 
 }
 
 /// Appends the text of the reassembly pool's error for a rejected fragment.
-fn push_pool_reason(output: &mut Vec<u8>, error: &IpDefragError) -> Result<(), AllocError>
-    ensures { OnOk result (output.new.items ≡ output.old.items ++ error_text error.now) }
+fn push_pool_reason(output: &mut Vec<u8>, error: &BoundedDefragError) -> Result<(), AllocError>
+    ensures { OnOk result (output.new.items ≡ output.old.items ++ bounded_error_text error.now) }
 {
     let text = format!(in *output.allocator(); "{error}")?;
     output.extend_from_slice(text.as_bytes())

@@ -4,7 +4,7 @@ ghost use Rattle.std.specs.Prelude.{◌≡◌, ◌<◌, ◌≤◌, ◌+◌, ◌^
 ghost use Rattle.capture_reader.specs.Readers.{reader_shown};
 ghost use Rattle.packet_dump.specs.PacketCalls.{PoolHistory};
 ghost use Rattle.packet_dump.specs.Saves.{is_failed, new_state};
-ghost use Rattle.packet_dump.specs.Sessions.{AwaitsPacket, Counts, Drains, HasProcessed, HoldsPooling, IsNew};
+ghost use Rattle.packet_dump.specs.Sessions.{Counts, Drains, HasProcessed, HoldsPooling, IsNew};
 ghost use Rattle.packet_dump.specs.Sessions.{ProcessesPacket, Written, ending_of, ends_run, taken_by};
 ghost use Rattle.packet_dump.specs.Summaries.{CountsFragments, new_summary, plain_of};
 ghost use Rattle.packet_dump.specs.declared.dump_options.DumpOptions.{DumpOptions};
@@ -19,6 +19,7 @@ use crate::shown::{first_after, instant_in, latest_after};
 use crate::summary::Summary;
 use capture_reader::{Advance, CaptureError, CaptureReader};
 use std::alloc::{AllocError, Global};
+use std::hash::RandomState;
 
 /// Reason why a run can process no further packet now: the bytes read so far contain no other complete packet, the
 /// number of packets of `--count` is reached, or the capture is invalid.
@@ -68,25 +69,32 @@ pub struct Session {
 }
 
 impl Session {
-    /// Returns the state of a run before any byte of the capture is read. `summary` is whether a summary is wanted
-    /// (`--summary`), and `saves` whether a capture file is (`--write`).
-    pub fn new(alloc: Global, options: DumpOptions, summary: bool, saves: bool) -> Session
-        ensures new { IsNew result }
-        ensures options { result.options ≡ options }
-        ensures summary { plain_of result.summary ≡ new_summary summary options.quiet }
-        ensures saves { result.saving.state ≡ new_state saves }
+    /// Returns the state of a run before any byte of the capture is read. `keys` are the secret keys of the reassembly
+    /// pool's hash, `summary` is whether a summary is wanted (`--summary`), and `saves` whether a capture file is
+    /// (`--write`).
+    pub fn new(
+        alloc: Global,
+        options: DumpOptions,
+        keys: RandomState,
+        summary: bool,
+        saves: bool,
+    ) -> Result<Session, AllocError>
+        ensures new { IfOk result (λ session. IsNew session) }
+        ensures options { IfOk result (λ session. session.options ≡ options) }
+        ensures summary { IfOk result (λ session. plain_of session.summary ≡ new_summary summary options.quiet) }
+        ensures saves { IfOk result (λ session. session.saving.state ≡ new_state saves) }
     {
-        Session {
+        Ok(Session {
             options,
             capture: CaptureReader::new(alloc),
             number: 0,
             first: None,
             latest: 0,
-            pooling: Pooling::new(alloc, options.limit),
+            pooling: Pooling::new(alloc, &options, keys)?,
             summary: Summary::new(alloc, summary, options.quiet),
             saving: Saving::new(alloc, saves),
             output: Vec::new(alloc),
-        }
+        })
     }
 
     /// Passes the next chunk of the capture to its parser: the `count` bytes of `buffer` from index `start`. The parser
@@ -156,22 +164,22 @@ impl Session {
     /// Stores the counts of reassembled payloads and rejected fragments in the summary, with `--reassemble`.
     pub fn count_pool(&mut self)
         ensures counts { (history : PoolHistory) → HoldsPooling history self.old.pooling →
-            CountsFragments self.old.options.reassemble history (plain_of self.old.summary)
-            (plain_of self.new.summary) }
+            CountsFragments self.old.options history (plain_of self.old.summary) (plain_of self.new.summary) }
         ensures saving { self.new.saving ≡ self.old.saving }
     {
         if self.options.reassemble {
-            self.summary.count_fragments(self.pooling.fragments());
+            self.summary
+                .count_fragments(self.pooling.fragments(&self.options));
         }
     }
 
     /// Processes the packet that was just parsed: adds it to the capture file (`--write`) if it is selected, counts it,
-    /// and appends its line, if it is shown, to the pending output. With `--reassemble` a second line follows if the
-    /// packet's IP fragment completes a payload or is rejected.
+    /// and appends its line, if it is shown, to the pending output. With `--reassemble` further lines follow if the
+    /// packet's IP fragment completes a payload or is rejected, or if evictions are reported.
+    #[inline(always)]
     fn process_packet(&mut self) -> Result<(), AllocError>
         requires { self.old.number + 1 < 2 ^ 64 }
-        ensures packet { OnOk result ((before : PoolHistory) →
-            AwaitsPacket before (self.old.number + 1) self.old.pooling →
+        ensures packet { OnOk result ((before : PoolHistory) → HoldsPooling before self.old.pooling →
             ProcessesPacket self.old self.new before (reader_shown self.old.capture)) }
         ensures capture { self.new.capture ≡ self.old.capture }
         ensures failed { is_failed self.new.saving.state ≡ is_failed self.old.saving.state }

@@ -1,6 +1,6 @@
 //! Counts of the packets of a capture that `--summary` prints.
 
-ghost use Rattle.std.specs.Prelude.{◌≡◌, ◌++◌, map, IfOk, OnOk};
+ghost use Rattle.std.specs.Prelude.{◌≡◌, ◌++◌, map, IfOk, OnOk, Some};
 ghost use Rattle.std.specs.Option.{option_map};
 ghost use Rattle.std.specs.String.{string_bytes};
 ghost use Rattle.capture_reader.specs.Readers.{shown_of};
@@ -11,10 +11,11 @@ ghost use Rattle.etherparse.specs.StrictFrames.{layers_in};
 ghost use Rattle.etherparse.specs.TransportParts.{transport_layer_of};
 ghost use Rattle.link_types.specs.Openings.{opening_of};
 ghost use Rattle.packet_dump.specs.Decoding.{packet_of};
-ghost use Rattle.packet_dump.specs.SummaryTexts.{causes_text, count_text, errors_text, fragments_text};
+ghost use Rattle.packet_dump.specs.SummaryTexts.{causes_text, outcomes_text, count_text, errors_text, evictions_text, fragments_text};
 ghost use Rattle.packet_dump.specs.SummaryTexts.{inner_counts_text, links_text, outer_counts_text, packets_text, pieces_text};
 ghost use Rattle.packet_dump.specs.SummaryTexts.{refusals_text, some_text, summary_text, unread_text};
 ghost use Rattle.packet_dump.specs.ErrorNames.{error_name};
+ghost use Rattle.packet_dump.specs.Summaries.{evictions_in, fragments_with, rejected_in};
 ghost use Rattle.packet_dump.specs.Summaries.{counted_one, is_truncated, more, new_summary, no_layers, no_refusals, plain_count};
 ghost use Rattle.packet_dump.specs.Summaries.{plain_of, plain_refusals, with_cause, with_cooked, with_error};
 ghost use Rattle.packet_dump.specs.Summaries.{with_extensions, with_fragment, with_fragments};
@@ -23,6 +24,7 @@ ghost use Rattle.packet_dump.specs.Summaries.{with_transport};
 
 use crate::decoded::{Decoded, Outcome};
 use capture_reader::Shown;
+use etherparse::defrag::DefragStatistics;
 use etherparse::err::packet::SliceError;
 use etherparse::err::{Layer, ip, ip_auth, ipv4, ipv6_exts, linux_sll, macsec};
 use etherparse::{LaxLinkExtSlice, LaxNetSlice, LaxSlicedPacket, LinkSlice, TransportSlice};
@@ -92,19 +94,105 @@ pub struct Fragments {
     pub not_reassembled: u64,
     /// Number of incomplete IP payloads that expired or were evicted.
     pub dropped: u64,
+    /// Counts of expired, evicted and discarded payloads by the cause; `None` if they are not printed.
+    pub evictions: Option<Evictions>,
     /// Number of IP payloads that are still incomplete at the end of the run.
     pub open: u64,
 }
 
+/// Counts of incomplete IP payloads that expired, were evicted or discarded, by the cause.
+#[derive(Clone, Copy)]
+pub struct Evictions {
+    /// Number of payloads that expired (`--timeout`, `--fragment-age`).
+    pub expired: u64,
+    /// Number of payloads that were evicted because there were too many (`--streams`).
+    pub for_streams: u64,
+    /// Number of payloads that were evicted because they used too much memory (`--fragment-bytes`).
+    pub for_bytes: u64,
+    /// Number of payloads that were discarded because their fragments contradicted each other (`--overlap discard`).
+    pub discarded: u64,
+}
+
+impl Evictions {
+    /// Returns the counts of evicted and discarded payloads from the counters of the reassembly pool.
+    fn of(counters: &DefragStatistics) -> Evictions
+        ensures { result ≡ evictions_in counters.now }
+    {
+        Evictions {
+            expired: counters.expired,
+            // With `--streams 0` all payloads are removed after each fragment.
+            for_streams: counters
+                .evicted_for_streams
+                .saturating_add(counters.removed),
+            for_bytes: counters.evicted_for_bytes,
+            discarded: counters.discarded,
+        }
+    }
+
+    /// Returns the number of payloads that expired or were evicted; discarded ones are not counted.
+    fn dropped(&self) -> u64
+        ensures { result ≡ more (more self.now.expired self.now.for_streams) self.now.for_bytes }
+    {
+        self.expired
+            .saturating_add(self.for_streams)
+            .saturating_add(self.for_bytes)
+    }
+
+    /// Appends a line for each count to the text of the summary.
+    fn push_text(&self, text: &mut String) -> Result<(), AllocError>
+        ensures { OnOk result (string_bytes text.new ≡ string_bytes text.old ++ evictions_text (Some self.now)) }
+    {
+        push_count(text, "  expired", self.expired)?;
+        push_count(text, "  too many streams", self.for_streams)?;
+        push_count(text, "  too many bytes", self.for_bytes)?;
+        push_count(text, "discarded", self.discarded)
+    }
+}
+
+/// Returns the number of IP fragments that the reassembly pool rejected, from its counters.
+fn rejected_in(counters: &DefragStatistics) -> u64
+    ensures { result ≡ rejected_in counters.now }
+{
+    counters
+        .rejected_unaligned
+        .saturating_add(counters.rejected_too_big)
+        .saturating_add(counters.rejected_conflicting_end)
+        .saturating_add(counters.rejected_discarded)
+        .saturating_add(counters.rejected_over_budget)
+}
+
 impl Fragments {
+    /// Returns the counts of IP reassembly from the counters of the reassembly pool. `reports` is whether evictions are
+    /// counted by their cause, and `incomplete` the number of payloads that are still incomplete.
+    pub fn of(counters: &DefragStatistics, reports: bool, incomplete: u64) -> Fragments
+        ensures { result ≡ fragments_with counters.now reports incomplete }
+    {
+        let evictions = Evictions::of(counters);
+        Fragments {
+            reassembled: counters.completed,
+            not_reassembled: rejected_in(counters),
+            dropped: evictions.dropped(),
+            evictions: if reports { Some(evictions) } else { None },
+            open: incomplete,
+        }
+    }
+
     /// Appends a line for each count of IP reassembly to the text of the summary.
     fn push_text(&self, text: &mut String) -> Result<(), AllocError>
         ensures { OnOk result (string_bytes text.new ≡ string_bytes text.old ++ pieces_text self.now) }
     {
+        self.push_outcomes(text)?;
+        push_count(text, "incomplete at the end", self.open)
+    }
+
+    /// Appends a line for each count of reassembled payloads, rejected fragments, and expired or evicted payloads.
+    fn push_outcomes(&self, text: &mut String) -> Result<(), AllocError>
+        ensures { OnOk result (string_bytes text.new ≡ string_bytes text.old ++ outcomes_text self.now) }
+    {
         push_count(text, "reassembled", self.reassembled)?;
         push_count(text, "not reassembled", self.not_reassembled)?;
         push_count(text, "expired or evicted", self.dropped)?;
-        push_count(text, "incomplete at the end", self.open)
+        push_evictions(text, &self.evictions)
     }
 }
 
@@ -456,6 +544,16 @@ fn push_unread_link_types(text: &mut String, unread: &[(u16, u64)]) -> Result<()
         write!(text, "  link {link_type}: {times}\n")?;
     }
     Ok(())
+}
+
+/// Appends the counts of expired, evicted and discarded payloads to the text of the summary, if they are printed.
+fn push_evictions(text: &mut String, evictions: &Option<Evictions>) -> Result<(), AllocError>
+    ensures { OnOk result (string_bytes text.new ≡ string_bytes text.old ++ evictions_text evictions.now) }
+{
+    match evictions {
+        Some(evictions) => evictions.push_text(text),
+        None => Ok(()),
+    }
 }
 
 /// Appends the counts of IP reassembly to the text of the summary, or nothing without `--reassemble`.

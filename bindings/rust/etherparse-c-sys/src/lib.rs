@@ -8,8 +8,10 @@
 
 /// Version of these declarations: 10000 times the major number, plus 100 times the minor one, plus the patch.
 pub const VERSION: u32 = 100;
-/// Maximum stack that a call needs, in bytes, except [`etherparse_build_fragment`].
+/// Maximum stack that a call needs, in bytes, except calls on pools and [`etherparse_build_fragment`].
 pub const STACK: u32 = 2048;
+/// Maximum stack that a call on a pool needs, in bytes.
+pub const STACK_OF_POOLS: u32 = 8192;
 /// Maximum stack that [`etherparse_build_fragment`] needs, in bytes.
 pub const STACK_OF_FRAGMENTS: u32 = 65536;
 /// Buffer length that is enough for the text of every error, including its zero byte.
@@ -34,6 +36,10 @@ pub const COMPLETE: u32 = 6;
 pub const FRAGMENT_REFUSED: u32 = 7;
 /// A payload waits in the pool, which takes no frame until it is taken.
 pub const PAYLOAD_WAITS: u32 = 8;
+/// The stream of a fragment is discarded, since its fragments contradict each other.
+pub const DISCARDED: u32 = 9;
+/// The stream of a fragment alone needs more memory than the limits allow.
+pub const OVER_BUDGET: u32 = 10;
 
 // First header of a frame.
 /// Ethernet II header.
@@ -187,6 +193,24 @@ pub const FRAGMENT_UNALIGNED: u32 = 1;
 pub const FRAGMENT_TOO_BIG: u32 = 2;
 /// It ends after the known end, or is the last one and ends before that or before the end of an earlier fragment.
 pub const FRAGMENT_CONFLICTING_END: u32 = 3;
+
+// Rules of a bounded pool for fragments that overlap earlier ones of their stream.
+/// Each byte is that of the last accepted fragment.
+pub const OVERLAP_LAST_WINS: u32 = 0;
+/// Each byte is that of the first accepted fragment.
+pub const OVERLAP_FIRST_WINS: u32 = 1;
+/// A fragment that contradicts earlier ones discards the stream.
+pub const OVERLAP_DISCARD: u32 = 2;
+
+// Causes for which a bounded pool evicts or discards a stream.
+/// Its first accepted fragment came too long ago, or for `etherparse_bounded_pool_expire` its last one.
+pub const EVICTED_EXPIRED: u32 = 1;
+/// Two versions of its payload came: it is discarded, and its identifier stays.
+pub const EVICTED_OVERLAP: u32 = 2;
+/// There were more streams than the limits allow.
+pub const EVICTED_STREAMS: u32 = 3;
+/// All streams, or this one alone, used more memory than the limits allow.
+pub const EVICTED_BYTES: u32 = 4;
 
 // Limits.
 /// Maximum payload length in a pool without a limit of its own, in bytes.
@@ -391,6 +415,101 @@ pub struct PoolAnswer {
     pub len: usize,
 }
 
+/// A bounded pool of fragments; only its address is used.
+#[repr(C)]
+#[derive(Debug)]
+pub struct BoundedPool {
+    _private: [u8; 0],
+}
+
+/// Limits of a bounded pool.
+#[repr(C)]
+#[derive(Clone, Copy, Debug, Default, PartialEq, Eq, Hash)]
+pub struct DefragLimits {
+    /// Greatest number of streams, open and discarded ones; 0 counts as 1.
+    pub streams: usize,
+    /// Greatest memory of all streams in bytes.
+    pub bytes: usize,
+    /// Time that a stream may stay after its first accepted fragment, in the unit of the timestamps.
+    pub age: u64,
+    /// Rule for fragments that overlap earlier ones, a constant `OVERLAP_`.
+    pub overlap: u32,
+    /// Greatest length of a payload in bytes.
+    pub payload: u16,
+}
+
+/// Counters of a bounded pool since it was created.
+#[repr(C)]
+#[derive(Clone, Copy, Debug, Default, PartialEq, Eq, Hash)]
+pub struct DefragStatistics {
+    /// Streams that began with an accepted fragment.
+    pub begun: u64,
+    /// Streams whose payload was returned.
+    pub completed: u64,
+    /// Streams that were discarded, since two versions of their payload came.
+    pub discarded: u64,
+    /// Open streams that were evicted for their age, or by [`etherparse_bounded_pool_expire`].
+    pub expired: u64,
+    /// Open streams that were evicted, since there were too many.
+    pub evicted_for_streams: u64,
+    /// Open streams that were evicted, since all or the stream alone used too much memory.
+    pub evicted_for_bytes: u64,
+    /// Open streams that [`etherparse_bounded_pool_remove`] or [`etherparse_bounded_pool_clear`] removed.
+    pub removed: u64,
+    /// Fragments that were accepted.
+    pub accepted: u64,
+    /// Fragments that were rejected as [`FRAGMENT_UNALIGNED`].
+    pub rejected_unaligned: u64,
+    /// Fragments that were rejected as [`FRAGMENT_TOO_BIG`].
+    pub rejected_too_big: u64,
+    /// Fragments that were rejected as [`FRAGMENT_CONFLICTING_END`].
+    pub rejected_conflicting_end: u64,
+    /// Fragments for which an allocation failed.
+    pub rejected_out_of_memory: u64,
+    /// Fragments that were rejected with [`DISCARDED`].
+    pub rejected_discarded: u64,
+    /// Fragments that were rejected with [`OVER_BUDGET`].
+    pub rejected_over_budget: u64,
+}
+
+/// Identifier of a stream: what all its fragments share.
+#[repr(C)]
+#[derive(Clone, Copy, Debug, Default, PartialEq, Eq, Hash)]
+pub struct StreamId {
+    /// Channel that was passed with the fragments.
+    pub channel: u64,
+    /// Identification of the datagram.
+    pub identification: u32,
+    /// Number of VLAN tags, 0 to 3.
+    pub vlan_id_count: u32,
+    /// VLAN identifiers from the outermost on, then 0.
+    pub vlan_ids: [u16; 3],
+    /// IP version: 4 or 6.
+    pub version: u8,
+    /// IP number (protocol) of the payload.
+    pub ip_number: u8,
+    /// Source IPv4 address, if the version is 4, else 0.
+    pub ipv4_source: [u8; 4],
+    /// Destination IPv4 address, if the version is 4, else 0.
+    pub ipv4_destination: [u8; 4],
+    /// Source IPv6 address, if the version is 6, else 0.
+    pub ipv6_source: [u8; 16],
+    /// Destination IPv6 address, if the version is 6, else 0.
+    pub ipv6_destination: [u8; 16],
+}
+
+/// A stream that a bounded pool evicted or discarded.
+#[repr(C)]
+#[derive(Clone, Copy, Debug, Default, PartialEq, Eq, Hash)]
+pub struct EvictedStream {
+    /// Identifier of the stream.
+    pub id: StreamId,
+    /// Timestamp of its first accepted fragment.
+    pub first: u64,
+    /// Cause, a constant `EVICTED_`.
+    pub cause: u32,
+}
+
 extern "C" {
     /// Returns the version of the archive, to be compared with [`VERSION`].
     #[link_name = "etherparse_1_version"]
@@ -557,4 +676,70 @@ extern "C" {
     /// Returns the number of payload bytes in a pool.
     #[link_name = "etherparse_1_pool_bytes"]
     pub fn etherparse_pool_bytes(pool: *mut Pool) -> usize;
+    /// Stores the default limits of a bounded pool.
+    #[link_name = "etherparse_1_defrag_limits_default"]
+    pub fn etherparse_defrag_limits_default(limits: *mut DefragLimits);
+    /// Creates an empty bounded pool and stores its address in `pool`. `seed` points to 16 bytes.
+    #[link_name = "etherparse_1_bounded_pool_new"]
+    pub fn etherparse_bounded_pool_new(
+        limits: *const DefragLimits,
+        seed: *const u8,
+        pool: *mut *mut BoundedPool,
+    ) -> u32;
+    /// Frees a bounded pool, which must not be used again.
+    #[link_name = "etherparse_1_bounded_pool_free"]
+    pub fn etherparse_bounded_pool_free(pool: *mut BoundedPool);
+    /// Passes a frame to a bounded pool; a payload that it completes is written to the start of `buffer`.
+    #[link_name = "etherparse_1_bounded_pool_push"]
+    pub fn etherparse_bounded_pool_push(
+        pool: *mut BoundedPool,
+        entry: u32,
+        ether_type: u16,
+        bytes: *const u8,
+        len: usize,
+        timestamp: u64,
+        channel: u64,
+        buffer: *mut u8,
+        buffer_len: usize,
+        answer: *mut PoolAnswer,
+    ) -> u32;
+    /// Copies the payload that waits in a bounded pool to the start of `buffer`.
+    #[link_name = "etherparse_1_bounded_pool_take"]
+    pub fn etherparse_bounded_pool_take(
+        pool: *mut BoundedPool,
+        buffer: *mut u8,
+        buffer_len: usize,
+        answer: *mut PoolAnswer,
+    ) -> u32;
+    /// Discards the payload that waits in a bounded pool.
+    #[link_name = "etherparse_1_bounded_pool_discard"]
+    pub fn etherparse_bounded_pool_discard(pool: *mut BoundedPool);
+    /// Evicts the streams of a bounded pool that are older than the age of its limits, or that got no fragment for
+    /// `idle`, and returns their number.
+    #[link_name = "etherparse_1_bounded_pool_expire"]
+    pub fn etherparse_bounded_pool_expire(pool: *mut BoundedPool, now: u64, idle: u64) -> usize;
+    /// Removes the stream with this identifier from a bounded pool, and returns the number of removed streams, 1 or 0.
+    #[link_name = "etherparse_1_bounded_pool_remove"]
+    pub fn etherparse_bounded_pool_remove(pool: *mut BoundedPool, id: *const StreamId) -> usize;
+    /// Removes all streams from a bounded pool.
+    #[link_name = "etherparse_1_bounded_pool_clear"]
+    pub fn etherparse_bounded_pool_clear(pool: *mut BoundedPool);
+    /// Returns the number of open streams in a bounded pool.
+    #[link_name = "etherparse_1_bounded_pool_streams"]
+    pub fn etherparse_bounded_pool_streams(pool: *mut BoundedPool) -> usize;
+    /// Returns the number of discarded streams in a bounded pool.
+    #[link_name = "etherparse_1_bounded_pool_discarded_streams"]
+    pub fn etherparse_bounded_pool_discarded_streams(pool: *mut BoundedPool) -> usize;
+    /// Returns the memory of all streams in a bounded pool, in bytes.
+    #[link_name = "etherparse_1_bounded_pool_held_bytes"]
+    pub fn etherparse_bounded_pool_held_bytes(pool: *mut BoundedPool) -> usize;
+    /// Stores the counters of a bounded pool.
+    #[link_name = "etherparse_1_bounded_pool_statistics"]
+    pub fn etherparse_bounded_pool_statistics(pool: *mut BoundedPool, statistics: *mut DefragStatistics);
+    /// Returns the number of streams that the last push, expiry, removal or clearing evicted or discarded.
+    #[link_name = "etherparse_1_bounded_pool_evicted_count"]
+    pub fn etherparse_bounded_pool_evicted_count(pool: *mut BoundedPool) -> usize;
+    /// Stores one of the streams that the last push, expiry, removal or clearing evicted or discarded.
+    #[link_name = "etherparse_1_bounded_pool_evicted"]
+    pub fn etherparse_bounded_pool_evicted(pool: *mut BoundedPool, index: usize, evicted: *mut EvictedStream) -> u32;
 }

@@ -357,8 +357,8 @@ pub fn build_icmp_echo(
 }
 
 /// Writes the frame of a fragment of a longer payload to the start of `buffer`, and returns its length in bytes;
-/// `payload` is the bytes at `fragment_offset`. This call needs up to [`sys::STACK_OF_FRAGMENTS`] bytes of stack, all
-/// others at most [`sys::STACK`].
+/// `payload` is the bytes at `fragment_offset`. This call needs up to [`sys::STACK_OF_FRAGMENTS`] bytes of stack,
+/// calls on pools [`sys::STACK_OF_POOLS`], and all others [`sys::STACK`].
 ///
 /// # Errors
 ///

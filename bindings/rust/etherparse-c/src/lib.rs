@@ -29,6 +29,7 @@ extern crate alloc;
 
 pub use etherparse_c_sys as sys;
 
+mod bounded_pool;
 mod building;
 mod bytes;
 pub mod err;
@@ -45,6 +46,9 @@ mod sliced_packet;
 mod transport;
 mod types;
 
+pub use bounded_pool::{
+    BoundedPool, DefragLimits, DefragStatistics, EvictedStream, EvictionCause, OverlapPolicy, StreamId,
+};
 pub use building::{
     build_fragment, build_icmp_echo, build_tcp, build_udp, tcp_flag, Addresses, BuildError, FragmentFields, Route,
     TcpFields,

@@ -15,7 +15,9 @@ impl fmt::Display for OutOfMemory {
 
 impl core::error::Error for OutOfMemory {}
 
-/// Reason why a pool did not accept a frame. Its streams are unchanged.
+/// Reason why a pool did not accept a frame. Its streams are unchanged, except as [`Discarded`](PushError::Discarded)
+/// and [`OverBudget`](PushError::OverBudget) state, and except that a bounded pool evicts the fragment's own stream if
+/// it had expired.
 #[derive(Clone, Copy, Debug, PartialEq, Eq, Hash)]
 #[non_exhaustive]
 pub enum PushError {
@@ -30,6 +32,27 @@ pub enum PushError {
     ConflictingEnd,
     /// An allocation for the fragment failed.
     OutOfMemory,
+    /// The stream of the fragment is discarded, by this fragment or an earlier one: two versions of its payload came.
+    /// Only a [`BoundedPool`](crate::BoundedPool) returns it.
+    Discarded,
+    /// The stream of the fragment alone needs more memory than the limits allow, and is evicted with this fragment.
+    /// Only a [`BoundedPool`](crate::BoundedPool) returns it.
+    OverBudget,
+}
+
+impl PushError {
+    /// Returns the error of a status and of the reason for a rejected fragment.
+    pub(crate) fn of(status: u32, fragment_refusal: u32) -> PushError {
+        match (status, fragment_refusal) {
+            (sys::FRAGMENT_REFUSED, sys::FRAGMENT_UNALIGNED) => PushError::Unaligned,
+            (sys::FRAGMENT_REFUSED, sys::FRAGMENT_TOO_BIG) => PushError::TooBig,
+            (sys::FRAGMENT_REFUSED, _) => PushError::ConflictingEnd,
+            (sys::OUT_OF_MEMORY, _) => PushError::OutOfMemory,
+            (sys::DISCARDED, _) => PushError::Discarded,
+            (sys::OVER_BUDGET, _) => PushError::OverBudget,
+            (other, _) => unreachable!("a pool answers {other}"),
+        }
+    }
 }
 
 impl From<OutOfMemory> for PushError {
@@ -46,6 +69,8 @@ impl fmt::Display for PushError {
             PushError::TooBig => "the fragment ends behind the limit",
             PushError::ConflictingEnd => "the fragment ends elsewhere than others say",
             PushError::OutOfMemory => return OutOfMemory.fmt(f),
+            PushError::Discarded => "the stream is discarded, since its fragments contradict each other",
+            PushError::OverBudget => "the stream needs more memory than the limits allow",
         })
     }
 }
@@ -137,7 +162,7 @@ impl Pool {
     }
 
     /// Creates an empty pool with payloads of at most `limit` bytes: a fragment that ends after the limit is rejected.
-    /// If frames may be hostile, set a limit and drop old streams.
+    /// If frames may be hostile, use a [`BoundedPool`](crate::BoundedPool).
     ///
     /// # Errors
     ///
@@ -148,9 +173,7 @@ impl Pool {
     }
 
     fn made(limit: u16, make: impl FnOnce(&mut *mut sys::Pool) -> u32) -> Result<Pool, OutOfMemory> {
-        let mut buffer = Vec::new();
-        buffer.try_reserve_exact(limit.into()).map_err(|_| OutOfMemory)?;
-        buffer.resize(limit.into(), 0);
+        let buffer = buffer_of(limit)?;
         let mut pool = ptr::null_mut();
         let status = make(&mut pool);
         let pool = ptr::NonNull::new(pool).filter(|_| status == sys::OK).ok_or(OutOfMemory)?;
@@ -188,20 +211,7 @@ impl Pool {
                 &mut answer,
             )
         };
-        match (status, answer.fragment_refusal) {
-            (sys::OK, _) => Ok(None),
-            (sys::COMPLETE, _) => Ok(Some(Payload {
-                ip_number: IpNumber(answer.ip_number),
-                len_source: LenSource::of(answer.len_source).unwrap_or(LenSource::Slice),
-                bytes: &self.buffer[..answer.len],
-            })),
-            (sys::REFUSED, _) => Err(PushError::Refused(Refusal::from(answer.refusal))),
-            (sys::FRAGMENT_REFUSED, sys::FRAGMENT_UNALIGNED) => Err(PushError::Unaligned),
-            (sys::FRAGMENT_REFUSED, sys::FRAGMENT_TOO_BIG) => Err(PushError::TooBig),
-            (sys::FRAGMENT_REFUSED, _) => Err(PushError::ConflictingEnd),
-            (sys::OUT_OF_MEMORY, _) => Err(PushError::OutOfMemory),
-            (other, _) => unreachable!("a pool answers {other}"),
-        }
+        pushed(status, &answer, &self.buffer)
     }
 
     /// Passes a frame that is already sliced to the pool, and returns the payload that it completes, if any. A frame
@@ -243,6 +253,32 @@ impl Pool {
         // SAFETY: the pool was created and not freed.
         unsafe { sys::etherparse_pool_drop_older(self.pool.as_ptr(), timestamp) };
     }
+}
+
+/// Returns what pushing a frame returned, by its status. The bytes of a payload are at the start of the buffer.
+pub(crate) fn pushed<'a>(
+    status: u32,
+    answer: &sys::PoolAnswer,
+    buffer: &'a [u8],
+) -> Result<Option<Payload<'a>>, PushError> {
+    match status {
+        sys::OK => Ok(None),
+        sys::COMPLETE => Ok(Some(Payload {
+            ip_number: IpNumber(answer.ip_number),
+            len_source: LenSource::of(answer.len_source).unwrap_or(LenSource::Slice),
+            bytes: &buffer[..answer.len],
+        })),
+        sys::REFUSED => Err(PushError::Refused(Refusal::from(answer.refusal))),
+        other => Err(PushError::of(other, answer.fragment_refusal)),
+    }
+}
+
+/// Returns a buffer of this length, or the error if the allocation fails.
+pub(crate) fn buffer_of(len: u16) -> Result<Vec<u8>, OutOfMemory> {
+    let mut buffer = Vec::new();
+    buffer.try_reserve_exact(len.into()).map_err(|_| OutOfMemory)?;
+    buffer.resize(len.into(), 0);
+    Ok(buffer)
 }
 
 impl fmt::Debug for Pool {

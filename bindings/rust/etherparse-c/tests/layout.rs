@@ -2,7 +2,8 @@
 //! compares the numbers), and tests the results of the calls.
 
 use etherparse_c::sys::{
-    self, FragmentFields, Ip, LinkExt, Packet, Part, Payload, PoolAnswer, Refusal, Route, TaggedRoute, TcpFields,
+    self, DefragLimits, DefragStatistics, EvictedStream, FragmentFields, Ip, LinkExt, Packet, Part, Payload,
+    PoolAnswer, Refusal, Route, StreamId, TaggedRoute, TcpFields,
 };
 use etherparse_c::{Entry, EtherType, IpNumber, SlicedPacket};
 use std::collections::{BTreeMap, HashMap};
@@ -24,7 +25,7 @@ fn layout(fields: Vec<(String, String, usize)>, known: &HashMap<String, Layout>)
             "u8" | "uint8_t" => (1, 1),
             "u16" | "uint16_t" => (2, 2),
             "u32" | "uint32_t" => (4, 4),
-            "usize" | "size_t" => (8, 8),
+            "u64" | "uint64_t" | "usize" | "size_t" => (8, 8),
             other => {
                 let inner = known.get(other).unwrap_or_else(|| panic!("what is {other}?"));
                 (inner.size, inner.align)
@@ -102,7 +103,8 @@ macro_rules! declared {
 fn layouts_are_the_same() {
     let top = concat!(env!("CARGO_MANIFEST_DIR"), "/../../..");
     let read = |path: &str| std::fs::read_to_string(format!("{top}/{path}")).unwrap();
-    let files = ["packet", "route", "pool_answer"].map(|name| read(&format!("crates/etherparse_c/src/{name}.rt")));
+    let files = ["packet", "route", "pool_answer", "defrag_values"]
+        .map(|name| read(&format!("crates/etherparse_c/src/{name}.rt")));
     let rattle = of_rattle(&files.concat());
     let c = of_c(&read("bindings/c/etherparse.h"));
     let here = declared! {
@@ -121,6 +123,17 @@ fn layouts_are_the_same() {
         TaggedRoute { route, tag_count, vlan_ids }
         FragmentFields { ip_number, more_fragments, fragment_offset, identification }
         PoolAnswer { refusal, fragment_refusal, len_source, ip_number, len }
+        DefragLimits { streams, bytes, age, overlap, payload }
+        DefragStatistics {
+            begun, completed, discarded, expired, evicted_for_streams, evicted_for_bytes, removed, accepted,
+            rejected_unaligned, rejected_too_big, rejected_conflicting_end, rejected_out_of_memory, rejected_discarded,
+            rejected_over_budget
+        }
+        StreamId {
+            channel, identification, vlan_id_count, vlan_ids, version, ip_number, ipv4_source, ipv4_destination,
+            ipv6_source, ipv6_destination
+        }
+        EvictedStream { id, first, cause }
         Packet {
             link, link_exts, link_ext_count, source_port, destination_port, net, ip, transport, payload, refusal
         }
@@ -146,7 +159,7 @@ fn passed(kind: &str) -> &'static str {
         _ if kind.contains("&mut") || kind.contains("*mut") => "mut ptr",
         _ if kind.starts_with("const ") || kind.starts_with(['&', '*']) => "const ptr",
         _ if kind.contains('*') => "mut ptr",
-        "OwnedPool" => "mut ptr", // a struct with one address
+        "OwnedPool" | "OwnedBoundedPool" => "mut ptr", // structs with one address
         "u8" | "uint8_t" => "u8",
         "u16" | "uint16_t" => "u16",
         "u32" | "uint32_t" => "u32",
@@ -165,15 +178,17 @@ fn parameter(name: &str, kind: &str) -> (String, &'static str) {
     (name.to_string(), passed(kind))
 }
 
-/// Returns the calls that a Rust or Rattle text declares, each after `word`. A `Global` is not passed, and a slice is
-/// passed as its address and its length, which is called `len`.
+/// Returns the calls that a Rust or Rattle text declares, each after `word`. A `Global` is not passed; a slice is
+/// passed as its address and its length, which is called `len`, and an array of a known length as its address.
 fn calls_of(text: &str, word: &str) -> Calls {
     let one = |declared: &str| {
         let (name, rest) = declared.split_once('(').unwrap();
         let (params, rest) = rest.split_once(')').unwrap();
         let params = params.split(',').filter_map(|param| param.trim().split_once(": "));
         let passed_as = params.filter(|(_, kind)| *kind != "Global").flat_map(|(name, kind)| match kind {
-            slice if slice.ends_with(']') => vec![parameter(name, kind), parameter("len", "usize")],
+            slice if slice.ends_with(']') && !slice.contains(';') => {
+                vec![parameter(name, kind), parameter("len", "usize")]
+            }
             other => vec![parameter(name, other)],
         });
         let result = rest.trim_start().strip_prefix("-> ").map(|result| passed(first_word(result)));
@@ -603,4 +618,112 @@ fn pools_return_long_payloads() {
             None => assert!(part > 0),
         }
     }
+}
+
+/// A bounded pool of the wrapper: each rule for overlaps, each cause of an eviction, and its counters.
+#[test]
+fn bounded_pools_answer() {
+    use etherparse_c::{BoundedPool, DefragLimits, EvictionCause, OverlapPolicy, PushError};
+    let seed = [7; 16];
+    let evicted = |pool: &BoundedPool| -> Vec<_> {
+        pool.evicted().map(|gone| (gone.id.identification, gone.cause, gone.first)).collect()
+    };
+    // the bytes at 8 to 16 come twice, and then the others
+    for (overlap, payload) in [
+        (OverlapPolicy::LastWins, Some(b"12345678abcdefghx")),
+        (OverlapPolicy::FirstWins, Some(b"12345678ABCDEFGHx")),
+        (OverlapPolicy::Discard, None),
+    ] {
+        let mut pool = BoundedPool::new(DefragLimits { overlap, ..DefragLimits::default() }, seed).unwrap();
+        assert_eq!(pool.push(Entry::Ip, &fragment(1, 1, true, b"ABCDEFGH"), 1, 0), Ok(None));
+        assert_eq!(pool.push(Entry::Ip, &fragment(1, 2, false, b"x"), 2, 0), Ok(None));
+        assert!(evicted(&pool).is_empty() && pool.held_bytes() >= 17);
+        let answer = pool.push(Entry::Ip, &fragment(1, 1, true, b"abcdefgh"), 3, 0);
+        if overlap == OverlapPolicy::Discard {
+            assert_eq!(answer, Err(PushError::Discarded));
+            assert_eq!(evicted(&pool), [(1, EvictionCause::Overlap, 1)]);
+            assert_eq!((pool.streams(), pool.discarded_streams(), pool.held_bytes()), (0, 1, 0));
+        } else {
+            assert_eq!(answer, Ok(None));
+        }
+        let answer = pool.push(Entry::Ip, &fragment(1, 0, true, b"12345678"), 4, 0);
+        match payload {
+            Some(bytes) => assert_eq!(answer.unwrap().unwrap().bytes, bytes),
+            None => assert_eq!(answer, Err(PushError::Discarded)),
+        }
+        assert!(evicted(&pool).is_empty());
+    }
+    let limits = DefragLimits { streams: 2, bytes: 200, payload: 160, age: 10, ..DefragLimits::default() };
+    let mut pool = BoundedPool::new(limits, seed).unwrap();
+    assert_eq!(pool.limits(), limits);
+    for (identification, time) in [(1, 1), (2, 2), (3, 3)] {
+        assert_eq!(pool.push(Entry::Ip, &fragment(identification, 1, true, b"ABCDEFGH"), time, 9), Ok(None));
+    }
+    assert_eq!(evicted(&pool), [(1, EvictionCause::Streams, 1)]);
+    let id = pool.evicted().next().unwrap().id;
+    assert_eq!((id.source.to_string(), id.destination.to_string()), ("10.0.0.1".into(), "10.0.0.2".into()));
+    assert_eq!((id.ip_number, id.channel, id.vlan_ids()), (IpNumber::UDP, 9, &[][..]));
+    assert_eq!(pool.push(Entry::Ip, &fragment(3, 1, true, b"AB"), 3, 9), Err(PushError::Unaligned));
+    assert_eq!(pool.push(Entry::Ip, &fragment(3, 20, true, b"ABCDEFGH"), 3, 9), Err(PushError::TooBig));
+    assert!(matches!(pool.push(Entry::Ip, &[0x45], 3, 9), Err(PushError::Refused(_))));
+    // all streams need too much memory, and one alone
+    let long = [0; 120];
+    assert_eq!(pool.push(Entry::Ip, &fragment(2, 2, true, &long), 4, 9), Ok(None));
+    assert_eq!(pool.push(Entry::Ip, &fragment(3, 2, true, &long), 5, 9), Ok(None));
+    assert_eq!(evicted(&pool), [(2, EvictionCause::Bytes, 2)]);
+    // a frame without a fragment evicts nothing
+    let whole = fragment(1, 0, false, &[0, 21, 4, 210, 0, 8, 0, 0]);
+    assert_eq!(pool.process_sliced_packet(&SlicedPacket::from_ip(&whole).unwrap(), 5, 9), Ok(None));
+    assert!(evicted(&pool).is_empty());
+    // the fragment of an expired stream begins a new one
+    let last = fragment(3, 1, true, b"ABCDEFGH");
+    assert_eq!(pool.process_sliced_packet(&SlicedPacket::from_ip(&last).unwrap(), 14, 9), Ok(None));
+    assert_eq!(evicted(&pool), [(3, EvictionCause::Expired, 3)]);
+    assert_eq!((pool.expire(15, 1), pool.expire(16, 1)), (0, 1));
+    assert_eq!(evicted(&pool), [(3, EvictionCause::Expired, 14)]);
+    assert_eq!(pool.push(Entry::Ip, &fragment(4, 1, true, b"ABCDEFGH"), 17, 9), Ok(None));
+    pool.clear();
+    assert!(evicted(&pool).is_empty());
+    // one of two streams is removed
+    for identification in [5, 6] {
+        assert_eq!(pool.push(Entry::Ip, &fragment(identification, 1, true, b"ABCDEFGH"), 18, 9), Ok(None));
+    }
+    let of = |identification, channel, destination: &str| {
+        let mut id = id;
+        id.identification = identification;
+        id.channel = channel;
+        id.destination = destination.parse().unwrap();
+        id
+    };
+    for id in [of(4, 9, "10.0.0.2"), of(5, 8, "10.0.0.2"), of(65541, 9, "10.0.0.2"), of(5, 9, "::"), of(5, 9, "::1")] {
+        assert!(!pool.remove(&id) && pool.streams() == 2);
+    }
+    assert!(pool.remove(&of(5, 9, "10.0.0.2")) && pool.streams() == 1 && evicted(&pool).is_empty());
+    assert!(!pool.remove(&of(5, 9, "10.0.0.2")) && pool.remove(&of(6, 9, "10.0.0.2")) && pool.held_bytes() == 0);
+    let counted = pool.statistics();
+    assert_eq!((counted.begun, counted.completed, counted.expired, counted.removed), (7, 0, 2, 3));
+    assert_eq!((counted.evicted_for_streams, counted.evicted_for_bytes, counted.accepted), (1, 1, 9));
+    assert_eq!((counted.rejected_unaligned, counted.rejected_too_big), (1, 1));
+    // one stream alone
+    let limits = DefragLimits { bytes: 100, ..DefragLimits::default() };
+    let mut pool = BoundedPool::new(limits, seed).unwrap();
+    assert_eq!(pool.push(Entry::Ip, &fragment(1, 2, true, &long), 1, 0), Err(PushError::OverBudget));
+    assert_eq!(evicted(&pool), [(1, EvictionCause::Bytes, 1)]);
+    // an identifier of IPv6, after a VLAN tag
+    let limits = DefragLimits { streams: 1, ..DefragLimits::default() };
+    let mut pool = BoundedPool::new(limits, seed).unwrap();
+    for identification in [8, 9] {
+        let frame = [
+            &[7, 8, 9, 10, 11, 12, 1, 2, 3, 4, 5, 6, 0x81, 0, 0, 42, 0x86, 0xdd, 0x60, 0, 0, 0, 0, 16, 44, 64][..],
+            &[0, 0, 0, 0, 0, 0, 0, 0, 0, 0, 0, 0, 0, 0, 0, 1, 0, 0, 0, 0, 0, 0, 0, 0, 0, 0, 0, 0, 0, 0, 0, 2],
+            &[17, 0, 0, 1, 1, 2, 3, identification, 1, 2, 3, 4, 5, 6, 7, 8],
+        ];
+        assert_eq!(pool.push(Entry::Ethernet, &frame.concat(), 1, 0), Ok(None));
+    }
+    let id = pool.evicted().next().unwrap().id;
+    assert_eq!((id.source.to_string(), id.destination.to_string()), ("::1".into(), "::2".into()));
+    assert_eq!((id.identification, id.ip_number, id.vlan_ids()), (0x01020308, IpNumber::UDP, &[42][..]));
+    let mut there = id;
+    there.identification += 1;
+    assert!(!pool.remove(&id) && pool.remove(&there) && pool.streams() == 0);
 }

@@ -1,7 +1,7 @@
 //! Tests the error if Rust's allocator fails for the buffer of a pool. The static library has another allocator
 //! (`bindings/c/etherparse_heap.c`), whose allocations fail in `bindings/c/tests/statuses.c`.
 
-use etherparse_c::{OutOfMemory, Pool};
+use etherparse_c::{BoundedPool, DefragLimits, OutOfMemory, Pool};
 use std::alloc::{GlobalAlloc, Layout, System};
 use std::ptr;
 
@@ -31,5 +31,8 @@ static MEMORY: Refusing = Refusing;
 fn pools_are_refused_for_want_of_memory() {
     assert_eq!(Pool::with_limit(REFUSED as u16).err(), Some(OutOfMemory));
     assert!(Pool::with_limit(REFUSED as u16 + 1).is_ok());
+    let bounded = |payload| BoundedPool::new(DefragLimits { payload, ..DefragLimits::default() }, [7; 16]);
+    assert_eq!(bounded(REFUSED as u16).err(), Some(OutOfMemory));
+    assert!(bounded(REFUSED as u16 + 1).is_ok());
     assert_eq!(OutOfMemory.to_string(), "out of memory");
 }

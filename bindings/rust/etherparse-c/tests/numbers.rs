@@ -62,7 +62,7 @@ struct Named {
     places: &'static [(&'static str, &'static str, &'static str)],
 }
 
-const NAMED: [Named; 9] = [
+const NAMED: [Named; 11] = [
     Named {
         first: "LAYER_",
         count: 21,
@@ -102,6 +102,24 @@ const NAMED: [Named; 9] = [
         count: 3,
         may_say_more: true,
         places: &[("pooling.rt", "IpDefragError::", " => "), ("PoolAnswers.antt", "fragment_refusal_number (", ") = ")],
+    },
+    Named {
+        first: "OVERLAP_",
+        count: 3,
+        may_say_more: false,
+        places: &[
+            ("defrag_describing.rt", "", " => Some(OverlapPolicy::"),
+            ("BoundedPoolAnswers.antt", "number == ", " then Some "),
+        ],
+    },
+    Named {
+        first: "EVICTED_",
+        count: 4,
+        may_say_more: false,
+        places: &[
+            ("defrag_describing.rt", "EvictionCause::", " => "),
+            ("BoundedPoolAnswers.antt", "cause_number ", " = "),
+        ],
     },
     Named {
         first: "LINK_",
@@ -165,7 +183,7 @@ fn rattle_has_the_numbers_of_the_c_header() {
     let (mut in_sources, mut in_definitions) = (BTreeSet::new(), BTreeSet::new());
     let text = read_rattle("numbers.rt");
     let known: Vec<_> = pairs(&text, "pub const ", ": u32 = ").collect();
-    assert_eq!(known.len(), 20);
+    assert_eq!(known.len(), 22);
     for (name, it) in known {
         same(&c, &mut in_sources, name.to_string(), number(it).unwrap(), "numbers.rt");
     }
@@ -230,13 +248,13 @@ fn rattle_has_the_numbers_of_the_c_header() {
     let longest = c["REFUSAL_TEXT_MAX"] - 1; // without its zero byte
     assert!(law.split("pub fn ").next().unwrap().contains(&format!("≤ {longest} ")), "the greatest text");
     // defined elsewhere in the sources of the crate, or measured by tests
-    let elsewhere = ["REFUSAL_TEXT_MAX", "STACK", "STACK_OF_FRAGMENTS", "VERSION"];
+    let elsewhere = ["REFUSAL_TEXT_MAX", "STACK", "STACK_OF_FRAGMENTS", "STACK_OF_POOLS", "VERSION"];
     // every other name was compared; the definitions have statuses as bare numbers, and the limit in a contract
     let all: BTreeSet<_> = c.keys().filter(|name| !elsewhere.contains(&name.as_str())).cloned().collect();
     assert_eq!(in_sources, all);
     let without: BTreeSet<_> = all.difference(&in_definitions).map(String::as_str).collect();
-    let statuses = "COMPLETE FRAGMENT_REFUSED MAX_PAYLOAD OK OUT_OF_MEMORY PAYLOAD_WAITS REFUSED TOO_LONG TOO_SMALL";
-    assert_eq!(without, statuses.split(' ').chain(["UNKNOWN_CHOICE"]).collect());
+    let statuses = "COMPLETE DISCARDED FRAGMENT_REFUSED MAX_PAYLOAD OK OUT_OF_MEMORY OVER_BUDGET PAYLOAD_WAITS REFUSED";
+    assert_eq!(without, statuses.split(' ').chain(["TOO_LONG", "TOO_SMALL", "UNKNOWN_CHOICE"]).collect());
 }
 
 #[test]
@@ -252,7 +270,7 @@ fn rust_has_the_numbers_of_the_c_header() {
 /// Each kind here has the name of its number.
 #[test]
 fn rust_kinds_have_the_names_of_their_numbers() {
-    let files = ["building", "err", "lib", "refusal", "sliced_packet"]
+    let files = ["bounded_pool", "building", "err", "lib", "refusal", "sliced_packet"]
         .map(|name| read(&format!("bindings/rust/etherparse-c/src/{name}.rs")));
     let text = files.concat();
     // the first word of the header's names, their count, and the text before a kind and before its number
@@ -266,6 +284,8 @@ fn rust_kinds_have_the_names_of_their_numbers() {
         ("ENTRY_", 4, "Entry::", "(sys::ENTRY_"),
         ("EXT_", 2, "sys::EXT_", " => Some(LinkExtSlice::"),
         ("TCP_", 8, "pub const ", "sys::TCP_"),
+        ("OVERLAP_", 3, "", " = OVERLAP_"),
+        ("EVICTED_", 4, "", " = EVICTED_"),
     ];
     for (first, count, before, between) in named {
         let kinds: Vec<_> = pairs(&text, before, between).collect();

@@ -1,12 +1,13 @@
-use Rattle.std.proofs.Common.{subst, sym}
-use Rattle.packet_dump.specs.PacketCalls.{table_of}
-use Rattle.packet_dump.specs.Summaries.{HasOpen}
-use Rattle.packet_dump.proofs.PoolLemmas.{has_open}
+use Rattle.std.proofs.Common.{◌∙◌}
+use Rattle.etherparse.specs.BoundedPools.{limits_in, names_in}
+use Rattle.packet_dump.specs.Summaries.{fragments_with}
+use Rattle.packet_dump.proofs.PoolLemmas.{open_rows}
 use Rattle.packet_dump.proofs.pooling.Pooling.fragments.Goals as goal
 
 pub returns : goal.returns
-returns c = λ history held. record {
-  became = held.became;
-  stay = subst (HasOpen (table_of history)) (sym c.len.ensures.len)
-      (has_open c.args.self.now history held.streams c.len.ensures.ordered);
-}
+returns c = λ history held.
+    let pool = c.args.self.now.pool in
+    let counters = c.statistics.ensures.shown ∙ held.statistics in
+    let incomplete = c.stream_count.ensures.count
+    ∙ open_rows (limits_in pool) (names_in pool) history.rows held.rows.each in
+    c.of.ensures ∙ (λ i. fragments_with (counters i) (c.reports_evictions.ensures i) (incomplete i))

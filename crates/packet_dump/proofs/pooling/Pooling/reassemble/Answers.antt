@@ -1,24 +1,27 @@
-use Rattle.std.proofs.Common.{◌<◌, [], refl, subst, sym}
+use Rattle.std.proofs.Common.{[], refl, sym, ap, append_assoc, ◌++◌, ◌∙◌, List, ℕ}
 use Rattle.std.proofs.lemmas.List.{append-nil}
-use Rattle.packet_dump.specs.Decoding.{layers_of, packet_of}
-use Rattle.packet_dump.specs.PacketCalls.{with_frame}
-use Rattle.packet_dump.specs.PoolLines.{arrival_of, swept_at}
-use Rattle.packet_dump.proofs.PoolLemmas.{swept_number}
+use Rattle.std.proofs.lemmas.Result.{on_ok_weaker}
+use Rattle.packet_dump.specs.Decoding.{packet_of}
+use Rattle.packet_dump.specs.PoolLines.{expired_text, swept_at}
 use Rattle.packet_dump.proofs.pooling.Pooling.reassemble.Goals as goal
 
 pub returns-then-not-packet : goal.returns-then-not-packet
-returns-then-not-packet c = λ before awaits.
-    ([], before, rw c.if-not-packet.true (refl, refl), awaits.holds, sym (append-nil c.args.output.now.items))
+returns-then-not-packet c = λ before holds.
+    ([], before, rw c.if-not-packet.true (refl, refl), holds, sym (append-nil c.args.output.now.items))
 
 pub returns : goal.returns
-returns c = λ before awaits.
+returns c =
+    on_ok_weaker c.process_frame.result
+    (λ process before holds.
     let options = c.args.options.now in
-    let packet = c.args.packet.now in
-    let at = arrival_of (packet_of packet) in
-    let swept = swept_at options before at.instant in
-    let processed = c.in_ok-process_frame.ensures swept (record {
-      holds = c.expire.ensures before awaits.holds;
-      later = subst (λ n. n < at.number) (sym (swept_number options before at.instant)) awaits.later;
-    }) in
-    let bounded = c.evict_oldest.ensures (with_frame swept (layers_of packet) at) processed.2 in
-    (processed.0, bounded.0, rw c.if-not-packet.false (processed.1, bounded.1), bounded.2, processed.3)
+    let one = packet_of c.args.packet.now in
+    let expired = c.in_ok-expire.ensures before holds in
+    let passed = process (swept_at options before one) expired.0 in
+    let text = expired_text options before one in (
+      text ++ passed.0,
+      passed.1,
+      rw c.if-not-packet.false (passed.0, passed.2, refl),
+      passed.3,
+      passed.4 ∙ ap (λ (t : List ℕ). t ++ passed.0) expired.1
+          ∙ append_assoc c.args.output.now.items text passed.0,
+    )) c.process_frame.ensures

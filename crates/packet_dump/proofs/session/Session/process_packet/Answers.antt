@@ -1,12 +1,10 @@
-use Rattle.std.proofs.Common.{◌<◌, ◌≤◌, ◌++◌, ℕ, List, Option, ap, refl, subst, sym, ◌∙◌}
+use Rattle.std.proofs.Common.{◌++◌, List, Option, ap, refl, ℕ, ◌∙◌}
 use Rattle.std.proofs.lemmas.Result.{on_ok_weaker}
 use Rattle.capture_reader.specs.Readers.{shown_of}
 use Rattle.packet_dump.specs.Decoding.{packet_with}
-use Rattle.packet_dump.specs.Sessions.{AwaitsPacket}
 use Rattle.packet_dump.specs.Shown.{first_after, instant_in, latest_after}
 use Rattle.packet_dump.specs.declared.decoded.CapturedPacket.{CapturedPacket}
 use Rattle.packet_dump.proofs.DecodedLemmas.{is_decoded}
-use Rattle.packet_dump.proofs.PoolLemmas.{passed_number}
 use Rattle.packet_dump.proofs.session.Session.process_packet.Goals as goal
 
 pub returns-clause-packet : goal.returns-clause-packet
@@ -23,9 +21,8 @@ returns-clause-packet c =
     let appended = c.in_ok-append_line.ensures in
     let one = packet_with decoded appended.0 in
     on_ok_weaker c.reassemble.result
-    (λ reassembled before awaits.
-    let passed = reassembled before
-    (subst (λ (n : ℕ). AwaitsPacket before n self.pooling) (sym number) awaits) in
+    (λ reassembled before holds.
+    let passed = reassembled before holds in
     record {
       one = one;
       answer = passed.0;
@@ -40,9 +37,6 @@ returns-clause-packet c =
       };
       passes = passed.2;
       pooled = passed.3;
-      given = subst (λ (n : ℕ). passed.1.number ≤ n) number
-          (passed_number options before one passed.0 passed.1 passed.2
-          (subst (λ (n : ℕ). before.number < n) (sym number) awaits.later));
       output = passed.4 ∙ ap (λ (t : List ℕ). t ++ passed.0) appended.2;
       counted = c.in_ok-count.ensures;
       saves = λ packets. c.in_ok-save.ensures.saves options packets appended.0 c.decode.ensures.decoded.selected;
