@@ -18,6 +18,7 @@ use Rattle.etherparse.specs.BoundedSteps.{evicted_for_limits, expires_for, fate_
 use Rattle.etherparse.specs.BoundedSteps.{is_accepted, is_for_bytes, is_rejected, discards, limit_cause, other_rows, remaining}
 use Rattle.etherparse.specs.BoundedSteps.{nothing_complete, payload_by, payload_complete, quiet_step, rejecting_step}
 use Rattle.etherparse.specs.BoundedSteps.{room_held, row_named, row_with, rows_discarding}
+use Rattle.etherparse.specs.BoundedSteps.{BoundedCall, clears_names, expires_names, gives_fragment, is_due, removes_name}
 use Rattle.etherparse.specs.Types.BoundedDefragError.TheVariants.{Discarded, OverBudget}
 use Rattle.etherparse.specs.IpFragments.{IpFragment, is_complete}
 use Rattle.etherparse.specs.Streams.{same_stream}
@@ -308,14 +309,35 @@ fragment_without limits rows name fragment now number room none =
     ∙ (λ i. expired i ++ (steps i).gone) in
     λ i. record (steps i) { gone = gone i }
 
--- If no stream is evicted for its memory, neither the memory of the streams nor that of the fragment has an influence.
-pub memory_changes_nothing : (limits : DefragLimits) (rows other_rows : List (Row ℕ)) (given : IpFragId ℕ × IpFragment)
-    (now number room other_room : ℕ) → map without_memory rows ≡ map without_memory other_rows
-    → EvictsNoneForMemory (granted_step limits rows given now number room)
-    → EvictsNoneForMemory (granted_step limits other_rows given now number other_room)
-    → step_without_memory (granted_step limits rows given now number room)
-    ≡ step_without_memory (granted_step limits other_rows given now number other_room)
-memory_changes_nothing limits rows other_rows given now number room other_room same none other_none =
+-- ---- calls
+
+call_without : (limits : DefragLimits) (rows : List (Row ℕ)) (call : BoundedCall ℕ) (number room : ℕ)
+    → EvictsNoneForMemory (granted_step limits rows call number room)
+    → step_without_memory (granted_step limits rows call number room) ≡ granted_step limits (forget rows) call number 0
+call_without limits rows (gives_fragment None now) number room none = refl
+call_without limits rows (gives_fragment (Some given) now) number room none =
     fragment_without limits rows given.0 given.1 now number room none
-    ∙ ap (λ (l : List (Row ℕ)). fragment_step limits nat_eq l given.0 given.1 now number (Some 0)) same
-    ∙ sym (fragment_without limits other_rows given.0 given.1 now number other_room other_none)
+call_without limits rows (expires_names now idle) number room none =
+    let leaves : Row ℕ → Bool = is_due limits now idle in
+    let stay = forget-filter (λ row. not (leaves row)) (λ row. refl) rows in
+    let leave = forget-gone_for Expired (filter leaves rows)
+    ∙ ap (map (gone_for Expired)) (forget-filter leaves (λ row. refl) rows) in
+    λ i. record (quiet_step (stay i)) { gone = leave i }
+call_without limits rows (removes_name name) number room none =
+    let own : Row ℕ → Bool = λ row. same_stream nat_eq row.id name in
+    let stay = forget-filter (λ row. not (own row)) (λ row. refl) rows in
+    let leave = forget-filter own (λ row. refl) rows in
+    λ i. record (quiet_step (stay i)) { removed = leave i }
+call_without limits rows clears_names number room none = refl
+
+-- If no stream is evicted for its memory, neither the memory of the streams nor that of a fragment has an influence.
+pub memory_changes_nothing : (limits : DefragLimits) (rows other_rows : List (Row ℕ)) (call : BoundedCall ℕ)
+    (number room other_room : ℕ) → map without_memory rows ≡ map without_memory other_rows
+    → EvictsNoneForMemory (granted_step limits rows call number room)
+    → EvictsNoneForMemory (granted_step limits other_rows call number other_room)
+    → step_without_memory (granted_step limits rows call number room)
+    ≡ step_without_memory (granted_step limits other_rows call number other_room)
+memory_changes_nothing limits rows other_rows call number room other_room same none other_none =
+    call_without limits rows call number room none
+    ∙ ap (λ (l : List (Row ℕ)). granted_step limits l call number 0) same
+    ∙ sym (call_without limits other_rows call number other_room other_none)

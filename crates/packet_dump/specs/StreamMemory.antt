@@ -2,10 +2,7 @@
 use Rattle.std.specs.Prelude.{ℕ, IsFalse, List, Some, map, nat_eq}
 use Rattle.std.specs.List.{list_any}
 use Rattle.etherparse.specs.Types.DefragLimits.{DefragLimits}
-use Rattle.etherparse.specs.Types.IpFragId.{IpFragId}
-use Rattle.etherparse.specs.BoundedSteps.{Gone, Row, Step, call_step, is_for_bytes}
-use Rattle.etherparse.specs.IpFragments.{IpFragment}
-use Rattle.packet_dump.specs.PacketCalls.{fragment_call}
+use Rattle.etherparse.specs.BoundedSteps.{BoundedCall, Gone, Row, Step, call_step, is_for_bytes}
 
 -- a name of the table without the memory of its stream
 abbrev pub without_memory : Row ℕ → Row ℕ
@@ -23,10 +20,9 @@ step_without_memory step = record step {
   removed = map without_memory step.removed;
 }
 
--- the effect of a fragment for which the allocator grants this memory
-abbrev pub granted_step : DefragLimits → List (Row ℕ) → IpFragId ℕ × IpFragment → ℕ → ℕ → ℕ → Step ℕ
-granted_step limits rows given now number room =
-    call_step limits nat_eq rows (fragment_call given now) number (Some room)
+-- the effect of a call for which the allocator grants this memory
+abbrev pub granted_step : DefragLimits → List (Row ℕ) → BoundedCall ℕ → ℕ → ℕ → Step ℕ
+granted_step limits rows call number room = call_step limits nat_eq rows call number (Some room)
 
 -- No stream is evicted for its memory.
 abbrev pub EvictsNoneForMemory : Step ℕ → Type 0

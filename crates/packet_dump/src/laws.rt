@@ -3,10 +3,8 @@
 
 ghost use Rattle.std.specs.Prelude.{◌≡◌, ◌<◌, ◌^◌, true, Bool, List, length, map, ℕ};
 ghost use Rattle.capture_reader.specs.Captures.{Item};
-ghost use Rattle.etherparse.specs.BoundedSteps.{Row};
-ghost use Rattle.etherparse.specs.IpFragments.{IpFragment};
+ghost use Rattle.etherparse.specs.BoundedSteps.{BoundedCall, Row};
 ghost use Rattle.etherparse.specs.Types.DefragLimits.{DefragLimits};
-ghost use Rattle.etherparse.specs.Types.IpFragId.{IpFragId};
 ghost use Rattle.packet_dump.specs.DecodedPackets.{AreDecoded, DecodedPacket, none_read, packets_in};
 ghost use Rattle.packet_dump.specs.StreamMemory.{EvictsNoneForMemory, granted_step, step_without_memory, without_memory};
 ghost use Rattle.packet_dump.specs.Summaries.{AddsUp, counted_all, new_summary, parsed_count};
@@ -23,14 +21,14 @@ pub fn sums()
         × ((counted_all packets (new_summary true by_cause)).packets ≡ length packets) }
 {}
 
-/// States that the memory that the allocator grants for the streams has no influence on what a fragment does, apart from
-/// that memory itself, if no stream is evicted for its memory. So without `--fragment-bytes`, fragment by fragment, what
-/// `--reassemble` prints is determined by the packets.
+/// States that the memory that the allocator grants for the streams has no influence on the effect of a call on the
+/// reassembly pool, apart from that memory itself, if no stream is evicted for its memory. So without
+/// `--fragment-bytes`, call by call, what `--reassemble` prints is determined by the packets.
 pub fn memory_changes_nothing()
-    ensures { (limits : DefragLimits) (rows other_rows : List (Row ℕ)) (given : IpFragId ℕ × IpFragment)
-        (now number room other_room : ℕ) → map without_memory rows ≡ map without_memory other_rows →
-        EvictsNoneForMemory (granted_step limits rows given now number room) →
-        EvictsNoneForMemory (granted_step limits other_rows given now number other_room) →
-        step_without_memory (granted_step limits rows given now number room)
-        ≡ step_without_memory (granted_step limits other_rows given now number other_room) }
+    ensures { (limits : DefragLimits) (rows other_rows : List (Row ℕ)) (call : BoundedCall ℕ)
+        (number room other_room : ℕ) → map without_memory rows ≡ map without_memory other_rows →
+        EvictsNoneForMemory (granted_step limits rows call number room) →
+        EvictsNoneForMemory (granted_step limits other_rows call number other_room) →
+        step_without_memory (granted_step limits rows call number room)
+        ≡ step_without_memory (granted_step limits other_rows call number other_room) }
 {}

@@ -86,6 +86,7 @@ pub fn push_start(
 }
 
 /// Appends the number of a packet, a space and its timestamp.
+#[inline(always)]
 pub fn push_moment(
     output: &mut Vec<u8>,
     form: TimeForm,
@@ -125,6 +126,7 @@ fn push_end(
 }
 
 /// Appends the timestamp of a packet in the format of `--time`, or `-` if it has none.
+#[inline(always)]
 fn push_time(
     output: &mut Vec<u8>,
     form: TimeForm,
