@@ -44,8 +44,8 @@ pub fn new_pool(alloc: Global, limits: DefragLimits, seed: u8) -> io::Result<Poo
     Ok(BoundedDefragPool::new(alloc, limits, keys)?)
 }
 
-/// Slices a frame, and adds its fragment to the pool; a frame without a fragment changes no stream. Returns `Err` if the
-/// bytes are not a frame; the pool is then unchanged.
+/// Slices a frame, and adds its fragment to the pool; a frame without a fragment changes no stream. Returns `Err` if
+/// the bytes are not a frame; the pool is then unchanged.
 pub fn take(
     pool: &mut Pool,
     entry: Entry,
@@ -65,8 +65,8 @@ pub fn take(
     }
 }
 
-/// Adds a fragment without a frame to the pool: of a UDP datagram from 192.168.1.1 to 192.168.1.2 with this identification.
-/// The offset is in units of 8 bytes. Returns `None` if it is above 8191.
+/// Adds a fragment without a frame to the pool: of a UDP datagram from 192.168.1.1 to 192.168.1.2 with this
+/// identification. The offset is in units of 8 bytes. Returns `None` if it is above 8191.
 pub fn add(
     pool: &mut Pool,
     identification: u16,

@@ -3,9 +3,9 @@
 ghost use Rattle.std.specs.Prelude.{◌≡◌, min};
 ghost use Rattle.ep_defrag.specs.declared.bounded_limits.TheConstants as constant;
 
-/// Greatest number of bytes that a bounded pool uses for an identifier in its table, besides the buffer of its stream,
-/// on a machine of 64 bits: its entry, its place in the hash map and in the list of evicted streams, and the overhead
-/// of the allocator.
+/// Memory of an identifier in the table of a bounded pool, in bytes, besides the buffer of its stream: its entry, its
+/// place in the hash map and in the list of evicted streams, and the overhead of the allocator. It is a measured bound,
+/// not a proved one: on x86-64 with glibc and a `u64` as the channel up to 500 are allocated, and some 400 resident.
 pub const BOUNDED_NAME_MEMORY: usize = 512;
 
 /// Rule for fragments that overlap earlier ones.

@@ -264,7 +264,8 @@ impl IpDefragBuf {
     }
 
     /// Returns whether a fragment overlaps the accepted ones and does not only repeat their bytes. Its end is at most
-    /// 65535, as [`check`](IpDefragBuf::check) checks. A fragment after all others, as in order, takes no search.
+    /// 65535, as [`check`](IpDefragBuf::check) checks. There is no search if the fragment starts at or after the
+    /// greatest end of the accepted ones, as it does for fragments in order.
     pub(crate) fn contradicts(&self, offset: IpFragOffset, payload: &[u8]) -> bool
         requires { 8 * offset + length payload.now ≤ 65535 }
         ensures { (accepted : List IpFragment) (more : Bool) → HoldsFragments self.now accepted →

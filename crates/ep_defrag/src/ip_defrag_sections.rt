@@ -97,17 +97,24 @@ pub(crate) fn join(sections: &mut Vec<IpFragRange>, range: IpFragRange, near: Ra
     take_out(sections, near.start + 1, near.end);
 }
 
-/// Removes the ranges with the indices from `from` up to, but not including, `to`. If there are none, the usual case,
-/// it does not call `drain`, which would cost more than the rest of the merge.
+/// Removes the ranges with the indices from `from` up to, but not including, `to`: mostly none, or one.
 fn take_out(sections: &mut Vec<IpFragRange>, from: usize, to: usize)
     requires order { from ≤ to }
     requires within { to ≤ vec_len sections.old }
     ensures items { sections.new.items ≡ remove_range sections.old.items from to }
     ensures capacity { vec_capacity sections.new ≡ vec_capacity sections.old }
 {
-    if from < to {
-        sections.drain(from..to);
+    if from == to {
+        return;
     }
+    // For one range `remove` is faster than `copy_within`. (`drain` is, too, but needs 4 KB of stack.)
+    if to - from == 1 {
+        sections.remove(from);
+        return;
+    }
+    let count = sections.len();
+    sections.copy_within(to..count, from);
+    sections.truncate(from + (count - to));
 }
 
 /// Returns whether a range has a byte at a position of one of the `sections`.
