@@ -46,6 +46,12 @@ if gcc --version > /dev/null 2>&1; then
         "$work/$name" | tee "$work/$name.out"
         cmp "$work/$name.out" "c/examples/$name.out"
     done
+    build examples expression "$heap"
+    {
+        "$work/expression" "udp port 53 and not host 192.168.1.2"
+        "$work/expression" "udp port 53 and hots 192.168.1.2" || [ $? = 2 ]
+    } | tee "$work/expression.out"
+    cmp "$work/expression.out" c/examples/expression.out
     build tests statuses # with its own allocator
     build tests stack "$heap" -pthread -Wl,-z,now # lazy binding needs stack too
     for name in statuses stack; do

@@ -1,4 +1,4 @@
-/* etherparse: parses and builds network frames, and reassembles fragments, for C and C++.
+/* etherparse: parses and builds network frames, reassembles fragments, and filters packets, for C and C++.
  *
  * The library is written in Rattle, where every function is proved against its contract before it is built: for any
  * input a call returns, reads no byte outside of it, writes only to the memory that it is passed, and answers by the
@@ -7,19 +7,20 @@
  * For all calls:
  * - A pointer may be null only if the documentation of the call allows it, mostly if its length is 0; the pointers of
  *   a call do not overlap. A pointer with a length `len` points to `len` bytes, at most PTRDIFF_MAX.
- * - Except for pools, no call keeps a pointer or has state, and any call may run in many threads at once. None prints.
- *   The call that writes a text allocates, and frees the memory before it returns; a pool holds memory until it is
- *   freed; no other call allocates. See "Memory" below.
- * - Output structs contain only numbers. They contain no pointers, and except for pools nothing has to be freed.
- *   The previous content of an output struct or buffer is never read.
- * - A call that allocates, or that uses a pool, must not be used in a signal handler, nor in the forked child of a
- *   process with threads.
+ * - Except for pools and filters, no call keeps a pointer or has state, and any call may run in many threads at once.
+ *   None prints. The calls that write the text of a refusal or a filter allocate, and free the memory before they
+ *   return; a pool or filter holds memory until it is freed; no other call allocates. See "Memory" below.
+ * - Output structs contain only numbers. They contain no pointers, and except for pools and filters nothing has to be
+ *   freed. The previous content of an output struct or buffer is never read.
+ * - A call that allocates, or that uses a pool or filter, must not be used in a signal handler, nor in the forked child
+ *   of a process with threads.
  * - size_t has 64 bits.
  * - A call needs at most ETHERPARSE_STACK bytes of stack (slicing about 1,700, building 1,100, a text 500, the others
- *   300; measured on x86-64), except the calls on pools, which need at most ETHERPARSE_STACK_OF_POOLS (pushing 1,800,
- *   or 5,600 if the fragment connects three or more parts of its payload; to a bounded pool 4,200 or 6,900), and
- *   etherparse_build_fragment, whose headers are large values: it needs at most ETHERPARSE_STACK_OF_FRAGMENTS. If
- *   functions of the C library are bound at their first call, that binding needs about 3,000 more.
+ *   300; measured on x86-64), except the calls on pools and filters, which need at most ETHERPARSE_STACK_OF_POOLS
+ *   (pushing 1,800, or 5,600 if the fragment connects three or more parts of its payload; to a bounded pool 4,200 or
+ *   6,900; filters 3,200), and etherparse_build_fragment, whose headers are large values: it needs at most
+ *   ETHERPARSE_STACK_OF_FRAGMENTS. If functions of the C library are bound at their first call, that binding needs
+ *   about 3,000 more.
  *
  * Link with the archive libetherparse_c.a or with the shared object of a release. The archive that `rt lib` leaves in
  * crates/etherparse_c/out also needs etherparse_heap.c. The calls are inline functions over exports; the names of the
@@ -107,6 +108,8 @@ struct etherparse_defrag_limits;
 struct etherparse_defrag_statistics;
 struct etherparse_stream_id;
 struct etherparse_evicted_stream;
+struct etherparse_filter;
+struct etherparse_filter_error;
 
 uint32_t etherparse_1_version(void);
 uint32_t etherparse_1_slice(uint32_t entry, uint16_t ether_type, const uint8_t *bytes, size_t len,
@@ -177,6 +180,17 @@ void etherparse_1_bounded_pool_statistics(struct etherparse_bounded_pool *pool,
 size_t etherparse_1_bounded_pool_evicted_count(struct etherparse_bounded_pool *pool);
 uint32_t etherparse_1_bounded_pool_evicted(struct etherparse_bounded_pool *pool, size_t index,
                                            struct etherparse_evicted_stream *evicted);
+uint32_t etherparse_1_filter_new(const uint8_t *text, size_t len, struct etherparse_filter **filter,
+                                 struct etherparse_filter_error *error);
+void etherparse_1_filter_free(struct etherparse_filter *filter);
+uint32_t etherparse_1_filter_matches(struct etherparse_filter *filter, uint32_t entry, uint16_t ether_type,
+                                     const uint8_t *bytes, size_t len, uint32_t wire_len, uint8_t *matches);
+uint32_t etherparse_1_filter_matches_many(struct etherparse_filter *filter, uint32_t entry, uint16_t ether_type,
+                                          const uint8_t *bytes, size_t len, const size_t *ends, size_t ends_len,
+                                          const uint32_t *wire_lens, size_t wire_lens_len, uint8_t *matches,
+                                          size_t matches_len, size_t *matched);
+uint32_t etherparse_1_filter_text(struct etherparse_filter *filter, uint8_t *buffer, size_t len, size_t *written);
+uint32_t etherparse_1_filter_error_text(uint32_t kind, uint8_t *buffer, size_t len, size_t *written);
 
 /* The version of the archive that is linked, to be compared with ETHERPARSE_VERSION. */
 ETHERPARSE_MUST_USE static inline uint32_t etherparse_version(void) {
@@ -886,6 +900,131 @@ ETHERPARSE_MUST_USE ETHERPARSE_NONNULL((1, 3)) static inline enum etherparse_sta
 etherparse_bounded_pool_evicted(struct etherparse_bounded_pool *pool, size_t index,
                                 struct etherparse_evicted_stream *evicted) {
     return ETHERPARSE_AS_STATUS(etherparse_1_bounded_pool_evicted(pool, index, evicted));
+}
+
+/* ---- Filtering packets
+ *
+ * A filter is a parsed expression of the kind that tcpdump takes: `tcp port 443 and not host 10.0.0.1`. The language
+ * and its meaning are those of crates/packet_filter. The rules for memory and threads are those of a pool: a filter is
+ * used by one call at a time, so each thread makes its own. */
+
+/* Reason why a text is not a filter expression. */
+enum etherparse_filter_error_kind {
+    ETHERPARSE_FILTER_CHARACTER = 1,       /* a character that no token contains */
+    ETHERPARSE_FILTER_ARITHMETIC = 2,      /* arithmetic, which is not supported */
+    ETHERPARSE_FILTER_NOT_TAKEN = 3,       /* a keyword of tcpdump that is not supported */
+    ETHERPARSE_FILTER_END = 4,             /* the text ends before the expression does */
+    ETHERPARSE_FILTER_MISPLACED = 5,       /* a token that is not allowed after the tokens before it */
+    ETHERPARSE_FILTER_UNQUALIFIED = 6,     /* a value without `host`, `port` or the like before it */
+    ETHERPARSE_FILTER_UNKNOWN = 7,         /* a word that begins no primitive */
+    ETHERPARSE_FILTER_NOT_AN_ADDRESS = 8,  /* not an IPv4 or IPv6 address */
+    ETHERPARSE_FILTER_NOT_A_NETWORK = 9,   /* not an address or the first numbers of an IPv4 address */
+    ETHERPARSE_FILTER_NOT_A_STATION = 10,  /* not a MAC address */
+    ETHERPARSE_FILTER_NOT_A_PORT = 11,     /* not a number up to 65535, and not the name of a port */
+    ETHERPARSE_FILTER_NOT_A_RANGE = 12,    /* not a range of ports */
+    ETHERPARSE_FILTER_NOT_A_PROTOCOL = 13, /* not a number up to 255 */
+    ETHERPARSE_FILTER_NOT_AN_ETHER_TYPE = 14, /* not a number from 1536 to 65535 */
+    ETHERPARSE_FILTER_NOT_A_VLAN = 15,     /* not a number up to 4095 */
+    ETHERPARSE_FILTER_NOT_A_NUMBER = 16,   /* not a number up to 4294967295 */
+    ETHERPARSE_FILTER_NOT_A_SIZE = 17,     /* not 1, 2 or 4 */
+    ETHERPARSE_FILTER_WRONG_FAMILY = 18,   /* an address of the other IP version */
+    ETHERPARSE_FILTER_NOT_A_LENGTH = 19,   /* not a prefix length of the address */
+    ETHERPARSE_FILTER_NOT_A_MASK = 20,     /* not an IPv4 mask */
+    ETHERPARSE_FILTER_HOST_BITS = 21,      /* a bit of the address after the prefix is 1 */
+    ETHERPARSE_FILTER_NET_ONLY = 22,       /* a prefix length or mask after a host */
+    ETHERPARSE_FILTER_DEEP = 23,           /* the 65th `(` or `not` that is open */
+    ETHERPARSE_FILTER_LONG = 24,           /* the bytes after the first 65,536 */
+    ETHERPARSE_FILTER_NOT_UTF8 = 25        /* the text is not UTF-8 */
+};
+
+/* Error of a filter expression: its first token that is not allowed after the tokens before it. If the text ends too
+ * early, `start` and `end` are its length; if it is not UTF-8, `start` is the length of its longest start that is, and
+ * `end` that of the text. */
+struct etherparse_filter_error {
+    uint32_t kind; /* enum etherparse_filter_error_kind, or 0 */
+    size_t start;  /* offset in bytes at which the token begins */
+    size_t end;    /* offset in bytes at which the token ends */
+};
+
+/* Parses a filter expression of `len` bytes (without a zero byte, at most 65,536), and stores the address of the filter
+ * in `filter`. The empty text is the filter that matches every packet. Returns
+ * - ETHERPARSE_OK;
+ * - ETHERPARSE_REFUSED: the text is not a filter expression; `error` has the reason and the place;
+ * - ETHERPARSE_OUT_OF_MEMORY.
+ * Except for ETHERPARSE_OK `*filter` is unchanged; except for ETHERPARSE_REFUSED all fields of `error` are 0. The
+ * previous value of `*filter` is neither read nor freed. `text` may be null if `len` is 0, and `error` may be null. */
+ETHERPARSE_MUST_USE ETHERPARSE_NONNULL((3)) ETHERPARSE_READS(1, 2) static inline enum etherparse_status
+etherparse_filter_new(const char *text, size_t len, struct etherparse_filter **filter,
+                      struct etherparse_filter_error *error) {
+    const char none = 0;
+    struct etherparse_filter_error no_error;
+    return ETHERPARSE_AS_STATUS(etherparse_1_filter_new((const uint8_t *)(text ? text : &none), len, filter,
+                                                        error ? error : &no_error));
+}
+
+/* Frees a filter, which must not be used again. Does nothing if `filter` is null. */
+static inline void etherparse_filter_free(struct etherparse_filter *filter) {
+    if (filter) etherparse_1_filter_free(filter);
+}
+
+/* Stores in `matches` 1 if the filter matches a packet, and 0 if not. The packet is read as by etherparse_slice_lax; if
+ * its first header is invalid, it has no layers, so that `not tcp` matches it. `wire_len` is its original length, which
+ * may be greater than `len`. Returns ETHERPARSE_OK; or ETHERPARSE_UNKNOWN_CHOICE if `entry` is another number, and
+ * `*matches` is 0. `bytes` may be null if `len` is 0. */
+ETHERPARSE_MUST_USE ETHERPARSE_NONNULL((1, 7)) ETHERPARSE_READS(4, 5) static inline enum etherparse_status
+etherparse_filter_matches(struct etherparse_filter *filter, uint32_t entry, uint16_t ether_type, const uint8_t *bytes,
+                          size_t len, uint32_t wire_len, uint8_t *matches) {
+    const uint8_t none = 0;
+    return ETHERPARSE_AS_STATUS(etherparse_1_filter_matches(filter, entry, ether_type, bytes ? bytes : &none, len,
+                                                            wire_len, matches));
+}
+
+/* Matches `count` consecutive packets in `bytes`, whose ends are as in etherparse_slice_many: matches[i] is 1 if the
+ * filter matches packet i, and 0 if not. wire_lens[i] is the original length of packet i; if `wire_lens` is null, that
+ * is the number of its bytes. `matched` is the number of written elements of `matches`, which has `count`. Returns
+ * - ETHERPARSE_OK: all packets are matched;
+ * - ETHERPARSE_UNKNOWN_CHOICE: `entry` is another number, and no packet is matched; or ends[*matched] is less than the
+ *   end before it or greater than `len`, and the packets before it are matched.
+ * The other elements are unchanged. `bytes` may be null if `len` is 0, `ends` and `matches` if `count` is 0. */
+ETHERPARSE_MUST_USE ETHERPARSE_NONNULL((1, 10)) ETHERPARSE_READS(4, 5) ETHERPARSE_READS(6, 7)
+static inline enum etherparse_status
+etherparse_filter_matches_many(struct etherparse_filter *filter, uint32_t entry, uint16_t ether_type,
+                               const uint8_t *bytes, size_t len, const size_t *ends, size_t count,
+                               const uint32_t *wire_lens, uint8_t *matches, size_t *matched) {
+    const uint8_t none = 0;
+    const size_t no_end = 0;
+    const uint32_t no_len = 0;
+    uint8_t no_match;
+    return ETHERPARSE_AS_STATUS(etherparse_1_filter_matches_many(
+        filter, entry, ether_type, bytes ? bytes : &none, len, ends ? ends : &no_end, count,
+        wire_lens ? wire_lens : &no_len, wire_lens ? count : 0, matches ? matches : &no_match, count, matched));
+}
+
+/* Writes the expression of a filter and a zero byte to the start of `buffer`: each primitive with its qualifiers, and
+ * no redundant parentheses. Parsing it gives the same filter. Returns
+ * - ETHERPARSE_OK: `written` is the number of bytes, including the zero byte;
+ * - ETHERPARSE_TOO_SMALL: the buffer is too small, and `written` is the needed length;
+ * - ETHERPARSE_OUT_OF_MEMORY: an allocation failed; `written` is 0.
+ * Except for ETHERPARSE_OK the buffer is unchanged. It may be null if `len` is 0. */
+ETHERPARSE_MUST_USE ETHERPARSE_NONNULL((1, 4)) ETHERPARSE_WRITES(2, 3) static inline enum etherparse_status
+etherparse_filter_text(struct etherparse_filter *filter, char *buffer, size_t len, size_t *written) {
+    char none;
+    return ETHERPARSE_AS_STATUS(etherparse_1_filter_text(filter, (uint8_t *)(buffer ? buffer : &none), len, written));
+}
+
+/* Buffer length that is enough for the text of every reason, including its zero byte. */
+#define ETHERPARSE_REASON_TEXT_MAX 80
+
+/* Writes the text of a reason (enum etherparse_filter_error_kind) and a zero byte to the start of `buffer`. Returns
+ * - ETHERPARSE_OK: `written` is the number of bytes, including the zero byte, at most ETHERPARSE_REASON_TEXT_MAX;
+ * - ETHERPARSE_UNKNOWN_CHOICE: `kind` is another number; `written` is 0;
+ * - ETHERPARSE_TOO_SMALL: the buffer is too small, and `written` is the needed length.
+ * Except for ETHERPARSE_OK the buffer is unchanged. It may be null if `len` is 0. */
+ETHERPARSE_MUST_USE ETHERPARSE_NONNULL((4)) ETHERPARSE_WRITES(2, 3) static inline enum etherparse_status
+etherparse_filter_error_text(uint32_t kind, char *buffer, size_t len, size_t *written) {
+    char none;
+    return ETHERPARSE_AS_STATUS(etherparse_1_filter_error_text(kind, (uint8_t *)(buffer ? buffer : &none), len,
+                                                               written));
 }
 
 /* ---- Memory

@@ -2,9 +2,10 @@
  *
  * An input is the number of an entry, an ether type in two bytes, and frames, each after its length in two bytes. Each
  * frame is sliced separately, laxly and with its neighbour; errors are formatted; each payload is built into a frame,
- * which is sliced again; and all frames are pushed to one pool, and to one bounded pool, whose limits are numbers of
- * the ether type. Each frame ends before an unreadable page, and the bytes after the end of each buffer are checked.
- * The archive has no coverage counters for libFuzzer, so results are counted instead. */
+ * which is sliced again; its bytes choose the words of a filter expression, which the frame is matched with; and all
+ * frames are pushed to one pool, and to one bounded pool, whose limits are numbers of the ether type. Each frame ends
+ * before an unreadable page, and the bytes after the end of each buffer are checked. The archive has no coverage
+ * counters for libFuzzer, so results are counted instead. */
 #include <etherparse.h>
 #include <stdio.h>
 #include <stdlib.h>
@@ -302,6 +303,77 @@ static void look_at_many(uint32_t entry, uint16_t ether_type, const uint8_t *fra
     }
 }
 
+/* Returns the filter of a text, or null after a look at its error. */
+static struct etherparse_filter *filter_of(const char *text, size_t len) {
+    struct etherparse_filter *filter = NULL;
+    struct etherparse_filter_error error;
+    text = (const char *)guarded((const uint8_t *)text, len);
+    enum etherparse_status status = etherparse_filter_new(text, len, &filter, &error);
+    see(80, status * 32 + error.kind);
+    if (status == ETHERPARSE_OK) {
+        WANT(filter && error.kind == 0 && error.end == 0);
+        return filter;
+    }
+    char why[ETHERPARSE_REASON_TEXT_MAX];
+    size_t written;
+    WANT(status == ETHERPARSE_REFUSED && !filter && error.start <= error.end && error.end <= len);
+    WANT(error.kind >= ETHERPARSE_FILTER_CHARACTER && error.kind <= ETHERPARSE_FILTER_NOT_UTF8);
+    WANT(error.start < error.end || (error.start == len && error.kind == ETHERPARSE_FILTER_END));
+    WANT(etherparse_filter_error_text(error.kind, why, sizeof why, &written) == ETHERPARSE_OK);
+    WANT(written == strlen(why) + 1);
+    return NULL;
+}
+
+/* Checks filters: bytes as a text, and words that the bytes choose, with their negation and what is printed of them. */
+static void look_at_filters(uint32_t entry, uint16_t ether_type, const uint8_t *frame, size_t len) {
+    static const char *const words[] = {
+        "tcp", "udp", "ip", "ip6", "arp", "icmp", "src", "dst", "host", "net", "port", "portrange", "vlan", "less",
+        "greater", "proto", "ether", "multicast", "10.0.0.1", "10", "192.168.0.0/16", "2001:db8::1", "53", "80-443",
+        "http", "2:0:0:0:0:1", "and", "or", "not", "(", ")", "len", "[", "]", ":", "&", "=", "!=", "<", ">=", "|", "/",
+        "mask", "255.255.255.0", "0x0800", "ip[9] = 17", "tcp[tcpflags] & (tcp-syn|tcp-ack) != 0", "udp[0:2] > 1000"};
+    char text[1024], printed[8192], again[8192];
+    size_t at = 6, written, rewritten, matched, half = len / 2;
+    struct etherparse_filter *filter = filter_of((const char *)frame, len < 64 ? len : 64);
+    etherparse_filter_free(filter);
+    memcpy(text, "not ( ", 6);
+    for (size_t i = 0; i < len && i < 16; i++) {
+        const char *word = words[frame[i] % (sizeof words / sizeof *words)];
+        memcpy(text + at, word, strlen(word));
+        at += strlen(word);
+        text[at++] = ' ';
+    }
+    text[at] = ')';
+    filter = filter_of(text + 6, at - 6);
+    struct etherparse_filter *negated = filter_of(text, at + 1);
+    WANT(!filter || at == 6 || negated);
+    if (!filter || !negated) {
+        etherparse_filter_free(filter), etherparse_filter_free(negated);
+        return;
+    }
+    WANT(etherparse_filter_text(filter, printed, sizeof printed, &written) == ETHERPARSE_OK);
+    struct etherparse_filter *same = filter_of(printed, written - 1);
+    WANT(same && etherparse_filter_text(same, again, sizeof again, &rewritten) == ETHERPARSE_OK);
+    WANT(rewritten == written && memcmp(printed, again, written) == 0);
+    uint8_t one, other, many[3] = {MARK, MARK, MARK};
+    frame = guarded(frame, len);
+    enum etherparse_status wanted = entry == 4 ? ETHERPARSE_UNKNOWN_CHOICE : ETHERPARSE_OK;
+    uint32_t wire_len = (uint32_t)len + 9;
+    WANT(etherparse_filter_matches(filter, entry, ether_type, frame, len, wire_len, &one) == wanted && one <= 1);
+    WANT(etherparse_filter_matches(negated, entry, ether_type, frame, len, wire_len, &other) == wanted);
+    WANT(other == (entry == 4 ? 0 : 1 - one));
+    WANT(etherparse_filter_matches(same, entry, ether_type, frame, len, wire_len, &other) == wanted && other == one);
+    const size_t ends[2] = {half, len};
+    WANT(etherparse_filter_matches_many(same, entry, ether_type, frame, len, ends, 2, NULL, many, &matched) == wanted);
+    WANT(matched == (entry == 4 ? 0 : 2) && many[2] == MARK && many[0] <= (entry == 4 ? MARK : 1));
+    uint32_t rest = (uint32_t)(len - half);
+    if (entry != 4) {
+        WANT(etherparse_filter_matches(filter, entry, ether_type, frame + half, len - half, rest, &one) == wanted);
+        WANT(many[1] == one);
+    }
+    see(81, one);
+    etherparse_filter_free(filter), etherparse_filter_free(negated), etherparse_filter_free(same);
+}
+
 int LLVMFuzzerTestOneInput(const uint8_t *input, size_t left) {
     if (left < 3 || left > ROOM) return 0;
     uint32_t entry = input[0] % 5; /* 4 is invalid */
@@ -346,6 +418,7 @@ int LLVMFuzzerTestOneInput(const uint8_t *input, size_t left) {
         if (time % 5 == 4) etherparse_pool_drop_older(pool, time - 2);
         look_at_bounded(bounded, &limits, entry, ether_type, frame, len, time, status);
         if (time % 5 == 3) WANT(etherparse_bounded_pool_expire(bounded, time, 1) <= 4);
+        look_at_filters(entry, ether_type, input - len, len); /* overwrites the copy of the frame */
     }
     etherparse_bounded_pool_free(bounded);
     WANT(etherparse_pool_bytes(pool) <= etherparse_pool_streams(pool) * LIMIT);

@@ -102,6 +102,24 @@ static void bounded_pool_statistics(void) { etherparse_bounded_pool_statistics(b
 static void bounded_pool_evicted_count(void) { written = etherparse_bounded_pool_evicted_count(bounded); }
 static void bounded_pool_evicted(void) { status = etherparse_bounded_pool_evicted(bounded, 0, &evicted); }
 static void bounded_pool_free(void) { etherparse_bounded_pool_free(bounded); }
+static struct etherparse_filter *filter;
+static struct etherparse_filter_error error;
+static uint8_t matches[4];
+static const char *expression;
+static void filter_new(void) { status = etherparse_filter_new(expression, strlen(expression), &filter, &error); }
+static void filter_matches(void) {
+    status = etherparse_filter_matches(filter, ETHERPARSE_ENTRY_ETHERNET, 0, frame, frame_len, 99, matches);
+}
+static void filter_matches_many(void) {
+    const size_t ends[4] = {40, frame_len, 2 * frame_len, 2 * frame_len + 40};
+    status = etherparse_filter_matches_many(filter, ETHERPARSE_ENTRY_ETHERNET, 0, frame, 3 * frame_len, ends, 4, NULL,
+                                            matches, &sliced);
+}
+static void filter_text(void) { status = etherparse_filter_text(filter, (char *)buffer, ROOM, &written); }
+static void filter_error_text(void) {
+    status = etherparse_filter_error_text(error.kind, (char *)buffer, ETHERPARSE_REASON_TEXT_MAX, &written);
+}
+static void filter_free(void) { etherparse_filter_free(filter); }
 
 /* ---- a call on a painted stack */
 
@@ -152,7 +170,7 @@ static void needs(const char *name, void (*call)(void), uint32_t wanted, size_t 
     if (taken > most) printf("%s: %zu bytes of stack, above %zu\n", name, taken, most), failed = 1;
 }
 #define NEEDS(call, wanted) needs(#call, call, wanted, ETHERPARSE_STACK, LEAST)
-#define POOL_NEEDS(call, wanted) needs(#call, call, wanted, ETHERPARSE_STACK_OF_POOLS, LEAST)
+#define HELD_NEEDS(call, wanted) needs(#call, call, wanted, ETHERPARSE_STACK_OF_POOLS, LEAST)
 
 /* Builds the frame that is pushed next: the fragment with these bytes. */
 static void cut(size_t from, size_t to, uint8_t more) {
@@ -174,6 +192,16 @@ int main(void) {
         NEEDS(slice_lax_many, ETHERPARSE_OK);
         NEEDS(slice_cut, ETHERPARSE_REFUSED);
         NEEDS(text, ETHERPARSE_OK);
+        expression = "((ip6 and tcp[13] & 7 != 0) or (not (vlan 7 or ether host 2:0:0:0:0:1) and udp port 21 or https"
+                     " or 7)) and net 10 or host 2001:db8::1 and arp[0:4] = 0x10800 or portrange 5-9 and not greater 7";
+        HELD_NEEDS(filter_new, ETHERPARSE_OK);
+        HELD_NEEDS(filter_matches, ETHERPARSE_OK);
+        HELD_NEEDS(filter_matches_many, ETHERPARSE_OK);
+        HELD_NEEDS(filter_text, ETHERPARSE_OK);
+        HELD_NEEDS(filter_free, ETHERPARSE_OK);
+        expression = "net 10.0.0.0 mask 255.0.255.0";
+        HELD_NEEDS(filter_new, ETHERPARSE_REFUSED);
+        NEEDS(filter_error_text, ETHERPARSE_OK);
         needs("checksum", checksum, 0xffff, ETHERPARSE_STACK, LEAST);
         NEEDS(build_udp, ETHERPARSE_OK);
         NEEDS(build_tcp, ETHERPARSE_OK);
@@ -182,86 +210,86 @@ int main(void) {
         NEEDS(build_tagged_tcp, ETHERPARSE_OK);
         NEEDS(build_tagged_icmp_echo, ETHERPARSE_OK);
         needs("build_fragment", build_fragment, ETHERPARSE_OK, ETHERPARSE_STACK_OF_FRAGMENTS, 1 << 17);
-        POOL_NEEDS(pool_new, ETHERPARSE_OK);
-        POOL_NEEDS(pool_free, ETHERPARSE_OK);
-        POOL_NEEDS(pool_with_limit, ETHERPARSE_OK);
+        HELD_NEEDS(pool_new, ETHERPARSE_OK);
+        HELD_NEEDS(pool_free, ETHERPARSE_OK);
+        HELD_NEEDS(pool_with_limit, ETHERPARSE_OK);
         cut(16, 32, 1);
-        POOL_NEEDS(pool_push, ETHERPARSE_OK);
+        HELD_NEEDS(pool_push, ETHERPARSE_OK);
         cut(32, 40, 0);
-        POOL_NEEDS(pool_push, ETHERPARSE_OK);
-        POOL_NEEDS(pool_streams, ETHERPARSE_OK);
-        POOL_NEEDS(pool_bytes, ETHERPARSE_OK);
+        HELD_NEEDS(pool_push, ETHERPARSE_OK);
+        HELD_NEEDS(pool_streams, ETHERPARSE_OK);
+        HELD_NEEDS(pool_bytes, ETHERPARSE_OK);
         cut(0, 16, 1);
-        POOL_NEEDS(pool_push, ETHERPARSE_TOO_SMALL);
-        POOL_NEEDS(pool_push, ETHERPARSE_PAYLOAD_WAITS);
-        POOL_NEEDS(pool_take, ETHERPARSE_COMPLETE);
+        HELD_NEEDS(pool_push, ETHERPARSE_TOO_SMALL);
+        HELD_NEEDS(pool_push, ETHERPARSE_PAYLOAD_WAITS);
+        HELD_NEEDS(pool_take, ETHERPARSE_COMPLETE);
         for (size_t i = 0; i < 64; i++) { /* growing tables */
             fragment.identification = (uint32_t)(100 + i);
             cut(8, 16, 1);
-            POOL_NEEDS(pool_push, ETHERPARSE_OK);
+            HELD_NEEDS(pool_push, ETHERPARSE_OK);
         }
         cut(24, 32, 0), status = etherparse_pool_push(pool, 0, 0, frame, frame_len, 1, 0, buffer, 8, &answer);
         cut(16, 24, 1), status = etherparse_pool_push(pool, 0, 0, frame, frame_len, 1, 0, buffer, 8, &answer);
         cut(0, 8, 1);
-        POOL_NEEDS(pool_push, ETHERPARSE_TOO_SMALL);
-        POOL_NEEDS(pool_discard, ETHERPARSE_OK);
+        HELD_NEEDS(pool_push, ETHERPARSE_TOO_SMALL);
+        HELD_NEEDS(pool_discard, ETHERPARSE_OK);
         for (size_t at = 8; at < 96; at += 16) { /* parts with gaps between them, four of which are then connected */
             cut(at, at + 8, 1);
-            POOL_NEEDS(pool_push, ETHERPARSE_OK);
+            HELD_NEEDS(pool_push, ETHERPARSE_OK);
         }
         cut(16, 56, 1);
-        POOL_NEEDS(pool_push, ETHERPARSE_OK);
-        POOL_NEEDS(pool_drop_older, ETHERPARSE_OK);
-        POOL_NEEDS(pool_free, ETHERPARSE_OK);
+        HELD_NEEDS(pool_push, ETHERPARSE_OK);
+        HELD_NEEDS(pool_drop_older, ETHERPARSE_OK);
+        HELD_NEEDS(pool_free, ETHERPARSE_OK);
         fragment.identification = 7;
         NEEDS(limits_default, ETHERPARSE_OK);
-        POOL_NEEDS(bounded_pool_new, ETHERPARSE_OK);
+        HELD_NEEDS(bounded_pool_new, ETHERPARSE_OK);
         cut(16, 32, 1);
-        POOL_NEEDS(bounded_pool_push, ETHERPARSE_OK);
+        HELD_NEEDS(bounded_pool_push, ETHERPARSE_OK);
         cut(32, 40, 0);
-        POOL_NEEDS(bounded_pool_push, ETHERPARSE_OK);
+        HELD_NEEDS(bounded_pool_push, ETHERPARSE_OK);
         cut(0, 16, 1);
-        POOL_NEEDS(bounded_pool_push, ETHERPARSE_TOO_SMALL);
-        POOL_NEEDS(bounded_pool_push, ETHERPARSE_PAYLOAD_WAITS);
-        POOL_NEEDS(bounded_pool_take, ETHERPARSE_COMPLETE);
+        HELD_NEEDS(bounded_pool_push, ETHERPARSE_TOO_SMALL);
+        HELD_NEEDS(bounded_pool_push, ETHERPARSE_PAYLOAD_WAITS);
+        HELD_NEEDS(bounded_pool_take, ETHERPARSE_COMPLETE);
         for (size_t i = 0; i < 64; i++) { /* growing tables, and evictions */
             fragment.identification = (uint32_t)(100 + i);
             cut(8, 16, 1);
-            POOL_NEEDS(bounded_pool_push, ETHERPARSE_OK);
+            HELD_NEEDS(bounded_pool_push, ETHERPARSE_OK);
         }
-        POOL_NEEDS(bounded_pool_evicted_count, ETHERPARSE_OK);
-        POOL_NEEDS(bounded_pool_evicted, ETHERPARSE_OK);
+        HELD_NEEDS(bounded_pool_evicted_count, ETHERPARSE_OK);
+        HELD_NEEDS(bounded_pool_evicted, ETHERPARSE_OK);
         cut(8, 24, 1); /* covers bytes that came and others, so the stream is discarded */
-        POOL_NEEDS(bounded_pool_push, ETHERPARSE_DISCARDED);
-        POOL_NEEDS(bounded_pool_evicted, ETHERPARSE_OK);
-        POOL_NEEDS(bounded_pool_streams, ETHERPARSE_OK);
-        POOL_NEEDS(bounded_pool_discarded_streams, ETHERPARSE_OK);
-        POOL_NEEDS(bounded_pool_held_bytes, ETHERPARSE_OK);
-        POOL_NEEDS(bounded_pool_statistics, ETHERPARSE_OK);
-        POOL_NEEDS(bounded_pool_remove, ETHERPARSE_OK); /* the discarded one, and then none */
-        POOL_NEEDS(bounded_pool_remove, ETHERPARSE_OK);
+        HELD_NEEDS(bounded_pool_push, ETHERPARSE_DISCARDED);
+        HELD_NEEDS(bounded_pool_evicted, ETHERPARSE_OK);
+        HELD_NEEDS(bounded_pool_streams, ETHERPARSE_OK);
+        HELD_NEEDS(bounded_pool_discarded_streams, ETHERPARSE_OK);
+        HELD_NEEDS(bounded_pool_held_bytes, ETHERPARSE_OK);
+        HELD_NEEDS(bounded_pool_statistics, ETHERPARSE_OK);
+        HELD_NEEDS(bounded_pool_remove, ETHERPARSE_OK); /* the discarded one, and then none */
+        HELD_NEEDS(bounded_pool_remove, ETHERPARSE_OK);
         evicted.id.version = 0;
-        POOL_NEEDS(bounded_pool_remove, ETHERPARSE_OK);
-        POOL_NEEDS(bounded_pool_expire, ETHERPARSE_OK);
+        HELD_NEEDS(bounded_pool_remove, ETHERPARSE_OK);
+        HELD_NEEDS(bounded_pool_expire, ETHERPARSE_OK);
         fragment.identification = 7;
         cut(8, 16, 1);
-        POOL_NEEDS(bounded_pool_push, ETHERPARSE_OK);
-        POOL_NEEDS(bounded_pool_clear, ETHERPARSE_OK);
-        POOL_NEEDS(bounded_pool_discard, ETHERPARSE_OK);
-        POOL_NEEDS(bounded_pool_free, ETHERPARSE_OK);
+        HELD_NEEDS(bounded_pool_push, ETHERPARSE_OK);
+        HELD_NEEDS(bounded_pool_clear, ETHERPARSE_OK);
+        HELD_NEEDS(bounded_pool_discard, ETHERPARSE_OK);
+        HELD_NEEDS(bounded_pool_free, ETHERPARSE_OK);
         for (limits.overlap = 0; limits.overlap < ETHERPARSE_OVERLAP_DISCARD; limits.overlap++) {
-            POOL_NEEDS(bounded_pool_new, ETHERPARSE_OK);
+            HELD_NEEDS(bounded_pool_new, ETHERPARSE_OK);
             for (size_t at = 8; at < 96; at += 16) {
                 cut(at, at + 8, 1);
-                POOL_NEEDS(bounded_pool_push, ETHERPARSE_OK);
+                HELD_NEEDS(bounded_pool_push, ETHERPARSE_OK);
             }
             cut(16, 56, 1);
-            POOL_NEEDS(bounded_pool_push, ETHERPARSE_OK);
-            POOL_NEEDS(bounded_pool_free, ETHERPARSE_OK);
+            HELD_NEEDS(bounded_pool_push, ETHERPARSE_OK);
+            HELD_NEEDS(bounded_pool_free, ETHERPARSE_OK);
         }
     }
     if (!failed)
-        printf("stack: each call on a thread of %d bytes needs at most %d, on a pool at most %d, "
+        printf("stack: each call on a thread of %d bytes needs at most %d, on a pool or filter at most %d, "
                "and building a fragment at most %d\n",
                LEAST, ETHERPARSE_STACK, ETHERPARSE_STACK_OF_POOLS, ETHERPARSE_STACK_OF_FRAGMENTS);
     return failed;

@@ -718,6 +718,163 @@ static void bounded_pools(void) {
     printf("bounded pools: each status, limit and cause; without memory nothing changes; all is freed\n");
 }
 
+/* ---- filters */
+
+/* Makes the filter of a text; each allocation fails once before it succeeds, and then nothing is kept. */
+static struct etherparse_filter *filter_of(const char *expression) {
+    char unused;
+    struct etherparse_filter *const before = (struct etherparse_filter *)&unused;
+    for (unsigned long i = 1;; i++) {
+        struct etherparse_filter *filter = before;
+        struct etherparse_filter_error error = {7, 7, 7};
+        unsigned long held = blocks;
+        requests = 0, refused = i;
+        uint32_t status = etherparse_filter_new(expression, strlen(expression), &filter, &error);
+        bool failed_one = requests >= refused;
+        refused = 0;
+        WANT(error.kind == 0 && error.start == 0 && error.end == 0);
+        if (status == ETHERPARSE_OK) {
+            WANT(!failed_one && i > 1 && filter != before && blocks > held);
+            return filter;
+        }
+        WANT(status == ETHERPARSE_OUT_OF_MEMORY && failed_one && filter == before && blocks == held);
+    }
+}
+
+static const struct {
+    const char *text;
+    size_t len, start, end;
+    uint32_t kind;
+    const char *why;
+} wrong[] = {
+    {"host 1.2.3.4 ?", 14, 13, 14, ETHERPARSE_FILTER_CHARACTER, "unexpected character"},
+    {"ip[2:2] - 4", 11, 8, 9, ETHERPARSE_FILTER_ARITHMETIC, "arithmetic is not supported"},
+    {"gateway", 7, 0, 7, ETHERPARSE_FILTER_NOT_TAKEN, "a keyword of tcpdump that is not supported"},
+    {"udp port", 8, 8, 8, ETHERPARSE_FILTER_END, "the filter ends too early"},
+    {"udp )", 5, 4, 5, ETHERPARSE_FILTER_MISPLACED, "not allowed here"},
+    {"10.0.0.1", 8, 0, 8, ETHERPARSE_FILTER_UNQUALIFIED, "a value without host, net, port or the like before it"},
+    {"hots", 4, 0, 4, ETHERPARSE_FILTER_UNKNOWN, "not a filter keyword"},
+    {"host a.example", 14, 5, 14, ETHERPARSE_FILTER_NOT_AN_ADDRESS, "not an IP address (names are not looked up)"},
+    {"net x", 5, 4, 5, ETHERPARSE_FILTER_NOT_A_NETWORK, "not a network (such as 10.0.0.0/8 or 192.168)"},
+    {"ether host 1", 12, 11, 12, ETHERPARSE_FILTER_NOT_A_STATION, "not a MAC address (such as 02:00:00:00:00:01)"},
+    {"port 65536", 10, 5, 10, ETHERPARSE_FILTER_NOT_A_PORT,
+     "not a port (a number up to 65535, or a name such as http)"},
+    {"portrange http", 14, 10, 14, ETHERPARSE_FILTER_NOT_A_RANGE, "not a range of ports (such as 6000-6010)"},
+    {"proto 256", 9, 6, 9, ETHERPARSE_FILTER_NOT_A_PROTOCOL, "not a protocol number (up to 255)"},
+    {"ether proto 6", 13, 12, 13, ETHERPARSE_FILTER_NOT_AN_ETHER_TYPE, "not an ether type (1536 to 65535)"},
+    {"vlan 4096", 9, 5, 9, ETHERPARSE_FILTER_NOT_A_VLAN, "not a VLAN identifier (up to 4095)"},
+    {"less x", 6, 5, 6, ETHERPARSE_FILTER_NOT_A_NUMBER, "not a number (up to 4294967295)"},
+    {"ip[0:3] = 1", 11, 5, 6, ETHERPARSE_FILTER_NOT_A_SIZE, "not a size (1, 2 or 4)"},
+    {"ip6 host 1.2.3.4", 16, 9, 16, ETHERPARSE_FILTER_WRONG_FAMILY, "an address of the other IP version"},
+    {"net 10.0.0.0/33", 15, 13, 15, ETHERPARSE_FILTER_NOT_A_LENGTH, "not a prefix length of the address"},
+    {"net 10.0.0.0 mask 255.0.255.0", 29, 18, 29, ETHERPARSE_FILTER_NOT_A_MASK, "not a mask (ones, followed by zeros)"},
+    {"net 10.0.0.1/8", 14, 13, 14, ETHERPARSE_FILTER_HOST_BITS, "the address has bits set after the prefix"},
+    {"host 10.0.0.1/8", 15, 13, 14, ETHERPARSE_FILTER_NET_ONLY, "only networks have a prefix length or mask"},
+    {(const char *)payload, 65, 64, 65, ETHERPARSE_FILTER_DEEP, "more than 64 open parentheses and not"},
+    {(const char *)payload, LONG, 65536, LONG, ETHERPARSE_FILTER_LONG, "more than 65536 bytes"},
+    {"tcp \xc3\xbc\xff or udp", 14, 6, 14, ETHERPARSE_FILTER_NOT_UTF8, "not UTF-8"},
+};
+
+/* Each kind of error, with its text. */
+static void filter_errors(void) {
+    char unused;
+    struct etherparse_filter *filter = (struct etherparse_filter *)&unused;
+    struct etherparse_filter_error error;
+    memset(payload, '(', LONG);
+    for (uint32_t i = 0; i < sizeof wrong / sizeof *wrong; i++) {
+        memset(&error, 0xff, sizeof error);
+        WANT(etherparse_filter_new(wrong[i].text, wrong[i].len, &filter, &error) == ETHERPARSE_REFUSED);
+        if (error.kind != i + 1 || error.start != wrong[i].start || error.end != wrong[i].end)
+            printf("%.20s: kind %u from %zu to %zu\n", wrong[i].text, error.kind, error.start, error.end), failed = 1;
+        WANT(wrong[i].kind == i + 1 && filter == (struct etherparse_filter *)&unused && blocks == 0);
+        WANT(etherparse_filter_new(wrong[i].text, wrong[i].len, &filter, NULL) == ETHERPARSE_REFUSED && blocks == 0);
+        size_t whole = strlen(wrong[i].why) + 1;
+        WANT(whole <= ETHERPARSE_REASON_TEXT_MAX);
+        for (size_t room = 0; room <= whole; room++) {
+            memcpy(buffer, untouched, ROOM);
+            uint32_t status = etherparse_filter_error_text(i + 1, (char *)buffer, room, &written);
+            WANT(status == (room < whole ? ETHERPARSE_TOO_SMALL : ETHERPARSE_OK) && written == whole);
+            WANT(is_untouched(room < whole ? 0 : whole));
+        }
+        WANT(strcmp((char *)buffer, wrong[i].why) == 0);
+    }
+    memcpy(buffer, untouched, ROOM);
+    for (uint32_t i = 26; i != 1; i = i < 300 ? i + 1 : i == 300 ? UINT32_MAX : i == UINT32_MAX ? 0 : 1) {
+        WANT(etherparse_filter_error_text(i, (char *)buffer, ROOM, &written) == ETHERPARSE_UNKNOWN_CHOICE);
+        WANT(written == 0 && is_untouched(0));
+    }
+    memset(payload, 0, LONG);
+    printf("etherparse_filter_new, etherparse_filter_error_text: each error has its place and its text\n");
+}
+
+static void filters(void) {
+    uint8_t frame[ROOM], matches = 7, all[4];
+    size_t len, matched;
+    WANT(etherparse_build_udp(&route, 53, 1234, payload, 8, frame, ROOM, &len) == ETHERPARSE_OK && len == 50);
+    memcpy(frame + len, frame, 13), memcpy(frame + len + 13, frame, len);
+    const size_t total = 2 * len + 13, ends[3] = {len, len + 13, total};
+    const uint32_t wire_lens[3] = {51, 13, 1000};
+    static const struct {
+        const char *text, *printed;
+        uint8_t first, cut, last; /* whether a datagram matches, the front of one, and one with a greater wire_len */
+    } rows[] = {
+        {"", "", 1, 1, 1},
+        {"udp port 53", "udp src or dst port 53", 1, 0, 1},
+        {"not ip", "not ether proto 0x0800", 0, 1, 0},
+        {"((src host 10.0.0.1)) and len > 51", "src host 10.0.0.1 and len > 51", 0, 0, 1},
+    };
+    for (size_t i = 0; i < sizeof rows / sizeof *rows; i++) {
+        struct etherparse_filter *filter = filter_of(rows[i].text);
+        unsigned long held = blocks;
+        requests = 0;
+        WANT(etherparse_filter_matches(filter, 0, 0, frame, len, 50, &matches) == ETHERPARSE_OK);
+        WANT(matches == rows[i].first);
+        WANT(etherparse_filter_matches(filter, 0, 0, frame, 13, 13, &matches) == ETHERPARSE_OK);
+        WANT(matches == rows[i].cut);
+        WANT(etherparse_filter_matches(filter, 4, 0, frame, len, 50, &matches) == ETHERPARSE_UNKNOWN_CHOICE);
+        WANT(matches == 0);
+        memset(all, 7, sizeof all);
+        WANT(etherparse_filter_matches_many(filter, 0, 0, frame, total, ends, 3, wire_lens, all, &matched)
+             == ETHERPARSE_OK);
+        WANT(matched == 3 && all[0] == rows[i].first && all[1] == rows[i].cut && all[2] == rows[i].last && all[3] == 7);
+        WANT(etherparse_filter_matches_many(filter, 0, 0, frame, total, ends, 3, NULL, all, &matched) == ETHERPARSE_OK);
+        WANT(matched == 3 && all[2] == rows[i].first);
+        memset(all, 7, sizeof all);
+        WANT(etherparse_filter_matches_many(filter, 0, 0, frame, total - 1, ends, 3, NULL, all, &matched)
+             == ETHERPARSE_UNKNOWN_CHOICE);
+        WANT(matched == 2 && all[1] == rows[i].cut && all[2] == 7);
+        WANT(etherparse_filter_matches_many(filter, 4, 0, frame, total, ends, 3, NULL, all, &matched)
+             == ETHERPARSE_UNKNOWN_CHOICE);
+        WANT(matched == 0 && etherparse_1_filter_matches_many(filter, 0, 0, frame, total, ends, 3, wire_lens, 0, all, 2,
+                                                              &matched)
+                                 == ETHERPARSE_TOO_SMALL);
+        WANT(matched == 0 && requests == 0); /* matching does not allocate */
+        size_t whole = strlen(rows[i].printed) + 1;
+        WANT(etherparse_filter_text(filter, NULL, 0, &written) == ETHERPARSE_TOO_SMALL && written == whole);
+        unsigned long asked = requests;
+        for (unsigned long j = 0; j <= asked; j++) {
+            memcpy(buffer, untouched, ROOM);
+            requests = 0, refused = j;
+            uint32_t status = etherparse_filter_text(filter, (char *)buffer, whole, &written);
+            refused = 0;
+            WANT(status == (j == 0 ? ETHERPARSE_OK : ETHERPARSE_OUT_OF_MEMORY) && written == (j == 0 ? whole : 0));
+            WANT(is_untouched(j == 0 ? whole : 0) && blocks == held);
+            WANT(j != 0 || strcmp((char *)buffer, rows[i].printed) == 0);
+        }
+        etherparse_filter_free(filter);
+        WANT(blocks == 0);
+    }
+    struct etherparse_filter *filter;
+    WANT(etherparse_filter_new(NULL, 0, &filter, NULL) == ETHERPARSE_OK);
+    WANT(etherparse_filter_matches(filter, 0, 0, NULL, 0, 0, &matches) == ETHERPARSE_OK && matches == 1);
+    WANT(etherparse_filter_matches_many(filter, 0, 0, NULL, 0, NULL, 0, NULL, NULL, &matched) == ETHERPARSE_OK);
+    WANT(matched == 0);
+    etherparse_filter_free(filter);
+    etherparse_filter_free(NULL);
+    WANT(blocks == 0);
+    printf("filters: each status; without memory nothing is kept; matching takes none; all is freed\n");
+}
+
 int main(void) {
     for (size_t i = 0; i < ROOM; i++) untouched[i] = (uint8_t)(200 + i % 50);
     writes("etherparse_build_udp", udp, 50);
@@ -745,5 +902,7 @@ int main(void) {
     nulls();
     pools();
     bounded_pools();
+    filter_errors();
+    filters();
     return failed;
 }

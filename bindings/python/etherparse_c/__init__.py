@@ -1,7 +1,7 @@
-"""Slices and builds network frames, and reassembles fragments, by the shared object libetherparse_c.so.
+"""Slices, builds and filters network frames, and reassembles fragments, by the shared object libetherparse_c.so.
 
 Names are those of the C header etherparse.h, which documents each call in full; the layers of a frame are attributes.
-Errors are raised. Any call may be made from any thread; calls on one pool wait for each other.
+Errors are raised. Any call may be made from any thread; calls on one pool or filter wait for each other.
 
     >>> import etherparse_c
     >>> route = etherparse_c.Route(version=4, ipv4_source=bytes([10, 0, 0, 1]), ipv4_destination=bytes([10, 0, 0, 2]))
@@ -26,9 +26,10 @@ from typing import Any, Iterable, Iterator, NamedTuple, Optional, Sequence, Tupl
 
 __all__ = [
     "VERSION", "MAX_PAYLOAD", "Status", "Entry", "LinkKind", "ExtKind", "NetKind", "TransportKind", "LenSource",
-    "RefusalKind", "Layer", "TcpFlag", "FragmentRefusal", "OverlapPolicy", "EvictionCause", "Packet", "Packets", "Part",
-    "LinkExt", "Ip", "Payload", "Refusal", "Route", "TcpFields", "FragmentFields", "EtherparseError", "Refused",
-    "FragmentRefused", "StreamDiscarded", "OverBudget", "TooLong", "UnknownChoice", "Pool", "PoolPayload",
+    "RefusalKind", "Layer", "TcpFlag", "FragmentRefusal", "OverlapPolicy", "EvictionCause", "FilterErrorKind", "Packet",
+    "Packets", "Part", "LinkExt", "Ip", "Payload", "Refusal", "Route", "TcpFields", "FragmentFields", "EtherparseError",
+    "Refused", "FragmentRefused", "StreamDiscarded", "OverBudget", "TooLong", "UnknownChoice", "FilterError", "Filter",
+    "Pool", "PoolPayload",
     "BoundedPool", "DefragLimits", "DefragStatistics", "StreamId", "EvictedStream", "slice", "slice_lax", "slice_many",
     "slice_lax_many", "build_udp", "build_tcp", "build_icmp_echo", "build_fragment", "checksum", "version",
 ]
@@ -192,6 +193,36 @@ class EvictionCause(enum.IntEnum):
     OVERLAP = 2
     STREAMS = 3
     BYTES = 4
+
+
+class FilterErrorKind(enum.IntEnum):
+    """Reason why a text is not a filter expression."""
+
+    CHARACTER = 1
+    ARITHMETIC = 2
+    NOT_TAKEN = 3
+    END = 4
+    MISPLACED = 5
+    UNQUALIFIED = 6
+    UNKNOWN = 7
+    NOT_AN_ADDRESS = 8
+    NOT_A_NETWORK = 9
+    NOT_A_STATION = 10
+    NOT_A_PORT = 11
+    NOT_A_RANGE = 12
+    NOT_A_PROTOCOL = 13
+    NOT_AN_ETHER_TYPE = 14
+    NOT_A_VLAN = 15
+    NOT_A_NUMBER = 16
+    NOT_A_SIZE = 17
+    WRONG_FAMILY = 18
+    NOT_A_LENGTH = 19
+    NOT_A_MASK = 20
+    HOST_BITS = 21
+    NET_ONLY = 22
+    DEEP = 23
+    LONG = 24
+    NOT_UTF8 = 25
 
 
 class _Struct(ctypes.Structure):
@@ -392,6 +423,23 @@ class UnknownChoice(EtherparseError, ValueError):
     """A number is not valid for its field."""
 
 
+class FilterError(EtherparseError, ValueError):
+    """A text is not a filter expression: `kind` is the reason, and text[start:end] the wrong token; both are the length
+    of the text if it ends too early. The message has the text with a caret under the token."""
+
+    def __init__(self, text: str, kind: int, start: int, end: int) -> None:
+        self.text, self.kind, self.start, self.end = text, FilterErrorKind(kind), start, end
+        buffer, written = (ctypes.c_uint8 * 80)(), ctypes.c_size_t()
+        _library.etherparse_1_filter_error_text(kind, buffer, 80, ctypes.byref(written))
+        self.reason = bytes(buffer[: max(written.value, 1) - 1]).decode("ascii")
+        """Text of the reason."""
+        token = f"{text[start:end]}: " if start < end else ""
+        super().__init__(f"{token}{self.reason}\n  {text}\n  {' ' * start}^")
+
+    def __reduce__(self) -> Tuple[Any, ...]:
+        return type(self), (self.text, int(self.kind), self.start, self.end)
+
+
 def _number(name: str, value: int, bits: int) -> int:
     """Returns the number if its C type can hold it, since ctypes would truncate it."""
     if not 0 <= value < 1 << bits:
@@ -568,11 +616,15 @@ class _EvictedStream(ctypes.Structure):
     _fields_ = [("id", _StreamId), ("first", ctypes.c_uint64), ("cause", ctypes.c_uint32)]
 
 
+class _FilterError(ctypes.Structure):
+    _fields_ = [("kind", ctypes.c_uint32), ("start", ctypes.c_size_t), ("end", ctypes.c_size_t)]
+
+
 _u8, _u16, _u32, _u64, _size = ctypes.c_uint8, ctypes.c_uint16, ctypes.c_uint32, ctypes.c_uint64, ctypes.c_size_t
 _bytes_in = (ctypes.c_char_p, _size)  # as stored by Python, never null
 _bytes_out = (ctypes.POINTER(_u8), _size)
 _written = ctypes.POINTER(_size)
-_pool = ctypes.c_void_p
+_pool = _filter = ctypes.c_void_p
 _many = (_u32, _u16, *_bytes_in, ctypes.POINTER(_size), _size, ctypes.POINTER(Packet), _size, _written)
 
 _CALLS: dict[str, tuple[Any, tuple[Any, ...]]] = {
@@ -613,6 +665,15 @@ _CALLS: dict[str, tuple[Any, tuple[Any, ...]]] = {
     "bounded_pool_statistics": (None, (_pool, ctypes.POINTER(DefragStatistics))),
     "bounded_pool_evicted_count": (_size, (_pool,)),
     "bounded_pool_evicted": (_u32, (_pool, _size, ctypes.POINTER(_EvictedStream))),
+    "filter_new": (_u32, (*_bytes_in, ctypes.POINTER(_filter), ctypes.POINTER(_FilterError))),
+    "filter_free": (None, (_filter,)),
+    "filter_matches": (_u32, (_filter, _u32, _u16, *_bytes_in, _u32, ctypes.POINTER(_u8))),
+    "filter_matches_many": (
+        _u32,
+        (_filter, _u32, _u16, *_bytes_in, ctypes.POINTER(_size), _size, ctypes.POINTER(_u32), _size, *_bytes_out,
+         _written)),
+    "filter_text": (_u32, (_filter, *_bytes_out, _written)),
+    "filter_error_text": (_u32, (_u32, *_bytes_out, _written)),
 }
 """Result and parameter types of each export that is called here, by its name without the first words."""
 
@@ -723,17 +784,22 @@ def slice_lax_many(frames: Iterable[Bytes], entry: int = Entry.ETHERNET, ether_t
     return _sliced_many(_library.etherparse_1_slice_lax_many, frames, entry, ether_type)
 
 
+def _ends(frames: Sequence[bytes]) -> Any:
+    """Returns the array of the frames' ends in their joined bytes."""
+    ends = array("Q", itertools.accumulate(map(len, frames)))
+    return (_size * len(frames)).from_buffer(ends) if frames else (_size * 1)()
+
+
 def _sliced_many(call: Any, frames: Iterable[Bytes], entry: int, ether_type: int) -> Packets:
     """Slices many frames by one of the calls for many."""
     kept = tuple(frames)
     if not set(map(type, kept)) <= {bytes}:
         kept = tuple(map(_as_bytes, kept))
     joined, count = b"".join(kept), len(kept)
-    ends = array("Q", itertools.accumulate(map(len, kept)))
     packets, sliced = (Packet * max(count, 1))(), _size()
     status = call(
-        _number("entry", entry, 32), _number("ether_type", ether_type, 16), joined, len(joined),
-        (_size * max(count, 1)).from_buffer(ends) if count else (_size * 1)(), count, packets, count, sliced)
+        _number("entry", entry, 32), _number("ether_type", ether_type, 16), joined, len(joined), _ends(kept), count,
+        packets, count, sliced)
     if status != Status.OK:
         raise UnknownChoice(f"entry is {entry}")
     return Packets(packets, kept)
@@ -1044,3 +1110,100 @@ class BoundedPool(_AnyPool):
     def __enter__(self) -> BoundedPool:
         self._open()
         return self
+
+
+class Filter:
+    """Filter expression of the kind that tcpdump takes, such as "tcp port 443 and not host 10.0.0.1".
+
+    Raises FilterError if the text is not a filter expression. `str` of a filter is its expression with each qualifier.
+    Calls on one filter wait for each other. A `with` statement closes it and frees its memory at the end; later calls
+    raise ValueError.
+
+    >>> datagram = build_udp(Route(version=4), 53, 1234, b"")
+    >>> Filter("udp port 53").matches(datagram, Entry.IP)
+    True
+    """
+
+    def __init__(self, text: str) -> None:
+        self._filter: Optional[int] = None
+        self._lock = threading.Lock()
+        given, made, error = text.encode(), _filter(), _FilterError()
+        status = _library.etherparse_1_filter_new(given, len(given), ctypes.byref(made), ctypes.byref(error))
+        if status == Status.REFUSED:
+            start, end = (len(given[:place].decode(errors="replace")) for place in (error.start, error.end))
+            raise FilterError(text, error.kind, start, end)
+        if status != Status.OK:
+            raise MemoryError
+        self._filter = made.value
+
+    def _open(self) -> int:
+        if self._filter is None:
+            raise ValueError("the filter is closed")
+        return self._filter
+
+    def matches(self, frame: Bytes, entry: int = Entry.ETHERNET, ether_type: int = 0,
+                wire_len: Optional[int] = None) -> bool:
+        """Returns whether the filter matches a packet, which is read as by slice_lax; without a valid first header it
+        has no layers. `wire_len` is its original length, and that of the frame if it is not given.
+
+        Raises UnknownChoice if the entry is unknown.
+        """
+        frame, matched = _as_bytes(frame), _u8()
+        length = _number("wire_len", len(frame) if wire_len is None else wire_len, 32)
+        arguments = (_number("entry", entry, 32), _number("ether_type", ether_type, 16), frame, len(frame), length)
+        with self._lock:
+            status = _library.etherparse_1_filter_matches(self._open(), *arguments, ctypes.byref(matched))
+        if status != Status.OK:
+            raise UnknownChoice(f"entry is {entry}")
+        return matched.value != 0
+
+    def matches_many(self, frames: Iterable[Bytes], entry: int = Entry.ETHERNET, ether_type: int = 0,
+                     wire_lens: Optional[Iterable[int]] = None) -> Sequence[bool]:
+        """Returns for each packet whether the filter matches it, as matches does, in one call. Raises UnknownChoice if
+        the entry is unknown, and ValueError if there are not as many original lengths as packets."""
+        kept = tuple(map(_as_bytes, frames))
+        joined, count = b"".join(kept), len(kept)
+        lens = [] if wire_lens is None else [_number("wire_lens", wire_len, 32) for wire_len in wire_lens]
+        if wire_lens is not None and len(lens) != count:
+            raise ValueError(f"{count} packets have {len(lens)} lengths")
+        answers, matched = (_u8 * max(count, 1))(), _size()
+        arguments = (_number("entry", entry, 32), _number("ether_type", ether_type, 16), joined, len(joined),
+                     _ends(kept), count, (_u32 * max(len(lens), 1))(*lens), len(lens), answers, count)
+        with self._lock:
+            status = _library.etherparse_1_filter_matches_many(self._open(), *arguments, ctypes.byref(matched))
+        if status != Status.OK:
+            raise UnknownChoice(f"entry is {entry}")
+        return [answer != 0 for answer in answers[:count]]
+
+    def __str__(self) -> str:
+        written = _size()
+        with self._lock:
+            filter, buffer = self._open(), (_u8 * 1)()
+            while True:
+                status = _library.etherparse_1_filter_text(filter, buffer, len(buffer), ctypes.byref(written))
+                if status == Status.OK:
+                    return bytes(buffer[: written.value - 1]).decode("ascii")
+                if status != Status.TOO_SMALL:
+                    raise MemoryError
+                buffer = (_u8 * written.value)()
+
+    def __repr__(self) -> str:
+        return f"Filter({str(self)!r})" if self._filter is not None else "Filter(closed)"
+
+    def close(self) -> None:
+        """Frees the memory of the filter; further calls do nothing."""
+        with self._lock:
+            filter, self._filter = self._filter, None
+            if filter is not None:
+                _library.etherparse_1_filter_free(filter)
+
+    def __enter__(self) -> Filter:
+        self._open()
+        return self
+
+    def __exit__(self, *_: object) -> None:
+        self.close()
+
+    def __del__(self) -> None:
+        if getattr(self, "_filter", None) is not None and _library is not None:  # as may be the case when Python exits
+            self.close()

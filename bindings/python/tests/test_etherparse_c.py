@@ -143,20 +143,22 @@ class Header(unittest.TestCase):
         kinds = {"ENTRY_": ep.Entry, "LINK_": ep.LinkKind, "EXT_": ep.ExtKind, "NET_": ep.NetKind,
                  "TRANSPORT_": ep.TransportKind, "END_": ep.LenSource, "REFUSAL_": ep.RefusalKind, "LAYER_": ep.Layer,
                  "TCP_": ep.TcpFlag, "FRAGMENT_": ep.FragmentRefusal, "OVERLAP_": ep.OverlapPolicy,
-                 "EVICTED_": ep.EvictionCause}
+                 "EVICTED_": ep.EvictionCause, "FILTER_": ep.FilterErrorKind}
         here = {first + it.name: it.value for first, kind in kinds.items() for it in kind}
         here.update((it.name, it.value) for it in ep.Status)
         self.assertEqual(here, named)
         defined = dict(re.findall(r"#define ETHERPARSE_(\w+) (\d+)\n", self.text))
         self.assertEqual((ep.VERSION, ep.MAX_PAYLOAD), (int(defined["VERSION"]), int(defined["MAX_PAYLOAD"])))
         self.assertEqual((ep.version(), int(defined["REFUSAL_TEXT_MAX"])), (ep.VERSION, 142))
+        self.assertEqual(int(defined["REASON_TEXT_MAX"]), 80)
 
     def test_structs(self):
         here = {"part": ep.Part, "link_ext": ep.LinkExt, "ip": ep.Ip, "payload": ep.Payload, "refusal": ep.Refusal,
                 "packet": ep.Packet, "route": ep._Route, "tagged_route": ep._TaggedRoute, "tcp_fields": ep._TcpFields,
                 "fragment_fields": ep._FragmentFields, "pool_answer": ep._PoolAnswer,
                 "defrag_limits": ep._DefragLimits, "defrag_statistics": ep.DefragStatistics,
-                "stream_id": ep._StreamId, "evicted_stream": ep._EvictedStream}
+                "stream_id": ep._StreamId, "evicted_stream": ep._EvictedStream,
+                "filter_error": ep._FilterError}
         for name, struct_here in here.items():
             body = re.search(rf"^struct etherparse_{name} {{\n(.*?)^}};", self.text, re.MULTILINE | re.DOTALL)[1]
             body = re.sub(r"/\*.*?\*/", "", body, flags=re.DOTALL)
@@ -384,6 +386,48 @@ class Pools(unittest.TestCase):
             ep.BoundedPool(seed=bytes(15))
         with self.assertRaises(ep.UnknownChoice):
             ep.BoundedPool(ep.DefragLimits(overlap=3))
+
+    def test_filter(self):
+        route = ep.Route(4, ipv4_source=bytes([10, 0, 0, 1]), ipv4_destination=bytes([10, 0, 0, 2]))
+        frames = [ep.build_udp(route, 53, 1234, b"a"), ep.build_udp(route, 54, 1234, b""), b"", b"\x45"]
+        filter = ep.Filter("udp port 53 and host 10.0.0.2")
+        self.assertEqual(str(filter), "udp src or dst port 53 and src or dst host 10.0.0.2")
+        self.assertEqual(repr(filter), f"Filter({str(filter)!r})")
+        self.assertEqual(str(ep.Filter(str(filter))), str(filter))
+        self.assertIs(filter.matches(bytearray(frames[0]), ep.Entry.IP), True)
+        self.assertEqual(filter.matches_many(frames, ep.Entry.IP), [True, False, False, False])
+        self.assertEqual(filter.matches_many([]), [])
+        with ep.Filter("not udp or greater 40") as other:
+            self.assertEqual(other.matches_many(frames, ep.Entry.IP), [False, False, True, True])
+            self.assertEqual(other.matches_many(iter(frames), ep.Entry.IP, wire_lens=[40, 39, 0, 1]),
+                             [True, False, True, True])
+            self.assertEqual((other.matches(frames[0], ep.Entry.IP, wire_len=40), other.matches(b"")), (True, True))
+            for call in (lambda: other.matches(b"", 4), lambda: other.matches_many(frames, 4),
+                         lambda: other.matches_many([], 4)):
+                with self.assertRaises(ep.UnknownChoice):
+                    call()
+            for call in (lambda: other.matches(b"", 1 << 32), lambda: other.matches(b"", wire_len=-1),
+                         lambda: other.matches_many(frames, wire_lens=[1])):
+                with self.assertRaises(ValueError):
+                    call()
+        for call in (other.__str__, other.__enter__, lambda: other.matches(b""), lambda: other.matches_many([])):
+            with self.assertRaises(ValueError):
+                call()
+        other.close()
+        self.assertEqual(repr(other), "Filter(closed)")
+        self.assertIs(ep.Filter("").matches(b""), True)
+        with self.assertRaises(ep.FilterError) as raised:
+            ep.Filter("host 10.0.0.1 and hots x")
+        for error in (raised.exception, pickle.loads(pickle.dumps(raised.exception))):
+            self.assertEqual((error.kind, error.start, error.end), (ep.FilterErrorKind.NOT_AN_ADDRESS, 18, 22))
+            self.assertEqual(str(error), "hots: not an IP address (names are not looked up)\n  host 10.0.0.1 and hots x\n"
+                                         "                    ^")
+        with self.assertRaises(ep.FilterError) as raised:
+            ep.Filter("é port")
+        self.assertEqual((raised.exception.kind, raised.exception.start), (ep.FilterErrorKind.CHARACTER, 0))
+        with self.assertRaises(ValueError) as raised:
+            ep.Filter("udp port")
+        self.assertEqual((raised.exception.start, raised.exception.reason), (8, "the filter ends too early"))
 
     def test_threads(self):
         """Many threads on one pool: each payload is returned once."""

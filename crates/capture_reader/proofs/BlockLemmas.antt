@@ -179,7 +179,7 @@ pub record Passes (before : ByteOrder) (interfaces : List Interface) (order : By
   pub trailing : word32_at order bytes (len - 4) ≡ len
   pub body : first_row (body_rows interfaces order kind len (slice_range bytes 8 (len - 4))) ≡ None
 
-passes : (before : ByteOrder) (interfaces : List Interface) (order : ByteOrder) (kind : BlockKind) (magic len : ℕ)
+pub passes : (before : ByteOrder) (interfaces : List Interface) (order : ByteOrder) (kind : BlockKind) (magic len : ℕ)
     (bytes : List ℕ)
     → first_row (rows_of before interfaces order kind magic len bytes) ≡ None
     → Passes before interfaces order kind magic len bytes

@@ -1,14 +1,16 @@
 -- The framing of a block, as it is parsed.
-use Rattle.std.proofs.Common.{◌≡◌, ℕ, ◌+◌, ◌-◌, ◌≤◌}
+use Rattle.std.proofs.Common.{◌≡◌, ℕ, ◌+◌, ◌-◌, ◌<◌, ◌≤◌}
 use Rattle.std.proofs.Common.{List, None, length, drop, slice_range, refl, sym, ap, subst, ◌∙◌}
 use Rattle.std.proofs.Common.{Bool, false, ◌&&◌, nat_le, nat_lt}
 use Rattle.std.proofs.Common.{length-drop, length-take-le, arith}
 use Rattle.std.proofs.Math.Bool.{and-false}
 use Rattle.std.proofs.lemmas.Grind.{common_steps}
+use Rattle.std.proofs.lemmas.Option.{none-some}
 use Rattle.ep_base.specs.Bytes.{AreBytes}
-use Rattle.ep_base.specs.Tables.{first_row}
+use Rattle.ep_base.specs.Tables.{Refuses, first_row}
+use Rattle.ep_base.proofs.TableLemmas.{refused_is_not}
 use Rattle.capture_reader.specs.Numbers.{word32_at}
-use Rattle.capture_reader.specs.Blocks.{IsBlock, section_after}
+use Rattle.capture_reader.specs.Blocks.{BeginsNoBlock, IsBlock, RefusesBlock, Section, kind_in, section_after}
 use Rattle.capture_reader.specs.Blocks.{block_in, block_of, block_rows, body_rows}
 use Rattle.capture_reader.specs.Blocks.{is_other, most_block, order_in, order_of}
 use Rattle.capture_reader.specs.BlockContents.{FitsLen, FitsSectionOrder, HasContent, IsFramed, content_interfaces}
@@ -23,7 +25,8 @@ use Rattle.capture_reader.specs.declared.block.Framing.{Framing}
 use Rattle.capture_reader.specs.declared.byte_order.ByteOrder.{ByteOrder}
 use Rattle.capture_reader.specs.declared.byte_order.ByteOrder.TheVariants.{Big}
 use Rattle.capture_reader.specs.declared.interface.Interface.{Interface}
-use Rattle.capture_reader.proofs.BlockLemmas.{block_is_read_by, least_12, none_of, rows_of}
+use Rattle.capture_reader.specs.declared.refusal.Refusal.{Refusal}
+use Rattle.capture_reader.proofs.BlockLemmas.{block_is_read_by, least_12, none_of, passes, rows_of}
 
 framed_len : (before : ByteOrder) (bytes : List ℕ) (frame : Framing) → IsFramed before bytes frame
     → word32_at (order_in before bytes) bytes 4 ≡ frame.len
@@ -126,3 +129,29 @@ framed_short before bytes frame is =
     ∙ ap (λ (b : Bool). long && b)
     (not_parts before frame.kind magic frame.len bytes (is.len ∙ ap (λ o. word32_at o bytes 4) order) is.most)
     ∙ and-false long
+
+-- Bytes that are shorter than each block begin with no block.
+pub few_no_block : (before : ByteOrder) (interfaces : List Interface) (bytes : List ℕ) → length bytes < 12
+    → BeginsNoBlock (section_of before interfaces) bytes
+few_no_block before interfaces bytes few read is =
+    let order = order_in before bytes in
+    let none = ((block_is_read_by (section_of before interfaces)).is_read bytes read is).0 in
+    let passed = passes before interfaces order (kind_in before bytes) (word32_at Big bytes 8) (word32_at order bytes 4)
+    bytes none in
+    omega (arith, few, passed.long)
+
+-- A block that a row rejects is no block.
+pub refused_no_block : (section : Section) (bytes : List ℕ) (e : Refusal) → RefusesBlock section bytes e
+    → BeginsNoBlock section bytes
+refused_no_block section bytes e refused read is = refused_is_not (block_is_read_by section) bytes read e refused is
+
+-- A block whose framing is valid and whose body is rejected is no block.
+pub body_no_block : (before : ByteOrder) (bytes : List ℕ) (frame : Framing) (interfaces : List Interface) (e : Refusal)
+    → IsFramed before bytes frame
+    → Refuses (body_rows interfaces frame.order frame.kind frame.len (slice_range bytes 8 (frame.len - 4))) e
+    → BeginsNoBlock (section_of before interfaces) bytes
+body_no_block before bytes frame interfaces e framed refused read is =
+    let none = ((block_is_read_by (section_of before interfaces)).is_read bytes read is).0 in
+    let passed = passes before interfaces frame.order frame.kind (word32_at Big bytes 8) frame.len bytes
+    (ap first_row (sym (framed_rows before bytes frame interfaces framed)) ∙ none) in
+    none-some e (sym passed.body ∙ refused)

@@ -12,3 +12,4 @@ pub mod ClassicRefusalLemmas
 pub mod WantLemmas
 pub mod StepLemmas
 pub mod ReaderLemmas
+pub mod AheadLemmas

@@ -69,7 +69,7 @@ AreItems-append (first ∷ items) stage item are fits =
     (are.0, AreItems-append items (stage_after stage first) item are.1 fits)
 
 -- A step over an item extends the items that the reader has read.
-reads_more : (reader next : CaptureReader) (item : Item) (taken : List ℕ) (items : List Item)
+pub reads_more : (reader next : CaptureReader) (item : Item) (taken : List ℕ) (items : List Item)
     → StepsOver reader next item → Reads reader taken items → ReadsMore next taken items item
 reads_more reader next item taken items step reads =
     let before = items_bytes at_start items in

@@ -67,7 +67,7 @@ pub shows_heading : (reader : CaptureReader) (first : Heading) → reader.state 
 shows_heading reader first start =
     ap (λ s. shown_in (stage_of s reader.interfaces.items) (heading first)) start
 
-steps_record : (reader next : CaptureReader) (first : Heading) (one : PlainPacket) → reader.state ≡ Records first
+pub steps_record : (reader next : CaptureReader) (first : Heading) (one : PlainPacket) → reader.state ≡ Records first
     → next.state ≡ reader.state → next.buffer.items ≡ reader.buffer.items
     → next.end ≡ reader.end + 16 + length one.bytes → next.offset ≡ reader.offset + (16 + length one.bytes)
     → 16 + length one.bytes ≤ length (reader_rest reader)

@@ -255,6 +255,10 @@ pub record IsBlock (section : Section) (bytes : List ℕ) (read : PlainBlock × 
   pub fits : FitsBlock section read.0
   pub parts : bytes ≡ block_bytes section.order read.0 ++ read.1
 
+-- The bytes begin with no block.
+abbrev pub BeginsNoBlock : Section → List ℕ → Type 0
+BeginsNoBlock section bytes = (read : PlainBlock × List ℕ) → IsBlock section bytes read → ⊥
+
 -- ---- why bytes begin with no block
 
 -- the kind by the block type at byte 0

@@ -102,6 +102,38 @@ pub record Reads (reader : CaptureReader) (taken : List ℕ) (items : List Item)
 abbrev pub ReadsMore : CaptureReader → List ℕ → List Item → Item → Type 0
 ReadsMore reader taken items item = Reads reader taken (items ++ item ∷ [])
 
+-- the bytes that were taken, from `ahead` bytes after those that were read
+abbrev pub rest_after : CaptureReader → ℕ → List ℕ
+rest_after reader ahead = drop (reader.end + ahead) reader.buffer.items
+
+-- The reader has taken these bytes. These items are at their start: those that it has read, and packets after them,
+-- which end `ahead` bytes after those that were read.
+pub record ReadsAhead (reader : CaptureReader) (ahead : ℕ) (taken : List ℕ) (items : List Item) : Type 0 where
+  pub fits : AreItems at_start items
+  pub parts : taken ≡ items_bytes at_start items ++ rest_after reader ahead
+  pub stage : reader_stage reader ≡ stage_after_items at_start items
+  pub offset : reader_offset reader + ahead ≡ length (items_bytes at_start items)
+
+-- The next item after these items is this packet, and it ends `next` bytes after the bytes that were read.
+abbrev pub ShowsAhead : CaptureReader → (ahead next : ℕ) → PlainShown → Type 0
+ShowsAhead reader ahead next shown =
+    (taken : List ℕ) (items : List Item) → ReadsAhead reader ahead taken items → (item : Item)
+    × ReadsAhead reader next taken (items ++ item ∷ [])
+    × (shown_in (stage_after_items at_start items) item ≡ Some shown)
+
+-- At this stage the bytes begin with no item that is a packet.
+abbrev pub HasNoPacket : Stage → List ℕ → Type 0
+HasNoPacket stage bytes =
+    (item : Item) (rest : List ℕ) → Fits stage item → bytes ≡ item_bytes stage item ++ rest
+    → shown_in stage item ≡ None
+
+-- Result of `next_packet`: the packet that starts `ahead` bytes after those that were read, and where it ends; or none.
+abbrev pub AnswersAhead : CaptureReader → (ahead next : ℕ) → Option Shown → Type 0
+AnswersAhead reader ahead next (Some shown) =
+    ShowsAhead reader ahead next (shown_of shown) × (ahead < next) × (next ≤ reader_unread reader)
+AnswersAhead reader ahead next None =
+    HasNoPacket (reader_stage reader) (rest_after reader ahead) × (next ≡ ahead)
+
 -- Holds unless the item is a packet record other than the reader's last packet.
 abbrev pub HasRecord : CaptureReader → Item → Type 0
 HasRecord reader (packet one) = one ≡ reader_packet reader

@@ -1,8 +1,9 @@
 //! Blocks of pcapng captures.
 
-ghost use Rattle.std.specs.Prelude.{◌≡◌, ◌≤◌, ◌+◌, ◌-◌, false, List, None, IfErr, IfOk, IfSome, OnSome, drop, length, slice_range};
+ghost use Rattle.std.specs.Prelude.{◌≡◌, ◌≤◌, ◌+◌, ◌-◌, false, List, None, IfErr, IfNone, IfOk, IfSome, OnSome, drop, length};
+ghost use Rattle.std.specs.Prelude.{slice_range};
 ghost use Rattle.ep_base.specs.Tables.{Refuses, first_row};
-ghost use Rattle.capture_reader.specs.Blocks.{IsBlock, RefusesBlock, block_in, body_rows, kept_of, kept_rows, kind_in};
+ghost use Rattle.capture_reader.specs.Blocks.{BeginsNoBlock, IsBlock, RefusesBlock, block_in, body_rows, kept_of, kept_rows, kind_in};
 ghost use Rattle.capture_reader.specs.Blocks.{is_other, kind_of, known_order, knows_minor, min_len, byte_order_of_magic, section_after};
 ghost use Rattle.capture_reader.specs.Captures.{begins_long, block_shown};
 ghost use Rattle.capture_reader.specs.BlockContents.{FitsLen, HasContent, IsFramed, content_interfaces, content_shown};
@@ -145,6 +146,7 @@ impl Block {
         ensures shown { IfSome result (λ one. let section = section_of order interfaces.now in
             block_shown interfaces.now (block_in section bytes.now)
             ≡ content_shown (slice_range bytes.now 8 (one.len - 4)) one.content) }
+        ensures none { IfNone result (BeginsNoBlock (section_of order interfaces.now) bytes.now) }
     {
         if bytes.len() < 12 {
             return None;
@@ -192,6 +194,7 @@ impl Block {
         ensures shown { IfSome result (λ one. let section = section_of order interfaces.now in
             block_shown interfaces.now (block_in section bytes.now)
             ≡ content_shown (slice_range bytes.now 8 (one.len - 4)) one.content) }
+        ensures none { IfNone result (BeginsNoBlock (section_of order interfaces.now) bytes.now) }
     {
         let Ok(framing) = Framing::of_kind(order, kind, bytes) else {
             return None;

@@ -86,7 +86,8 @@ impl CaptureReader {
     ghost use Rattle.capture_reader.specs.Blocks.{RefusesBlock};
     ghost use Rattle.capture_reader.specs.BlockContents.{known_shown, section_of};
     ghost use Rattle.capture_reader.specs.Classic.{kept_packet, packet_of};
-    ghost use Rattle.capture_reader.specs.Readers.{AdvancesTo, Answers, Passes, Reads, ReadsBlock, ReadsBlocks, Waits};
+    ghost use Rattle.capture_reader.specs.Readers.{AdvancesTo, Answers, AnswersAhead, Passes, Reads, ReadsAhead};
+    ghost use Rattle.capture_reader.specs.Readers.{ReadsBlock, ReadsBlocks, Waits, rest_after};
     ghost use Rattle.capture_reader.specs.Readers.{bytes_capacity, interfaces_capacity, interfaces_described};
     ghost use Rattle.capture_reader.specs.Readers.{heading_in, most_unread, reader_buffered, reader_unread};
     ghost use Rattle.capture_reader.specs.Readers.{reader_offset, reader_packet};
@@ -250,6 +251,87 @@ impl CaptureReader {
                 }
             }
         }
+    }
+
+    /// Returns the packet that starts `ahead` bytes after the bytes that were read, without reading it, and adds the
+    /// length of its packet record or block to `ahead`. Returns `None`, and leaves `ahead` unchanged, if no complete
+    /// packet record or block with a packet starts there. The packet borrows from the reader, so that packets of
+    /// repeated calls can share one value that is filled with each of them; `advance_past` then reads them.
+    #[inline(always)]
+    pub fn next_packet<'a>(&'a self, ahead: &mut usize) -> Option<Shown<'a>>
+        requires { ahead.old ≤ reader_unread self.now }
+        ensures { AnswersAhead self.now ahead.old ahead.new result }
+    {
+        match self.state {
+            State::Records(heading) => self.next_record(heading, ahead),
+            State::Blocks(order) => self.next_packet_block(order, ahead),
+            State::Start | State::Inside { .. } => None,
+        }
+    }
+
+    /// Returns the packet whose record starts `ahead` bytes after the bytes that were read, in a pcap capture.
+    #[inline(always)]
+    fn next_record<'a>(&'a self, heading: Heading, ahead: &mut usize) -> Option<Shown<'a>>
+        requires records { self.now.state ≡ State.Records heading }
+        requires within { ahead.old ≤ reader_unread self.now }
+        ensures { AnswersAhead self.now ahead.old ahead.new result }
+    {
+        let rest = self.rest_after(*ahead);
+        match Record::from_slice(heading.order, rest) {
+            Ok(record) => {
+                let len = Record::LEN + record.kept;
+                *ahead += len;
+                let known = record.known(&heading);
+                Some(known.shown(&rest[Record::LEN..len]))
+            }
+            Err(_) => None,
+        }
+    }
+
+    /// Returns the packet in the block that starts `ahead` bytes after the bytes that were read, in a section of this
+    /// byte order.
+    #[inline(always)]
+    fn next_packet_block<'a>(&'a self, order: ByteOrder, ahead: &mut usize) -> Option<Shown<'a>>
+        requires blocks { self.now.state ≡ State.Blocks order }
+        requires within { ahead.old ≤ reader_unread self.now }
+        ensures { AnswersAhead self.now ahead.old ahead.new result }
+    {
+        let rest = self.rest_after(*ahead);
+        match Block::parse_complete(order, self.interfaces.as_slice(), rest) {
+            Some(block) => match block.content {
+                Content::Packet(packet) => {
+                    let start = Block::HEADER_LEN + packet.start;
+                    *ahead += block.len;
+                    Some(packet.known.shown(&rest[start..start + packet.kept]))
+                }
+                Content::Section | Content::Interface(_) | Content::Other => None,
+            },
+            None => None,
+        }
+    }
+
+    /// Returns the bytes of the capture that were given to the reader, from `ahead` bytes after those that were read.
+    #[inline]
+    fn rest_after(&self, ahead: usize) -> &[u8]
+        requires { ahead ≤ reader_unread self.now }
+        ensures { result.now ≡ rest_after self.now ahead }
+    {
+        &self.buffer.as_slice()[self.end + ahead..]
+    }
+
+    /// Reads the packets that `next_packet` returned, which end `ahead` bytes after the bytes that were read. `shown`
+    /// and `packet` still return the packet that `advance` read last.
+    pub fn advance_past(&mut self, ahead: usize)
+        requires { ahead ≤ reader_unread self.old }
+        ensures reads { (taken : List ℕ) (items : List Item) → ReadsAhead self.old ahead taken items →
+            Reads self.new taken items }
+        ensures unread { reader_unread self.new + ahead ≡ reader_unread self.old }
+        ensures offset { reader_offset self.new ≡ reader_offset self.old + ahead }
+        ensures shown { reader_shown self.new ≡ reader_shown self.old }
+        ensures packet { reader_packet self.new ≡ reader_packet self.old }
+    {
+        self.end += ahead;
+        self.offset += ahead as u64;
     }
 
     /// Returns the bytes of the capture that were given to the reader and are not yet read.
@@ -464,7 +546,7 @@ impl CaptureReader {
         }
     }
 
-    /// The packet that was read last, with the timestamp of its record header, in a pcap capture. (For both formats:
+    /// The packet that `advance` read last, with the timestamp of its record header, in a pcap capture. (For both formats:
     /// `shown`.)
     #[inline]
     pub fn packet(&self) -> Packet<'_>
@@ -478,7 +560,7 @@ impl CaptureReader {
         }
     }
 
-    /// The packet that was read last, of a pcap or pcapng capture; empty before the first packet.
+    /// The packet that `advance` read last, of a pcap or pcapng capture; empty before the first packet.
     #[inline]
     pub fn shown(&self) -> Shown<'_>
         ensures { shown_of result ≡ reader_shown self.now }

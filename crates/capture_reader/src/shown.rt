@@ -1,5 +1,9 @@
 //! Packets of a capture in either format, pcap or pcapng.
 
+ghost use Rattle.std.specs.Prelude.{◌≡◌};
+ghost use Rattle.capture_reader.specs.BlockContents.{known_shown};
+ghost use Rattle.capture_reader.specs.Readers.{shown_of};
+
 /// Timestamp of a packet: `offset + ticks / per_second` seconds since 1970-01-01 00:00 UTC.
 #[derive(Clone, Copy, Debug, PartialEq, Eq)]
 pub struct Time {
@@ -32,6 +36,20 @@ impl Known {
         time: None,
         original_len: 0,
     };
+
+    /// Returns the packet with these properties and these bytes.
+    #[inline(always)]
+    pub(crate) fn shown<'a>(&self, bytes: &'a [u8]) -> Shown<'a>
+        ensures { shown_of result ≡ known_shown self.now bytes.now }
+    {
+        Shown {
+            link_type: self.link_type,
+            interface: self.interface,
+            time: self.time,
+            original_len: self.original_len,
+            bytes,
+        }
+    }
 }
 
 /// A packet of a pcap or pcapng capture: link type, interface, timestamp, original length and captured bytes.

@@ -14,3 +14,5 @@ pub mod TagLemmas
 pub mod TaggedLemmas
 pub mod TextLemmas
 pub mod TextLengthLemmas
+pub mod FilterPointerLemmas
+pub mod FilterLemmas

@@ -15,3 +15,6 @@ pub mod BoundedStateOwnership
 pub mod BoundedPoolOwnership
 pub mod BoundedPoolAnswers
 pub mod RefusalTexts
+pub mod FilterOwnership
+pub mod HeldFilterOwnership
+pub mod FilterAnswers

@@ -16,11 +16,15 @@ ghost use Rattle.etherparse.specs.BoundedPools.{HoldsRows, limits_in};
 ghost use Rattle.etherparse.specs.BoundedSteps.{Row};
 ghost use Rattle.etherparse_c.specs.BoundedPoolAnswers.{IsBoundedPush, bounded_pool_of, bounded_waiting};
 ghost use Rattle.etherparse_c.specs.RefusalTexts.{AreTextsOfRefusals, text_of_number};
+ghost use Rattle.packet_filter.specs.KindTexts.{kind_text};
+ghost use Rattle.packet_filter.specs.declared.filter_error.FilterErrorKind.{FilterErrorKind};
 
 use crate::bounded_handle::BoundedHandle;
 use crate::bounded_state::BoundedState;
+use crate::filter_handle::FilterHandle;
 use crate::handle::Handle;
 use crate::owned_bounded_pool::OwnedBoundedPool;
+use crate::owned_filter::OwnedFilter;
 use crate::owned_pool::OwnedPool;
 use crate::packet::{Packet, Refusal};
 use crate::pool_answer::PoolAnswer;
@@ -79,6 +83,12 @@ pub fn text_lengths()
         → length text ≤ 141 }
 {}
 
+/// States that the text of each reason why a text is not a filter expression has at most 79 bytes, so that a buffer of
+/// 80 bytes is enough for the text and a terminating zero byte.
+pub fn reason_lengths()
+    ensures { (reason : FilterErrorKind) → length (kind_text reason) ≤ 79 }
+{}
+
 /// States that a buffer of the pool's maximum payload length is large enough for every reassembled payload. After a
 /// push with such a buffer, no complete payload is left in the pool if none was before.
 pub fn limit_fits_payloads()
@@ -102,13 +112,15 @@ pub fn bounded_limit_fits_payloads()
         → bounded_waiting new ≡ None }
 {}
 
-/// Proves that the pointers to a reassembly pool that C holds implement `Send`: a pool can go to another thread between
-/// two calls.
+/// Proves that the pointers to a reassembly pool or a filter that C holds implement `Send`: it can go to another thread
+/// between two calls.
 pub fn pools_are_send() {
     moves::<Handle>();
     moves::<OwnedPool>();
     moves::<BoundedHandle>();
     moves::<OwnedBoundedPool>();
+    moves::<FilterHandle>();
+    moves::<OwnedFilter>();
 }
 
 /// Does nothing; a call compiles only if `T` implements `Send`.

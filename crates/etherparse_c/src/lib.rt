@@ -17,14 +17,20 @@ mod checksum;
 mod defrag_describing;
 mod defrag_values;
 mod describing;
+mod filter_handle;
+mod filter_pointer;
+mod filter_values;
+mod filtering;
 mod handle;
 mod hash_seed;
+mod held_filter;
 pub mod laws;
 mod lax_describing;
 mod lax_slicing;
 mod net_part;
 mod numbers;
 mod owned_bounded_pool;
+mod owned_filter;
 mod owned_pool;
 mod packet;
 mod placing;
@@ -64,9 +70,17 @@ pub use building_tagged::{
 };
 pub use checksum::etherparse_1_checksum;
 pub use defrag_values::{DefragLimits, DefragStatistics, EvictedStream, StreamId};
+pub use filter_handle::FilterHandle;
+pub use filter_values::FilterError;
+pub use filtering::{
+    etherparse_1_filter_error_text, etherparse_1_filter_free, etherparse_1_filter_matches,
+    etherparse_1_filter_matches_many, etherparse_1_filter_new, etherparse_1_filter_text,
+};
 pub use handle::Handle;
+pub use held_filter::HeldFilter;
 pub use lax_slicing::etherparse_1_slice_lax;
 pub use owned_bounded_pool::OwnedBoundedPool;
+pub use owned_filter::OwnedFilter;
 pub use owned_pool::OwnedPool;
 pub use packet::{Ip, LinkExt, Packet, Part, Payload, Refusal};
 pub use pool::Pool;

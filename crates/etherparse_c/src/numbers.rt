@@ -53,3 +53,6 @@ pub const TRANSPORT_TCP: u32 = 6;
 pub const TRANSPORT_UDP: u32 = 17;
 /// Kind of a transport header in the C interface, equal to its IP protocol number: ICMPv6.
 pub const TRANSPORT_ICMPV6: u32 = 58;
+
+/// Reason for an error of a filter expression in the C interface: the text is not UTF-8.
+pub const FILTER_NOT_UTF8: u32 = 25;

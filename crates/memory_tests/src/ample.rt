@@ -1,14 +1,23 @@
-//! Tests with 1,200 streams or fragments at once, or 2 MB. The script `refuse.py`, which makes each allocation of a
-//! test fail in a run of its own, skips them: they would need thousands of runs.
+//! Tests with 1,200 streams or fragments at once, with 2 MB or the longest filter expression, of a packet that a capture
+//! reader returns before it reads it, and of the texts of filters. The script `refuse.py`, which makes each allocation of
+//! a test fail in a run of its own, skips them: most of them would need thousands of runs.
 
 use crate::checks::*;
 use crate::runs::fragment;
 use crate::samples::*;
 use crate::spare::*;
-use capture_reader::CaptureReader;
+use capture_reader::{Advance, CaptureError, CaptureReader, Refusal};
 use etherparse::defrag::*;
 use etherparse::*;
+use packet_filter::Filter;
 use std::process::Abort;
+
+/// Pcap capture of two packets of 1 and 2 bytes, and the record header of a third packet of 4 bytes.
+const CAPTURE: [u8; 75] = [
+    0xd4, 0xc3, 0xb2, 0xa1, 2, 0, 4, 0, 0, 0, 0, 0, 0, 0, 0, 0, 0, 0, 4, 0, 1, 0, 0, 0, 1, 0, 0, 0,
+    0, 0, 0, 0, 1, 0, 0, 0, 1, 0, 0, 0, 7, 2, 0, 0, 0, 0, 0, 0, 0, 2, 0, 0, 0, 2, 0, 0, 0, 8, 9, 3,
+    0, 0, 0, 0, 0, 0, 0, 4, 0, 0, 0, 4, 0, 0, 0,
+];
 
 /// Passes the final fragment of the datagram `identification` to the reassembly pool, asserts that it completes the
 /// payload, and gives the payload back.
@@ -65,4 +74,63 @@ fn chunk(rt: HostRuntime) {
     let mut exchanging = CaptureReader::new(rt.alloc());
     same(&rt, &exchanging.exchange(&mut chunk, 0, 2_000_000), &Ok(()));
     same(&rt, &exchanging.taken(), &2_000_000);
+}
+
+/// Tests a packet that a capture reader returns before it reads it, and that the reader goes on after it.
+#[test]
+fn packet_ahead(rt: HostRuntime) {
+    let mut reader = CaptureReader::new(rt.alloc());
+    same(&rt, &reader.take(CAPTURE.as_slice()), &Ok(()));
+    same(&rt, &reader.advance(), &Ok(Advance::Other));
+    same(&rt, &reader.advance(), &Ok(Advance::Packet));
+    let mut ahead = 0;
+    let packet = reader.next_packet(&mut ahead).expect(&rt, "no packet");
+    same(&rt, &packet.bytes, &[8, 9].as_slice());
+    reader.advance_past(ahead);
+    let refusal = Refusal::Cut {
+        required_len: 20,
+        len: 16,
+    };
+    let cut = CaptureError {
+        offset: 59,
+        refusal,
+    };
+    same(&rt, &reader.advance(), &Ok(Advance::Cut(cut)));
+}
+
+/// Tests a filter expression of 65,536 bytes with 13,107 ports, and one with a byte more.
+#[test]
+fn longest_filter(rt: HostRuntime) {
+    let mut text = String::from_str(rt.alloc(), "port 1").expect(&rt, "refused");
+    for _ in 0..13_106 {
+        text.push_str(" or 2").expect(&rt, "refused");
+    }
+    let filter = Filter::parse(rt.alloc(), text.as_str()).expect(&rt, "no filter");
+    same(&rt, &filter.steps().len(), &26_213);
+    text.push_str(" ").expect(&rt, "refused");
+    let long = Filter::parse(rt.alloc(), text.as_str())
+        .err()
+        .expect(&rt, "a filter");
+    same(&rt, &(long.start, long.end), &(65_536, 65_537));
+}
+
+/// Tests the text of a filter and of an error.
+#[test]
+fn filter_texts(rt: HostRuntime) {
+    let filter = Filter::parse(rt.alloc(), "tcp port http or arp").expect(&rt, "no filter");
+    let text = format!(in rt.alloc(); "{filter}").expect(&rt, "refused");
+    same(
+        &rt,
+        &text.as_str(),
+        &"tcp src or dst port 80 or ether proto 0x0806",
+    );
+    let error = Filter::parse(rt.alloc(), "tcp port x")
+        .err()
+        .expect(&rt, "a filter");
+    let text = format!(in rt.alloc(); "{error}").expect(&rt, "refused");
+    same(
+        &rt,
+        &text.as_str(),
+        &"at byte 9: not a port (a number up to 65535, or a name such as http)",
+    );
 }

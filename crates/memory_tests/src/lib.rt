@@ -16,6 +16,8 @@ mod buffers;
 #[cfg(test)]
 mod checks;
 #[cfg(test)]
+mod filters;
+#[cfg(test)]
 mod frames;
 #[cfg(test)]
 mod headers;

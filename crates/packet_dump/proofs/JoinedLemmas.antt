@@ -8,7 +8,7 @@ use Rattle.packet_dump.specs.Options.{IsJoined, IsOptionWord}
 use Rattle.packet_dump.specs.OptionSteps.{joined_from, joined_in, option_with, parts_at_equals, word_named}
 use Rattle.packet_dump.specs.declared.options.Awaited.{Awaited}
 use Rattle.packet_dump.specs.declared.options.Awaited.TheVariants.{Count, Only, Time, Timeout, Limit, Write, Streams, Filter, Input}
-use Rattle.packet_dump.specs.declared.options.Awaited.TheVariants.{FragmentBytes, FragmentAge, Overlap}
+use Rattle.packet_dump.specs.declared.options.Awaited.TheVariants.{FragmentBytes, FragmentAge, Overlap, Explain}
 use Rattle.packet_dump.specs.declared.options.FilterKind.TheVariants.{Host, Port, Vlan, Net}
 use Rattle.packet_dump.specs.declared.options.Word.{Word}
 use Rattle.packet_dump.specs.declared.options.Word.TheVariants as word
@@ -113,6 +113,7 @@ joined_by (Filter Port) value name is = from_name (Filter Port) value name (code
 joined_by (Filter Vlan) value name is = from_name (Filter Vlan) value name (codes "--vlan") is (refl, refl)
 joined_by (Filter Net) value name is = from_name (Filter Net) value name (codes "--net") is (refl, refl)
 joined_by Input value name is = from_name Input value name (codes "-r") is (refl, refl)
+joined_by Explain value name is = from_name Explain value name (codes "--explain") is (refl, refl)
 
 pub joined_so : (option : Awaited) (value text : List ℕ) → IsJoined option value text → JoinedSo option value text
 joined_so option value text joined =
@@ -136,3 +137,4 @@ option_named (Filter Port) name is = ap word_named is
 option_named (Filter Vlan) name is = ap word_named is
 option_named (Filter Net) name is = ap word_named is
 option_named Input name is = ap word_named is
+option_named Explain name is = ap word_named is

@@ -26,7 +26,7 @@ use Rattle.etherparse.specs.BoundedPools.{statistics_in}
 use Rattle.etherparse.specs.BoundedSteps.{BoundedAnswer, BoundedCall, Gone, Row, call_step, is_for_bytes, is_open}
 use Rattle.etherparse.specs.IpFragments.{IpFragment}
 use Rattle.etherparse.specs.Streams.{same_numbers, same_stream, same_version}
-use Rattle.packet_dump.specs.Decoding.{layers_of, packet_of, start_of}
+use Rattle.packet_dump.specs.Decoding.{filtered_in, layers_of, packet_of, start_of}
 use Rattle.packet_dump.specs.EvictionLines.{KeepsMemoryOf, evicted_lines, eviction_line, gone_lines, moment_of, cleared_text}
 use Rattle.packet_dump.specs.PacketCalls.{KeepsMemory, PoolHistory, expiry, fragment_call, fragment_in_frame, step_of}
 use Rattle.packet_dump.specs.PacketCalls.{limits_of, new_pool, with_eviction, with_step}
@@ -227,7 +227,8 @@ pub processes_fragment : (options : DumpOptions) (packet : Decoded) (old between
     → IsFalse (is_starved answer) → between.swept ≡ old.swept → KeepsMemoryOf options (evicted_in between.pool)
     → evictions ≡ items ++ evicted_lines options (moment_of options (packet_of packet)) (evicted_in between.pool)
     → ((text : List ℕ)
-    × IsAnswerText options (start_of options packet) (layers_of packet) (plain_bounded answer) text
+    × IsAnswerText options (start_of options packet) (layers_of packet) (filtered_in packet) (plain_bounded answer)
+    text
     × (answered ≡ evictions ++ text))
     → ((history : PoolHistory) → HoldsPooling history between
     → HoldsPooling (with_eviction options history packet.captured.number) new)
@@ -259,8 +260,9 @@ processes_fragment options packet old between new name fragment answer items evi
             done.0,
             (
               text,
-              subst (λ (a : BoundedAnswer). IsAnswerText options (start_of options packet) layers a text) done.1.is
-                  appended.1,
+              subst
+                  (λ (a : BoundedAnswer). IsAnswerText options (start_of options packet) layers (filtered_in packet) a text)
+                  done.1.is appended.1,
               reported_memory options (evicted_in between.pool) step.gone done.1.reports keeps,
               refl,
               refl,

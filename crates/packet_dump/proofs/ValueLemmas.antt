@@ -11,19 +11,18 @@ use Rattle.std.specs.Str.Parse.{AllDigits, IsNumeral, digits_value, without_lead
 use Rattle.std.proofs.lemmas.Bool.Decides.{Decides-and, Decides-ltb}
 use Rattle.std.proofs.lemmas.Slice.Eq.{bytes_eq-Decides}
 use Rattle.packet_dump.specs.Options.{IsNumber, IsOptionWord, IsValue, Item, count, form_name, is_dashed, is_known, kind_name, limit, only, time}
-use Rattle.packet_dump.specs.Options.{file, filter, is_input, options_with, standard_input}
+use Rattle.packet_dump.specs.Options.{explain, file, filter}
 use Rattle.packet_dump.specs.Options.{streams, timeout, write, fragment_age, fragment_bytes, overlap, policy_name}
-use Rattle.packet_dump.specs.OptionSteps.{form_named, input_in, kind_named, number_in, value_in, word_in, word_named, word_table}
+use Rattle.packet_dump.specs.OptionSteps.{form_named, kind_named, number_in, value_in, word_in, word_named, word_table}
 use Rattle.packet_dump.specs.OptionSteps.{policy_named}
 use Rattle.etherparse.specs.Types.OverlapPolicy.{OverlapPolicy}
 use Rattle.etherparse.specs.Types.OverlapPolicy.TheVariants.{LastWins, FirstWins, Discard}
 use Rattle.packet_dump.specs.declared.options.Awaited.{Awaited}
 use Rattle.packet_dump.specs.declared.options.Awaited.TheVariants.{Count, Only, Time, Timeout, Limit, Write, Streams, Filter, Input}
-use Rattle.packet_dump.specs.declared.options.Awaited.TheVariants.{FragmentBytes, FragmentAge, Overlap}
+use Rattle.packet_dump.specs.declared.options.Awaited.TheVariants.{FragmentBytes, FragmentAge, Overlap, Explain}
 use Rattle.packet_dump.specs.declared.options.FilterKind.{FilterKind}
 use Rattle.packet_dump.specs.declared.options.Word.{Word}
 use Rattle.packet_dump.specs.declared.options.Word.TheVariants as word
-use Rattle.packet_dump.specs.declared.dump_options.DumpOptions.{DumpOptions}
 use Rattle.packet_dump.specs.declared.dump_options.Kind.{Kind}
 use Rattle.packet_dump.specs.declared.dump_options.Kind.TheVariants as kind
 use Rattle.packet_dump.specs.declared.dump_options.TimeForm.{TimeForm}
@@ -35,13 +34,6 @@ pub branch : {A : Type 0} (P : A → Type 0) (b : Bool) (x y : A) → (b ≡ tru
     → P (cond b x y)
 branch P true x y here there = here refl
 branch P false x y here there = there refl
-
-not_both_tests : (b : Bool) → b ≡ true → b ≡ false → ⊥
-not_both_tests b holds fails = let clash : true ≡ false = sym holds ∙ fails in cc
-
-test_fails : (b : Bool) → (b ≡ true → ⊥) → b ≡ false
-test_fails true never = absurd (never refl)
-test_fails false never = refl
 
 some_if : (b : Bool) (value : ℕ) → b ≡ true → cond b (Some value) None ≡ Some value
 some_if true value holds = refl
@@ -155,25 +147,6 @@ policy_named-some : (name : List ℕ) (sought : OverlapPolicy) → name ≡ poli
     → policy_named name ≡ Some sought
 policy_named-some name sought is = ap policy_named is ∙ policy_named-name sought
 
--- ---- input
-
-pub input_is : (text : List ℕ) → is_input (input_in text) ≡ true
-input_is text =
-    branch (λ item. is_input item ≡ true) (bytes_eq text (codes "-")) standard_input (file text) (λ same. refl) (λ other. refl)
-
--- The input is the value of its option.
-input_says : (text : List ℕ) → IsValue Input text (input_in text)
-input_says text =
-    branch (λ (item : Item). IsValue Input text item) (bytes_eq text (codes "-")) standard_input (file text)
-    (λ same. (bytes_eq-Decides text (codes "-")).0 same)
-    (λ other. (refl, λ is. not_both_tests (bytes_eq text (codes "-")) ((bytes_eq-Decides text (codes "-")).1 is) other))
-
--- The input changes no option.
-pub input_keeps : (options : DumpOptions) (text : List ℕ) → options_with options (input_in text) ≡ options
-input_keeps options text =
-    branch (λ (item : Item). options_with options item ≡ options) (bytes_eq text (codes "-")) standard_input (file text)
-    (λ same. refl) (λ other. refl)
-
 -- ---- values of options
 
 pub value_in-some : (option : Awaited) (text : List ℕ) (item : Item) → IsValue option text item
@@ -192,12 +165,8 @@ value_in-some FragmentAge text (fragment_age number) says =
 value_in-some Overlap text (overlap sought) says = ap (option_map overlap) (policy_named-some text sought says)
 value_in-some (Filter kind) text (filter other said) says =
     ap (λ k. Some (filter k text)) says.0 ∙ ap (λ t. Some (filter other t)) says.1
-value_in-some Input text (file name) says =
-    ap (λ b. Some (cond b standard_input (file text)))
-    (test_fails (bytes_eq text (codes "-")) (λ same. says.1 ((bytes_eq-Decides text (codes "-")).0 same)))
-    ∙ ap (λ n. Some (file n)) says.0
-value_in-some Input text standard_input says =
-    ap (λ b. Some (cond b standard_input (file text))) ((bytes_eq-Decides text (codes "-")).1 says)
+value_in-some Input text (file name) says = ap (λ t. Some (file t)) says
+value_in-some Explain text (explain said) says = ap (λ t. Some (explain t)) says
 value_in-some option text item says = absurd says
 
 -- The text of a filter primitive is the value of its option.
@@ -206,9 +175,13 @@ pub filter_value : (option : Awaited) (kind : FilterKind) (text : List ℕ) → 
 filter_value option kind text is =
     subst (λ (o : Awaited). IsValue o text (filter kind text)) (sym is) (refl, refl)
 
--- The input is the value of its option, for an option that is equal to it.
-pub input_value : (option : Awaited) (text : List ℕ) → option ≡ Input → IsValue option text (input_in text)
-input_value option text is = subst (λ (o : Awaited). IsValue o text (input_in text)) (sym is) (input_says text)
+-- The name of the input is the value of its option.
+pub input_value : (option : Awaited) (text : List ℕ) → option ≡ Input → IsValue option text (file text)
+input_value option text is = subst (λ (o : Awaited). IsValue o text (file text)) (sym is) refl
+
+-- The expression is the value of its option.
+pub explain_value : (option : Awaited) (text : List ℕ) → option ≡ Explain → IsValue option text (explain text)
+explain_value option text is = subst (λ (o : Awaited). IsValue o text (explain text)) (sym is) refl
 
 pub value_in-is : (option : Awaited) (text : List ℕ) (item : Item) → value_in option text ≡ Some item
     → IsValue option text item
@@ -246,8 +219,11 @@ value_in-is (Filter kind) text item is =
     let same : filter kind text ≡ item = cc in
     subst (λ (i : Item). IsValue (Filter kind) text i) same (refl, refl)
 value_in-is Input text item is =
-    let same : input_in text ≡ item = cc in
-    subst (λ (i : Item). IsValue Input text i) same (input_says text)
+    let same : file text ≡ item = cc in
+    subst (λ (i : Item). IsValue Input text i) same refl
+value_in-is Explain text item is =
+    let same : explain text ≡ item = cc in
+    subst (λ (i : Item). IsValue Explain text i) same refl
 
 pub write_value : (option : Awaited) (text : List ℕ) → option ≡ Write → IsValue option text (write text)
 write_value option text is = subst (λ o. IsValue o text (write text)) (sym is) refl
@@ -306,12 +282,12 @@ not_dashed text (one ∷ known) all plain =
     (λ rest. not_dashed text known rest plain)
 
 pub unknown_word : (text : List ℕ) → is_dashed text ≡ true → is_known text ≡ false → word_named text ≡ word.Unknown
-unknown_word text dashed unknown = in_no_row text word_table unknown ∙ ap (λ b. cond b word.Unknown word.File) dashed
+unknown_word text dashed unknown = in_no_row text word_table unknown ∙ ap (λ b. cond b word.Unknown word.Plain) dashed
 
-pub file_word : (text : List ℕ) → is_dashed text ≡ false → word_named text ≡ word.File
-file_word text plain =
+pub plain_word : (text : List ℕ) → is_dashed text ≡ false → word_named text ≡ word.Plain
+plain_word text plain =
     in_no_row text word_table (not_dashed text (map (λ row. row.0) word_table) refl plain)
-    ∙ ap (λ b. cond b word.Unknown word.File) plain
+    ∙ ap (λ b. cond b word.Unknown word.Plain) plain
 
 -- The argument has this meaning.
 abbrev pub IsWord : List ℕ → Word → Type 0
@@ -327,10 +303,10 @@ IsWord text word.Reassemble = text ≡ codes "--reassemble"
 IsWord text word.NoNames = (text ≡ codes "-n") ⊎ (text ≡ codes "-nn")
 IsWord text (word.Option option) = IsOptionWord option text
 IsWord text word.StandardInput = text ≡ codes "-"
-IsWord text word.File = is_dashed text ≡ false
+IsWord text word.Plain = is_dashed text ≡ false
 IsWord text word.Unknown = (is_dashed text ≡ true) × (is_known text ≡ false)
 
 pub is_word : (text : List ℕ) → IsWord text (word_named text)
 is_word text =
-    by_rows text (IsWord text) word_table (λ e. inl e, (λ e. inr e, (λ e. inl e, (λ e. inr e, (λ e. e, (λ e. e, (λ e. e, (λ e. e, (λ e. e, (λ e. e, (λ e. e, (λ e. inl e, (λ e. inr e, (λ e. inl e, (λ e. e, (λ e. e, (λ e. e, (λ e. e, (λ e. e, (λ e. e, (λ e. e, (λ e. e, (λ e. e, (λ e. e, (λ e. e, (λ e. e, (λ e. e, (λ e. inr e, (λ e. e, (λ e. e, tt))))))))))))))))))))))))))))))
-    (λ none. branch (IsWord text) (is_dashed text) word.Unknown word.File (λ dashed. (dashed, none)) (λ plain. plain))
+    by_rows text (IsWord text) word_table (λ e. inl e, (λ e. inr e, (λ e. inl e, (λ e. inr e, (λ e. e, (λ e. e, (λ e. e, (λ e. e, (λ e. e, (λ e. e, (λ e. e, (λ e. inl e, (λ e. inr e, (λ e. inl e, (λ e. e, (λ e. e, (λ e. e, (λ e. e, (λ e. e, (λ e. e, (λ e. e, (λ e. e, (λ e. e, (λ e. e, (λ e. e, (λ e. e, (λ e. e, (λ e. inr e, (λ e. e, (λ e. e, (λ e. e, tt)))))))))))))))))))))))))))))))
+    (λ none. branch (IsWord text) (is_dashed text) word.Unknown word.Plain (λ dashed. (dashed, none)) (λ plain. plain))

@@ -35,8 +35,8 @@ HasFrame wanted None bytes frame = frame ≡ None
 -- payloads are reassembled, its layers if it is a frame.
 pub record IsDecoded (options : DumpOptions) (one : DecodedPacket) : Type 0 where
   pub content : Holds options.strict one.shown.link one.shown.bytes one.content
-  pub details : IsDetailed (prints_details options one.content) (read_bytes one.shown.link one.shown.bytes) one.content
-      one.details
+  pub details : IsDetailed (prints_details options one.shown one.content) (read_bytes one.shown.link one.shown.bytes)
+      one.content one.details
   pub frame : HasFrame options.reassemble (opening_of one.shown.link one.shown.bytes) one.shown.bytes one.frame
 
 -- ---- the packets of a capture

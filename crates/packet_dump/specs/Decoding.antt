@@ -5,12 +5,13 @@ use Rattle.etherparse.specs.LaxLayers.{LaxLayers}
 use Rattle.etherparse.specs.LaxPackets.{ShowsLax, lax_layers_of}
 use Rattle.etherparse.specs.Layers.{Layers}
 use Rattle.etherparse.specs.StrictFrames.{layers_in}
+use Rattle.packet_filter.specs.Packets.{Packet}
 use Rattle.link_types.specs.Openings.{opening_of, read_bytes}
 use Rattle.link_types.specs.declared.openings.Opening.{Opening}
 use Rattle.packet_dump.specs.DecodedPackets.{DecodedPacket, HasFrame, HasFrameAfter}
 use Rattle.packet_dump.specs.Details.{AreWantedDetails}
 use Rattle.packet_dump.specs.PacketContents.{Content, Holds, HoldsAfterOpening, content_text, is_wanted, prints_details}
-use Rattle.packet_dump.specs.PacketContents.{other_link, packet, refusal}
+use Rattle.packet_dump.specs.PacketContents.{filtered_packet, other_link, packet, refusal}
 use Rattle.packet_dump.specs.PacketLines.{line_of, line_start}
 use Rattle.packet_dump.specs.declared.decoded.Decoded.{Decoded}
 use Rattle.packet_dump.specs.declared.decoded.Outcome.{Outcome}
@@ -47,6 +48,10 @@ packet_with decoded details = record {
 abbrev pub packet_of : Decoded → DecodedPacket
 packet_of decoded = packet_with decoded []
 
+-- the packet that filters are matched against
+abbrev pub filtered_in : Decoded → Packet
+filtered_in decoded = filtered_packet (shown_of decoded.captured.shown) (content_in decoded)
+
 -- the layers of a decoded packet
 abbrev pub layers_of : Decoded → Layers
 layers_of decoded = layers_in (lax_layers_of decoded.read)
@@ -73,7 +78,7 @@ pub record IsParsedBy (options : DumpOptions) (decoded : Decoded) : Type 0 where
 -- The packet was decoded with these options: it was parsed, and `is_selected` is whether it is selected.
 pub record IsDecodedBy (options : DumpOptions) (decoded : Decoded) : Type 0 where
   pub parsed : IsParsedBy options decoded
-  pub selected : decoded.is_selected ≡ is_wanted options (content_in decoded)
+  pub selected : decoded.is_selected ≡ is_wanted options (shown_of decoded.captured.shown) (content_in decoded)
 
 -- ---- its line
 
@@ -84,11 +89,13 @@ start_of options decoded = line_start options.time (packet_of decoded)
 -- The content of a decoded packet was appended, with its details if they are printed.
 abbrev pub AppendsContent : DumpOptions → Decoded → List ℕ → List ℕ → Type 0
 AppendsContent options decoded old new =
-    (details : List ℕ) × AreWantedDetails (prints_details options (content_in decoded)) decoded.read details
+    (details : List ℕ) × AreWantedDetails (prints_details options (shown_of decoded.captured.shown) (content_in decoded))
+    decoded.read details
     × (new ≡ old ++ content_text decoded.captured.shown.bytes.now (content_in decoded) ++ details)
 
 -- The line of a decoded packet was appended, if it is shown, with its details if they are printed.
 abbrev pub AppendsLine : DumpOptions → Decoded → List ℕ → List ℕ → Type 0
 AppendsLine options decoded old new =
-    (details : List ℕ) × AreWantedDetails (prints_details options (content_in decoded)) decoded.read details
+    (details : List ℕ) × AreWantedDetails (prints_details options (shown_of decoded.captured.shown) (content_in decoded))
+    decoded.read details
     × (new ≡ old ++ line_of options (packet_with decoded details))

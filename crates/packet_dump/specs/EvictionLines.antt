@@ -1,5 +1,5 @@
 -- Lines of streams that the pool evicts or discards.
-use Rattle.std.specs.Prelude.{◌≡◌, ℕ, ◌&&◌, nat_eq, if◌then◌else◌, Bool, false, IsFalse, List, [], ◌∷◌, ◌++◌}
+use Rattle.std.specs.Prelude.{◌≡◌, ℕ, ◌&&◌, nat_eq, if◌then◌else◌, Bool, false, not, IsFalse, List, [], ◌∷◌, ◌++◌}
 use Rattle.std.specs.Prelude.{Some, codes, is_some}
 use Rattle.std.specs.List.{list_any}
 use Rattle.std.specs.Fmt.{decimal}
@@ -15,7 +15,7 @@ use Rattle.packet_text.specs.Addresses.{ipv4_text, ipv6_text}
 use Rattle.packet_text.specs.LayerTexts.{protocol_text}
 use Rattle.packet_dump.specs.DecodedPackets.{DecodedPacket}
 use Rattle.packet_dump.specs.PacketCalls.{reports_evictions}
-use Rattle.packet_dump.specs.PacketContents.{asks_nothing, shows_line}
+use Rattle.packet_dump.specs.PacketContents.{shows_line}
 use Rattle.packet_dump.specs.PacketLines.{moment_text}
 use Rattle.packet_dump.specs.declared.dump_options.DumpOptions.{DumpOptions}
 use Rattle.packet_dump.specs.declared.dump_options.Kind.TheVariants.{Refused}
@@ -50,10 +50,10 @@ cause_text Overlap = codes " discarded: overlap\n"
 cause_text Streams = codes " evicted: too many streams\n"
 cause_text Bytes = codes " evicted: too many bytes\n"
 
--- True if evictions are shown: they are printed, lines of rejected fragments are, and there is no filter primitive.
+-- True if evictions are shown: they are printed, lines of rejected fragments are, and there is no filter.
 abbrev pub shows_evictions : DumpOptions → Bool
 shows_evictions options =
-    reports_evictions options && shows_line options (Some Refused) && asks_nothing options.words
+    reports_evictions options && shows_line options (Some Refused) && not (is_some options.filter)
 
 -- the line of a stream that is evicted or discarded, if it is shown
 abbrev pub eviction_line : DumpOptions → List ℕ → IpFragId ℕ → EvictionCause → List ℕ

@@ -20,3 +20,4 @@ pub mod ErrorTexts
 pub mod Options
 pub mod OptionSteps
 pub mod Filters
+pub mod Explanations

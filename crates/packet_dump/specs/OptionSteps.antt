@@ -1,20 +1,21 @@
 -- Parsing of the command line, one argument at a time. Only private functions refer to these definitions.
-use Rattle.std.specs.Prelude.{◌≡◌, ℕ, ◌^◌, Bool, true, false, ◌&&◌, if◌then◌else◌, nat_eq, nat_lt, List, [], ◌∷◌, length}
-use Rattle.std.specs.Prelude.{Option, Some, None, Result, Ok, Err, codes, find}
+use Rattle.std.specs.Prelude.{◌≡◌, ◌⊎◌, ℕ, ◌^◌, Bool, true, false, ◌&&◌, if◌then◌else◌, nat_eq, nat_lt, List, [], ◌∷◌, length}
+use Rattle.std.specs.Prelude.{Option, Some, None, Result, Ok, Err, codes, find, map}
 use Rattle.std.specs.Option.{option_map}
 use Rattle.std.specs.List.{list_all}
 use Rattle.std.specs.Char.{digit_value}
 use Rattle.std.specs.Str.{bytes_eq}
 use Rattle.std.specs.Str.Parse.{digits_value, without_leading_plus}
 use Rattle.packet_dump.specs.Options.{Asked, Fault, Item, Settings, asked_of, bad_value, count, crowded_filter}
-use Rattle.packet_dump.specs.Options.{default_settings, dump, filter, filter_texts}
-use Rattle.packet_dump.specs.Options.{fault_of, file, form_name, help, hex, hex_frame, is_dashed, is_input, kind_name}
+use Rattle.packet_dump.specs.Options.{default_settings, dump, explain, filter, filter_texts}
+use Rattle.packet_dump.specs.Options.{fault_of, file, form_name, help, hex, hex_frame, is_dashed, is_taken, kind_name}
 use Rattle.packet_dump.specs.Options.{limit, no_names, no_value, only, option_word, quiet, reassemble, second_file}
 use Rattle.packet_dump.specs.Options.{standard_input, streams, strict, summary, time, timeout, unknown_option, verbose}
 use Rattle.packet_dump.specs.Options.{version, with_item, write, fragment_age, fragment_bytes, overlap, policy_name}
+use Rattle.packet_dump.specs.Options.{argument, out_of_memory, run_of}
 use Rattle.packet_dump.specs.declared.options.Awaited.{Awaited}
 use Rattle.packet_dump.specs.declared.options.Awaited.TheVariants.{Count, Only, Time, Timeout, Limit, Write, Streams, Filter, Input}
-use Rattle.packet_dump.specs.declared.options.Awaited.TheVariants.{FragmentBytes, FragmentAge, Overlap}
+use Rattle.packet_dump.specs.declared.options.Awaited.TheVariants.{FragmentBytes, FragmentAge, Overlap, Explain}
 use Rattle.packet_dump.specs.declared.options.FilterKind.TheVariants.{Host, Port, Vlan, Net}
 use Rattle.packet_dump.specs.declared.options.Joined.{Joined}
 use Rattle.packet_dump.specs.declared.options.Reading.{Reading}
@@ -45,11 +46,12 @@ word_table =
     ∷ (codes "--fragment-age", word.Option FragmentAge) ∷ (codes "--overlap", word.Option Overlap)
     ∷ (codes "--host", word.Option (Filter Host)) ∷ (codes "--port", word.Option (Filter Port))
     ∷ (codes "--vlan", word.Option (Filter Vlan)) ∷ (codes "--net", word.Option (Filter Net))
-    ∷ (codes "-c", word.Option Count) ∷ (codes "-r", word.Option Input) ∷ (codes "-", word.StandardInput) ∷ []
+    ∷ (codes "-c", word.Option Count) ∷ (codes "-r", word.Option Input)
+    ∷ (codes "--explain", word.Option Explain) ∷ (codes "-", word.StandardInput) ∷ []
 
 -- the meaning of an argument that is no value of an option, by a table
 abbrev pub word_in : List (List ℕ × Word) → List ℕ → Word
-word_in [] text = if is_dashed text then word.Unknown else word.File
+word_in [] text = if is_dashed text then word.Unknown else word.Plain
 word_in (row ∷ rows) text = if bytes_eq text row.0 then row.1 else word_in rows text
 
 abbrev pub word_named : List ℕ → Word
@@ -98,10 +100,6 @@ form_named name = find (λ form. bytes_eq name (form_name form)) (Relative ∷ E
 abbrev pub policy_named : List ℕ → Option OverlapPolicy
 policy_named name = find (λ policy. bytes_eq name (policy_name policy)) (LastWins ∷ FirstWins ∷ Discard ∷ [])
 
--- the input that an argument names
-abbrev pub input_in : List ℕ → Item
-input_in word = if bytes_eq word (codes "-") then standard_input else file word
-
 -- the value of an option, if the argument is one
 abbrev pub value_in : Awaited → List ℕ → Option Item
 value_in Count word = option_map count (number_in 64 word)
@@ -115,16 +113,16 @@ value_in FragmentBytes word = option_map fragment_bytes (number_in 64 word)
 value_in FragmentAge word = option_map fragment_age (number_in 32 word)
 value_in Overlap word = option_map overlap (policy_named word)
 value_in (Filter kind) word = Some (filter kind word)
-value_in Input word = Some (input_in word)
+value_in Input word = Some (file word)
+value_in Explain word = Some (explain word)
 
 -- the state of the parser
 pub record State : Type 0 where
   pub settings : Settings
-  pub named : Bool
   pub awaited : Option Awaited
 
 abbrev pub first_state : State
-first_state = record { settings = default_settings; named = false; awaited = None }
+first_state = record { settings = default_settings; awaited = None }
 
 abbrev pub reading_state : Reading → State
 reading_state reading = record {
@@ -132,19 +130,29 @@ reading_state reading = record {
     options = reading.options;
     filters = filter_texts reading.filter;
     crowded = reading.crowded;
+    words = map (λ text. text.now) reading.words.items;
     path = option_map (λ name. name.now) reading.path;
+    named = reading.is_named;
     target = option_map (λ name. name.now) reading.target;
     summary = reading.summary;
+    explained = option_map (λ text. text.now) reading.explained;
   };
-  named = reading.is_named;
   awaited = reading.awaited;
 }
 
--- the state after a value that is kept as text: a filter primitive, or the name of the file to write
+-- the state after a value that is kept as text: a filter option, an expression, or the name of the file to write
 abbrev pub filtered : State → Awaited → List ℕ → State
 filtered state Write text = record state { settings = with_item state.settings (write text) }
 filtered state (Filter kind) text = record state { settings = with_item state.settings (filter kind text) }
+filtered state Explain text = record state { settings = with_item state.settings (explain text) }
 filtered state option text = state
+
+-- The first of some words was removed, if there are any, and is the result.
+abbrev pub IsFirstRemoved : {A : Type 0} → List A → List A → Option A → Type 0
+IsFirstRemoved [] later None = later ≡ []
+IsFirstRemoved [] later (Some word) = ⊥
+IsFirstRemoved (first ∷ others) later None = ⊥
+IsFirstRemoved (first ∷ others) later (Some word) = (later ≡ others) × (word ≡ first)
 
 -- the result of an argument: the state for more arguments, or the answer
 pub data Step : Type 0 where
@@ -153,24 +161,19 @@ pub data Step : Type 0 where
 
 -- the step of an item
 abbrev pub item_step : State → Item → Step
-item_step state item =
-    more (record { settings = with_item state.settings item; named = state.named; awaited = None })
+item_step state item = more (record { settings = with_item state.settings item; awaited = None })
 
--- the step of an argument that names the input
-abbrev pub named_by : State → List ℕ → Item → Step
-named_by state text item =
-    if state.named
-    then done (Err (second_file text))
-    else more (record { settings = with_item state.settings item; named = true; awaited = None })
+-- the step of an item, given whether it names a second input, by this text
+abbrev pub item_or_fault_step : State → List ℕ → Item → Bool → Step
+item_or_fault_step state text item true = done (Err (second_file text))
+item_or_fault_step state text item false = item_step state item
 
--- the step of an item, given whether it names the input
-abbrev pub input_or_item_step : State → List ℕ → Item → Bool → Step
-input_or_item_step state text item true = named_by state text item
-input_or_item_step state text item false = item_step state item
+abbrev pub step_unless_taken : State → List ℕ → Item → Step
+step_unless_taken state text item = item_or_fault_step state text item (is_taken state.settings item)
 
 -- the step of the value of an option
 abbrev pub value_step : State → Awaited → List ℕ → Option Item → Step
-value_step state option text (Some item) = input_or_item_step state text item (is_input item)
+value_step state option text (Some item) = step_unless_taken state text item
 value_step state option text None = done (Err (bad_value option text))
 
 -- the step of an argument that begins with `-` and is in no row of the table: an option joined to its value, or unknown
@@ -191,8 +194,8 @@ word_step state text word.Quiet = item_step state quiet
 word_step state text word.Reassemble = item_step state reassemble
 word_step state text word.NoNames = item_step state no_names
 word_step state text (word.Option option) = more (record state { awaited = Some option })
-word_step state text word.StandardInput = named_by state text standard_input
-word_step state text word.File = named_by state text (file text)
+word_step state text word.StandardInput = step_unless_taken state text standard_input
+word_step state text word.Plain = item_step state (argument text)
 word_step state text word.Unknown = joined_step state text (joined_in text)
 
 -- the step of an argument
@@ -206,7 +209,7 @@ step state text = step_from state text state.awaited
 -- the answer after the last argument
 abbrev pub finished_from : State → Option Awaited → Result Asked Fault
 finished_from state (Some option) = Err (no_value (option_word option))
-finished_from state None = if state.settings.crowded then Err crowded_filter else Ok (dump state.settings)
+finished_from state None = if state.settings.crowded then Err crowded_filter else Ok (dump (run_of state.settings))
 
 abbrev pub finished : State → Result Asked Fault
 finished state = finished_from state state.awaited
@@ -215,8 +218,8 @@ finished state = finished_from state state.awaited
 abbrev pub joined_parts : Joined → Awaited × List ℕ
 joined_parts joined = (joined.option, joined.value.now)
 
--- The step has this answer and leaves this state.
+-- The step has this answer and leaves this state, or the error is that the allocation failed.
 abbrev pub IsStepResult : Step → State → Result (Option Request) UsageError → Type 0
 IsStepResult step state (Ok None) = step ≡ more state
 IsStepResult step state (Ok (Some request)) = step ≡ done (Ok (asked_of request))
-IsStepResult step state (Err error) = step ≡ done (Err (fault_of error))
+IsStepResult step state (Err error) = (fault_of error ≡ out_of_memory) ⊎ (step ≡ done (Err (fault_of error)))

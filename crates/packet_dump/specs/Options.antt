@@ -1,13 +1,13 @@
 -- Requests and errors of a command line. An argument is the list of its bytes.
-use Rattle.std.specs.Prelude.{◌≡◌, ◌≢◌, ℕ, ◌^◌, ◌<◌, ◌≤◌, ◌⊎◌, ◌||◌, Bool, true, false, nat_eq, List, [], ◌∷◌, ◌++◌, Option}
-use Rattle.std.specs.Prelude.{Some, None, Result, Ok, Err, codes, count_by, drop, fold, is_some, map, replicate, take, String, string_bytes}
+use Rattle.std.specs.Prelude.{◌≡◌, ℕ, ◌^◌, ◌<◌, ◌⊎◌, ◌==◌, ◌||◌, Bool, true, false, nat_eq, not, List, [], ◌∷◌, ◌++◌, Option}
+use Rattle.std.specs.Prelude.{Some, None, Result, Ok, Err, codes, drop, fold, if◌then◌else◌, is_some, length, map, replicate, take, String, string_bytes}
 use Rattle.std.specs.List.{list_any, starts_with}
 use Rattle.std.specs.Option.{option_map}
 use Rattle.std.specs.Str.{bytes_eq}
 use Rattle.std.specs.Str.Parse.{IsNumeral, digits_value, without_leading_plus}
 use Rattle.packet_dump.specs.declared.options.Awaited.{Awaited}
 use Rattle.packet_dump.specs.declared.options.Awaited.TheVariants.{Count, Only, Time, Timeout, Limit, Write, Streams, Filter, Input}
-use Rattle.packet_dump.specs.declared.options.Awaited.TheVariants.{FragmentBytes, FragmentAge, Overlap}
+use Rattle.packet_dump.specs.declared.options.Awaited.TheVariants.{FragmentBytes, FragmentAge, Overlap, Explain}
 use Rattle.packet_dump.specs.declared.options.FilterKind.{FilterKind}
 use Rattle.packet_dump.specs.declared.options.FilterKind.TheVariants.{Host, Port, Vlan, Net}
 use Rattle.packet_dump.specs.declared.options.FilterText.{FilterText}
@@ -66,6 +66,7 @@ option_word FragmentAge = codes "--fragment-age"
 option_word Overlap = codes "--overlap"
 option_word (Filter kind) = filter_option kind
 option_word Input = codes "-r"
+option_word Explain = codes "--explain"
 
 -- The argument is a name of the option.
 abbrev pub IsOptionWord : Awaited → List ℕ → Type 0
@@ -94,7 +95,7 @@ known_words =
     ∷ codes "-n" ∷ codes "-nn" ∷ codes "--count" ∷ codes "--only" ∷ codes "--time" ∷ codes "--timeout"
     ∷ codes "--limit" ∷ codes "--write" ∷ codes "--streams" ∷ codes "--fragment-bytes" ∷ codes "--fragment-age"
     ∷ codes "--overlap" ∷ codes "--host" ∷ codes "--port" ∷ codes "--vlan" ∷ codes "--net" ∷ codes "-c" ∷ codes "-r"
-    ∷ codes "-" ∷ []
+    ∷ codes "--explain" ∷ codes "-" ∷ []
 
 -- True if an argument is one of the known ones.
 abbrev pub is_known : List ℕ → Bool
@@ -129,6 +130,8 @@ pub data Item : Type 0 where
   filter : FilterKind → List ℕ → Item
   file : List ℕ → Item
   standard_input : Item
+  explain : List ℕ → Item
+  argument : List ℕ → Item
 
 -- The argument is this value of the option.
 abbrev pub IsValue : Awaited → List ℕ → Item → Type 0
@@ -143,8 +146,8 @@ IsValue FragmentBytes word (fragment_bytes bytes) = IsNumber 64 word bytes
 IsValue FragmentAge word (fragment_age seconds) = IsNumber 32 word seconds
 IsValue Overlap word (overlap policy) = word ≡ policy_name policy
 IsValue (Filter kind) word (filter other said) = (kind ≡ other) × (word ≡ said)
-IsValue Input word (file name) = (word ≡ name) × (word ≢ codes "-")
-IsValue Input word standard_input = word ≡ codes "-"
+IsValue Input word (file name) = word ≡ name
+IsValue Explain word (explain text) = word ≡ text
 IsValue option word item = ⊥
 
 -- The arguments are an option and its value, which is this item.
@@ -162,25 +165,9 @@ IsItem words summary = words ≡ codes "--summary" ∷ []
 IsItem words quiet = words ≡ codes "--quiet" ∷ []
 IsItem words reassemble = words ≡ codes "--reassemble" ∷ []
 IsItem words no_names = (words ≡ codes "-n" ∷ []) ⊎ (words ≡ codes "-nn" ∷ [])
-IsItem words (file name) = ((words ≡ name ∷ []) × (is_dashed name ≡ false)) ⊎ IsOption words (file name)
-IsItem words standard_input = (words ≡ codes "-" ∷ []) ⊎ IsOption words standard_input
+IsItem words standard_input = words ≡ codes "-" ∷ []
+IsItem words (argument text) = (words ≡ text ∷ []) × (is_dashed text ≡ false)
 IsItem words item = IsOption words item
-
--- True if an item names the input.
-abbrev pub is_input : Item → Bool
-is_input (file name) = true
-is_input standard_input = true
-is_input item = false
-
--- the number of items that name the input
-abbrev pub inputs : List Item → ℕ
-inputs items = count_by is_input items
-
--- The arguments are those of these items in order, and then `rest`.
-abbrev pub Begin : List (List ℕ) → List Item → List (List ℕ) → Type 0
-Begin words [] rest = words ≡ rest
-Begin words (item ∷ items) rest =
-    (own more : List (List ℕ)) × (words ≡ own ++ more) × IsItem own item × Begin more items rest
 
 -- Six slots for filter primitives as text. They are parsed after the command line.
 abbrev pub Filters : Type 0
@@ -198,22 +185,26 @@ filter_texts words = map (λ place. option_map (λ word. (word.kind, word.text.n
 abbrev pub is_full : Filters → Bool
 is_full filters = list_any (λ slot. is_some slot) (drop 5 filters)
 
--- The settings of a run: the options, the filter primitives, the last one first, and whether there are more than slots;
--- the name of the input file and of the file to write, if any; and whether a summary follows.
+-- The settings of arguments: the options, the filter options, the last one first, and whether there are more than slots;
+-- the arguments that are no options; the name of the input file by `-r`, if any, and whether `-r` or `-` names the input;
+-- the name of the file to write and the expression to explain, if any; and whether a summary follows.
 pub record Settings : Type 0 where
   pub options : DumpOptions
   pub filters : Filters
   pub crowded : Bool
+  pub words : List (List ℕ)
   pub path : Option (List ℕ)
+  pub named : Bool
   pub target : Option (List ℕ)
   pub summary : Bool
+  pub explained : Option (List ℕ)
 
 -- the settings without any item
 abbrev pub default_settings : Settings
 default_settings = record {
   options = record {
     only = None;
-    words = replicate 6 None;
+    filter = None;
     time = Relative;
     most = 18446744073709551615;
     quiet = false;
@@ -231,9 +222,12 @@ default_settings = record {
   };
   filters = replicate 6 None;
   crowded = false;
+  words = [];
   path = None;
+  named = false;
   target = None;
   summary = false;
+  explained = None;
 }
 
 -- the options after an item
@@ -255,6 +249,10 @@ options_with options (fragment_age seconds) = record options { fragment_age = So
 options_with options (overlap policy) = record options { overlap = Some policy }
 options_with options item = options
 
+-- the file of `-r`; none for `-`, which is standard input
+abbrev pub path_named : List ℕ → Option (List ℕ)
+path_named name = if bytes_eq name (codes "-") then None else Some name
+
 -- the settings after an item
 abbrev pub with_item : Settings → Item → Settings
 with_item settings summary = record settings { summary = true }
@@ -262,20 +260,72 @@ with_item settings (filter kind text) = record settings {
   filters = Some (kind, text) ∷ take 5 settings.filters;
   crowded = settings.crowded || is_full settings.filters;
 }
-with_item settings (file name) = record settings { path = Some name }
+with_item settings (file name) = record settings { path = path_named name; named = true }
 with_item settings (write name) = record settings { target = Some name }
-with_item settings standard_input = settings
+with_item settings standard_input = record settings { named = true }
+with_item settings (explain text) = record settings { explained = Some text }
+with_item settings (argument text) = record settings { words = settings.words ++ text ∷ [] }
 with_item settings item = record settings { options = options_with settings.options item }
 
 -- the settings of the items: the last one of several of an option decides, but the last six filter primitives are kept
 abbrev pub settings_of : List Item → Settings
 settings_of items = fold with_item default_settings items
 
+-- True if the input was named, by an option or by the first argument that is none.
+abbrev pub has_input : Settings → Bool
+has_input settings = settings.named || not (length settings.words == 0)
+
+-- True if an item names the input, and it was named already. A file before `-r` is a word of the filter expression.
+abbrev pub is_taken : Settings → Item → Bool
+is_taken settings (file name) = settings.named
+is_taken settings standard_input = has_input settings
+is_taken settings item = false
+
+-- The arguments are those of these items in order, and then `rest`. None names a second input.
+abbrev pub Begin : Settings → List (List ℕ) → List Item → List (List ℕ) → Type 0
+Begin before words [] rest = words ≡ rest
+Begin before words (item ∷ items) rest =
+    (own more : List (List ℕ)) × (words ≡ own ++ more) × IsItem own item × (is_taken before item ≡ false)
+    × Begin (with_item before item) more items rest
+
+-- The run that a command line without errors requests: the options and the filter options; the name of the input file,
+-- if it is not standard input; the words of the filter expression; the name of the file to write and the expression to
+-- explain, if any; and whether a summary follows.
+pub record Run : Type 0 where
+  pub options : DumpOptions
+  pub filters : Filters
+  pub path : Option (List ℕ)
+  pub words : List (List ℕ)
+  pub target : Option (List ℕ)
+  pub summary : Bool
+  pub explained : Option (List ℕ)
+
+-- the file and the words of the expression, given whether an option names the input: if not, the first word is the file
+abbrev pub parted : Bool → Option (List ℕ) → List (List ℕ) → Option (List ℕ) × List (List ℕ)
+parted true path words = (path, words)
+parted false path [] = (None, [])
+parted false path (first ∷ others) = (Some first, others)
+
+-- the run of these settings with this file and these words
+abbrev pub run_with : Settings → Option (List ℕ) × List (List ℕ) → Run
+run_with settings parts = record {
+  options = settings.options;
+  filters = settings.filters;
+  path = parts.0;
+  words = parts.1;
+  target = settings.target;
+  summary = settings.summary;
+  explained = settings.explained;
+}
+
+abbrev pub run_of : Settings → Run
+run_of settings = run_with settings (parted settings.named settings.path settings.words)
+
 -- a request of a command line
 pub data Asked : Type 0 where
   help : Asked
   version : Asked
-  dump : Settings → Asked
+  dump : Run → Asked
 
 -- an error of a command line
 pub data Fault : Type 0 where
@@ -284,18 +334,20 @@ pub data Fault : Type 0 where
   bad_value : Awaited → List ℕ → Fault
   second_file : List ℕ → Fault
   crowded_filter : Fault
+  out_of_memory : Fault
 
 -- the request as a definition
 abbrev pub asked_of : Request → Asked
 asked_of request.Help = help
 asked_of request.Version = version
-asked_of (request.Dump options slots path target summarized) = dump (record {
+asked_of (request.Dump options slots path words explained target summarized) = dump (record {
   options = options;
   filters = filter_texts slots;
-  crowded = false;
   path = option_map (λ name. name.now) path;
+  words = map (λ text. text.now) words.items;
   target = option_map (λ name. name.now) target;
   summary = summarized;
+  explained = option_map (λ text. text.now) explained;
 })
 
 -- the error as a definition
@@ -313,6 +365,7 @@ fault_of (usage.NotAnAge word) = bad_value FragmentAge word.now
 fault_of (usage.NotAPolicy word) = bad_value Overlap word.now
 fault_of (usage.SecondFile word) = second_file word.now
 fault_of usage.CrowdedFilter = crowded_filter
+fault_of usage.OutOfMemory = out_of_memory
 
 -- the answer of the parser as a definition
 abbrev pub answer_of : Result Request UsageError → Result Asked Fault
@@ -323,49 +376,46 @@ answer_of (Err error) = Err (fault_of error)
 abbrev pub Leads : List ℕ → List (List ℕ) → Type 0
 Leads word words = (others : List (List ℕ)) × (words ≡ word ∷ others)
 
--- The arguments begin with those that name the input, by this argument.
-abbrev pub LeadsInput : List ℕ → List (List ℕ) → Type 0
-LeadsInput word words =
-    (Leads word words × ((is_dashed word ≡ false) ⊎ (word ≡ codes "-")))
-    ⊎ ((own others : List (List ℕ)) × AreSpelled Input word own × (words ≡ own ++ others))
+-- The arguments begin with those that name a second input, by this argument.
+abbrev pub LeadsInput : Settings → List ℕ → List (List ℕ) → Type 0
+LeadsInput settings word words =
+    (Leads word words × (word ≡ codes "-") × (has_input settings ≡ true))
+    ⊎ ((own others : List (List ℕ)) × AreSpelled Input word own × (words ≡ own ++ others) × (settings.named ≡ true))
 
 -- The rest of the arguments, after items with these settings, completes this request: the text that the first argument
--- asks for, or a dump if there is no argument left and the filter has no more primitives than slots.
+-- asks for, or a dump if there is no argument left and there are no more filter options than slots.
 abbrev pub Asks : Settings → List (List ℕ) → Asked → Type 0
 Asks settings rest help = Leads (codes "-h") rest ⊎ Leads (codes "--help") rest
 Asks settings rest version = Leads (codes "-V") rest ⊎ Leads (codes "--version") rest
-Asks settings rest (dump asked) = (rest ≡ []) × (asked ≡ settings) × (settings.crowded ≡ false)
+Asks settings rest (dump run) = (rest ≡ []) × (run ≡ run_of settings) × (settings.crowded ≡ false)
 
--- The rest of the arguments, after items with these settings (`before` of them name the input), has this error: the
--- first argument begins with `-` and is unknown, it is an option at the end, the value of the option is invalid, or it
--- names a second input. If there is no argument left, the error is a filter with more primitives than slots.
-abbrev pub IsFault : Settings → ℕ → List (List ℕ) → Fault → Type 0
-IsFault settings before rest crowded_filter = (rest ≡ []) × (settings.crowded ≡ true)
-IsFault settings before rest (unknown_option word) =
+-- The rest of the arguments, after items with these settings, has this error: the first argument begins with `-` and is
+-- unknown, it is an option at the end, the value of the option is invalid, or it names a second input. If there is no
+-- argument left, the error is that there are more filter options than slots.
+abbrev pub IsFault : Settings → List (List ℕ) → Fault → Type 0
+IsFault settings rest crowded_filter = (rest ≡ []) × (settings.crowded ≡ true)
+IsFault settings rest (unknown_option word) =
     Leads word rest × (is_dashed word ≡ true) × (is_known word ≡ false)
     × ((option : Awaited) (value : List ℕ) → IsJoined option value word → ⊥)
-IsFault settings before rest (no_value word) =
+IsFault settings rest (no_value word) =
     (option : Awaited) × (name : List ℕ) × IsOptionWord option name × (rest ≡ name ∷ []) × (word ≡ option_word option)
-IsFault settings before rest (bad_value option word) =
+IsFault settings rest (bad_value option word) =
     (own others : List (List ℕ)) × AreSpelled option word own × (rest ≡ own ++ others)
     × ((item : Item) → IsValue option word item → ⊥)
-IsFault settings before rest (second_file word) = LeadsInput word rest × (before ≡ 1)
-
--- The arguments are those of these items, with at most one input, and then `rest`.
-pub record Begins (words : List (List ℕ)) (items : List Item) (rest : List (List ℕ)) : Type 0 where
-  pub items_first : Begin words items rest
-  pub one_input : inputs items ≤ 1
+IsFault settings rest (second_file word) = LeadsInput settings word rest
+IsFault settings rest out_of_memory = ⊥
 
 -- The arguments make this request.
 abbrev pub IsRequest : List (List ℕ) → Asked → Type 0
 IsRequest words asked =
-    (items : List Item) × (rest : List (List ℕ)) × Begins words items rest × Asks (settings_of items) rest asked
+    (items : List Item) × (rest : List (List ℕ)) × Begin default_settings words items rest
+    × Asks (settings_of items) rest asked
 
--- The arguments have this error: that of the first wrong one, or too many filter primitives if no argument is wrong.
+-- The arguments have this error: that of the first wrong one, or too many filter options if no argument is wrong.
 abbrev pub RefusesWords : List (List ℕ) → Fault → Type 0
 RefusesWords words fault =
-    (items : List Item) × (rest : List (List ℕ)) × Begins words items rest
-    × IsFault (settings_of items) (inputs items) rest fault
+    (items : List Item) × (rest : List (List ℕ)) × Begin default_settings words items rest
+    × IsFault (settings_of items) rest fault
 
 -- the bytes of each argument
 abbrev pub texts : {A : Type 0} → List (String A) → List (List ℕ)

@@ -1,13 +1,13 @@
 -- Content of a packet, and the packets that are shown.
 use Rattle.std.specs.Prelude.{◌≡◌, ◌⊎◌, ℕ, ◌&&◌, ◌||◌, is_some, not, if◌then◌else◌, Bool, true, false, List, [], ◌∷◌, ◌++◌, Option, Some, None, codes, drop}
 use Rattle.std.specs.Fmt.{decimal}
-use Rattle.std.specs.List.{list_all}
+use Rattle.capture_reader.specs.Captures.{PlainShown}
 use Rattle.etherparse.specs.Types.Layer.{Layer}
 use Rattle.etherparse.specs.Types.SliceError.{SliceError}
 use Rattle.etherparse.specs.Frame.{IsFrame}
 use Rattle.etherparse.specs.FrameBytes.{last_payload}
 use Rattle.etherparse.specs.Lax.{IsLax}
-use Rattle.etherparse.specs.LaxLayers.{LaxLayers}
+use Rattle.etherparse.specs.LaxLayers.{LaxLayers, no_lax_layers}
 use Rattle.etherparse.specs.LaxRefusals.{RefusesLax}
 use Rattle.etherparse.specs.Layers.{Layers, NetLayer, ipv4, ipv6, arp}
 use Rattle.etherparse.specs.FrameRefusals.{RefusesFrame}
@@ -17,10 +17,12 @@ use Rattle.etherparse.specs.StrictFrames.{IsWhole, layers_in}
 use Rattle.etherparse.specs.Types.TransportHeader.{TransportHeader}
 use Rattle.etherparse.specs.Types.TransportHeader.TheVariants as header
 use Rattle.etherparse.specs.TransportParts.{TransportLayer}
-use Rattle.packet_filter.specs.Passing.{passes}
-use Rattle.packet_filter.specs.declared.word.Word.{Word}
+use Rattle.packet_filter.specs.Meaning.{meaning}
+use Rattle.packet_filter.specs.Packets.{Packet, packet_of}
+use Rattle.packet_filter.specs.Trees.{tree_of}
+use Rattle.packet_filter.specs.declared.step.Step.{Step}
 use Rattle.packet_text.specs.LayerTexts.{lax_layers_text}
-use Rattle.link_types.specs.Openings.{is_cooked, opening_of}
+use Rattle.link_types.specs.Openings.{is_cooked, opening_of, read_bytes}
 use Rattle.packet_text.specs.Rows.{rows_text}
 use Rattle.packet_text.specs.SliceErrorTexts.{refusal_text}
 use Rattle.packet_text.specs.Transports.{len_text}
@@ -152,36 +154,39 @@ shows_kind (Some wanted) None = false
 abbrev pub shows_line : DumpOptions → Option Kind → Bool
 shows_line options kind = not options.quiet && shows_kind options.only kind
 
--- ---- filter primitives
+-- ---- filters
 
--- True if the layers match a filter primitive, or the slot is empty.
-abbrev pub slot_holds : Option Word → LaxLayers → Bool
-slot_holds None read = true
-slot_holds (Some word) read = passes (word ∷ []) read
+-- The layers that filters are matched against: none of a packet that is rejected or not read.
+abbrev pub filtered_layers : Content → LaxLayers
+filtered_layers (packet read) = read
+filtered_layers (refusal error) = no_lax_layers
+filtered_layers (other_link number) = no_lax_layers
 
--- True if the filter is empty.
-abbrev pub asks_nothing : List (Option Word) → Bool
-asks_nothing words = list_all (λ slot. not (is_some slot)) words
+-- The packet that filters are matched against: these layers, the bytes from where parsing starts, and the original
+-- length.
+unfoldable pub filtered_packet : PlainShown → Content → Packet
+filtered_packet shown content =
+    packet_of (filtered_layers content) (read_bytes shown.link shown.bytes) shown.original_len
 
--- True if a packet matches all filter primitives. One without layers matches only the empty filter.
-abbrev pub meets : List (Option Word) → Content → Bool
-meets words (packet read) = list_all (λ slot. slot_holds slot read) words
-meets words (refusal error) = asks_nothing words
-meets words (other_link number) = asks_nothing words
+-- True if the filter matches a packet, or there is none.
+unfoldable pub meets : Option (List Step) → Packet → Bool
+meets None matched = true
+meets (Some filter) matched = meaning (tree_of filter) matched
 
 -- True if a packet of this content is selected: its kind is, and it matches the filter.
-abbrev pub is_wanted : DumpOptions → Content → Bool
-is_wanted options content = shows_kind options.only (content_kind content) && meets options.words content
+abbrev pub is_wanted : DumpOptions → PlainShown → Content → Bool
+is_wanted options shown content =
+    shows_kind options.only (content_kind content) && meets options.filter (filtered_packet shown content)
 
 -- True if a packet of this content is shown: lines are printed, and it is selected.
-abbrev pub shows_content : DumpOptions → Content → Bool
-shows_content options content = not options.quiet && is_wanted options content
+abbrev pub shows_content : DumpOptions → PlainShown → Content → Bool
+shows_content options shown content = not options.quiet && is_wanted options shown content
 
 -- True if details of a packet of this content are printed: it has layers, it is shown, and details are wanted.
-abbrev pub prints_details : DumpOptions → Content → Bool
-prints_details options (packet read) = options.verbose && shows_content options (packet read)
-prints_details options (refusal error) = false
-prints_details options (other_link number) = false
+abbrev pub prints_details : DumpOptions → PlainShown → Content → Bool
+prints_details options shown (packet read) = options.verbose && shows_content options shown (packet read)
+prints_details options shown (refusal error) = false
+prints_details options shown (other_link number) = false
 
 -- ---- bytes
 

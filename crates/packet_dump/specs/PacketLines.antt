@@ -61,4 +61,4 @@ line_text options one =
 
 -- the line of a packet if it is shown, else nothing
 abbrev pub line_of : DumpOptions → DecodedPacket → List ℕ
-line_of options one = if shows_content options one.content then line_text options one else []
+line_of options one = if shows_content options one.shown one.content then line_text options one else []

@@ -1,6 +1,5 @@
 -- Lines of reassembled payloads, of fragments that the pool rejects, and of streams that it evicts or discards.
-use Rattle.std.specs.Prelude.{◌≡◌, ℕ, ◌/◌, nat_lt, if◌then◌else◌, ◌&&◌, Bool, true, false, List, [], ◌∷◌, ◌++◌, Option, Some, None, codes}
-use Rattle.std.specs.List.{list_all}
+use Rattle.std.specs.Prelude.{◌≡◌, ℕ, ◌/◌, nat_lt, if◌then◌else◌, ◌&&◌, Bool, false, List, [], ◌∷◌, ◌++◌, Option, Some, None, codes}
 use Rattle.etherparse.specs.Readings.{slices}
 use Rattle.etherparse.specs.Types.TcpHeaderSliceError.{HeaderSliceError}
 use Rattle.etherparse.specs.Types.TcpHeaderSliceError.TheVariants as header_error
@@ -14,10 +13,9 @@ use Rattle.etherparse.specs.Types.SliceError.TheVariants as slice_error
 use Rattle.etherparse.specs.Layers.{Layers}
 use Rattle.etherparse.specs.TransportParts.{TransportLayer, IsTransportPart, RefusesTransportPart, payload_in}
 use Rattle.line_io.specs.Lines.{line_feed}
-use Rattle.packet_filter.specs.Passing.{matches_reassembled}
-use Rattle.packet_filter.specs.declared.word.Word.{Word}
+use Rattle.packet_filter.specs.Packets.{Packet, reassembled_packet}
 use Rattle.packet_dump.specs.DecodedPackets.{DecodedPacket}
-use Rattle.packet_dump.specs.PacketContents.{bytes_text, header_kind, shows_line}
+use Rattle.packet_dump.specs.PacketContents.{bytes_text, filtered_packet, header_kind, meets, shows_line}
 use Rattle.packet_dump.specs.PacketLines.{line_start}
 use Rattle.packet_text.specs.LayerTexts.{outer_text, protocol_text}
 use Rattle.packet_dump.specs.PacketCalls.{KeepsMemory, PoolHistory, expiry_step, fragment_call, fragment_in_frame}
@@ -58,11 +56,6 @@ inner_kind (part (Some layer)) = Some (header_kind layer.header)
 inner_kind (part None) = None
 inner_kind (unread error) = Some Refused
 
--- the transport layer of a content
-abbrev pub inner_layer : Inner → Option TransportLayer
-inner_layer (part layer) = layer
-inner_layer (unread error) = None
-
 -- the payload of the transport layer, or all bytes if there is none
 abbrev pub inner_bytes : List ℕ → Inner → List ℕ
 inner_bytes bytes (part layer) = payload_in bytes layer
@@ -78,26 +71,19 @@ opening_text start layers = start ++ outer_text layers
 abbrev pub closing_text : Bool → List ℕ → List ℕ
 closing_text hex bytes = bytes_text hex bytes ++ line_feed ∷ []
 
--- True if these layers with this transport layer match a filter primitive, or the slot is empty.
-abbrev pub slot_holds_of : Option Word → Layers → Option TransportLayer → Bool
-slot_holds_of None layers transport = true
-slot_holds_of (Some word) layers transport = matches_reassembled word layers transport
-
--- True if all filter primitives match: ports this transport layer, and the others these layers.
-abbrev pub meets_payload : List (Option Word) → Layers → Option TransportLayer → Bool
-meets_payload words layers transport = list_all (λ slot. slot_holds_of slot layers transport) words
-
--- True if the line of a payload of this kind and this transport layer is shown: its kind is, and all filter primitives
--- match: ports that transport layer, and the others the layers outside it.
-abbrev pub shows_payload : DumpOptions → Layers → Option Kind → Option TransportLayer → Bool
-shows_payload options layers kind transport =
-    shows_line options kind && meets_payload options.words layers transport
+-- True if the line of a payload of this kind is shown: its kind is, and the filter matches this packet.
+abbrev pub shows_payload : DumpOptions → Option Kind → Packet → Bool
+shows_payload options kind matched = shows_line options kind && meets options.filter matched
 
 -- the line, if it is shown
-abbrev pub further_line : DumpOptions → List ℕ → Layers → Option Kind → Option TransportLayer → List ℕ → List ℕ → List ℕ
-further_line options start layers kind transport said bytes =
-    if shows_payload options layers kind transport
+abbrev pub further_line : DumpOptions → List ℕ → Layers → Option Kind → Packet → List ℕ → List ℕ → List ℕ
+further_line options start layers kind matched said bytes =
+    if shows_payload options kind matched
     then opening_text start layers ++ said ++ closing_text options.hex bytes else []
+
+-- a packet with a reassembled payload in place of its fragment
+abbrev pub with_payload : Packet → ℕ → List ℕ → Packet
+with_payload whole number bytes = reassembled_packet whole.layers whole.bytes whole.len number bytes
 
 -- the text of a reassembled payload
 abbrev pub payload_text : ℕ → List ℕ → Inner → List ℕ
@@ -107,28 +93,29 @@ payload_text number bytes inner = codes " reassembled" ++ inner_text number byte
 abbrev pub unread_text : HeaderSliceError → List ℕ
 unread_text error = codes " reassembled" ++ refusal_text (frame_error error)
 
--- the line of a payload
-abbrev pub payload_line : DumpOptions → List ℕ → Layers → ℕ → List ℕ → Inner → List ℕ
-payload_line options start layers number bytes inner =
-    further_line options start layers (inner_kind inner) (inner_layer inner) (payload_text number bytes inner)
-    (inner_bytes bytes inner)
+-- the line of a payload that is complete with a packet, which filters are matched against with this payload
+abbrev pub payload_line : DumpOptions → List ℕ → Layers → Packet → ℕ → List ℕ → Inner → List ℕ
+payload_line options start layers whole number bytes inner =
+    further_line options start layers (inner_kind inner) (with_payload whole number bytes)
+    (payload_text number bytes inner) (inner_bytes bytes inner)
 
 -- the reason for which the pool rejects a fragment
 abbrev pub pool_refusal_text : BoundedDefragError → List ℕ
 pool_refusal_text error = codes " not reassembled: " ++ bounded_error_text error
 
--- the line of a rejected fragment
-abbrev pub refused_line : DumpOptions → List ℕ → Layers → BoundedDefragError → List ℕ
-refused_line options start layers error =
-    further_line options start layers (Some Refused) None (pool_refusal_text error) []
+-- the line of a rejected fragment in a packet, which filters are matched against
+abbrev pub refused_line : DumpOptions → List ℕ → Layers → Packet → BoundedDefragError → List ℕ
+refused_line options start layers whole error =
+    further_line options start layers (Some Refused) whole (pool_refusal_text error) []
 
--- The text is the line of the pool's answer to a frame of these layers.
-abbrev pub IsAnswerText : DumpOptions → List ℕ → Layers → BoundedAnswer → List ℕ → Type 0
-IsAnswerText options start layers (payload_complete payload) text =
+-- The text is the line of the pool's answer to a frame of these layers, which filters are matched against as `whole`.
+abbrev pub IsAnswerText : DumpOptions → List ℕ → Layers → Packet → BoundedAnswer → List ℕ → Type 0
+IsAnswerText options start layers whole (payload_complete payload) text =
     (inner : Inner) × IsInner payload.ip_number.0 payload.bytes inner
-    × (text ≡ payload_line options start layers payload.ip_number.0 payload.bytes inner)
-IsAnswerText options start layers (fragment_rejected error) text = text ≡ refused_line options start layers error
-IsAnswerText options start layers nothing_complete text = text ≡ []
+    × (text ≡ payload_line options start layers whole payload.ip_number.0 payload.bytes inner)
+IsAnswerText options start layers whole (fragment_rejected error) text =
+    text ≡ refused_line options start layers whole error
+IsAnswerText options start layers whole nothing_complete text = text ≡ []
 
 -- ---- packets
 
@@ -158,7 +145,8 @@ abbrev pub PassesFragment : DumpOptions → PoolHistory → DecodedPacket → La
 PassesFragment options before one layers given room text after =
     let call = fragment_call given one.latest in
     let step = step_of before call one.number (Some room) in
-    (answer : List ℕ) × IsAnswerText options (line_start options.time one) layers step.answer answer
+    (answer : List ℕ)
+    × IsAnswerText options (line_start options.time one) layers (filtered_packet one.shown one.content) step.answer answer
     × KeepsMemory options step.gone
     × (text ≡ gone_lines options (moment_of options one) step.gone ++ answer
     ++ cleared_text options (moment_of options one) given.0 step.answer)

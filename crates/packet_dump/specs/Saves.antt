@@ -22,7 +22,7 @@ use Rattle.packet_dump.specs.declared.saving.Saving.{Saving}
 
 -- True if a packet is selected.
 abbrev pub is_selected : DumpOptions → DecodedPacket → Bool
-is_selected options one = is_wanted options one.content
+is_selected options one = is_wanted options one.shown one.content
 
 -- the selected packets, in order
 abbrev pub selected : DumpOptions → List DecodedPacket → List PlainShown

@@ -1,8 +1,9 @@
 -- State between two chunks of a capture.
 use Rattle.std.specs.Prelude.{◌≡◌, ℕ, ◌+◌, ◌≤◌, nat_eq, Bool, true, false, List, [], ◌∷◌, ◌++◌, Some}
-use Rattle.capture_reader.specs.Captures.{IsCapture, Item, PlainShown, RefusesCapture, Stage, at_start, stage_after}
-use Rattle.capture_reader.specs.Captures.{stage_after_items}
-use Rattle.capture_reader.specs.Readers.{Reads, reader_offset, reader_unread}
+use Rattle.capture_reader.specs.Captures.{IsCapture, Item, PlainShown, RefusesCapture, Stage, at_start, shown_in}
+use Rattle.capture_reader.specs.Captures.{stage_after, stage_after_items}
+use Rattle.capture_reader.specs.Readers.{Reads, ReadsMore, reader_offset, reader_shown, reader_unread}
+use Rattle.capture_reader.specs.declared.reader.CaptureReader.{CaptureReader}
 use Rattle.etherparse.specs.BoundedPools.{HoldsRows, limits_in, statistics_in}
 use Rattle.packet_dump.specs.DecodedPackets.{AreDecoded, DecodedPacket, IsDecoded, IsPacketAfter, Progress, none_read}
 use Rattle.packet_dump.specs.DecodedPackets.{packets_in, progress_after_items, progress_with}
@@ -102,6 +103,16 @@ abbrev pub Drains : DumpOptions → Session → CaptureState → List ℕ → Wr
 Drains options session capture_state read written =
     (processed : HasProcessed options session read (with_lines written session.output.items))
     × HasState options capture_state read processed.items
+
+-- The session's parser has read one packet more than the session has processed, from these bytes: with `parser`, as it
+-- was before that packet, the session has processed the packets in them, and their lines are pending.
+pub record HasParsed (options : DumpOptions) (session : Session) (read : List ℕ) (written : Written) : Type 0 where
+  pub parser : CaptureReader
+  pub processed : HasProcessed options (record session { capture = parser }) read
+      (with_lines written session.output.items)
+  pub item : Item
+  pub reads : ReadsMore session.capture read processed.items item
+  pub shows : shown_in (stage_after_items at_start processed.items) item ≡ Some (reader_shown session.capture)
 
 -- A packet of the capture was decoded, saved and counted, and its line appended; the pool has the history after it.
 pub record ProcessesPacket (old new : Session) (before : PoolHistory) (shown : PlainShown) : Type 0 where

@@ -60,7 +60,7 @@ pub struct Decoded<'a> {
     /// True if strict slicing accepts the packet. Always false without `--reassemble`, which passes only such packets
     /// to the reassembly pool.
     pub is_frame: bool,
-    /// True if `--only` and the filter options select the packet.
+    /// True if `--only` and the filter select the packet.
     pub is_selected: bool,
 }
 

@@ -2,20 +2,26 @@
 
 ghost use Rattle.std.specs.Prelude.{◌≡◌};
 ghost use Rattle.std.specs.Option.{option_map};
+ghost use Rattle.capture_reader.specs.Readers.{shown_of};
 ghost use Rattle.etherparse.specs.LaxPackets.{lax_layers_of};
 ghost use Rattle.etherparse.specs.LaxViews.{lax_net_layer_of};
 ghost use Rattle.etherparse.specs.TransportParts.{transport_layer_of};
-ghost use Rattle.packet_dump.specs.Decoding.{content_in};
+ghost use Rattle.link_types.specs.Openings.{read_bytes};
+ghost use Rattle.packet_dump.specs.Decoding.{content_in, filtered_in};
 ghost use Rattle.packet_dump.specs.EvictionLines.{shows_evictions};
 ghost use Rattle.packet_dump.specs.PacketCalls.{limits_of, nanoseconds, reports_evictions};
-ghost use Rattle.packet_dump.specs.PacketContents.{asks_nothing, content_kind, frame_kind, is_wanted, meets, packet};
-ghost use Rattle.packet_dump.specs.PacketContents.{same_kind, shows_kind, shows_line, slot_holds};
-ghost use Rattle.packet_dump.specs.PoolLines.{inner_kind, part};
+ghost use Rattle.packet_dump.specs.PacketContents.{content_kind, frame_kind, is_wanted, meets, packet, same_kind};
+ghost use Rattle.packet_dump.specs.PacketContents.{shows_kind, shows_line};
+ghost use Rattle.packet_dump.specs.PoolLines.{inner_kind, part, with_payload};
+ghost use Rattle.packet_filter.specs.Meaning.{meaning};
+ghost use Rattle.packet_filter.specs.Trees.{tree_of};
 
 use crate::decoded::{Decoded, Outcome};
+use capture_reader::Shown;
 use etherparse::defrag::{DefragLimits, OverlapPolicy};
-use etherparse::{LaxNetSlice, LaxSlicedPacket, TransportSlice};
-use packet_filter::{Word, holds};
+use etherparse::{IpNumber, LaxNetSlice, LaxSlicedPacket, TransportSlice};
+use link_types::opening_of;
+use packet_filter::Filter;
 
 /// Kind of a packet for the option `--only`: its transport layer, ARP, or how its parsing failed.
 #[derive(Clone, Copy)]
@@ -103,13 +109,13 @@ pub enum TimeForm {
 }
 
 /// Options of a `packet_dump` run: which packets are shown, and how.
-#[derive(Clone, Copy)]
+#[derive(Drop)]
 pub struct DumpOptions {
     /// Only packets of this kind are shown (`--only`); `None` shows all.
     pub only: Option<Kind>,
-    /// Parsed filter options (`--host`, `--port`, `--net`, `--vlan`), each in a slot; only packets that match all of
-    /// them are shown.
-    pub words: [Option<Word>; 6],
+    /// Only packets that this filter matches are shown: the filter expression and the filter options (`--host`,
+    /// `--port`, `--net`, `--vlan`); `None` shows all.
+    pub filter: Option<Filter>,
     /// Format of the timestamps of packet lines (`--time`).
     pub time: TimeForm,
     /// Maximum number of packets that are read, shown or not (`--count`).
@@ -146,7 +152,7 @@ pub struct DumpOptions {
 
 impl DumpOptions {
     /// Returns whether the lines of packets of this kind are printed, by `--quiet` and `--only`: never with `--quiet`,
-    /// otherwise if `--only` names the kind or is not given. The filter options (`--host` ..) are not considered here.
+    /// otherwise if `--only` names the kind or is not given. The filter is not considered here.
     pub fn shows(&self, kind: Option<Kind>) -> bool
         ensures { result ≡ shows_line self.now kind }
     {
@@ -164,15 +170,21 @@ impl DumpOptions {
         }
     }
 
-    /// Returns whether `--only` and all filter options select a packet, even if `--quiet` hides its line. Without
-    /// layers (rejected, or with an unsupported link type) it matches no filter option.
+    /// Returns whether `--only` and the filter select a packet, even if `--quiet` hides its line.
     pub fn selects(&self, packet: &Decoded<'_>) -> bool
-        ensures { result ≡ is_wanted self.now (content_in packet.now) }
+        ensures { result ≡ is_wanted self.now (shown_of packet.now.captured.shown) (content_in packet.now) }
+    {
+        self.wants_packet(packet) && self.meets(packet)
+    }
+
+    /// Returns whether `--only` selects a packet.
+    fn wants_packet(&self, packet: &Decoded<'_>) -> bool
+        ensures { result ≡ shows_kind self.now.only (content_kind (content_in packet.now)) }
     {
         match &packet.outcome {
-            Outcome::Layers => self.wants_layers(&packet.read) && self.meets(&packet.read),
-            Outcome::Refused(_) => self.wants(Some(Kind::Refused)) && self.asks_nothing(),
-            Outcome::Unsupported => self.wants(None) && self.asks_nothing(),
+            Outcome::Layers => self.wants_layers(&packet.read),
+            Outcome::Refused(_) => self.wants(Some(Kind::Refused)),
+            Outcome::Unsupported => self.wants(None),
         }
     }
 
@@ -186,13 +198,26 @@ impl DumpOptions {
         }
     }
 
-    /// Returns whether a packet matches all filter options (`--host`, `--port`, `--net`, `--vlan`).
-    fn meets(&self, read: &LaxSlicedPacket<'_>) -> bool
-        ensures { result ≡ meets self.now.words (packet (lax_layers_of read.now)) }
+    /// Returns whether the filter matches a packet. A packet that is rejected or not parsed has no layers.
+    #[tactic(auto, unfolding(crate::specs::PacketContents::meets))]
+    pub fn meets(&self, packet: &Decoded<'_>) -> bool
+        ensures { result ≡ meets self.now.filter (filtered_in packet.now) }
     {
-        match &self.words {
-            [None, None, None, None, None, None] => true,
-            words => words.iter().all(|slot| slot_holds(slot, read)),
+        match &self.filter {
+            Some(filter) => matches(filter, packet),
+            None => true,
+        }
+    }
+
+    /// Returns whether the filter matches a packet with a reassembled payload of this protocol in place of its
+    /// fragment.
+    #[tactic(auto, unfolding(crate::specs::PacketContents::meets))]
+    pub fn meets_payload(&self, packet: &Decoded<'_>, number: IpNumber, payload: &[u8]) -> bool
+        ensures { result ≡ meets self.now.filter (with_payload (filtered_in packet.now) number.0 payload.now) }
+    {
+        match &self.filter {
+            Some(filter) => matches_payload(filter, packet, number, payload),
+            None => true,
         }
     }
 
@@ -235,21 +260,11 @@ impl DumpOptions {
     }
 
     /// Returns whether the line of a payload that expires, is evicted or discarded is printed: if evictions are
-    /// reported, without `--quiet` and filter options, and unless `--only` selects another kind than `refused`.
+    /// reported, without `--quiet` and a filter, and unless `--only` selects another kind than `refused`.
     pub fn shows_evictions(&self) -> bool
         ensures { result ≡ shows_evictions self.now }
     {
-        self.reports_evictions() && self.shows(Some(Kind::Refused)) && self.asks_nothing()
-    }
-
-    /// Returns whether there is no filter option (`--host`, `--port`, `--net`, `--vlan`).
-    fn asks_nothing(&self) -> bool
-        ensures { result ≡ asks_nothing self.now.words }
-    {
-        self.words.iter().all(|slot| match slot {
-            Some(_) => false,
-            None => true,
-        })
+        self.reports_evictions() && self.shows(Some(Kind::Refused)) && self.filter.is_none()
     }
 }
 
@@ -260,13 +275,44 @@ fn nanoseconds(seconds: u32) -> u128
     u128::from(seconds) * 1_000_000_000
 }
 
-/// Returns whether a packet matches the filter primitive in a slot (such as `port 53`); an empty slot matches every
-/// packet.
-fn slot_holds(slot: &Option<Word>, read: &LaxSlicedPacket<'_>) -> bool
-    ensures { result ≡ slot_holds slot.now (lax_layers_of read.now) }
+/// Returns whether a filter matches a packet. A packet that is rejected or not parsed has no layers.
+#[tactic(auto, unfolding(crate::specs::PacketContents::filtered_packet))]
+fn matches(filter: &Filter, packet: &Decoded<'_>) -> bool
+    ensures { result ≡ meaning (tree_of filter.now) (filtered_in packet.now) }
 {
-    match slot {
-        Some(word) => holds(word, read),
-        None => true,
+    let shown = &packet.captured.shown;
+    match &packet.outcome {
+        Outcome::Layers => filter.matches(&packet.read, read_bytes(shown), shown.original_len),
+        Outcome::Refused(_) | Outcome::Unsupported => {
+            let read = LaxSlicedPacket::new();
+            filter.matches(&read, read_bytes(shown), shown.original_len)
+        }
+    }
+}
+
+/// Returns whether a filter matches a packet with a reassembled payload of this protocol in place of its fragment.
+#[tactic(auto, unfolding(crate::specs::PacketContents::filtered_packet))]
+fn matches_payload(filter: &Filter, packet: &Decoded<'_>, number: IpNumber, payload: &[u8]) -> bool
+    ensures { result ≡ meaning (tree_of filter.now) (with_payload (filtered_in packet.now) number.0 payload.now) }
+{
+    let shown = &packet.captured.shown;
+    let (bytes, len) = (read_bytes(shown), shown.original_len);
+    match &packet.outcome {
+        Outcome::Layers => filter.matches_payload(&packet.read, bytes, len, number, payload),
+        Outcome::Refused(_) | Outcome::Unsupported => {
+            let read = LaxSlicedPacket::new();
+            filter.matches_payload(&read, bytes, len, number, payload)
+        }
+    }
+}
+
+/// Returns the bytes of a packet from where parsing starts; all bytes if its link type or link header is not supported.
+#[inline(always)]
+fn read_bytes<'a>(shown: &Shown<'a>) -> &'a [u8]
+    ensures { result.now ≡ read_bytes shown.now.link_type shown.now.bytes.now }
+{
+    match opening_of(shown.link_type, shown.bytes) {
+        Some(opening) => &shown.bytes[opening.skipped..],
+        None => shown.bytes,
     }
 }

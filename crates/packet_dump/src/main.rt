@@ -1,19 +1,21 @@
 //! Prints a line for each packet of a capture.
 //!
-//! `packet_dump FILE` reads a file, and `packet_dump` or `packet_dump -` reads standard input. A line has the packet's
-//! number, its time since the first packet in seconds, its layers from the outermost inwards, or why it is rejected,
-//! and the captured length if the packet is truncated. `packet_dump --help` lists the options.
+//! `packet_dump FILE` reads a file, and `packet_dump` or `packet_dump -` reads standard input. Words after FILE are a
+//! filter expression. A line has the packet's number, its time since the first packet in seconds, its layers from the
+//! outermost inwards, or why it is rejected, and the captured length if the packet is truncated. `packet_dump --help`
+//! lists the options.
 #![tactic(auto)]
 
 ghost use Rattle.std.specs.Prelude.{◌≡◌, ◌≢◌, ◌^◌, ◌↔◌, if◌then◌else◌, [], false, true, Err, IfOk, List, OnErr};
-ghost use Rattle.std.specs.Prelude.{OnOk, ℕ};
+ghost use Rattle.std.specs.Prelude.{OnOk, ℕ, ◌++◌, string_bytes, take};
 ghost use Rattle.std.specs.Io.KnownBytes.{Appends};
 ghost use Rattle.std.specs.Option.{option_copied};
 ghost use Rattle.std.specs.Process.{exit_status};
 ghost use Rattle.line_io.specs.Transfers.{Transfers};
 ghost use Rattle.line_io.specs.WatchedWords.{has_ended, has_failed, inner_of, reads_left};
 ghost use Rattle.packet_dump.specs.Dumps.{BeginsDump};
-ghost use Rattle.packet_dump.specs.ErrorTexts.{hint_text, magic_hint, status_of, status_with};
+ghost use Rattle.packet_dump.specs.ErrorTexts.{blanks, caret_text, filter_status, hint_text, is_continuation};
+ghost use Rattle.packet_dump.specs.ErrorTexts.{magic_hint, status_of, status_with, usage_status};
 ghost use Rattle.packet_dump.specs.Saves.{BeginsSaved, IsCopy, asks, is_failed};
 ghost use Rattle.packet_dump.specs.Sessions.{IsNew};
 ghost use Rattle.packet_dump.specs.Summaries.{plain_of};
@@ -25,6 +27,7 @@ pub mod dump_options;
 pub mod ending;
 pub mod engine;
 mod eviction_lines;
+mod explanation;
 mod filters;
 mod fragments;
 pub mod laws;
@@ -42,8 +45,9 @@ mod target;
 use crate::dump_options::DumpOptions;
 use crate::ending::{Ending, error_text};
 use crate::engine::{MOST_READS, run};
-use crate::filters::{FilterError, words_of};
-use crate::options::{Request, UsageError, parse};
+use crate::explanation::append_explanation;
+use crate::filters::{FilterFault, filter_of, parse_text};
+use crate::options::{FilterTexts, Request, UsageError, parse};
 use crate::saving::{SaveFault, SaveState};
 use crate::session::Session;
 use crate::source::{LONG, Source};
@@ -51,7 +55,8 @@ use crate::summary::Summary;
 use crate::target::{NoFile, Target};
 use capture_reader::Refusal;
 use line_io::{RunError, Watched};
-use packet_filter::WordError;
+use packet_filter::{Filter, FilterError, FilterErrorKind};
+use std::alloc::{AllocError, Global};
 use std::hash::RandomState;
 use std::io::{IsTerminal, Read, Write};
 use std::process::ExitCode;
@@ -60,11 +65,13 @@ use std::rt::{Env, Files};
 use std::{env, fs, io};
 
 /// Text that `--help` prints.
-const HELP: &str = "usage: packet_dump [OPTION..] [FILE]
+const HELP: &str = "usage: packet_dump [OPTION..] [FILE [WORD..]]
 
 Prints a line for each packet of a capture (pcap or pcapng): its number, the
 time since the first packet, its layers from the outside in, and how many of its
-bytes were captured. Without FILE, or if FILE is -, standard input is read.
+bytes were captured. Without FILE, or if FILE is -, standard input is read. The
+words after FILE are a filter expression, as for tcpdump; only packets that
+match it are shown: packet_dump FILE tcp port 443 and not host 10.0.0.1
 
 Layers are read as far as possible. If a layer is truncated or malformed, the
 line has the layers before it, then 'stopped' and the error; if it is the first
@@ -75,11 +82,12 @@ a length field counts 1448 bytes, of which 22 were captured.
                      also be written as in --count=N
   --only KIND        only packets of this kind: udp, tcp, icmp, arp, refused or
                      stopped (the last --only applies; fragments are of no kind)
-  --host A           only packets from or to this address (IP, or ARP for IPv4)
-  --port N           only packets from or to this UDP or TCP port
-  --net A/N          only packets from or to an address of this network
-  --vlan N           only packets with this VLAN ID; up to six of these four
-                     options can be given, and packets have to match all of them
+  --host A, --net N, --vlan V, --port P
+                     the filters 'host A', 'net N', 'vlan V' and 'port P'; up to
+                     six of these can be given, and packets have to match all of
+                     them, and the filter expression
+  --explain EXPR     print a filter expression with all its qualifiers, and the
+                     steps in which it is matched
   --time FORMAT      times since the first packet (relative), in seconds since
                      1970 (epoch), or as dates and times of day in UTC (utc)
   --strict           report each packet that is not one complete, valid frame as
@@ -121,7 +129,8 @@ a length field counts 1448 bytes, of which 22 were captured.
   --quiet            no lines; the summary then also counts how many refused and
                      stopped packets were truncated by the capture, and how many
                      are malformed
-  -r FILE            the capture to read; FILE may begin with -
+  -r FILE            the capture to read, whose name may begin with -; all words
+                     are the filter expression
   -n, -nn            accepted for compatibility, and ignored: names are never
                      looked up
   --help             print this text
@@ -158,38 +167,74 @@ fn main(rt: HostRuntime) -> ExitCode {
         [_, arguments @ ..] => arguments,
         [] => &[],
     };
-    match parse(arguments) {
-        Ok(Request::Help) => printed(&mut Watched::new(rt.stdout(), 0), HELP),
-        Ok(Request::Version) => printed(&mut Watched::new(rt.stdout(), 0), VERSION),
+    match parse(rt.alloc(), arguments) {
+        Ok(Request::Help) => printed(&mut Watched::new(rt.stdout(), 0), HELP.as_bytes()),
+        Ok(Request::Version) => printed(&mut Watched::new(rt.stdout(), 0), VERSION.as_bytes()),
         Ok(
             Request::Dump {
                 options,
                 filter,
                 path,
+                words,
+                explained,
                 target,
                 summary,
             },
-        ) => {
-            match words_of(filter) {
-                Ok(words) => {
-                    let options = DumpOptions { words, ..options };
+        ) => match explained {
+            Some(text) => explain(&rt, text),
+            None => match command_filter(&rt, filter, words.as_slice()) {
+                Ok(filter) => {
+                    let options = DumpOptions { filter, ..options };
                     dump(&rt, options, path, target, summary)
                 }
-                Err(error) => refused_filter(&rt, &error),
-            }
-        }
+                Err(status) => status,
+            },
+        },
         Err(error) => refused(&rt, &error),
     }
 }
 
-/// Writes the text of `--help` or `--version`, and returns the exit status: 0, or 1 if writing failed.
-fn printed<W: Write>(writer: &mut Watched<W>, text: &str) -> ExitCode
+/// Prints a filter expression with all qualifiers, and the steps of the filter (`--explain`). Returns the exit status.
+fn explain(rt: &HostRuntime, text: &str) -> ExitCode {
+    let mut expression = String::new(rt.alloc());
+    if expression.push_str(text).is_err() {
+        return print_error(rt, "packet_dump: out of memory", 1);
+    }
+    let filter = match parse_text(rt.alloc(), expression) {
+        Ok(filter) => filter,
+        Err(fault) => return refused_filter(rt, &fault, false),
+    };
+    let mut output = Vec::new(rt.alloc());
+    if append_explanation(&mut output, &filter).is_err() {
+        return print_error(rt, "packet_dump: out of memory", 1);
+    }
+    printed(&mut Watched::new(rt.stdout(), 0), output.as_slice())
+}
+
+/// Parses the filter of the command line: its filter options, and `words`, which are joined to its filter expression.
+/// If a text is wrong or an allocation fails, prints the error and returns the exit status.
+fn command_filter(
+    rt: &HostRuntime,
+    options: FilterTexts<'_>,
+    words: &[&str],
+) -> Result<Option<Filter>, ExitCode> {
+    let Ok(expression) = words.join(rt.alloc(), " ") else {
+        return Err(print_error(rt, "packet_dump: out of memory", 1));
+    };
+    match filter_of(rt.alloc(), options, expression) {
+        Ok(filter) => Ok(filter),
+        Err(fault) => Err(refused_filter(rt, &fault, true)),
+    }
+}
+
+/// Writes the text of `--help`, `--version` or `--explain`, and returns the exit status: 0, or 1 if writing failed.
+fn printed<W: Write>(writer: &mut Watched<W>, text: &[u8]) -> ExitCode
     requires { has_failed writer.old ≡ false }
     ensures text { has_failed writer.new ≡ false →
         Appends (W.contents (inner_of writer.old)) (W.contents (inner_of writer.new)) text.now }
     ensures status { exit_status result ≡ (if has_failed writer.new then 1 else 0) }
 {
-    match writer.write_all(text.as_bytes()) {
+    match writer.write_all(text) {
         Ok(()) => ExitCode::SUCCESS,
         Err(_) => ExitCode::from(1),
     }
@@ -203,9 +248,9 @@ fn print_error(rt: &impl Eprint, line: &str, status: u8) -> ExitCode
     ExitCode::from(status)
 }
 
-/// Prints the error of an invalid command line to standard error, and returns exit status 2.
+/// Prints the error of an invalid command line to standard error. Returns exit status 2, or 1 if the allocation failed.
 fn refused(rt: &impl Eprint, error: &UsageError<'_>) -> ExitCode
-    ensures { exit_status result ≡ 2 }
+    ensures { exit_status result ≡ usage_status error.now }
 {
     let _ = match error {
         UsageError::UnknownOption(word) => eprintln!(rt; "packet_dump: unknown option '{word}'"),
@@ -249,39 +294,106 @@ fn refused(rt: &impl Eprint, error: &UsageError<'_>) -> ExitCode
             )
         }
         UsageError::SecondFile(word) => {
-            eprintln!(rt;
-                "packet_dump: unexpected argument '{word}'; only one file is read, and a filter is an option (--port 53)"
-            )
+            eprintln!(rt; "packet_dump: unexpected argument '{word}'; only one file is read")
+        }
+        UsageError::OutOfMemory => {
+            return print_error(rt, "packet_dump: out of memory", 1);
         }
     };
     print_error(rt, "packet_dump --help lists the options", 2)
 }
 
-/// Prints the error of an invalid filter option (such as `--port x`) to standard error, and returns exit status 2.
-fn refused_filter(rt: &impl Eprint, error: &FilterError<'_>) -> ExitCode
-    ensures { exit_status result ≡ 2 }
+/// Prints why a command line has no filter to standard error, and returns exit status 2; 1 if the allocation failed.
+/// `reads` is whether a capture is read, so that the first word of an expression may be meant as a second file.
+fn refused_filter(rt: &HostRuntime, fault: &FilterFault, reads: bool) -> ExitCode
+    ensures { exit_status result ≡ filter_status fault.now }
 {
-    let word = error.text;
-    let _ = match error.error {
-        WordError::NotAnAddress => {
-            eprintln!(rt; "packet_dump: invalid address '{word}'; an IPv4 or IPv6 address")
+    match fault {
+        FilterFault::OutOfMemory => print_error(rt, "packet_dump: out of memory", 1),
+        FilterFault::Wrong { text, error } => {
+            print_wrong(rt, text.as_str(), error, reads);
+            ExitCode::from(2)
         }
-        WordError::NotAPort => {
-            eprintln!(rt; "packet_dump: invalid port '{word}'; a number from 0 to 65535")
-        }
-        WordError::NotAVlan => {
-            eprintln!(rt; "packet_dump: invalid VLAN ID '{word}'; a number from 0 to 4095")
-        }
-        WordError::NotANetwork => {
-            eprintln!(rt;
-                "packet_dump: invalid network '{word}'; an address and its prefix length (192.0.2.0/24)"
-            )
-        }
-        WordError::HostBits => {
-            eprintln!(rt; "packet_dump: invalid network '{word}'; it has bits set after the prefix")
-        }
+    }
+}
+
+/// Prints the error of a filter expression to standard error, in three lines: what is wrong with the token, the text,
+/// and a `^` under the first character of the token.
+fn print_wrong(rt: &HostRuntime, text: &str, error: &FilterError, reads: bool) {
+    let reason = error.kind.description();
+    let token = token_in(text, error);
+    let _ = if token.is_empty() {
+        eprintln!(rt; "packet_dump: {reason}")
+    } else if reads && error.start == 0 {
+        eprintln!(rt; "packet_dump: '{token}': {reason}; only one file is read")
+    } else {
+        eprintln!(rt; "packet_dump: '{token}': {reason}")
     };
-    print_error(rt, "packet_dump --help lists the options", 2)
+    let _ = eprintln!(rt; "  {text}");
+    if let Ok(line) = caret_line(rt.alloc(), text, error.start) {
+        let _ = rt.eprintln(line.as_str());
+    }
+}
+
+/// Returns the wrong token of a filter expression; nothing for the end of the text, and for the bytes after the longest
+/// text.
+fn token_in<'a>(text: &'a str, error: &FilterError) -> &'a str {
+    if let FilterErrorKind::Long = error.kind {
+        return "";
+    }
+    let Some((_, later)) = text.split_at_checked(error.start) else {
+        return "";
+    };
+    let len = error.end.saturating_sub(error.start);
+    // A character that no token contains ends after its first byte, and has up to three more.
+    for more in 0..4 {
+        if let Some((token, _)) = later.split_at_checked(len.saturating_add(more)) {
+            return token;
+        }
+    }
+    ""
+}
+
+/// Returns the line with a `^` under the character at an offset of a text, which is printed after two spaces: one space
+/// for each character before it.
+fn caret_line(alloc: Global, text: &str, start: usize) -> Result<String, AllocError>
+    ensures { IfOk result (λ line. string_bytes line ≡ caret_text text.now start) }
+{
+    let mut line = String::new(alloc);
+    line.push_str("  ")?;
+    push_blanks(&mut line, first_bytes(text.as_bytes(), start))?;
+    line.push_str("^")?;
+    Ok(line)
+}
+
+/// Appends a space for each character.
+fn push_blanks(line: &mut String, characters: &[u8]) -> Result<(), AllocError>
+    ensures { OnOk result (string_bytes line.new ≡ string_bytes line.old ++ blanks characters.now) }
+{
+    for byte in characters {
+        if !is_continuation(*byte) {
+            line.push_str(" ")?;
+        }
+    }
+    Ok(())
+}
+
+/// Returns the first `len` bytes, or all if there are fewer.
+fn first_bytes(bytes: &[u8], len: usize) -> &[u8]
+    ensures { result.now ≡ take len bytes.now }
+{
+    if len < bytes.len() {
+        &bytes[..len]
+    } else {
+        bytes
+    }
+}
+
+/// Returns whether a byte of UTF-8 continues a character (RFC 3629, 3).
+fn is_continuation(byte: u8) -> bool
+    ensures { result ≡ is_continuation byte }
+{
+    byte >= 0x80 && byte < 0xc0
 }
 
 /// Runs `packet_dump` on a capture file or on standard input, with a summary (`--summary`) and a new capture file of

@@ -1,12 +1,14 @@
 //! Parsing of the command line of `packet_dump`.
 
-ghost use Rattle.std.specs.Prelude.{◌≡◌, IfOk, IfErr, IfSome, IfNone, OnOk};
+ghost use Rattle.std.specs.Prelude.{◌≡◌, ◌⊎◌, Err, IfOk, IfErr, IfSome, IfNone, OnOk};
 ghost use Rattle.std.specs.Option.{option_map};
 ghost use Rattle.packet_dump.specs.Options.{Asked, Fault, IsRequest, IsValue, Item, RefusesWords, answer_of, asked_of};
-ghost use Rattle.packet_dump.specs.Options.{bad_value, fault_of, form_name, is_dashed, kind_name, option_word, options_with};
-ghost use Rattle.packet_dump.specs.Options.{policy_name, texts};
-ghost use Rattle.packet_dump.specs.OptionSteps.{IsStepResult, filtered, finished, first_state, joined_step, value_step};
-ghost use Rattle.packet_dump.specs.OptionSteps.{input_in, joined_in, joined_parts, named_by, option_with, reading_state};
+ghost use Rattle.packet_dump.specs.Options.{argument, dump, file, run_of};
+ghost use Rattle.packet_dump.specs.Options.{bad_value, fault_of, form_name, has_input, is_dashed, kind_name, option_word};
+ghost use Rattle.packet_dump.specs.Options.{options_with, out_of_memory, policy_name, texts};
+ghost use Rattle.packet_dump.specs.OptionSteps.{IsStepResult, filtered, finished, first_state, joined_in, joined_parts};
+ghost use Rattle.packet_dump.specs.OptionSteps.{IsFirstRemoved, item_step, joined_step, option_with, reading_state};
+ghost use Rattle.packet_dump.specs.OptionSteps.{step_unless_taken, value_step};
 ghost use Rattle.packet_dump.specs.OptionSteps.{step, value_in, word_named};
 ghost use Rattle.etherparse.specs.Types.OverlapPolicy.{OverlapPolicy};
 ghost use Rattle.packet_dump.specs.declared.dump_options.Kind.{Kind};
@@ -14,6 +16,7 @@ ghost use Rattle.packet_dump.specs.declared.dump_options.TimeForm.{TimeForm};
 
 use crate::dump_options::{DumpOptions, Kind, TimeForm};
 use etherparse::defrag::OverlapPolicy;
+use std::alloc::Global;
 
 /// Request of a command line: print the help text or the version, or dump a capture.
 #[derive(Drop)]
@@ -28,6 +31,10 @@ pub enum Request<'a> {
         /// Filter options (`--host`, `--port`, `--net`, `--vlan`) as text.
         filter: FilterTexts<'a>,
         path: Option<&'a str>,
+        /// Words of the filter expression: all arguments that are no options, after the file.
+        words: Vec<&'a str>,
+        /// Filter expression that is explained (`--explain`); no capture is read then.
+        explained: Option<&'a str>,
         /// Name of the capture file that the selected packets are written to (`--write`).
         target: Option<&'a str>,
         /// True if a summary is printed after the packet lines (`--summary`).
@@ -88,10 +95,12 @@ pub enum UsageError<'a> {
     NotAnAge(&'a str),
     /// Value of `--overlap` that is no known policy (`last`, `first` or `discard`).
     NotAPolicy(&'a str),
-    /// Second input on the command line, where only one is read: a file, or `-` for standard input.
+    /// Second input on the command line, where only one is read: the file of `-r`, or `-` for standard input.
     SecondFile(&'a str),
     /// More than six filter options (`--host`, `--port`, `--net`, `--vlan`).
     CrowdedFilter,
+    /// Out of memory for the words of the filter expression.
+    OutOfMemory,
 }
 
 /// Option that needs a value, given as the next argument or after `=`, such as `--count 5`.
@@ -110,6 +119,8 @@ pub enum Awaited {
     Filter(FilterKind),
     /// `-r`: the value is the name of the input file.
     Input,
+    /// `--explain`: the value is a filter expression.
+    Explain,
 }
 
 impl Awaited {
@@ -133,6 +144,7 @@ impl Awaited {
             Awaited::Filter(FilterKind::Vlan) => "--vlan",
             Awaited::Filter(FilterKind::Net) => "--net",
             Awaited::Input => "-r",
+            Awaited::Explain => "--explain",
         }
     }
 }
@@ -154,7 +166,8 @@ pub enum Word {
     /// Option whose value is the next argument, such as `--count`.
     Option(Awaited),
     StandardInput,
-    File,
+    /// Argument that is no option: the input file, or a word of the filter expression.
+    Plain,
     /// Argument that begins with `-` and is no option by itself; it may still be an option with its value after `=`.
     Unknown,
 }
@@ -190,9 +203,10 @@ impl Word {
             "--vlan" => Word::Option(Awaited::Filter(FilterKind::Vlan)),
             "--net" => Word::Option(Awaited::Filter(FilterKind::Net)),
             "-r" => Word::Option(Awaited::Input),
+            "--explain" => Word::Option(Awaited::Explain),
             "-" => Word::StandardInput,
             _ if begins_with_dash(text) => Word::Unknown,
-            _ => Word::File,
+            _ => Word::Plain,
         }
     }
 }
@@ -240,25 +254,30 @@ pub struct Reading<'a> {
     filter: FilterTexts<'a>,
     /// True if there were more than six filter options, which is an error at the end.
     crowded: bool,
+    /// Arguments that are no options: the input file, if no option names the input, and the filter expression.
+    words: Vec<&'a str>,
+    /// Name of the input file by `-r`.
     path: Option<&'a str>,
+    /// True if the input was named by `-r` or `-`.
+    is_named: bool,
     /// Name of the capture file that the selected packets are written to (`--write`).
     target: Option<&'a str>,
     summary: bool,
-    /// True if the input was named already: a file, or `-` for standard input.
-    is_named: bool,
+    /// Filter expression that is explained (`--explain`).
+    explained: Option<&'a str>,
     /// Option whose value is the next argument; `None` if the next argument is no value.
     awaited: Option<Awaited>,
 }
 
 impl<'a> Reading<'a> {
     /// Returns the state of the command line parser before any argument, with the default options.
-    fn new() -> Reading<'a>
+    fn new(alloc: Global) -> Reading<'a>
         ensures { reading_state result ≡ first_state }
     {
         Reading {
             options: DumpOptions {
                 only: None,
-                words: [None; 6],
+                filter: None,
                 time: TimeForm::Relative,
                 most: u64::MAX,
                 quiet: false,
@@ -283,10 +302,12 @@ impl<'a> Reading<'a> {
                 sixth: None,
             },
             crowded: false,
+            words: Vec::new(alloc),
             path: None,
+            is_named: false,
             target: None,
             summary: false,
-            is_named: false,
+            explained: None,
             awaited: None,
         }
     }
@@ -318,16 +339,29 @@ impl<'a> Reading<'a> {
             Word::NoNames => {}
             Word::Option(option) => self.awaited = Some(option),
             Word::Unknown => return self.push_joined(text),
-            Word::StandardInput | Word::File if self.is_named => {
-                return Err(UsageError::SecondFile(text));
-            }
+            Word::StandardInput if self.has_input() => return Err(UsageError::SecondFile(text)),
             Word::StandardInput => self.is_named = true,
-            Word::File => {
-                self.path = Some(text);
-                self.is_named = true;
-            }
+            Word::Plain => return self.push_word(text),
         }
         Ok(None)
+    }
+
+    /// Stores an argument that is no option: the input file, or a word of the filter expression.
+    fn push_word(&mut self, text: &'a str) -> Result<Option<Request<'a>>, UsageError<'a>>
+        ensures { IsStepResult (item_step (reading_state self.old) (argument text.now)) (reading_state self.new) result }
+    {
+        self.awaited = None;
+        match self.words.push(text) {
+            Ok(()) => Ok(None),
+            Err(_) => Err(UsageError::OutOfMemory),
+        }
+    }
+
+    /// Returns whether the input was named: by `-r`, by `-`, or by the first argument that is no option.
+    fn has_input(&self) -> bool
+        ensures { result ≡ has_input (reading_state self.now).settings }
+    {
+        self.is_named || !self.words.is_empty()
     }
 
     /// Parses the value of an option, such as the `5` of `--count 5`. If the value is valid, always returns `None`, so
@@ -350,17 +384,19 @@ impl<'a> Reading<'a> {
     }
 
     /// Parses the value of `-r`, the name of the input file, which may begin with `-`; `-` alone means standard input.
-    /// Fails if an input was named already.
+    /// Fails if `-r` or `-` named an input already. An argument that is no option is then a word of the filter
+    /// expression, also before `-r`.
     fn push_input(&mut self, text: &'a str) -> Result<Option<Request<'a>>, UsageError<'a>>
-        ensures { IsStepResult (named_by (reading_state self.old) text.now (input_in text.now)) (reading_state self.new)
-            result }
+        ensures { IsStepResult (step_unless_taken (reading_state self.old) text.now (file text.now))
+            (reading_state self.new) result }
     {
         if self.is_named {
             return Err(UsageError::SecondFile(text));
         }
-        if text != "-" {
-            self.path = Some(text);
-        }
+        self.path = match text {
+            "-" => None,
+            _ => Some(text),
+        };
         self.is_named = true;
         self.awaited = None;
         Ok(None)
@@ -378,13 +414,14 @@ impl<'a> Reading<'a> {
         }
     }
 
-    /// Stores the value of an option that is kept as text: the file of `--write`, or a filter option such as `--port`.
-    /// Does nothing for other options.
+    /// Stores the value of an option that is kept as text: the file of `--write`, the expression of `--explain`, or a
+    /// filter option such as `--port`. Does nothing for other options.
     fn add_filter(&mut self, option: Awaited, text: &'a str)
         ensures { reading_state self.new ≡ filtered (reading_state self.old) option text.now }
     {
         match option {
             Awaited::Write => self.target = Some(text),
+            Awaited::Explain => self.explained = Some(text),
             Awaited::Filter(kind) => {
                 let others = self.filter;
                 self.crowded = self.crowded || others.sixth.is_some();
@@ -418,26 +455,55 @@ impl<'a> Reading<'a> {
         match self.awaited {
             Some(option) => Err(UsageError::NoValue(option.word())),
             None if self.crowded => Err(UsageError::CrowdedFilter),
-            None => Ok(Request::Dump {
-                options: self.options,
-                filter: self.filter,
-                path: self.path,
-                target: self.target,
-                summary: self.summary,
-            }),
+            None => Ok(self.request()),
+        }
+    }
+
+    /// Returns the request to dump a capture. The first argument that is no option is the file, unless `-r` or `-`
+    /// named the input; the others are the words of the filter expression.
+    fn request(self) -> Request<'a>
+        ensures { asked_of result ≡ dump (run_of (reading_state self.entry).settings) }
+    {
+        let mut words = self.words;
+        let path = if self.is_named {
+            self.path
+        } else {
+            remove_first(&mut words)
+        };
+        Request::Dump {
+            options: self.options,
+            filter: self.filter,
+            path,
+            words,
+            explained: self.explained,
+            target: self.target,
+            summary: self.summary,
         }
     }
 }
 
-/// Parses the arguments of the command line after the program name. The error is that of the first wrong argument; more
-/// than six filter options are an error only if no argument is wrong.
-pub fn parse(words: &[String]) -> Result<Request<'_>, UsageError<'_>>
-    ensures ok { IfOk result (λ request. IsRequest (texts words.now) (asked_of request)) }
-    ensures err { IfErr result (λ error. RefusesWords (texts words.now) (fault_of error)) }
-    ensures asked { (asked : Asked) → IsRequest (texts words.now) asked → answer_of result ≡ Ok asked }
-    ensures refused { (fault : Fault) → RefusesWords (texts words.now) fault → answer_of result ≡ Err fault }
+/// Removes the first of some words, and returns it; returns `None` if there are no words.
+fn remove_first<'a>(words: &mut Vec<&'a str>) -> Option<&'a str>
+    ensures { IsFirstRemoved words.old.items words.new.items result }
 {
-    let mut reading = Reading::new();
+    if words.is_empty() {
+        return None;
+    }
+    Some(words.remove(0))
+}
+
+/// Parses the arguments of the command line after the program name. The error is that of the first wrong argument; more
+/// than six filter options are an error only if no argument is wrong. Words of the filter expression are not parsed.
+pub fn parse<'a>(alloc: Global, words: &'a [String]) -> Result<Request<'a>, UsageError<'a>>
+    ensures ok { IfOk result (λ request. IsRequest (texts words.now) (asked_of request)) }
+    ensures err { IfErr result (λ error.
+        (fault_of error ≡ out_of_memory) ⊎ RefusesWords (texts words.now) (fault_of error)) }
+    ensures asked { (asked : Asked) → IsRequest (texts words.now) asked →
+        (answer_of result ≡ Err out_of_memory) ⊎ (answer_of result ≡ Ok asked) }
+    ensures refused { (fault : Fault) → RefusesWords (texts words.now) fault →
+        (answer_of result ≡ Err out_of_memory) ⊎ (answer_of result ≡ Err fault) }
+{
+    let mut reading = Reading::new(alloc);
     for word in words {
         match reading.push(word.as_str()) {
             Ok(None) => {}
@@ -449,7 +515,7 @@ pub fn parse(words: &[String]) -> Result<Request<'_>, UsageError<'_>>
 }
 
 /// Parses the value of an option and stores it in `options`. Does nothing for options whose value is kept as text
-/// (`--write`, filter options, `-r`).
+/// (`--write`, `--explain`, filter options, `-r`).
 fn set<'a>(options: &mut DumpOptions, option: Awaited, text: &'a str) -> Result<(), UsageError<'a>>
     ensures ok { OnOk result ((item : Item) × IsValue option text.now item
         × (options.new ≡ options_with options.old item)) }
@@ -500,6 +566,7 @@ fn set<'a>(options: &mut DumpOptions, option: Awaited, text: &'a str) -> Result<
         }
         Awaited::Filter(_) => {}
         Awaited::Input => {}
+        Awaited::Explain => {}
     }
     Ok(())
 }

@@ -22,7 +22,8 @@ pub fn append_line(
     options: &DumpOptions,
     packet: &Decoded<'_>,
 ) -> Result<(), AllocError>
-    requires { packet.now.is_selected ≡ is_wanted options.now (content_in packet.now) }
+    requires { packet.now.is_selected
+        ≡ is_wanted options.now (shown_of packet.now.captured.shown) (content_in packet.now) }
     ensures { OnOk result (AppendsLine options.now packet.now output.old.items output.new.items) }
 {
     if !is_shown(options, packet) {
@@ -33,11 +34,12 @@ pub fn append_line(
     push_end(output, options, packet)
 }
 
-/// Returns whether the line of a packet is printed: never with `--quiet`, otherwise if `--only` and the filter options
-/// select the packet.
+/// Returns whether the line of a packet is printed: never with `--quiet`, otherwise if `--only` and the filter select
+/// the packet.
 fn is_shown(options: &DumpOptions, packet: &Decoded<'_>) -> bool
-    requires { packet.now.is_selected ≡ is_wanted options.now (content_in packet.now) }
-    ensures { result ≡ shows_content options.now (content_in packet.now) }
+    requires { packet.now.is_selected
+        ≡ is_wanted options.now (shown_of packet.now.captured.shown) (content_in packet.now) }
+    ensures { result ≡ shows_content options.now (shown_of packet.now.captured.shown) (content_in packet.now) }
 {
     !options.quiet && packet.is_selected
 }
@@ -48,7 +50,7 @@ fn push_content(
     options: &DumpOptions,
     packet: &Decoded<'_>,
 ) -> Result<(), AllocError>
-    requires { shows_content options.now (content_in packet.now) ≡ true }
+    requires { shows_content options.now (shown_of packet.now.captured.shown) (content_in packet.now) ≡ true }
     ensures { OnOk result (AppendsContent options.now packet.now output.old.items output.new.items) }
 {
     match &packet.outcome {

@@ -1,26 +1,24 @@
 //! Further lines of `--reassemble`, after the line of a packet: for a reassembled payload, or for an IP fragment that
 //! the reassembly pool rejects.
 
-ghost use Rattle.std.specs.Prelude.{◌≡◌, ◌++◌, ℕ, IsFalse, List, OnOk};
+ghost use Rattle.std.specs.Prelude.{◌≡◌, ◌++◌, ℕ, IsFalse, List, OnOk, Some};
 ghost use Rattle.std.specs.Option.{option_map};
 ghost use Rattle.etherparse.specs.BoundedAnswers.{is_starvation, is_starved, plain_bounded};
 ghost use Rattle.etherparse.specs.BoundedErrorTexts.{bounded_error_text};
-ghost use Rattle.etherparse.specs.LaxPackets.{lax_layers_of};
-ghost use Rattle.etherparse.specs.StrictFrames.{layers_in};
 ghost use Rattle.etherparse.specs.TransportParts.{payload_in, transport_layer_of};
-ghost use Rattle.packet_dump.specs.Decoding.{layers_of, start_of};
-ghost use Rattle.packet_dump.specs.PoolLines.{Inner, IsAnswerText, IsInner, closing_text, frame_error, meets_payload};
-ghost use Rattle.packet_dump.specs.PoolLines.{opening_text, part, payload_line, payload_text, pool_refusal_text};
-ghost use Rattle.packet_dump.specs.PoolLines.{refused_line, shows_payload, slot_holds_of, unread, unread_text};
+ghost use Rattle.packet_dump.specs.Decoding.{filtered_in, layers_of, start_of};
+ghost use Rattle.packet_dump.specs.PoolLines.{Inner, IsAnswerText, IsInner, closing_text, frame_error, opening_text};
+ghost use Rattle.packet_dump.specs.PoolLines.{part, payload_line, payload_text, pool_refusal_text, refused_line};
+ghost use Rattle.packet_dump.specs.PoolLines.{shows_payload, unread, unread_text, with_payload};
+ghost use Rattle.packet_dump.specs.declared.dump_options.Kind.{Kind};
 
 use crate::decoded::Decoded;
 use crate::dump_options::{DumpOptions, Kind};
 use crate::packet_lines::push_start;
+use etherparse::TransportSlice;
 use etherparse::defrag::{BoundedDefragError, IpDefragError, IpDefragPayloadVec};
 use etherparse::err::packet::SliceError;
 use etherparse::err::tcp::HeaderSliceError;
-use etherparse::{LaxSlicedPacket, TransportSlice};
-use packet_filter::{Word, matches_reassembled};
 use packet_text::{push_len, push_outer, push_protocol, push_refusal, push_rows, push_transport};
 use std::alloc::AllocError;
 
@@ -36,7 +34,7 @@ pub fn push_answer(
     ensures memory { OnOk result (IsFalse (is_starved answer.now)) }
     ensures text { OnOk result ((text : List ℕ)
         × IsAnswerText options.now (start_of options.now packet.now) (layers_of packet.now)
-        (plain_bounded answer.now) text × (output.new.items ≡ output.old.items ++ text)) }
+        (filtered_in packet.now) (plain_bounded answer.now) text × (output.new.items ≡ output.old.items ++ text)) }
 {
     match answer {
         Ok(Some(payload)) => push_payload(output, options, packet, payload),
@@ -55,7 +53,7 @@ fn push_payload(
 ) -> Result<(), AllocError>
     ensures { OnOk result ((inner : Inner) × IsInner payload.now.ip_number.0 payload.now.payload.items inner
         × (output.new.items ≡ output.old.items ++ payload_line options.now (start_of options.now packet.now)
-        (layers_of packet.now) payload.now.ip_number.0 payload.now.payload.items inner)) }
+        (layers_of packet.now) (filtered_in packet.now) payload.now.ip_number.0 payload.now.payload.items inner)) }
 {
     let bytes = payload.payload.as_slice();
     match TransportSlice::from_ip_number(payload.ip_number, false, bytes) {
@@ -74,10 +72,10 @@ fn push_part(
     transport: &Option<TransportSlice<'_>>,
 ) -> Result<(), AllocError>
     ensures { OnOk result (output.new.items ≡ output.old.items ++ payload_line options.now
-        (start_of options.now packet.now) (layers_of packet.now) payload.now.ip_number.0 payload.now.payload.items
-        (part (option_map transport_layer_of transport.now))) }
+        (start_of options.now packet.now) (layers_of packet.now) (filtered_in packet.now) payload.now.ip_number.0
+        payload.now.payload.items (part (option_map transport_layer_of transport.now))) }
 {
-    if !shows_payload(options, &packet.read, Kind::of_part(transport), transport) {
+    if !shows_payload(options, packet, Kind::of_part(transport), payload) {
         return Ok(());
     }
     push_opening(output, options, packet)?;
@@ -95,10 +93,10 @@ fn push_unread(
     error: HeaderSliceError,
 ) -> Result<(), AllocError>
     ensures { OnOk result (output.new.items ≡ output.old.items ++ payload_line options.now
-        (start_of options.now packet.now) (layers_of packet.now) payload.now.ip_number.0 payload.now.payload.items
-        (unread error)) }
+        (start_of options.now packet.now) (layers_of packet.now) (filtered_in packet.now) payload.now.ip_number.0
+        payload.now.payload.items (unread error)) }
 {
-    if !shows_payload(options, &packet.read, Some(Kind::Refused), &None) {
+    if !shows_payload(options, packet, Some(Kind::Refused), payload) {
         return Ok(());
     }
     push_opening(output, options, packet)?;
@@ -116,12 +114,12 @@ fn push_pool_error(
 ) -> Result<(), AllocError>
     ensures memory { OnOk result (IsFalse (is_starvation error.now)) }
     ensures text { OnOk result (output.new.items ≡ output.old.items ++ refused_line options.now
-        (start_of options.now packet.now) (layers_of packet.now) error.now) }
+        (start_of options.now packet.now) (layers_of packet.now) (filtered_in packet.now) error.now) }
 {
     if let BoundedDefragError::Rejected(IpDefragError::AllocationFailure { .. }) = error {
         return Err(AllocError);
     }
-    if !shows_payload(options, &packet.read, Some(Kind::Refused), &None) {
+    if !shows_rejected(options, packet) {
         return Ok(());
     }
     push_opening(output, options, packet)?;
@@ -129,51 +127,27 @@ fn push_pool_error(
     push_closing(output, options.hex, b"")
 }
 
-/// Returns whether the line of a reassembled payload or rejected fragment is printed: only without `--quiet`, if
-/// `--only` selects its kind, and if all filter options (`--host`, `--port` ..) match. Its ports are those of its own
-/// transport layer; its addresses and VLAN tags are those of `read`, the packet with the fragment.
+/// Returns whether the line of a reassembled payload is printed: only without `--quiet`, if `--only` selects its kind,
+/// and if the filter matches `packet`, which completed it, with the payload in place of its fragment.
 fn shows_payload(
     options: &DumpOptions,
-    read: &LaxSlicedPacket<'_>,
+    packet: &Decoded<'_>,
     kind: Option<Kind>,
-    transport: &Option<TransportSlice<'_>>,
+    payload: &IpDefragPayloadVec,
 ) -> bool
-    ensures { result ≡ shows_payload options.now (layers_in (lax_layers_of read.now)) kind
-        (option_map transport_layer_of transport.now) }
+    ensures { result ≡ shows_payload options.now kind
+        (with_payload (filtered_in packet.now) payload.now.ip_number.0 payload.now.payload.items) }
 {
-    options.shows(kind) && meets_payload(&options.words, read, transport)
+    options.shows(kind)
+        && options.meets_payload(packet, payload.ip_number, payload.payload.as_slice())
 }
 
-/// Returns whether a reassembled payload matches all filter options (`--host`, `--port` ..). Its ports are those of its
-/// own transport layer; its addresses and VLAN tags are those of the packet that completed it.
-fn meets_payload(
-    words: &[Option<Word>],
-    read: &LaxSlicedPacket<'_>,
-    transport: &Option<TransportSlice<'_>>,
-) -> bool
-    ensures { result ≡ meets_payload words.now (layers_in (lax_layers_of read.now))
-        (option_map transport_layer_of transport.now) }
+/// Returns whether the line of a fragment that the reassembly pool rejects is printed: only without `--quiet`, if
+/// `--only` selects `refused`, and if the filter matches the packet with the fragment.
+fn shows_rejected(options: &DumpOptions, packet: &Decoded<'_>) -> bool
+    ensures { result ≡ shows_payload options.now (Some Kind.Refused) (filtered_in packet.now) }
 {
-    words
-        .iter()
-        .all(|slot| slot_holds_of(slot, read, transport))
-}
-
-/// Returns whether a reassembled payload matches one slot of the filter: a primitive such as `port 53`, or an empty
-/// slot, which matches everything. Ports are compared with `transport`, the transport layer of the payload; addresses
-/// and VLANs with `read`, the packet that completed the payload.
-fn slot_holds_of(
-    slot: &Option<Word>,
-    read: &LaxSlicedPacket<'_>,
-    transport: &Option<TransportSlice<'_>>,
-) -> bool
-    ensures { result ≡ slot_holds_of slot.now (layers_in (lax_layers_of read.now))
-        (option_map transport_layer_of transport.now) }
-{
-    match slot {
-        Some(word) => matches_reassembled(word, read, transport),
-        None => true,
-    }
+    options.shows(Some(Kind::Refused)) && options.meets(packet)
 }
 
 /// Appends ` reassembled` and the transport layer of a reassembled payload, or the payload's protocol and length if it

@@ -76,7 +76,7 @@ impl Saving {
     /// Adds a packet to the capture file, if there is one and the packet is selected.
     pub fn save(&mut self, packet: &Decoded<'_>) -> Result<(), AllocError>
         ensures saves { OnOk result ((options : DumpOptions) (packets : List DecodedPacket) (details : List ℕ) →
-            packet.now.is_selected ≡ is_wanted options (content_in packet.now) →
+            packet.now.is_selected ≡ is_wanted options (shown_of packet.now.captured.shown) (content_in packet.now) →
             GoesOn options self.old self.new packets (packets ++ packet_with packet.now details ∷ [])) }
         ensures failed { is_failed self.new.state ≡ is_failed self.old.state }
     {

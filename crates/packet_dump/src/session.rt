@@ -1,11 +1,12 @@
 //! State of a `packet_dump` run between two chunks of the capture that are read.
 
-ghost use Rattle.std.specs.Prelude.{◌≡◌, ◌<◌, ◌≤◌, ◌+◌, ◌^◌, ◌++◌, ℕ, List, IfOk, OnOk, drop, take, vec_len};
-ghost use Rattle.capture_reader.specs.Readers.{reader_shown};
+ghost use Rattle.std.specs.Prelude.{◌≡◌, ◌≢◌, ◌<◌, ◌≤◌, ◌+◌, ◌^◌, ◌++◌, ℕ, List, IfNone, IfOk, IfSome, OnOk, OnSome, drop};
+ghost use Rattle.std.specs.Prelude.{Some, take, vec_len};
+ghost use Rattle.capture_reader.specs.Readers.{AnswersAhead, reader_offset, reader_unread, shown_of};
 ghost use Rattle.packet_dump.specs.PacketCalls.{PoolHistory};
 ghost use Rattle.packet_dump.specs.Saves.{is_failed, new_state};
-ghost use Rattle.packet_dump.specs.Sessions.{Counts, Drains, HasProcessed, HoldsPooling, IsNew};
-ghost use Rattle.packet_dump.specs.Sessions.{ProcessesPacket, Written, ending_of, ends_run, taken_by};
+ghost use Rattle.packet_dump.specs.Sessions.{Counts, Drains, HasParsed, HasProcessed, HoldsPooling, IsNew};
+ghost use Rattle.packet_dump.specs.Sessions.{ProcessesPacket, Written, ending_of, ends_run, taken_by, with_lines};
 ghost use Rattle.packet_dump.specs.Summaries.{CountsFragments, new_summary, plain_of};
 ghost use Rattle.packet_dump.specs.declared.dump_options.DumpOptions.{DumpOptions};
 
@@ -17,9 +18,10 @@ use crate::pooling::Pooling;
 use crate::saving::Saving;
 use crate::shown::{first_after, instant_in, latest_after};
 use crate::summary::Summary;
-use capture_reader::{Advance, CaptureError, CaptureReader};
+use capture_reader::{Advance, CaptureError, CaptureReader, Shown};
 use std::alloc::{AllocError, Global};
 use std::hash::RandomState;
+use std::mem::replace;
 
 /// Reason why a run can process no further packet now: the bytes read so far contain no other complete packet, the
 /// number of packets of `--count` is reached, or the capture is invalid.
@@ -84,14 +86,16 @@ impl Session {
         ensures summary { IfOk result (λ session. plain_of session.summary ≡ new_summary summary options.quiet) }
         ensures saves { IfOk result (λ session. session.saving.state ≡ new_state saves) }
     {
+        let quiet = options.quiet;
+        let pooling = Pooling::new(alloc, &options, keys)?;
         Ok(Session {
             options,
             capture: CaptureReader::new(alloc),
             number: 0,
             first: None,
             latest: 0,
-            pooling: Pooling::new(alloc, &options, keys)?,
-            summary: Summary::new(alloc, summary, options.quiet),
+            pooling,
+            summary: Summary::new(alloc, summary, quiet),
             saving: Saving::new(alloc, saves),
             output: Vec::new(alloc),
         })
@@ -137,7 +141,7 @@ impl Session {
             }
             match self.capture.advance() {
                 Ok(Advance::Packet) => {
-                    self.process_packet()?;
+                    self.process_packets()?;
                 }
                 Ok(Advance::Other) => {}
                 Ok(Advance::MayEnd) => return Ok(CaptureState::MayEnd),
@@ -173,36 +177,91 @@ impl Session {
         }
     }
 
-    /// Processes the packet that was just parsed: adds it to the capture file (`--write`) if it is selected, counts it,
-    /// and appends its line, if it is shown, to the pending output. With `--reassemble` further lines follow if the
-    /// packet's IP fragment completes a payload or is rejected, or if evictions are reported.
+    /// Processes the packet that was just parsed, and the packets after it that are complete in the bytes read so far,
+    /// until `--count` packets are read. They are decoded into one value, since a new value would be filled with zeros
+    /// for each packet. That value borrows from the parser, which therefore leaves the session meanwhile.
+    fn process_packets(&mut self) -> Result<(), AllocError>
+        requires fits { taken_by self.old < 2 ^ 64 }
+        requires counts { self.old.number < reader_offset self.old.capture }
+        requires fewer { self.old.number ≢ self.old.options.most }
+        ensures processed { OnOk result ((options : DumpOptions) (read : List ℕ) (written : Written) →
+            HasParsed options self.old read written →
+            HasProcessed options self.new read (with_lines written self.new.output.items)) }
+        ensures taken { OnOk result (taken_by self.new ≡ taken_by self.old) }
+        ensures counts { OnOk result (Counts self.new) }
+        ensures passes { OnOk result (reader_unread self.new.capture ≤ reader_unread self.old.capture) }
+        ensures failed { is_failed self.new.saving.state ≡ is_failed self.old.saving.state }
+    {
+        let alloc = *self.output.allocator();
+        let capture = replace(&mut self.capture, CaptureReader::new(alloc));
+        let mut shown = capture.shown();
+        let mut packet = Decoded::new(CapturedPacket {
+            number: self.number,
+            first: self.first,
+            latest: self.latest,
+            shown,
+        });
+        let mut ahead = 0;
+        'packets: loop {
+            self.process_packet(&mut packet, shown)?;
+            match self.next_packet(&capture, &mut ahead) {
+                Some(next) => shown = next,
+                None => break,
+            }
+        }
+        self.capture = capture;
+        self.capture.advance_past(ahead);
+        Ok(())
+    }
+
+    /// Returns the packet that starts in `capture` `ahead` bytes after the bytes that were parsed, and adds the length
+    /// of its record or block to `ahead`. Returns `None` if it is not complete, or `--count` packets are read.
     #[inline(always)]
-    fn process_packet(&mut self) -> Result<(), AllocError>
+    fn next_packet<'a>(&self, capture: &'a CaptureReader, ahead: &mut usize) -> Option<Shown<'a>>
+        requires { ahead.old ≤ reader_unread capture.now }
+        ensures some { IfSome result (λ shown. AnswersAhead capture.now ahead.old ahead.new (Some shown)) }
+        ensures fewer { OnSome result (self.now.number ≢ self.now.options.most) }
+        ensures none { IfNone result (ahead.new ≡ ahead.old) }
+    {
+        if self.number == self.options.most {
+            return None;
+        }
+        capture.next_packet(ahead)
+    }
+
+    /// Processes a packet of the capture, decoded into `packet`: adds it to the capture file (`--write`) if it is
+    /// selected, counts it, and appends its line, if it is shown, to the pending output. With `--reassemble` further
+    /// lines follow if the packet's IP fragment completes a payload or is rejected, or if evictions are reported.
+    #[inline(always)]
+    fn process_packet<'a>(
+        &mut self,
+        packet: &mut Decoded<'a>,
+        shown: Shown<'a>,
+    ) -> Result<(), AllocError>
         requires { self.old.number + 1 < 2 ^ 64 }
         ensures packet { OnOk result ((before : PoolHistory) → HoldsPooling before self.old.pooling →
-            ProcessesPacket self.old self.new before (reader_shown self.old.capture)) }
+            ProcessesPacket self.old self.new before (shown_of shown.entry)) }
         ensures capture { self.new.capture ≡ self.old.capture }
         ensures failed { is_failed self.new.saving.state ≡ is_failed self.old.saving.state }
         ensures counts { self.new.number ≤ self.old.number + 1 }
     {
-        let shown = self.capture.shown();
         let this = instant_in(&shown);
         let first = first_after(self.first, this);
         let latest = latest_after(self.latest, this);
         self.number += 1;
         self.first = first;
         self.latest = latest;
-        let mut packet = Decoded::new(CapturedPacket {
+        packet.captured = CapturedPacket {
             number: self.number,
             first,
             latest,
             shown,
-        });
+        };
         packet.decode(&self.options);
-        self.saving.save(&packet)?;
-        self.summary.count(&packet)?;
-        append_line(&mut self.output, &self.options, &packet)?;
+        self.saving.save(packet)?;
+        self.summary.count(packet)?;
+        append_line(&mut self.output, &self.options, packet)?;
         self.pooling
-            .reassemble(&mut self.output, &self.options, &packet)
+            .reassemble(&mut self.output, &self.options, packet)
     }
 }

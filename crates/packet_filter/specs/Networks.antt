@@ -1,5 +1,5 @@
 -- Networks: addresses with the same prefix (RFC 4632, 3.1; RFC 4291, 2.3).
-use Rattle.std.specs.Prelude.{ℕ, ◌-◌, ◌/◌, ◌%◌, ◌^◌, min, Bool, List, [], ◌∷◌}
+use Rattle.std.specs.Prelude.{ℕ, zero, suc, ◌+◌, ◌-◌, ◌*◌, ◌/◌, ◌%◌, ◌^◌, min, Bool, List, [], ◌∷◌, length}
 use Rattle.std.specs.Net.Addr.{ipv4_octets, ipv6_octets}
 use Rattle.std.specs.Str.{bytes_eq}
 use Rattle.std.specs.declared.net.ip_addr.IpAddr.{IpAddr}
@@ -24,6 +24,16 @@ kept_bits bits byte = byte - byte % (256 / 2 ^ bits)
 abbrev pub network_bytes : ℕ → List ℕ → List ℕ
 network_bytes bits [] = []
 network_bytes bits (byte ∷ bytes) = kept_bits (min bits 8) byte ∷ network_bytes (bits - 8) bytes
+
+-- bytes as a big-endian number
+abbrev pub big_endian : List ℕ → ℕ
+big_endian [] = 0
+big_endian (byte ∷ bytes) = byte * 256 ^ length bytes + big_endian bytes
+
+-- a number as this many big-endian bytes
+abbrev pub bytes_of : ℕ → ℕ → List ℕ
+bytes_of zero number = []
+bytes_of (suc len) number = number / 256 ^ len ∷ bytes_of len (number % 256 ^ len)
 
 -- whether a network contains an address, given by its bytes; false if the network's own address has a bit set after the
 -- prefix

@@ -1,15 +1,16 @@
 //! Networks: addresses with a common prefix, such as `192.0.2.0/24`.
 
-ghost use Rattle.std.specs.Prelude.{◌≡◌, ◌≤◌};
+ghost use Rattle.std.specs.Prelude.{◌≡◌, ◌<◌, ◌≤◌, ◌-◌, ◌%◌, ◌^◌, ◌==◌, ◌⊎◌, length};
 ghost use Rattle.std.specs.Str.{bytes_eq};
-ghost use Rattle.packet_filter.specs.Networks.{address_bytes, kept_bits, network_bytes, has_no_host_bits};
+ghost use Rattle.ep_base.specs.Bytes.{AreBytes};
+ghost use Rattle.packet_filter.specs.Networks.{address_bytes, big_endian, network_bytes, has_no_host_bits};
 
 use std::net::IpAddr;
 
 /// Network: all IPv4 or IPv6 addresses with a common prefix, such as `192.0.2.0/24` (RFC 4632, 3.1; RFC 4291, 2.3).
 #[derive(Clone, Copy, Debug, PartialEq, Eq)]
 pub struct Network {
-    /// Address of the network, as before the `/` in `192.0.2.0/24`. In networks that `Word::net` accepts, the bits
+    /// Address of the network, as before the `/` in `192.0.2.0/24`. In networks of parsed filters, the bits
     /// after the prefix are 0. If one of them is 1, the network contains no address.
     pub address: IpAddr,
     /// Length of the network's prefix in bits, as after the `/` in `192.0.2.0/24`.
@@ -29,36 +30,87 @@ impl Network {
 
     /// Returns true if the network contains an address, given by its 4 (IPv4) or 16 (IPv6) bytes. Always false if the
     /// network's own address has a bit set after the prefix.
+    #[inline(always)]
     pub(crate) fn contains(&self, address: &[u8]) -> bool
         ensures { result ≡ bytes_eq (network_bytes self.now.bits address.now) (address_bytes self.now.address) }
     {
         match self.address {
-            IpAddr::V4(network) => has_prefix(self.bits, address, &network.octets()),
-            IpAddr::V6(network) => has_prefix(self.bits, address, &network.octets()),
+            IpAddr::V4(network) => is_in_ipv4(self.bits, address, &network.octets()),
+            IpAddr::V6(network) => is_in_ipv6(self.bits, address, &network.octets()),
+        }
+    }
+
+    /// Returns the length of the network's addresses in bytes: 4 or 16.
+    pub(crate) fn width(&self) -> usize
+        ensures value { result ≡ length (address_bytes self.now.address) }
+        ensures either { (result ≡ 4) ⊎ (result ≡ 16) }
+    {
+        match self.address {
+            IpAddr::V4(address) => address.octets().len(),
+            IpAddr::V6(address) => address.octets().len(),
+        }
+    }
+
+    /// Returns the network's address as a big-endian number.
+    pub(crate) fn number(&self) -> u128
+        ensures value { result ≡ big_endian (address_bytes self.now.address) }
+        ensures bytes { AreBytes (address_bytes self.now.address) }
+    {
+        match self.address {
+            IpAddr::V4(address) => number_of(&address.octets()),
+            IpAddr::V6(address) => number_of(&address.octets()),
         }
     }
 }
 
-/// Returns true if `bytes`, with all bits after the first `bits` set to 0, equal `network`. Slices of different lengths
-/// are not equal.
-fn has_prefix(bits: u8, bytes: &[u8], network: &[u8]) -> bool
-    ensures { result ≡ bytes_eq (network_bytes bits bytes.now) network.now }
+/// Returns an address of 4 or 16 bytes as a big-endian number.
+#[inline]
+pub(crate) fn number_of(address: &[u8]) -> u128
+    ensures bytes { AreBytes address.now }
+    ensures ipv4 { length address.now ≡ 4 → result ≡ big_endian address.now }
+    ensures ipv6 { length address.now ≡ 16 → result ≡ big_endian address.now }
 {
-    match (bytes, network) {
-        ([], []) => true,
-        ([], [_, ..]) | ([_, ..], []) => false,
-        ([byte, bytes @ ..], [first, network @ ..]) => {
-            kept_bits(bits.min(8), *byte) == *first
-                && has_prefix(bits.saturating_sub(8), bytes, network)
-        }
+    match address.first_chunk::<16>() {
+        Some(bytes) => u128::from_be_bytes(*bytes),
+        None => match address.first_chunk::<4>() {
+            Some(bytes) => u128::from(u32::from_be_bytes(*bytes)),
+            None => 0,
+        },
     }
 }
 
-/// Returns `byte` with only its highest `bits` bits kept, and the others set to 0.
-fn kept_bits(bits: u8, byte: u8) -> u8
-    requires { bits ≤ 8 }
-    ensures { result ≡ kept_bits bits byte }
+/// Returns true if `address`, with all bits after the first `bits` set to 0, equals an IPv4 address.
+#[inline(always)]
+fn is_in_ipv4(bits: u8, address: &[u8], network: &[u8; 4]) -> bool
+    ensures { result ≡ bytes_eq (network_bytes bits address.now) network.now }
 {
-    let size = 256u16 >> bits;
-    byte - (u16::from(byte) % size) as u8
+    address.len() == 4
+        && has_prefix(
+            bits,
+            32,
+            number_of(address),
+            u128::from(u32::from_be_bytes(*network)),
+        )
+}
+
+/// Returns true if `address`, with all bits after the first `bits` set to 0, equals an IPv6 address.
+#[inline(always)]
+fn is_in_ipv6(bits: u8, address: &[u8], network: &[u8; 16]) -> bool
+    ensures { result ≡ bytes_eq (network_bytes bits address.now) network.now }
+{
+    address.len() == 16 && has_prefix(bits, 128, number_of(address), u128::from_be_bytes(*network))
+}
+
+/// Returns true if an address of `width` bits, with all bits after the first `bits` set to 0, equals `network`.
+#[inline(always)]
+fn has_prefix(bits: u8, width: u8, address: u128, network: u128) -> bool
+    requires width { width ≤ 128 }
+    requires below { address < 2 ^ width }
+    ensures { result ≡ (address - address % 2 ^ (width - bits) == network) }
+{
+    if bits == 0 {
+        return network == 0;
+    }
+    let size = 1u128 << width.saturating_sub(bits);
+    address - address % size == network
 }

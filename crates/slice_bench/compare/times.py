@@ -11,6 +11,8 @@ several runs on one processor:
   it, and the same by hand in C.
 
 With measurements of frames as further arguments, prints those alone, of each corpus, by turns in more and shorter runs.
+With the argument `filtering`, prints of each measured filter the time for a packet of `mix`, which was sliced before, and
+that of libpcap's interpreter by turns (../packet_filter/compare/bpf.c, which needs libpcap-dev), and their ratio.
 """
 import os
 import re
@@ -27,6 +29,15 @@ TURNS, TURN_ROUNDS = 100, 400
 FRAMES = ["udp64", "udp1400", "vlan2", "mix"]
 MEASUREMENTS = ["slicing", "slicing-apart", "filling", "lax-filling", "decoding", "rereading", "ipv4-slice", "ip-headers"]
 BUILDING = ["building", "building-from-addresses"]
+# The expressions of the measurements of filters.
+FILTERS = {
+    "filtering-port": "port 53",
+    "filtering-host": "host 192.168.1.1",
+    "filtering-net": "net 192.168.0.0/16",
+    "filtering-terms": "tcp port 443 or udp port 53 or icmp or arp or host 10.0.0.1 or vlan",
+    "filtering-flags": "tcp[tcpflags] & (tcp-syn|tcp-fin) != 0",
+    "filtering-hosts": " or ".join(f"host 10.9.{at}.{at + 1}" for at in range(100)),
+}
 # Corpora of fragments, with the number of rounds besides the first.
 FRAGMENTS = dict.fromkeys(["streams", "interleaved", "queue", "crowd"], 5)
 FRAGMENTS |= dict.fromkeys(["ascending", "descending", "shuffled", "alternating"], 60)
@@ -85,8 +96,25 @@ def of_frames(program, file, rounds, names):
     return [(rf"{name} +\d+ +\d+ +([\d.]+)", program, file, rounds, name) for name in names]
 
 
+def filters(program, folder):
+    with tempfile.TemporaryDirectory() as made:
+        source = os.path.join(HERE, "..", "..", "packet_filter", "compare", "bpf.c")
+        subprocess.run(["gcc", "-O2", source, "-o", f"{made}/bpf", "-lpcap"], check=True)
+        heading("Filter", "`slice_bench`", "`bpf_filter`", "Ratio")
+        for name, expression in FILTERS.items():
+            here, by_pcap = least_of_each(
+                *of_frames(program, f"{folder}/mix", TURN_ROUNDS, [name]),
+                (r"([\d.]+) ns", f"{made}/bpf", f"{folder}/mix", expression, TURN_ROUNDS),
+                turns=TURNS,
+            )
+            print(f"| `{name}` | {here:.1f} | {by_pcap:.1f} | {here / by_pcap:.2f} |", flush=True)
+
+
 def main(program, folder, *names):
     os.sched_setaffinity(0, {max(os.sched_getaffinity(0))})
+    if names == ("filtering",):
+        filters(program, folder)
+        return
     if names:
         heading("Corpus", *(f"`{name}`" for name in names))
         for corpus in FRAMES:
@@ -121,6 +149,6 @@ def main(program, folder, *names):
 
 
 if __name__ == "__main__":
-    if len(sys.argv) < 3 or not set(sys.argv[3:]) <= set(MEASUREMENTS):
+    if len(sys.argv) < 3 or not (set(sys.argv[3:]) <= set(MEASUREMENTS) or sys.argv[3:] == ["filtering"]):
         sys.exit(__doc__)
     main(*sys.argv[1:])

@@ -4,6 +4,8 @@ ghost use Rattle.std.specs.Prelude.{◌≡◌, ◌↔◌, ◌∷◌, [], IsTrue}
 ghost use Rattle.slice_bench.specs.declared.measure.Measurement.TheVariants.{Bounded, BoundedByDefault, Building, BuildingFromAddresses};
 ghost use Rattle.slice_bench.specs.declared.measure.Measurement.TheVariants.{BuildingWithSize};
 ghost use Rattle.slice_bench.specs.declared.measure.Measurement.TheVariants.{Decoding, Filling, LaxFilling};
+ghost use Rattle.slice_bench.specs.declared.measure.Measurement.TheVariants.{FilteringFlags, FilteringHost, FilteringHosts};
+ghost use Rattle.slice_bench.specs.declared.measure.Measurement.TheVariants.{FilteringNet, FilteringPort, FilteringTerms};
 ghost use Rattle.slice_bench.specs.declared.measure.Measurement.TheVariants.{ReadingIpHeaders, Reassembly, Rereading};
 ghost use Rattle.slice_bench.specs.declared.measure.Measurement.TheVariants.{Slicing, SlicingNotInlined, SlicingIpv4};
 
@@ -13,7 +15,8 @@ use crate::measure::Measurement;
 /// made.
 pub fn constants()
     ensures { Measurement.ALL ≡ Slicing ∷ SlicingNotInlined ∷ Filling ∷ LaxFilling ∷ Decoding ∷ Rereading ∷ SlicingIpv4
-        ∷ ReadingIpHeaders ∷ Building ∷ BuildingFromAddresses ∷ BuildingWithSize ∷ Reassembly ∷ Bounded ∷ BoundedByDefault ∷ [] }
+        ∷ ReadingIpHeaders ∷ Building ∷ BuildingFromAddresses ∷ BuildingWithSize ∷ Reassembly ∷ Bounded ∷ BoundedByDefault
+        ∷ FilteringPort ∷ FilteringHost ∷ FilteringNet ∷ FilteringTerms ∷ FilteringFlags ∷ FilteringHosts ∷ [] }
 {}
 
 /// States that `==` of two `Measurement` values is true if and only if they are the same measurement.

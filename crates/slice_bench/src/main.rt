@@ -1,4 +1,4 @@
-//! Benchmark program: measures the time that slicing, decoding, building and reassembling take for each frame.
+//! Benchmark program: measures the time that slicing, decoding, building, reassembling and filtering take for each frame.
 //!
 //! `slice_bench FILE` reads frames from a file: each is a length (four bytes, little endian) and then as many bytes.
 //! For each measurement it prints the mean time per item (frame or IP packet) and a sum over the results, so that no
@@ -12,6 +12,7 @@ mod building;
 mod columns;
 mod corpus;
 mod files;
+mod filtering;
 pub mod laws;
 mod measure;
 mod reassembly;
@@ -20,13 +21,14 @@ use crate::bench_error::BenchError;
 use crate::building::frame_parts_of;
 use crate::corpus::ip_packets_of;
 use crate::files::frames_of;
+use crate::filtering::{Filters, sliced_frames_of};
 use crate::measure::{Corpus, Measurement, mean_tenths, measure};
 use std::process::ExitCode;
 use std::rt::{Clock, Env, Files};
 use std::{env, fs};
 
-/// Number of frames at the start of the file that the building benchmarks use at most. They are limited because the
-/// decoded headers of each frame use some ten kilobytes.
+/// Number of frames at the start of the file that the benchmarks of building and filters use at most. They are limited
+/// because the decoded headers of each frame use some ten kilobytes.
 const MOST_BUILT: usize = 1000;
 
 fn main(rt: HostRuntime) -> ExitCode {
@@ -63,10 +65,14 @@ fn run<R: Files + Env + Clock + Print + AllocGlobal>(rt: &R) -> Result<(), Bench
     let ip_packets = ip_packets_of(rt.alloc(), frames.as_slice())?;
     let first_frames = &frames.as_slice()[..frames.len().min(MOST_BUILT)];
     let frame_parts = frame_parts_of(rt.alloc(), first_frames)?;
+    let sliced_frames = sliced_frames_of(rt.alloc(), first_frames)?;
+    let filters = Filters::new(rt.alloc())?;
     let corpus = Corpus {
         frames,
         ip_packets,
         frame_parts,
+        sliced_frames,
+        filters,
     };
     print_heading(rt)?;
     for measurement in Measurement::ALL {

@@ -9,14 +9,16 @@ use crate::columns::{
     Decoding, Filling, LaxFilling, ReadingIpHeaders, Rereading, Slicing, SlicingIpv4,
     SlicingNotInlined, total,
 };
+use crate::filtering::{Filters, SlicedFrame, matched};
 use crate::reassembly::{bounded_len, reassembled_len, unlimited};
 use etherparse::defrag::DefragLimits;
+use packet_filter::Filter;
 use std::alloc::Global;
 use std::rt::Clock;
 use std::time::Instant;
 
-/// Input of the benchmarks: the frames of a file, the IP packets in them, and the decoded headers and payloads of the
-/// first frames.
+/// Input of the benchmarks: the frames of a file, the IP packets in them, the decoded headers and payloads and the layers
+/// of the first frames, and filters.
 #[derive(Drop)]
 pub struct Corpus<'a> {
     /// All Ethernet frames of the benchmark's input file.
@@ -25,10 +27,22 @@ pub struct Corpus<'a> {
     pub ip_packets: Vec<&'a [u8]>,
     /// Decoded headers and payloads of the first frames of the input file, for measurements that build frames.
     pub frame_parts: Vec<FrameParts<'a>>,
+    /// First frames of the input file as lax slicing reads them, for measurements of filters.
+    pub sliced_frames: Vec<SlicedFrame<'a>>,
+    /// Filters that are measured.
+    pub filters: Filters,
 }
 
-/// Measurement of the benchmark program. It makes library calls on each frame or IP packet of the input file, or builds
-/// frames from the decoded headers of the first 1,000 frames (except frames that the builder does not support).
+impl Corpus<'_> {
+    /// Returns the number of sliced frames that a filter matches.
+    fn matched(&self, filter: &Filter) -> u64 {
+        matched(self.sliced_frames.as_slice(), filter)
+    }
+}
+
+/// Measurement of the benchmark program. It makes library calls on each frame or IP packet of the input file, builds
+/// frames from the decoded headers of the first 1,000 frames (except frames that the builder does not support), or
+/// matches a filter against the first 1,000 frames.
 #[derive(Clone, Copy, Debug, PartialEq, Eq)]
 pub enum Measurement {
     /// Slices each Ethernet frame into a new value.
@@ -61,11 +75,23 @@ pub enum Measurement {
     /// Slices each Ethernet frame and passes it to a bounded reassembly pool with the default limits, which is new in each
     /// round.
     BoundedByDefault,
+    /// Matches the filter `port 53` against each sliced frame.
+    FilteringPort,
+    /// Matches the filter `host 192.168.1.1` against each sliced frame.
+    FilteringHost,
+    /// Matches the filter `net 192.168.0.0/16` against each sliced frame.
+    FilteringNet,
+    /// Matches a filter of six terms that are joined by `or` against each sliced frame.
+    FilteringTerms,
+    /// Matches the filter `tcp[tcpflags] & (tcp-syn|tcp-fin) != 0` against each sliced frame.
+    FilteringFlags,
+    /// Matches a filter of 100 hosts that are joined by `or` against each sliced frame.
+    FilteringHosts,
 }
 
 impl Measurement {
     /// All measurements of the benchmark program, in the order in which they are made.
-    pub const ALL: [Measurement; 14] = [
+    pub const ALL: [Measurement; 20] = [
         Measurement::Slicing,
         Measurement::SlicingNotInlined,
         Measurement::Filling,
@@ -80,6 +106,12 @@ impl Measurement {
         Measurement::Reassembly,
         Measurement::Bounded,
         Measurement::BoundedByDefault,
+        Measurement::FilteringPort,
+        Measurement::FilteringHost,
+        Measurement::FilteringNet,
+        Measurement::FilteringTerms,
+        Measurement::FilteringFlags,
+        Measurement::FilteringHosts,
     ];
 
     /// Name of the measurement, as the argument MEASUREMENT and in the printed results.
@@ -101,11 +133,17 @@ impl Measurement {
             Measurement::Reassembly => "reassembly",
             Measurement::Bounded => "bounded",
             Measurement::BoundedByDefault => "bounded-by-default",
+            Measurement::FilteringPort => "filtering-port",
+            Measurement::FilteringHost => "filtering-host",
+            Measurement::FilteringNet => "filtering-net",
+            Measurement::FilteringTerms => "filtering-terms",
+            Measurement::FilteringFlags => "filtering-flags",
+            Measurement::FilteringHosts => "filtering-hosts",
         }
     }
 
-    /// Number of items in one round of this measurement: frames, IP packets or decoded frames, as the measurement uses
-    /// them.
+    /// Number of items in one round of this measurement: frames, IP packets, decoded or sliced frames, as the measurement
+    /// uses them.
     pub fn count(&self, corpus: &Corpus<'_>) -> usize {
         match self {
             Measurement::Slicing
@@ -121,6 +159,12 @@ impl Measurement {
             Measurement::Building
             | Measurement::BuildingFromAddresses
             | Measurement::BuildingWithSize => corpus.frame_parts.len(),
+            Measurement::FilteringPort
+            | Measurement::FilteringHost
+            | Measurement::FilteringNet
+            | Measurement::FilteringTerms
+            | Measurement::FilteringFlags
+            | Measurement::FilteringHosts => corpus.sliced_frames.len(),
         }
     }
 
@@ -150,6 +194,12 @@ impl Measurement {
             Measurement::BoundedByDefault => {
                 bounded_len(alloc, DefragLimits::default(), corpus.frames.as_slice())
             }
+            Measurement::FilteringPort => Ok(corpus.matched(&corpus.filters.port)),
+            Measurement::FilteringHost => Ok(corpus.matched(&corpus.filters.host)),
+            Measurement::FilteringNet => Ok(corpus.matched(&corpus.filters.net)),
+            Measurement::FilteringTerms => Ok(corpus.matched(&corpus.filters.terms)),
+            Measurement::FilteringFlags => Ok(corpus.matched(&corpus.filters.flags)),
+            Measurement::FilteringHosts => Ok(corpus.matched(&corpus.filters.hosts)),
         }
     }
 }

@@ -7,7 +7,7 @@ use crate::frames::{Frames, Place, between, first_number};
 use capture_reader::{Advance, CaptureReader, Shown};
 use etherparse::{Entry, LaxNetSlice, LaxSlicedPacket, TransportSlice};
 use line_io::decimals;
-use packet_filter::{Word, passes};
+use packet_filter::Filter;
 use packet_text::push_details;
 use packet_times::{EPOCH, instant_of, is_fine, push_since, push_utc};
 use refusal_texts::push_reason;
@@ -51,7 +51,7 @@ struct Tape {
 struct Report {
     digest: Digest,
     text: Vec<u8>,
-    word: Word,
+    filter: Filter,
 }
 
 /// Reads one generated capture in each round, in turn a pcap, a pcapng, and a pcap capture with a snap length of 96
@@ -62,13 +62,13 @@ pub fn read_captures(alloc: Global, rounds: u32, seed: u64) -> Result<Digest, Be
     let mut whole = Tape::drawn(alloc, &mut numbers, Format::Classic, usize::MAX)?;
     let mut blocks = Tape::drawn(alloc, &mut numbers, Format::Blocks, usize::MAX)?;
     let mut cut = Tape::drawn(alloc, &mut numbers, Format::Classic, SNAP_LEN)?;
-    let Ok(word) = Word::host("10.1.0.77") else {
+    let Ok(filter) = Filter::parse(alloc, "host 10.1.0.77") else {
         return Err(BenchError::Input);
     };
     let mut report = Report {
         digest: Digest::new(),
         text: Vec::new(alloc),
-        word,
+        filter,
     };
     for round in 0..rounds {
         let number = first_number(seed, round);
@@ -256,7 +256,10 @@ impl Report {
         let mut packet = LaxSlicedPacket::new();
         match packet.slice_into(Entry::Ethernet, shown.bytes) {
             Ok(()) => {
-                if passes(&[self.word], &packet) {
+                if self
+                    .filter
+                    .matches(&packet, shown.bytes, shown.original_len)
+                {
                     text.extend_from_slice(b" passes")?;
                 }
                 push_transport(text, &packet)?;

@@ -8,14 +8,16 @@
 
 /// Version of these declarations: 10000 times the major number, plus 100 times the minor one, plus the patch.
 pub const VERSION: u32 = 100;
-/// Maximum stack that a call needs, in bytes, except calls on pools and [`etherparse_build_fragment`].
+/// Maximum stack that a call needs, in bytes, except calls on pools, on filters and [`etherparse_build_fragment`].
 pub const STACK: u32 = 2048;
-/// Maximum stack that a call on a pool needs, in bytes.
+/// Maximum stack that a call on a pool or filter needs, in bytes.
 pub const STACK_OF_POOLS: u32 = 8192;
 /// Maximum stack that [`etherparse_build_fragment`] needs, in bytes.
 pub const STACK_OF_FRAGMENTS: u32 = 65536;
 /// Buffer length that is enough for the text of every error, including its zero byte.
 pub const REFUSAL_TEXT_MAX: u32 = 142;
+/// Buffer length that is enough for the text of each reason of a filter's error, including its zero byte.
+pub const REASON_TEXT_MAX: u32 = 80;
 
 // Statuses of calls.
 /// Success.
@@ -215,6 +217,58 @@ pub const EVICTED_BYTES: u32 = 4;
 // Limits.
 /// Maximum payload length in a pool without a limit of its own, in bytes.
 pub const MAX_PAYLOAD: u16 = 65535;
+
+// Reasons why a text is not a filter expression.
+/// A character that no token contains.
+pub const FILTER_CHARACTER: u32 = 1;
+/// Arithmetic, which is not supported.
+pub const FILTER_ARITHMETIC: u32 = 2;
+/// A word of tcpdump that is not supported.
+pub const FILTER_NOT_TAKEN: u32 = 3;
+/// The text ends before the expression does.
+pub const FILTER_END: u32 = 4;
+/// A token that is not allowed after the tokens before it.
+pub const FILTER_MISPLACED: u32 = 5;
+/// A value without `host`, `port` or the like before it.
+pub const FILTER_UNQUALIFIED: u32 = 6;
+/// A word that begins no primitive.
+pub const FILTER_UNKNOWN: u32 = 7;
+/// Not an IPv4 or IPv6 address.
+pub const FILTER_NOT_AN_ADDRESS: u32 = 8;
+/// Not an address or the first numbers of an IPv4 address.
+pub const FILTER_NOT_A_NETWORK: u32 = 9;
+/// Not a MAC address.
+pub const FILTER_NOT_A_STATION: u32 = 10;
+/// Not a number up to 65535, and not the name of a port.
+pub const FILTER_NOT_A_PORT: u32 = 11;
+/// Not a range of ports.
+pub const FILTER_NOT_A_RANGE: u32 = 12;
+/// Not a number up to 255.
+pub const FILTER_NOT_A_PROTOCOL: u32 = 13;
+/// Not a number from 1536 to 65535.
+pub const FILTER_NOT_AN_ETHER_TYPE: u32 = 14;
+/// Not a number up to 4095.
+pub const FILTER_NOT_A_VLAN: u32 = 15;
+/// Not a number up to 4294967295.
+pub const FILTER_NOT_A_NUMBER: u32 = 16;
+/// Not 1, 2 or 4.
+pub const FILTER_NOT_A_SIZE: u32 = 17;
+/// An address of the other IP version.
+pub const FILTER_WRONG_FAMILY: u32 = 18;
+/// Not a prefix length of the address.
+pub const FILTER_NOT_A_LENGTH: u32 = 19;
+/// Not an IPv4 mask.
+pub const FILTER_NOT_A_MASK: u32 = 20;
+/// A bit of the address after the prefix is 1.
+pub const FILTER_HOST_BITS: u32 = 21;
+/// A prefix length or mask after a host.
+pub const FILTER_NET_ONLY: u32 = 22;
+/// The 65th `(` or `not` that is open.
+pub const FILTER_DEEP: u32 = 23;
+/// The bytes after the first 65,536.
+pub const FILTER_LONG: u32 = 24;
+/// The text is not UTF-8.
+pub const FILTER_NOT_UTF8: u32 = 25;
 
 /// Kind of a header, its offset in the frame and its length.
 #[repr(C)]
@@ -510,6 +564,24 @@ pub struct EvictedStream {
     pub cause: u32,
 }
 
+/// A filter, known only by its address.
+#[repr(C)]
+pub struct Filter {
+    _private: [u8; 0],
+}
+
+/// Error of a filter expression: its first token that is not allowed after the tokens before it.
+#[repr(C)]
+#[derive(Clone, Copy, Debug, Default, PartialEq, Eq, Hash)]
+pub struct FilterError {
+    /// Reason, a constant `FILTER_`, or 0.
+    pub kind: u32,
+    /// Offset in bytes at which the token begins.
+    pub start: usize,
+    /// Offset in bytes at which the token ends.
+    pub end: usize,
+}
+
 extern "C" {
     /// Returns the version of the archive, to be compared with [`VERSION`].
     #[link_name = "etherparse_1_version"]
@@ -742,4 +814,44 @@ extern "C" {
     /// Stores one of the streams that the last push, expiry, removal or clearing evicted or discarded.
     #[link_name = "etherparse_1_bounded_pool_evicted"]
     pub fn etherparse_bounded_pool_evicted(pool: *mut BoundedPool, index: usize, evicted: *mut EvictedStream) -> u32;
+    /// Parses a filter expression, and stores the address of the filter in `filter`.
+    #[link_name = "etherparse_1_filter_new"]
+    pub fn etherparse_filter_new(text: *const u8, len: usize, filter: *mut *mut Filter, error: *mut FilterError)
+        -> u32;
+    /// Frees a filter, which must not be used again.
+    #[link_name = "etherparse_1_filter_free"]
+    pub fn etherparse_filter_free(filter: *mut Filter);
+    /// Stores in `matches` whether a filter matches a packet, 1 or 0.
+    #[link_name = "etherparse_1_filter_matches"]
+    pub fn etherparse_filter_matches(
+        filter: *mut Filter,
+        entry: u32,
+        ether_type: u16,
+        bytes: *const u8,
+        len: usize,
+        wire_len: u32,
+        matches: *mut u8,
+    ) -> u32;
+    /// Stores in `matches` for each of consecutive packets in `bytes`, which end at `ends`, whether a filter matches it.
+    #[link_name = "etherparse_1_filter_matches_many"]
+    pub fn etherparse_filter_matches_many(
+        filter: *mut Filter,
+        entry: u32,
+        ether_type: u16,
+        bytes: *const u8,
+        len: usize,
+        ends: *const usize,
+        ends_len: usize,
+        wire_lens: *const u32,
+        wire_lens_len: usize,
+        matches: *mut u8,
+        matches_len: usize,
+        matched: *mut usize,
+    ) -> u32;
+    /// Writes the expression of a filter and a zero byte to the start of `buffer`.
+    #[link_name = "etherparse_1_filter_text"]
+    pub fn etherparse_filter_text(filter: *mut Filter, buffer: *mut u8, len: usize, written: *mut usize) -> u32;
+    /// Writes the text of a reason, a constant `FILTER_`, and a zero byte to the start of `buffer`.
+    #[link_name = "etherparse_1_filter_error_text"]
+    pub fn etherparse_filter_error_text(kind: u32, buffer: *mut u8, len: usize, written: *mut usize) -> u32;
 }

@@ -1,5 +1,5 @@
-//! Slices network frames into their layers, builds them, and reassembles fragmented payloads, by the static library
-//! `libetherparse_c.a`; each of its functions is proved against its contract.
+//! Slices network frames into their layers, builds and filters them, and reassembles fragmented payloads, by the static
+//! library `libetherparse_c.a`; each of its functions is proved against its contract.
 //!
 //! These wrappers, which turn offsets into slices, are checked only by the compiler and by their tests. Names are those
 //! of the Rust crate `etherparse`, if it has them; fields of a packet there are methods here.
@@ -33,6 +33,7 @@ mod bounded_pool;
 mod building;
 mod bytes;
 pub mod err;
+mod filter;
 mod headers;
 mod lax_sliced_packet;
 mod link;
@@ -53,6 +54,7 @@ pub use building::{
     build_fragment, build_icmp_echo, build_tcp, build_udp, tcp_flag, Addresses, BuildError, FragmentFields, Route,
     TcpFields,
 };
+pub use filter::{Filter, FilterError, FilterErrorKind};
 pub use headers::PacketHeaders;
 pub use lax_sliced_packet::LaxSlicedPacket;
 pub use link::{

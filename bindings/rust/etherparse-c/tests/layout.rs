@@ -2,8 +2,8 @@
 //! compares the numbers), and tests the results of the calls.
 
 use etherparse_c::sys::{
-    self, DefragLimits, DefragStatistics, EvictedStream, FragmentFields, Ip, LinkExt, Packet, Part, Payload,
-    PoolAnswer, Refusal, Route, StreamId, TaggedRoute, TcpFields,
+    self, DefragLimits, DefragStatistics, EvictedStream, FilterError, FragmentFields, Ip, LinkExt, Packet, Part,
+    Payload, PoolAnswer, Refusal, Route, StreamId, TaggedRoute, TcpFields,
 };
 use etherparse_c::{Entry, EtherType, IpNumber, SlicedPacket};
 use std::collections::{BTreeMap, HashMap};
@@ -103,7 +103,7 @@ macro_rules! declared {
 fn layouts_are_the_same() {
     let top = concat!(env!("CARGO_MANIFEST_DIR"), "/../../..");
     let read = |path: &str| std::fs::read_to_string(format!("{top}/{path}")).unwrap();
-    let files = ["packet", "route", "pool_answer", "defrag_values"]
+    let files = ["packet", "route", "pool_answer", "defrag_values", "filter_values"]
         .map(|name| read(&format!("crates/etherparse_c/src/{name}.rt")));
     let rattle = of_rattle(&files.concat());
     let c = of_c(&read("bindings/c/etherparse.h"));
@@ -134,6 +134,7 @@ fn layouts_are_the_same() {
             ipv6_source, ipv6_destination
         }
         EvictedStream { id, first, cause }
+        FilterError { kind, start, end }
         Packet {
             link, link_exts, link_ext_count, source_port, destination_port, net, ip, transport, payload, refusal
         }
@@ -159,7 +160,7 @@ fn passed(kind: &str) -> &'static str {
         _ if kind.contains("&mut") || kind.contains("*mut") => "mut ptr",
         _ if kind.starts_with("const ") || kind.starts_with(['&', '*']) => "const ptr",
         _ if kind.contains('*') => "mut ptr",
-        "OwnedPool" | "OwnedBoundedPool" => "mut ptr", // structs with one address
+        "OwnedPool" | "OwnedBoundedPool" | "OwnedFilter" => "mut ptr", // structs with one address
         "u8" | "uint8_t" => "u8",
         "u16" | "uint16_t" => "u16",
         "u32" | "uint32_t" => "u32",

@@ -62,7 +62,7 @@ struct Named {
     places: &'static [(&'static str, &'static str, &'static str)],
 }
 
-const NAMED: [Named; 11] = [
+const NAMED: [Named; 12] = [
     Named {
         first: "LAYER_",
         count: 21,
@@ -119,6 +119,17 @@ const NAMED: [Named; 11] = [
         places: &[
             ("defrag_describing.rt", "EvictionCause::", " => "),
             ("BoundedPoolAnswers.antt", "cause_number ", " = "),
+        ],
+    },
+    Named {
+        first: "FILTER_",
+        count: 24,
+        may_say_more: false,
+        places: &[
+            ("filtering.rt", "FilterErrorKind::", " => "),
+            ("filtering.rt", "", " => Some(FilterErrorKind::"),
+            ("FilterAnswers.antt", "kind_number kind.", " = "),
+            ("FilterAnswers.antt", "number == ", " then Some kind."),
         ],
     },
     Named {
@@ -183,14 +194,14 @@ fn rattle_has_the_numbers_of_the_c_header() {
     let (mut in_sources, mut in_definitions) = (BTreeSet::new(), BTreeSet::new());
     let text = read_rattle("numbers.rt");
     let known: Vec<_> = pairs(&text, "pub const ", ": u32 = ").collect();
-    assert_eq!(known.len(), 22);
+    assert_eq!(known.len(), 23);
     for (name, it) in known {
         same(&c, &mut in_sources, name.to_string(), number(it).unwrap(), "numbers.rt");
     }
     for named in NAMED {
         let names: Vec<_> = c.iter().filter_map(|(name, it)| Some((name.strip_prefix(named.first)?, *it))).collect();
-        // the name of a status starts as those of rejected fragments
-        let names: Vec<_> = names.into_iter().filter(|(name, _)| *name != "REFUSED").collect();
+        // the name of a status starts as those of rejected fragments; not each kind of a filter's error is the library's
+        let names: Vec<_> = names.into_iter().filter(|(name, _)| !["REFUSED", "NOT_UTF8"].contains(name)).collect();
         assert_eq!(names.len(), named.count, "{}", named.first);
         for (file, before, between) in named.places {
             let text = read_rattle(file);
@@ -243,12 +254,17 @@ fn rattle_has_the_numbers_of_the_c_header() {
         let it = number(text.split_once(before).unwrap().1).unwrap();
         same(&c, &mut in_sources, "MAX_PAYLOAD".to_string(), it, "pooling.rt");
     }
+    let text = read_rattle("FilterAnswers.antt");
+    let it = number(text.split_once("\nnot_utf8 = ").unwrap().1).unwrap();
+    same(&c, &mut in_definitions, "FILTER_NOT_UTF8".to_string(), it, "FilterAnswers.antt");
     let text = read_rattle("laws.rt");
-    let (_, law) = text.split_once("pub fn text_lengths()").unwrap();
-    let longest = c["REFUSAL_TEXT_MAX"] - 1; // without its zero byte
-    assert!(law.split("pub fn ").next().unwrap().contains(&format!("≤ {longest} ")), "the greatest text");
+    for (law, most) in [("text_lengths", "REFUSAL_TEXT_MAX"), ("reason_lengths", "REASON_TEXT_MAX")] {
+        let (_, law) = text.split_once(&format!("pub fn {law}()")).unwrap();
+        let longest = c[most] - 1; // without its zero byte
+        assert!(law.split("pub fn ").next().unwrap().contains(&format!("≤ {longest} ")), "the greatest text");
+    }
     // defined elsewhere in the sources of the crate, or measured by tests
-    let elsewhere = ["REFUSAL_TEXT_MAX", "STACK", "STACK_OF_FRAGMENTS", "STACK_OF_POOLS", "VERSION"];
+    let elsewhere = ["REASON_TEXT_MAX", "REFUSAL_TEXT_MAX", "STACK", "STACK_OF_FRAGMENTS", "STACK_OF_POOLS", "VERSION"];
     // every other name was compared; the definitions have statuses as bare numbers, and the limit in a contract
     let all: BTreeSet<_> = c.keys().filter(|name| !elsewhere.contains(&name.as_str())).cloned().collect();
     assert_eq!(in_sources, all);
@@ -270,7 +286,7 @@ fn rust_has_the_numbers_of_the_c_header() {
 /// Each kind here has the name of its number.
 #[test]
 fn rust_kinds_have_the_names_of_their_numbers() {
-    let files = ["bounded_pool", "building", "err", "lib", "refusal", "sliced_packet"]
+    let files = ["bounded_pool", "building", "err", "filter", "lib", "refusal", "sliced_packet"]
         .map(|name| read(&format!("bindings/rust/etherparse-c/src/{name}.rs")));
     let text = files.concat();
     // the first word of the header's names, their count, and the text before a kind and before its number
@@ -286,6 +302,8 @@ fn rust_kinds_have_the_names_of_their_numbers() {
         ("TCP_", 8, "pub const ", "sys::TCP_"),
         ("OVERLAP_", 3, "", " = OVERLAP_"),
         ("EVICTED_", 4, "", " = EVICTED_"),
+        ("FILTER_", 25, "", " = FILTER_"),
+        ("FILTER_", 25, "FilterErrorKind::", " => sys::FILTER_"),
     ];
     for (first, count, before, between) in named {
         let kinds: Vec<_> = pairs(&text, before, between).collect();

@@ -1,8 +1,8 @@
--- The result is the answer of the parser to all arguments.
-use Rattle.std.proofs.Common.{◌≡◌, Err, Ok, sym, ◌∙◌}
-use Rattle.packet_dump.specs.Options.{answer_of, asked_of, fault_of, texts}
-use Rattle.packet_dump.specs.OptionSteps.{first_state, reading_state}
-use Rattle.packet_dump.proofs.OptionLemmas.{asked_from, err_from, goes_on, ok_from, outcome, refused_from, runs_out}
+-- The result is the answer of the parser to all arguments, or the allocation failed.
+use Rattle.std.proofs.Common.{Err, Ok, ap, inl, inr, sym, ◌∙◌}
+use Rattle.packet_dump.specs.Options.{Fault, answer_of, asked_of, fault_of, texts}
+use Rattle.packet_dump.specs.OptionSteps.{reading_state}
+use Rattle.packet_dump.proofs.OptionLemmas.{Answers, asked_from, err_from, goes_on, ok_from, refused_from, runs_out}
 use Rattle.packet_dump.proofs.OptionLemmas.{stops}
 use Rattle.packet_dump.proofs.options.parse.Goals as goal
 
@@ -14,10 +14,13 @@ loop-word-preserved c =
 
 pub returns-in-Err : goal.returns-in-Err
 returns-in-Err c =
-    let answer : outcome (texts c.args.words.now) first_state ≡ answer_of (Err c.in-Err.error) =
-    stops c.args.words.now c.loop-word.word-index c.word-item.result c.as_str.result.now
-    (reading_state c.loop-word.reading) (Err (fault_of c.in-Err.error)) c.loop-word-test.true
-    c.word-item.is c.as_str.ensures.value c.in-Err.ensures c.loop-word.invariant in
+    let answer : Answers (texts c.args.words.now) (answer_of (Err c.in-Err.error)) =
+    elim c.in-Err.ensures [
+      | inl failed ↦ inl (ap (λ (f : Fault). Err f) failed)
+      | inr steps ↦ inr (stops c.args.words.now c.loop-word.word-index c.word-item.result c.as_str.result.now
+          (reading_state c.loop-word.reading) (Err (fault_of c.in-Err.error)) c.loop-word-test.true
+          c.word-item.is c.as_str.ensures.value steps c.loop-word.invariant)
+    ] in
     record {
       ok = ok_from (texts c.args.words.now) (Err c.in-Err.error) answer;
       err = err_from (texts c.args.words.now) (Err c.in-Err.error) answer;
@@ -28,10 +31,10 @@ returns-in-Err c =
 pub returns-in-Ok-Some : goal.returns-in-Ok-Some
 returns-in-Ok-Some c =
     let gives = rw c.in-Ok-Some.field-0-is at c.in-Ok-Some.ensures in
-    let answer : outcome (texts c.args.words.now) first_state ≡ answer_of (Ok c.in-Ok-Some.request) =
-    stops c.args.words.now c.loop-word.word-index c.word-item.result c.as_str.result.now
+    let answer : Answers (texts c.args.words.now) (answer_of (Ok c.in-Ok-Some.request)) =
+    inr (stops c.args.words.now c.loop-word.word-index c.word-item.result c.as_str.result.now
     (reading_state c.loop-word.reading) (Ok (asked_of c.in-Ok-Some.request)) c.loop-word-test.true
-    c.word-item.is c.as_str.ensures.value gives c.loop-word.invariant in
+    c.word-item.is c.as_str.ensures.value gives c.loop-word.invariant) in
     record {
       ok = ok_from (texts c.args.words.now) (Ok c.in-Ok-Some.request) answer;
       err = err_from (texts c.args.words.now) (Ok c.in-Ok-Some.request) answer;
@@ -41,10 +44,10 @@ returns-in-Ok-Some c =
 
 pub returns : goal.returns
 returns c =
-    let answer : outcome (texts c.args.words.now) first_state ≡ answer_of c.finish.result =
-    runs_out c.args.words.now c.loop-word.word-index (reading_state c.loop-word.reading) c.loop-word-test.false
+    let answer : Answers (texts c.args.words.now) (answer_of c.finish.result) =
+    inr (runs_out c.args.words.now c.loop-word.word-index (reading_state c.loop-word.reading) c.loop-word-test.false
     c.loop-word.invariant
-    ∙ sym c.finish.ensures in
+    ∙ sym c.finish.ensures) in
     record {
       ok = ok_from (texts c.args.words.now) c.finish.result answer;
       err = err_from (texts c.args.words.now) c.finish.result answer;

@@ -1,12 +1,11 @@
 -- The item of each value.
 use Rattle.std.proofs.Common.{rules}
-use Rattle.packet_dump.specs.Options.{count, filter, fragment_age, fragment_bytes, limit, only, overlap, streams, time}
+use Rattle.packet_dump.specs.Options.{count, explain, file, filter, fragment_age, fragment_bytes, limit, only, overlap, streams, time}
 use Rattle.packet_dump.specs.Options.{timeout, write}
-use Rattle.packet_dump.specs.OptionSteps.{input_in}
-use Rattle.packet_dump.proofs.ValueLemmas.{filter_value, input_keeps, input_value, write_value}
+use Rattle.packet_dump.proofs.ValueLemmas.{explain_value, filter_value, input_value, write_value}
 use Rattle.packet_dump.proofs.options.set.Goals as goal
 use Rattle.packet_dump.proofs.options.set.Goals.{in-Count+in_ok-options-in-Count, in-Only+in_ok-ok_or-in-Only}
-use Rattle.packet_dump.proofs.options.set.Goals.{in-Filter, in-Input, in-Write, in-Time+in_ok-options-in-Time}
+use Rattle.packet_dump.proofs.options.set.Goals.{in-Explain, in-Filter, in-Input, in-Write, in-Time+in_ok-options-in-Time}
 use Rattle.packet_dump.proofs.options.set.Goals.{in-Streams+in_ok-options-in-Streams}
 use Rattle.packet_dump.proofs.options.set.Goals.{in-FragmentBytes+in_ok-bytes-in-FragmentBytes}
 use Rattle.packet_dump.proofs.options.set.Goals.{in-FragmentAge+in_ok-seconds-in-FragmentAge}
@@ -38,10 +37,6 @@ returns-clause-ok c = elim c.match-option.branch [
     filter_value c.args.option w.in-Filter.field-0 c.args.text.now w.in-Filter.is,
     search rules,
   )
-  | in-Input w ↦
-      let keeps = input_keeps c.args.options.now c.args.text.now in (
-        input_in c.args.text.now,
-        input_value c.args.option c.args.text.now w.in-Input.is,
-        search (rules, keeps),
-      )
+  | in-Input w ↦ (file c.args.text.now, input_value c.args.option c.args.text.now w.in-Input.is, search rules)
+  | in-Explain w ↦ (explain c.args.text.now, explain_value c.args.option c.args.text.now w.in-Explain.is, search rules)
 ]

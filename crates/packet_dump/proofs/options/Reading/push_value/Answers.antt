@@ -2,7 +2,7 @@
 use Rattle.std.proofs.Common.{◌≡◌, Bool, Option, None, ap, rules, sym, ◌∙◌}
 use Rattle.packet_dump.specs.Options.{Item}
 use Rattle.packet_dump.proofs.ValueLemmas.{value_in-none, value_in-some}
-use Rattle.packet_dump.specs.OptionSteps.{State, input_or_item_step, more, reading_state, value_step}
+use Rattle.packet_dump.specs.OptionSteps.{State, item_or_fault_step, more, reading_state, value_step}
 use Rattle.packet_dump.specs.declared.options.Awaited.TheVariants.{Input}
 use Rattle.packet_dump.proofs.OptionLemmas.{no_input, set_item}
 use Rattle.packet_dump.proofs.options.Reading.push_value.Goals as goal
@@ -19,8 +19,8 @@ returns c =
     let state = reading_state c.args.self.now in
     let said = c.in_ok-set.ensures.ok in
     let apart : option ≡ Input → ⊥ = search rules in
-    let plain = no_input option text said.0 said.1 apart in
-    let set = set_item option text said.0 state _ said.1 said.2 plain in
+    let free = no_input state.settings option text said.0 said.1 apart in
+    let set = set_item option text said.0 state _ said.1 said.2 apart in
     ap (λ (o : Option Item). value_step state option text o) (value_in-some option text said.0 said.1)
-    ∙ ap (λ (b : Bool). input_or_item_step state text said.0 b) plain
+    ∙ ap (λ (b : Bool). item_or_fault_step state text said.0 b) free
     ∙ ap (λ (s : State). more (record s { awaited = None })) (sym (c.add_filter.ensures ∙ set))

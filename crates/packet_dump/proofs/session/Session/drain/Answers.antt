@@ -1,9 +1,9 @@
 use Rattle.std.proofs.Common.{◌+◌, ◌++◌, ℕ, List, ap, arith, refl, subst, sym, ◌∙◌}
 use Rattle.std.proofs.lemmas.List.{append-nil}
-use Rattle.capture_reader.specs.Readers.{reader_offset, reader_rest, reader_unread}
+use Rattle.capture_reader.specs.Readers.{reader_rest}
 use Rattle.packet_dump.specs.Sessions.{HasProcessed, with_lines}
 use Rattle.packet_dump.specs.declared.session.CaptureState.TheVariants as capture_state
-use Rattle.packet_dump.proofs.SessionLemmas.{drains_end, processed_other, processed_packet, processed_same}
+use Rattle.packet_dump.proofs.SessionLemmas.{drains_end, parsed, processed_other, processed_same}
 use Rattle.packet_dump.proofs.SessionLemmas.{with_options}
 use Rattle.packet_dump.proofs.session.Session.drain.Goals as goal
 
@@ -21,18 +21,28 @@ items-init c =
       failed = refl;
     }
 
+pub process_packets-requires-clause-fits : goal.process_packets-requires-clause-fits
+process_packets-requires-clause-fits c =
+    let advanced = rw c.in-Ok-Packet.field-0-is at c.in-Ok-Packet.ensures in
+    omega (arith, advanced.total, c.items.invariant.taken, c.requires.fits)
+
+pub process_packets-requires-clause-counts : goal.process_packets-requires-clause-counts
+process_packets-requires-clause-counts c =
+    let advanced = rw c.in-Ok-Packet.field-0-is at c.in-Ok-Packet.ensures in
+    omega (arith, advanced.total, advanced.less tt, c.items.invariant.counts)
+
 pub items-preserved-in-Continue-1 : goal.items-preserved-in-Continue-1
 items-preserved-in-Continue-1 c =
     let advanced = rw c.in-Ok-Packet.field-0-is at c.in-Ok-Packet.ensures in
-    let done = c.in_ok-process_packet-in-Ok-Packet.ensures in
+    let done = c.in_ok-process_packets-in-Ok-Packet.ensures in
     record {
       processed = λ options read written was.
-          with_options options c.items.self c.process_packet.new.self read _ _
-          (processed_packet c.items.self c.process_packet.new.self c.advance.new.self read written advanced.reads
-          done.packet done.capture c.if-self.false) (c.items.invariant.processed options read written was);
-      taken = ap (λ r. reader_offset r + reader_unread r) done.capture ∙ advanced.total ∙ c.items.invariant.taken;
-      counts = rw done.capture
-          (omega (arith, done.counts, advanced.total, advanced.less tt, c.items.invariant.counts));
+          with_options options c.items.self c.process_packets.new.self read _ _
+          (λ has. done.processed c.items.self.options read written
+          (parsed c.items.self c.advance.new.self read written advanced.reads has))
+          (c.items.invariant.processed options read written was);
+      taken = done.taken ∙ advanced.total ∙ c.items.invariant.taken;
+      counts = done.counts;
       failed = done.failed ∙ c.items.invariant.failed;
     }
 

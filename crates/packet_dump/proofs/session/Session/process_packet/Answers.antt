@@ -2,7 +2,7 @@ use Rattle.std.proofs.Common.{◌++◌, List, Option, ap, refl, ℕ, ◌∙◌}
 use Rattle.std.proofs.lemmas.Result.{on_ok_weaker}
 use Rattle.capture_reader.specs.Readers.{shown_of}
 use Rattle.packet_dump.specs.Decoding.{packet_with}
-use Rattle.packet_dump.specs.Shown.{first_after, instant_in, latest_after}
+use Rattle.packet_dump.specs.Shown.{first_after, latest_after}
 use Rattle.packet_dump.specs.declared.decoded.CapturedPacket.{CapturedPacket}
 use Rattle.packet_dump.proofs.DecodedLemmas.{is_decoded}
 use Rattle.packet_dump.proofs.session.Session.process_packet.Goals as goal
@@ -12,10 +12,9 @@ returns-clause-packet c =
     let self = c.args.self.now in
     let options = self.options in
     let decoded = c.decode.new.self in
-    let same = c.decode.ensures.captured ∙ c.new-packet.ensures in
+    let same = c.decode.ensures.captured in
     let number = ap (λ (p : CapturedPacket). p.number) same in
-    let shown = c.shown-shown.ensures in
-    let this = c.instant_in-this.ensures ∙ ap instant_in shown in
+    let this = c.instant_in-this.ensures in
     let first = c.first_after-first.ensures ∙ ap (λ (t : Option ℕ). first_after self.first t) this in
     let latest = c.latest_after-latest.ensures ∙ ap (λ (t : Option ℕ). latest_after self.latest t) this in
     let appended = c.in_ok-append_line.ensures in
@@ -33,7 +32,7 @@ returns-clause-packet c =
         number = number;
         first = ap (λ (p : CapturedPacket). p.first) same ∙ first;
         latest = ap (λ (p : CapturedPacket). p.latest) same ∙ latest;
-        shown = ap (λ (p : CapturedPacket). shown_of p.shown) same ∙ shown;
+        shown = ap (λ (p : CapturedPacket). shown_of p.shown) same;
       };
       passes = passed.2;
       pooled = passed.3;

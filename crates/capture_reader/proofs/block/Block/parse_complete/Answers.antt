@@ -1,0 +1,6 @@
+use Rattle.capture_reader.proofs.FrameLemmas.{few_no_block}
+use Rattle.capture_reader.proofs.block.Block.parse_complete.Goals as goal
+
+pub returns-then-bytes-lt12-clause-none : goal.returns-then-bytes-lt12-clause-none
+returns-then-bytes-lt12-clause-none c =
+    few_no_block c.args.order c.args.interfaces.now c.args.bytes.now c.if-bytes-lt12.true

@@ -1,0 +1,119 @@
+-- Lemmas about running the steps of a filter.
+use Rattle.std.proofs.Common.{◌≡◌, ℕ, zero, suc, ◌≤◌, Bool, true, false, not, ◌&&◌, ◌||◌, List, [], ◌∷◌, ◌++◌, length, get_or, drop, Option, Some, None, refl, ap, sym, ◌∙◌, append_assoc, arith}
+use Rattle.std.specs.Prelude.{if◌then◌else◌}
+use Rattle.std.proofs.lemmas.List.{append-nil}
+use Rattle.packet_filter.specs.declared.step.Step.{Step}
+use Rattle.packet_filter.specs.declared.step.Step.TheVariants as step
+use Rattle.packet_filter.specs.Meaning.{matches_primitive, matches_expr, meaning}
+use Rattle.packet_filter.specs.Packets.{Packet}
+use Rattle.packet_filter.specs.Running.{value_after}
+use Rattle.packet_filter.specs.Trees.{Expr, test, negated, both, either, steps_of, steps_of_text, tree_of}
+
+-- Skipping steps is running those after them.
+pub skips : (steps : List Step) (skipped : ℕ) (held : Bool) (packet : Packet)
+    → value_after steps skipped held packet ≡ value_after (drop skipped steps) 0 held packet
+skips steps zero held packet = refl
+skips [] (suc skipped) held packet = refl
+skips (first ∷ steps) (suc skipped) held packet = skips steps skipped held packet
+
+-- Running a step that skips others is running the steps after those.
+skips_false : (steps : List Step) (item : Step) (skipped : ℕ) (packet : Packet)
+    → 1 ≤ length steps → item ≡ get_or steps 0 item → item ≡ step.SkipIfFalse skipped
+    → value_after (drop skipped (drop 1 steps)) 0 false packet ≡ value_after steps 0 false packet
+skips_false [] item skipped packet some at is = absurd (omega (arith, some))
+skips_false (first ∷ steps) item skipped packet some at is =
+    sym (skips steps skipped false packet)
+    ∙ ap (λ (one : Step). value_after (one ∷ steps) 0 false packet) (sym is ∙ at)
+
+pub skips_if_false : (steps : List Step) (item : Step) (skipped : ℕ) (held : Bool) (packet : Packet)
+    → 1 ≤ length steps → item ≡ get_or steps 0 item → item ≡ step.SkipIfFalse skipped → held ≡ false
+    → value_after (drop skipped (drop 1 steps)) 0 held packet ≡ value_after steps 0 held packet
+skips_if_false steps item skipped held packet some at is held_is =
+    ap (λ (value : Bool). value_after (drop skipped (drop 1 steps)) 0 value packet) held_is
+    ∙ skips_false steps item skipped packet some at is
+    ∙ sym (ap (λ (value : Bool). value_after steps 0 value packet) held_is)
+
+skips_true : (steps : List Step) (item : Step) (skipped : ℕ) (packet : Packet)
+    → 1 ≤ length steps → item ≡ get_or steps 0 item → item ≡ step.SkipIfTrue skipped
+    → value_after (drop skipped (drop 1 steps)) 0 true packet ≡ value_after steps 0 true packet
+skips_true [] item skipped packet some at is = absurd (omega (arith, some))
+skips_true (first ∷ steps) item skipped packet some at is =
+    sym (skips steps skipped true packet)
+    ∙ ap (λ (one : Step). value_after (one ∷ steps) 0 true packet) (sym is ∙ at)
+
+pub skips_if_true : (steps : List Step) (item : Step) (skipped : ℕ) (held : Bool) (packet : Packet)
+    → 1 ≤ length steps → item ≡ get_or steps 0 item → item ≡ step.SkipIfTrue skipped → held ≡ true
+    → value_after (drop skipped (drop 1 steps)) 0 held packet ≡ value_after steps 0 held packet
+skips_if_true steps item skipped held packet some at is held_is =
+    ap (λ (value : Bool). value_after (drop skipped (drop 1 steps)) 0 value packet) held_is
+    ∙ skips_true steps item skipped packet some at is
+    ∙ sym (ap (λ (value : Bool). value_after steps 0 value packet) held_is)
+
+-- A step that skips others if the value is true is passed over if it is false.
+stays : (steps : List Step) (item : Step) (skipped : ℕ) (packet : Packet)
+    → 1 ≤ length steps → item ≡ get_or steps 0 item → item ≡ step.SkipIfTrue skipped
+    → value_after (drop 1 steps) 0 false packet ≡ value_after steps 0 false packet
+stays [] item skipped packet some at is = absurd (omega (arith, some))
+stays (first ∷ steps) item skipped packet some at is =
+    ap (λ (one : Step). value_after (one ∷ steps) 0 false packet) (sym is ∙ at)
+
+pub stays_if_false : (steps : List Step) (item : Step) (skipped : ℕ) (held : Bool) (packet : Packet)
+    → 1 ≤ length steps → item ≡ get_or steps 0 item → item ≡ step.SkipIfTrue skipped → held ≡ false
+    → value_after (drop 1 steps) 0 held packet ≡ value_after steps 0 held packet
+stays_if_false steps item skipped held packet some at is held_is =
+    ap (λ (value : Bool). value_after (drop 1 steps) 0 value packet) held_is
+    ∙ stays steps item skipped packet some at is
+    ∙ sym (ap (λ (value : Bool). value_after steps 0 value packet) held_is)
+
+-- Skipping as many steps as there are leads to those after them.
+passes : (steps rest : List Step) (held : Bool) (packet : Packet)
+    → value_after (steps ++ rest) (length steps) held packet ≡ value_after rest 0 held packet
+passes [] rest held packet = refl
+passes (first ∷ steps) rest held packet = passes steps rest held packet
+
+-- The steps of a right operand, which decides if the left one does not.
+joins_by_and : (left right : Bool) (steps rest : List Step) (packet : Packet)
+    → ((held : Bool) → value_after (steps ++ rest) 0 held packet ≡ value_after rest 0 right packet)
+    → value_after (step.SkipIfFalse (length steps) ∷ (steps ++ rest)) 0 left packet
+    ≡ value_after rest 0 (left && right) packet
+joins_by_and true right steps rest packet decides = decides true
+joins_by_and false right steps rest packet decides = passes steps rest false packet
+
+joins_by_or : (left right : Bool) (steps rest : List Step) (packet : Packet)
+    → ((held : Bool) → value_after (steps ++ rest) 0 held packet ≡ value_after rest 0 right packet)
+    → value_after (step.SkipIfTrue (length steps) ∷ (steps ++ rest)) 0 left packet
+    ≡ value_after rest 0 (left || right) packet
+joins_by_or true right steps rest packet decides = passes steps rest true packet
+joins_by_or false right steps rest packet decides = decides false
+
+-- Running the steps of an expression makes the value its meaning.
+pub runs : (e : Expr) (rest : List Step) (held : Bool) (packet : Packet)
+    → value_after (steps_of e ++ rest) 0 held packet ≡ value_after rest 0 (matches_expr e packet) packet
+runs (test primitive) rest held packet = refl
+runs (negated e) rest held packet =
+    ap (λ (steps : List Step). value_after steps 0 held packet) (append_assoc (steps_of e) (step.Negate ∷ []) rest)
+    ∙ runs e (step.Negate ∷ rest) held packet
+runs (both e f) rest held packet =
+    ap (λ (steps : List Step). value_after steps 0 held packet)
+    (append_assoc (steps_of e) (step.SkipIfFalse (length (steps_of f)) ∷ steps_of f) rest)
+    ∙ runs e (step.SkipIfFalse (length (steps_of f)) ∷ (steps_of f ++ rest)) held packet
+    ∙ joins_by_and (matches_expr e packet) (matches_expr f packet) (steps_of f) rest packet
+    (λ value. runs f rest value packet)
+runs (either e f) rest held packet =
+    ap (λ (steps : List Step). value_after steps 0 held packet)
+    (append_assoc (steps_of e) (step.SkipIfTrue (length (steps_of f)) ∷ steps_of f) rest)
+    ∙ runs e (step.SkipIfTrue (length (steps_of f)) ∷ (steps_of f ++ rest)) held packet
+    ∙ joins_by_or (matches_expr e packet) (matches_expr f packet) (steps_of f) rest packet
+    (λ value. runs f rest value packet)
+
+-- Running the steps of a filter gives its meaning.
+pub means : (tree : Option Expr) (packet : Packet) → value_after (steps_of_text tree) 0 true packet ≡ meaning tree packet
+means None packet = refl
+means (Some e) packet =
+    ap (λ (steps : List Step). value_after steps 0 true packet) (sym (append-nil (steps_of e))) ∙ runs e [] true packet
+
+-- Running the steps of a filter gives the meaning of the expression that they have.
+pub compiled_means : (steps : List Step) (packet : Packet) → steps ≡ steps_of_text (tree_of steps)
+    → value_after steps 0 true packet ≡ meaning (tree_of steps) packet
+compiled_means steps packet compiled =
+    ap (λ (list : List Step). value_after list 0 true packet) compiled ∙ means (tree_of steps) packet

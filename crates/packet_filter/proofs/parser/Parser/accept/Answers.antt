@@ -1,0 +1,11 @@
+use Rattle.packet_filter.specs.Grammar.{most_levels}
+use Rattle.packet_filter.specs.Parsing.{state_of}
+use Rattle.packet_filter.specs.Shown.{shown_token}
+use Rattle.packet_filter.proofs.AcceptLemmas.{accepted}
+use Rattle.packet_filter.proofs.parser.Parser.accept.Goals as goal
+
+pub returns-in-Ok : goal.returns-in-Ok
+returns-in-Ok c = λ frames shown.
+    accepted most_levels (state_of c.args.self.now frames) (shown_token c.args.kind c.args.word.now) c.in-Ok.change
+    c.apply.new.self c.apply.result (c.in-Ok.ensures.ok frames)
+    (c.apply.ensures frames c.args.word.now shown c.in-Ok.ensures.apt)

@@ -1,0 +1,377 @@
+//! Words that are no keywords: the change that each makes, by the part of the operand before it.
+
+ghost use Rattle.std.specs.Prelude.{◌≡◌, ℕ, List, None, Bool, IfErr, IfOk, IfSome, IfNone, IsTrue, true, false, take};
+ghost use Rattle.std.specs.List.{list_any};
+ghost use Rattle.packet_filter.specs.Grammar.{IsWordValue};
+ghost use Rattle.packet_filter.specs.Networks.{has_no_host_bits};
+ghost use Rattle.packet_filter.specs.Parsing.{IsApt, IsModeChange, IsValueChange, IsWordChange, StopsMode, StopsWordIn, changed};
+ghost use Rattle.packet_filter.specs.Refusals.{IsValueKind};
+ghost use Rattle.packet_filter.specs.States.{State, StopsSide, StopsValue, after_value, qualified};
+ghost use Rattle.packet_filter.specs.Tokens.{Token, is_colon, is_digit};
+ghost use Rattle.packet_filter.specs.Values.{IsFamily, IsMask};
+ghost use Rattle.packet_filter.specs.declared.filter_error.FilterErrorKind.{FilterErrorKind};
+ghost use Rattle.packet_filter.specs.declared.primitive.Primitive.{Primitive};
+ghost use Rattle.packet_filter.specs.declared.primitive.Side.{Side};
+ghost use Rattle.packet_filter.specs.declared.mode.Sided.{Sided};
+
+use crate::filter_error::FilterErrorKind;
+use crate::head::Head;
+use crate::mode::{Comparison, Mode};
+use crate::network::Network;
+use crate::parser::change::{
+    Change, Completion, group_mode, number_test, protocol_test, side_head, union,
+};
+use crate::primitive::{AddressLayer, FieldLayer, Operand, Primitive, Relation, Side};
+use crate::value;
+use ep_base::EtherType;
+use std::net::IpAddr;
+
+/// Returns what a word changes in a mode, with these qualifiers in force.
+pub(super) fn word_change(
+    mode: Mode,
+    head: Option<Head>,
+    word: &[u8],
+) -> Result<Change, FilterErrorKind>
+    ensures ok { IfOk result (λ change. IsWordChange mode head word.now change) }
+    ensures apt { IsApt mode result }
+    ensures err { IfErr result (λ found. StopsWordIn mode head word.now found) }
+{
+    match mode {
+        Mode::Operand(_) => value_change(head, word),
+        Mode::Side(sided, side) => side_value_change(side_head(sided, side), word),
+        Mode::Length(layer, side, address) => length_change(layer, side, address, word),
+        Mode::Mask(layer, side, address) => mask_change(layer, side, address, word),
+        Mode::Vlan => vlan_change(word),
+        Mode::PacketLength(relation) => packet_length_change(relation, word),
+        Mode::Offset(layer) => offset_change(layer, word),
+        Mode::Size(layer, offset) => size_change(layer, offset, word),
+        Mode::Group(comparison) => group_word_change(comparison, word),
+        Mode::GroupItem(comparison, bits) => item_change(comparison, bits, word),
+        _ => Err(FilterErrorKind::Misplaced),
+    }
+}
+
+// ---- values
+
+/// Returns what a word changes where a value of the qualifiers in force is expected.
+fn value_change(head: Option<Head>, word: &[u8]) -> Result<Change, FilterErrorKind>
+    ensures ok { IfOk result (λ change. IsValueChange head word.now change) }
+    ensures apt { (only : Bool) → IsApt (Mode.Operand only) result }
+    ensures err { IfErr result (λ found. StopsValue head word.now found) }
+{
+    match head {
+        Some(head) => match word_value(head, word) {
+            Some(primitive) => Ok(after_value(head, primitive)),
+            None => Err(value_error(head, word)),
+        },
+        None => Err(unqualified_error(word)),
+    }
+}
+
+/// Returns what a word changes after a side, with the qualifiers that the side is without `host`.
+fn side_value_change(head: Option<Head>, word: &[u8]) -> Result<Change, FilterErrorKind>
+    ensures ok { IfOk result (λ change. IsValueChange head word.now change) }
+    ensures apt { (sided : Sided) (side : Side) → IsApt (Mode.Side sided side) result }
+    ensures err { IfErr result (λ found. StopsSide head word.now found) }
+{
+    match head {
+        Some(head) => match word_value(head, word) {
+            Some(primitive) => Ok(after_value(head, primitive)),
+            None => Err(value_error(head, word)),
+        },
+        None => Err(FilterErrorKind::Misplaced),
+    }
+}
+
+/// Returns the change of a value with its qualifiers.
+fn after_value(head: Head, primitive: Primitive) -> Change
+    ensures value { (most : ℕ) (state : State) (token : Token)
+        → changed most state result token ≡ Ok (after_value (qualified state head) head primitive) }
+    ensures apt_operand { (only : Bool) → IsApt (Mode.Operand only) (Ok result) }
+    ensures apt_side { (sided : Sided) (side : Side) → IsApt (Mode.Side sided side) (Ok result) }
+{
+    match (head, primitive) {
+        (Head::Host(_, _), _) => Change::Qualify(head, Mode::Host(primitive)),
+        (Head::Net(_, _), Primitive::Address(layer, side, network)) => {
+            Change::Qualify(head, Mode::Net(layer, side, network))
+        }
+        _ => Change::Complete(Completion::Value(head, primitive)),
+    }
+}
+
+/// Returns the kind of error of a word that is no keyword, without qualifiers in force.
+fn unqualified_error(word: &[u8]) -> FilterErrorKind
+    ensures { StopsValue None word.now result }
+{
+    if begins_with_digit(word) || has_colon(word) {
+        FilterErrorKind::Unqualified
+    } else {
+        FilterErrorKind::Unknown
+    }
+}
+
+/// Returns true if a word begins with a digit.
+fn begins_with_digit(word: &[u8]) -> bool
+    ensures { result ≡ list_any is_digit (take 1 word.now) }
+{
+    matches!(word, [b'0'..=b'9', ..])
+}
+
+/// Returns true if a word has a colon.
+fn has_colon(word: &[u8]) -> bool
+    ensures { result ≡ list_any is_colon word.now }
+{
+    word.iter().any(|byte| *byte == b':')
+}
+
+/// Parses a value that is one word.
+fn word_value(head: Head, word: &[u8]) -> Option<Primitive>
+    ensures some { IfSome result (λ primitive. IsWordValue head word.now primitive) }
+    ensures none { IfNone result ((primitive : Primitive) → IsWordValue head word.now primitive → ⊥) }
+{
+    match head {
+        Head::Host(layer, side) => host_value(layer, side, word),
+        Head::Net(layer, side) => net_value(layer, side, word),
+        Head::Station(side) => match value::station(word) {
+            Some(station) => Some(Primitive::Station(side, station)),
+            None => None,
+        },
+        Head::Port(ports, side) => match value::port(word) {
+            Some(port) => Some(Primitive::Port(ports, side, port, port)),
+            None => None,
+        },
+        Head::PortRange(ports, side) => match value::port_range(word) {
+            Some((low, high)) => Some(Primitive::Port(ports, side, low, high)),
+            None => None,
+        },
+        Head::Protocol(version) => match value::byte_number(word) {
+            Some(number) => Some(protocol_test(version, number)),
+            None => None,
+        },
+        Head::EtherType => match value::ether_type(word) {
+            Some(number) => Some(Primitive::EtherType(EtherType(number))),
+            None => None,
+        },
+    }
+}
+
+/// Parses an address of a host.
+fn host_value(layer: AddressLayer, side: Side, word: &[u8]) -> Option<Primitive>
+    ensures some { IfSome result (λ primitive. IsWordValue (Head.Host layer side) word.now primitive) }
+    ensures none { IfNone result ((primitive : Primitive) → IsWordValue (Head.Host layer side) word.now primitive → ⊥) }
+{
+    let address = value::address(word)?;
+    if is_family(layer, &address) {
+        Some(Primitive::Address(layer, side, value::whole_network(address)))
+    } else {
+        None
+    }
+}
+
+/// Parses a network without a prefix length or mask.
+fn net_value(layer: AddressLayer, side: Side, word: &[u8]) -> Option<Primitive>
+    ensures some { IfSome result (λ primitive. IsWordValue (Head.Net layer side) word.now primitive) }
+    ensures none { IfNone result ((primitive : Primitive) → IsWordValue (Head.Net layer side) word.now primitive → ⊥) }
+{
+    match value::network(word) {
+        Some(network) => {
+            if is_family(layer, &network.address) {
+                Some(Primitive::Address(layer, side, network))
+            } else {
+                None
+            }
+        }
+        None => None,
+    }
+}
+
+/// Returns true if addresses of this IP version can be those of the layer.
+fn is_family(layer: AddressLayer, address: &IpAddr) -> bool
+    ensures yes { IsTrue result → IsFamily layer address.now }
+    ensures no { result ≡ false → IsFamily layer address.now → ⊥ }
+{
+    match (layer, address) {
+        (AddressLayer::Any, _) => true,
+        (AddressLayer::Ipv4 | AddressLayer::Arp, IpAddr::V4(_)) => true,
+        (AddressLayer::Ipv6, IpAddr::V6(_)) => true,
+        (AddressLayer::Ipv4 | AddressLayer::Arp, IpAddr::V6(_)) => false,
+        (AddressLayer::Ipv6, IpAddr::V4(_)) => false,
+    }
+}
+
+/// Returns the kind of error of a word that is no value of these qualifiers.
+fn value_error(head: Head, word: &[u8]) -> FilterErrorKind
+    ensures { IsValueKind head word.now result }
+{
+    match head {
+        Head::Host(_, _) => match value::address(word) {
+            Some(_) => FilterErrorKind::WrongFamily,
+            None => FilterErrorKind::NotAnAddress,
+        },
+        Head::Net(_, _) => match value::network(word) {
+            Some(_) => FilterErrorKind::WrongFamily,
+            None => FilterErrorKind::NotANetwork,
+        },
+        Head::Station(_) => FilterErrorKind::NotAStation,
+        Head::Port(_, _) => FilterErrorKind::NotAPort,
+        Head::PortRange(_, _) => FilterErrorKind::NotARange,
+        Head::Protocol(_) => FilterErrorKind::NotAProtocol,
+        Head::EtherType => FilterErrorKind::NotAnEtherType,
+    }
+}
+
+// ---- prefixes
+
+/// Returns what a word changes where the prefix length of a network is expected.
+fn length_change(
+    layer: AddressLayer,
+    side: Side,
+    address: IpAddr,
+    word: &[u8],
+) -> Result<Change, FilterErrorKind>
+    ensures ok { IfOk result (λ change. IsModeChange (Mode.Length layer side address) word.now change) }
+    ensures apt { IsApt (Mode.Length layer side address) result }
+    ensures err { IfErr result
+        (λ found. StopsMode (Mode.Length layer side address) word.now found) }
+{
+    match value::prefix_length(word, &address) {
+        Some(bits) => network_change(layer, side, Network { address, bits }),
+        None => Err(FilterErrorKind::NotALength),
+    }
+}
+
+/// Returns what a word changes where the mask of a network is expected.
+fn mask_change(
+    layer: AddressLayer,
+    side: Side,
+    address: IpAddr,
+    word: &[u8],
+) -> Result<Change, FilterErrorKind>
+    ensures ok { IfOk result (λ change. IsModeChange (Mode.Mask layer side address) word.now change) }
+    ensures apt { IsApt (Mode.Mask layer side address) result }
+    ensures err { IfErr result
+        (λ found. StopsMode (Mode.Mask layer side address) word.now found) }
+{
+    match mask_bits(&address, word) {
+        Some(bits) => network_change(layer, side, Network { address, bits }),
+        None => Err(FilterErrorKind::NotAMask),
+    }
+}
+
+/// Parses a mask of an address, and returns its number of ones.
+fn mask_bits(address: &IpAddr, word: &[u8]) -> Option<u8>
+    ensures some { IfSome result (λ bits. IsMask address.now word.now bits) }
+    ensures none { IfNone result ((bits : ℕ) → IsMask address.now word.now bits → ⊥) }
+{
+    match address {
+        IpAddr::V4(_) => value::mask_length(word),
+        IpAddr::V6(_) => None,
+    }
+}
+
+/// Returns the change of a network with its prefix length. Bits that are set after the prefix are an error.
+fn network_change(
+    layer: AddressLayer,
+    side: Side,
+    network: Network,
+) -> Result<Change, FilterErrorKind>
+    ensures ok { IfOk result (λ change. (has_no_host_bits network ≡ true)
+        × (change ≡ Change.Complete (Completion.InForce (Primitive.Address layer side network)))) }
+    ensures err { IfErr result
+        (λ found. (has_no_host_bits network ≡ false) × (found ≡ FilterErrorKind.HostBits)) }
+{
+    if network.has_no_host_bits() {
+        Ok(Change::Complete(Completion::InForce(Primitive::Address(layer, side, network))))
+    } else {
+        Err(FilterErrorKind::HostBits)
+    }
+}
+
+// ---- numbers
+
+/// Returns what a word changes after `vlan`.
+fn vlan_change(word: &[u8]) -> Result<Change, FilterErrorKind>
+    ensures ok { IfOk result (λ change. IsModeChange Mode.Vlan word.now change) }
+    ensures apt { IsApt Mode.Vlan result }
+    ensures err { IfErr result (λ found. StopsMode Mode.Vlan word.now found) }
+{
+    match value::vlan_id(word) {
+        Some(id) => Ok(Change::Complete(Completion::Bare(Primitive::Vlan(Some(id))))),
+        None => {
+            if begins_with_digit(word) {
+                Err(FilterErrorKind::NotAVlan)
+            } else {
+                Err(FilterErrorKind::Misplaced)
+            }
+        }
+    }
+}
+
+/// Returns what a word changes after `less` or `greater`.
+fn packet_length_change(relation: Relation, word: &[u8]) -> Result<Change, FilterErrorKind>
+    ensures ok { IfOk result (λ change. IsModeChange (Mode.PacketLength relation) word.now change) }
+    ensures apt { IsApt (Mode.PacketLength relation) result }
+    ensures err { IfErr result (λ found. StopsMode (Mode.PacketLength relation) word.now found) }
+{
+    match value::number(word) {
+        Some(number) => Ok(Change::Complete(Completion::Bare(number_test(
+            Operand::Length,
+            None,
+            relation,
+            number,
+        )))),
+        None => Err(FilterErrorKind::NotANumber),
+    }
+}
+
+/// Returns what a word changes where an offset is expected.
+fn offset_change(layer: FieldLayer, word: &[u8]) -> Result<Change, FilterErrorKind>
+    ensures ok { IfOk result (λ change. IsModeChange (Mode.Offset layer) word.now change) }
+    ensures apt { IsApt (Mode.Offset layer) result }
+    ensures err { IfErr result (λ found. StopsMode (Mode.Offset layer) word.now found) }
+{
+    match value::constant(word) {
+        Some(offset) => Ok(Change::Continue(Mode::OffsetEnd(layer, offset))),
+        None => Err(FilterErrorKind::NotANumber),
+    }
+}
+
+/// Returns what a word changes where a size is expected.
+fn size_change(layer: FieldLayer, offset: u32, word: &[u8]) -> Result<Change, FilterErrorKind>
+    ensures ok { IfOk result (λ change. IsModeChange (Mode.Size layer offset) word.now change) }
+    ensures apt { IsApt (Mode.Size layer offset) result }
+    ensures err { IfErr result (λ found. StopsMode (Mode.Size layer offset) word.now found) }
+{
+    match value::size(word) {
+        Some(width) => Ok(Change::Continue(Mode::SizeEnd(layer, offset, width))),
+        None => Err(FilterErrorKind::NotASize),
+    }
+}
+
+/// Returns what a word changes where a constant is expected, or constants in parentheses.
+fn group_word_change(comparison: Comparison, word: &[u8]) -> Result<Change, FilterErrorKind>
+    ensures ok { IfOk result (λ change. IsModeChange (Mode.Group comparison) word.now change) }
+    ensures apt { IsApt (Mode.Group comparison) result }
+    ensures err { IfErr result (λ found. StopsMode (Mode.Group comparison) word.now found) }
+{
+    match value::constant(word) {
+        Some(number) => Ok(Change::Continue(group_mode(comparison, number))),
+        None => Err(FilterErrorKind::NotANumber),
+    }
+}
+
+/// Returns what a word changes where a constant in parentheses is expected.
+fn item_change(
+    comparison: Comparison,
+    bits: Option<u32>,
+    word: &[u8],
+) -> Result<Change, FilterErrorKind>
+    ensures ok { IfOk result (λ change. IsModeChange (Mode.GroupItem comparison bits) word.now change) }
+    ensures apt { IsApt (Mode.GroupItem comparison bits) result }
+    ensures err { IfErr result (λ found. StopsMode (Mode.GroupItem comparison bits) word.now found) }
+{
+    match value::constant(word) {
+        Some(number) => Ok(Change::Continue(Mode::GroupEnd(comparison, union(bits, number)))),
+        None => Err(FilterErrorKind::NotANumber),
+    }
+}
