@@ -10,6 +10,7 @@ ghost use Rattle.etherparse.specs.LinkSlices.{link_layer_of};
 ghost use Rattle.etherparse.specs.StrictFrames.{layers_in};
 ghost use Rattle.packet_dump.specs.DecodedPackets.{HasFrameAfter};
 ghost use Rattle.packet_dump.specs.Decoding.{IsDecodedBy, IsParsedAfter, IsParsedBy, content_by, content_in};
+ghost use Rattle.link_types.specs.Openings.{read_bytes};
 ghost use Rattle.link_types.specs.declared.openings.Opening.{Opening};
 ghost use Rattle.packet_dump.specs.PacketContents.{HoldsStrictly, content_with, has_extensions, has_header, has_layer};
 ghost use Rattle.packet_dump.specs.PacketContents.{shown_bytes};
@@ -86,24 +87,32 @@ impl<'a> Decoded<'a> {
         ensures decoded { IsDecodedBy options.now self.new }
         ensures captured { self.new.captured ≡ self.old.captured }
     {
-        self.parse(options);
-        self.is_selected = options.selects(self);
+        let bytes = self.parse(options);
+        self.is_selected = options.selects(self, bytes);
     }
 
-    /// Finds where parsing starts, and slices the bytes from there.
+    /// Finds where parsing starts, and slices the bytes from there. Returns them; all bytes if the link type or link
+    /// header is not supported.
     #[inline(always)]
-    fn parse(&mut self, options: &DumpOptions)
+    fn parse(&mut self, options: &DumpOptions) -> &'a [u8]
         ensures parsed { IsParsedBy options.now self.new }
         ensures captured { self.new.captured ≡ self.old.captured }
+        ensures bytes { result.now
+            ≡ read_bytes self.old.captured.shown.link_type self.old.captured.shown.bytes.now }
     {
         let bytes = self.captured.shown.bytes;
         let found = opening_of(self.captured.shown.link_type, bytes);
         self.opening = found;
         match found {
-            Some(opening) => self.parse_after(options, opening, &bytes[opening.skipped..]),
+            Some(opening) => {
+                let read = &bytes[opening.skipped..];
+                self.parse_after(options, opening, read);
+                read
+            }
             None => {
                 self.outcome = Outcome::Unsupported;
                 self.is_frame = false;
+                bytes
             }
         }
     }

@@ -3,6 +3,7 @@
 ghost use Rattle.std.specs.Prelude.{◌≡◌};
 ghost use Rattle.std.specs.Option.{option_map};
 ghost use Rattle.capture_reader.specs.Readers.{shown_of};
+ghost use Rattle.etherparse.specs.LaxLayers.{no_lax_layers};
 ghost use Rattle.etherparse.specs.LaxPackets.{lax_layers_of};
 ghost use Rattle.etherparse.specs.LaxViews.{lax_net_layer_of};
 ghost use Rattle.etherparse.specs.TransportParts.{transport_layer_of};
@@ -14,6 +15,7 @@ ghost use Rattle.packet_dump.specs.PacketContents.{content_kind, frame_kind, is_
 ghost use Rattle.packet_dump.specs.PacketContents.{shows_kind, shows_line};
 ghost use Rattle.packet_dump.specs.PoolLines.{inner_kind, part, with_payload};
 ghost use Rattle.packet_filter.specs.Meaning.{meaning};
+ghost use Rattle.packet_filter.specs.Packets.{packet_of};
 ghost use Rattle.packet_filter.specs.Trees.{tree_of};
 
 use crate::decoded::{Decoded, Outcome};
@@ -170,11 +172,13 @@ impl DumpOptions {
         }
     }
 
-    /// Returns whether `--only` and the filter select a packet, even if `--quiet` hides its line.
-    pub fn selects(&self, packet: &Decoded<'_>) -> bool
+    /// Returns whether `--only` and the filter select a packet, even if `--quiet` hides its line. `bytes` are its bytes
+    /// from where parsing starts.
+    pub fn selects(&self, packet: &Decoded<'_>, bytes: &[u8]) -> bool
+        requires { bytes.now ≡ read_bytes packet.now.captured.shown.link_type packet.now.captured.shown.bytes.now }
         ensures { result ≡ is_wanted self.now (shown_of packet.now.captured.shown) (content_in packet.now) }
     {
-        self.wants_packet(packet) && self.meets(packet)
+        self.wants_packet(packet) && self.meets(packet, bytes)
     }
 
     /// Returns whether `--only` selects a packet.
@@ -198,13 +202,15 @@ impl DumpOptions {
         }
     }
 
-    /// Returns whether the filter matches a packet. A packet that is rejected or not parsed has no layers.
+    /// Returns whether the filter matches a packet. A packet that is rejected or not parsed has no layers. `bytes` are
+    /// its bytes from where parsing starts.
     #[tactic(auto, unfolding(crate::specs::PacketContents::meets))]
-    pub fn meets(&self, packet: &Decoded<'_>) -> bool
+    pub fn meets(&self, packet: &Decoded<'_>, bytes: &[u8]) -> bool
+        requires { bytes.now ≡ read_bytes packet.now.captured.shown.link_type packet.now.captured.shown.bytes.now }
         ensures { result ≡ meets self.now.filter (filtered_in packet.now) }
     {
         match &self.filter {
-            Some(filter) => matches(filter, packet),
+            Some(filter) => matches(filter, packet, bytes),
             None => true,
         }
     }
@@ -277,17 +283,23 @@ fn nanoseconds(seconds: u32) -> u128
 
 /// Returns whether a filter matches a packet. A packet that is rejected or not parsed has no layers.
 #[tactic(auto, unfolding(crate::specs::PacketContents::filtered_packet))]
-fn matches(filter: &Filter, packet: &Decoded<'_>) -> bool
+fn matches(filter: &Filter, packet: &Decoded<'_>, bytes: &[u8]) -> bool
+    requires { bytes.now ≡ read_bytes packet.now.captured.shown.link_type packet.now.captured.shown.bytes.now }
     ensures { result ≡ meaning (tree_of filter.now) (filtered_in packet.now) }
 {
-    let shown = &packet.captured.shown;
+    let len = packet.captured.shown.original_len;
     match &packet.outcome {
-        Outcome::Layers => filter.matches(&packet.read, read_bytes(shown), shown.original_len),
-        Outcome::Refused(_) | Outcome::Unsupported => {
-            let read = LaxSlicedPacket::new();
-            filter.matches(&read, read_bytes(shown), shown.original_len)
-        }
+        Outcome::Layers => filter.matches(&packet.read, bytes, len),
+        Outcome::Refused(_) | Outcome::Unsupported => matches_no_layers(filter, bytes, len),
     }
+}
+
+/// Returns whether a filter matches a packet without layers.
+fn matches_no_layers(filter: &Filter, bytes: &[u8], len: u32) -> bool
+    ensures { result ≡ meaning (tree_of filter.now) (packet_of no_lax_layers bytes.now len) }
+{
+    let read = LaxSlicedPacket::new();
+    filter.matches(&read, bytes, len)
 }
 
 /// Returns whether a filter matches a packet with a reassembled payload of this protocol in place of its fragment.
@@ -307,8 +319,7 @@ fn matches_payload(filter: &Filter, packet: &Decoded<'_>, number: IpNumber, payl
 }
 
 /// Returns the bytes of a packet from where parsing starts; all bytes if its link type or link header is not supported.
-#[inline(always)]
-fn read_bytes<'a>(shown: &Shown<'a>) -> &'a [u8]
+pub fn read_bytes<'a>(shown: &Shown<'a>) -> &'a [u8]
     ensures { result.now ≡ read_bytes shown.now.link_type shown.now.bytes.now }
 {
     match opening_of(shown.link_type, shown.bytes) {

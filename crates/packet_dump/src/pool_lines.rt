@@ -13,7 +13,7 @@ ghost use Rattle.packet_dump.specs.PoolLines.{shows_payload, unread, unread_text
 ghost use Rattle.packet_dump.specs.declared.dump_options.Kind.{Kind};
 
 use crate::decoded::Decoded;
-use crate::dump_options::{DumpOptions, Kind};
+use crate::dump_options::{DumpOptions, Kind, read_bytes};
 use crate::packet_lines::push_start;
 use etherparse::TransportSlice;
 use etherparse::defrag::{BoundedDefragError, IpDefragError, IpDefragPayloadVec};
@@ -147,7 +147,8 @@ fn shows_payload(
 fn shows_rejected(options: &DumpOptions, packet: &Decoded<'_>) -> bool
     ensures { result ≡ shows_payload options.now (Some Kind.Refused) (filtered_in packet.now) }
 {
-    options.shows(Some(Kind::Refused)) && options.meets(packet)
+    let bytes = read_bytes(&packet.captured.shown);
+    options.shows(Some(Kind::Refused)) && options.meets(packet, bytes)
 }
 
 /// Appends ` reassembled` and the transport layer of a reassembled payload, or the payload's protocol and length if it

@@ -1,9 +1,9 @@
 // Matches a filter against frames with the interpreter of libpcap: bpf FILE EXPRESSION [ROUNDS]
 //
 // FILE is a file of slice_bench: frames, each with its length in four bytes, little endian, and then its bytes. The
-// filter is compiled once, with libpcap's optimiser, for Ethernet II. As slice_bench does, it matches the filter against
-// the first 1,000 frames in one round without a clock and then in ROUNDS rounds, and prints how many frames match, the
-// mean time for each frame, and the number of instructions of the filter. Build: gcc -O2 bpf.c -o bpf -lpcap
+// filter is compiled once, with libpcap's optimiser, for Ethernet II. Like slice_bench, bpf matches it against the first
+// 1,000 frames in one round without a clock and then in ROUNDS rounds, and prints how many frames match, the mean time
+// for each frame, and the number of instructions of the filter. Build: gcc -O2 bpf.c -o bpf -lpcap
 #include <pcap/pcap.h>
 #include <stdint.h>
 #include <stdio.h>

@@ -1,18 +1,16 @@
 -- Lemmas about running the steps of a filter with its sets of hosts.
-use Rattle.std.proofs.Common.{◌≡◌, ℕ, ◌+◌, ◌<◌, ◌≤◌, Bool, true, false, ◌||◌, List, [], ◌∷◌, length, get_or, drop, refl, ap, sym, subst, ◌∙◌, arith, length-drop}
+use Rattle.std.proofs.Common.{◌≡◌, ℕ, ◌+◌, ◌<◌, ◌≤◌, Bool, ◌||◌, List, length, get_or, drop, ap, sym, subst, ◌∙◌, arith, length-drop}
 use Rattle.std.specs.List.{All}
 use Rattle.std.proofs.lemmas.List.{drop-drop}
 use Rattle.std.proofs.lemmas.List.Elements.{All-drop, All-get_or}
 use Rattle.packet_filter.specs.declared.host_set.HostSet.{HostSet}
 use Rattle.packet_filter.specs.declared.step.Step.{Step}
-use Rattle.packet_filter.specs.declared.step.Step.TheVariants as step
 use Rattle.packet_filter.specs.HostSets.{BeginsHostSet, HasHostSet, matches_set}
 use Rattle.packet_filter.specs.Meaning.{meaning}
 use Rattle.packet_filter.specs.Packets.{Packet}
 use Rattle.packet_filter.specs.Running.{value_after}
 use Rattle.packet_filter.specs.Trees.{tree_of}
 use Rattle.packet_filter.proofs.HostLemmas.{same_end, set_runs}
-use Rattle.packet_filter.proofs.StepLemmas.{skips_if_true}
 
 -- The steps that are left of all of them lead to the meaning, and the sets are sets of all steps.
 abbrev pub Runs : List Step → List HostSet → Packet → List Step → Bool → Type 0
@@ -40,7 +38,8 @@ begins_here all steps sets later packet held set (m, later_is) some at left (lea
     let has : HasHostSet all set =
     subst (λ (one : HostSet). HasHostSet all one) (sym at)
     (All-get_or (HasHostSet all) later 0 set some
-    (subst (λ (list : List HostSet). All (HasHostSet all) list) (sym later_is) (All-drop (HasHostSet all) m sets have))) in
+    (subst (λ (list : List HostSet). All (HasHostSet all) list) (sym later_is)
+    (All-drop (HasHostSet all) m sets have))) in
     let (k, begins) = has in
     subst (λ (list : List Step). BeginsHostSet list set)
     (same_end all k n (sym begins.left ∙ left ∙ ap length steps_are) ∙ sym steps_are) begins

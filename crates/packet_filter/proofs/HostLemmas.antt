@@ -1,5 +1,5 @@
 -- Lemmas about sets of hosts.
-use Rattle.std.proofs.Common.{◌≡◌, ◌≢◌, ℕ, zero, suc, ◌+◌, ◌*◌, ◌≤◌, Bool, true, false, ◌==◌, ◌&&◌, ◌||◌, List, [], ◌∷◌, ◌++◌, length, map, drop, Option, Some, None, ◌-◌, ◌⊎◌, inl, inr, ⊎_elim, Result, Ok, Err, get_or, refl, ap, sym, subst, ◌∙◌, arith, eqb-true, eq-eqb, length-append, length-drop}
+use Rattle.std.proofs.Common.{◌≡◌, ◌≢◌, ℕ, ◌+◌, ◌*◌, ◌≤◌, Bool, true, false, ◌==◌, ◌||◌, List, [], ◌∷◌, ◌++◌, length, map, drop, Option, Some, None, ◌-◌, ◌⊎◌, inl, inr, ⊎_elim, Result, Ok, Err, get_or, refl, ap, sym, subst, ◌∙◌, arith, eqb-true, eq-eqb, length-append, length-drop}
 use Rattle.std.specs.List.{All, list_any}
 use Rattle.std.specs.List.Sorted.{IsBinarySearchResult, IsPermutation, IsSorted}
 use Rattle.std.specs.Option.{option_map_or}
@@ -127,7 +127,8 @@ any_matches set hosts packet all permuted one = in_layer packet.layers.net.layer
     in_layer None = never hosts
     in_layer (Some net) =
         any_side set.side hosts (addresses_of set.layer net) one
-        ∙ ap (λ (holds : List ℕ → Bool). at_side_of set.side holds (addresses_of set.layer net)) (λ i address. tests address i)
+        ∙ ap (λ (holds : List ℕ → Bool). at_side_of set.side holds (addresses_of set.layer net))
+        (λ i address. tests address i)
 
 passed : {X : Type 0} (front back : List X) → drop (length front) (front ++ back) ≡ back
 passed [] back = refl
@@ -220,7 +221,8 @@ pub search_finds : (numbers : List ℕ) (number : ℕ) (found : Result ℕ ℕ)
     → IsBinarySearchResult (λ y. nat_cmp y number) numbers found → IsSorted nat_cmp numbers
     → is_ok found ≡ list_any (λ other. other == number) numbers
 search_finds numbers number (Ok at) result up =
-    let (within, is) = searched numbers number (Ok at) result (λ i j. IsNonDecreasingBy-from_sort (λ x. x) numbers up i j 0) in
+    let (within, is) =
+    searched numbers number (Ok at) result (λ i j. IsNonDecreasingBy-from_sort (λ x. x) numbers up i j 0) in
     sym (list_any_at (λ other. other == number) numbers at 0 within (eq-eqb _ _ is))
 search_finds numbers number (Err at) result up =
     let (bound, below, above) =
@@ -228,7 +230,8 @@ search_finds numbers number (Err at) result up =
     sym (list_any_none (λ other. other == number) numbers
     (All-from_get_or (λ other. (other == number) ≡ false) numbers 0
     (λ k within. not_true _ (λ is. let same = eqb-true _ _ is in
-    ⊎_elim (λ less. omega (arith, same, below k less)) (λ more. omega (arith, same, above k more within)) (sides k at)))))
+    ⊎_elim (λ less. omega (arith, same, below k less)) (λ more. omega (arith, same, above k more within))
+    (sides k at)))))
 
 wide_is : (width : ℕ) → ((width == 4) || (width == 16)) ≡ true → (width ≡ 4) ⊎ (width ≡ 16)
 wide_is width is = by_cases (width == 4) (width == 16) refl refl is

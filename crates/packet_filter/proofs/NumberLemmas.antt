@@ -1,5 +1,5 @@
 -- Lemmas about addresses as big-endian numbers.
-use Rattle.std.proofs.Common.{◌≡◌, ℕ, zero, suc, ◌+◌, ◌-◌, ◌*◌, ◌/◌, ◌%◌, ◌^◌, ◌<◌, ◌≤◌, min, ◌⊎◌, inl, inr, ⊎_elim, Bool, true, false, ◌==◌, List, [], ◌∷◌, length, get_or, refl, ap, sym, ◌∙◌, arith, mul_assoc, add-mul, eqb-true, eq-eqb}
+use Rattle.std.proofs.Common.{◌≡◌, ℕ, zero, suc, ◌+◌, ◌-◌, ◌*◌, ◌/◌, ◌%◌, ◌^◌, ◌<◌, ◌≤◌, min, ◌⊎◌, inl, inr, ⊎_elim, Bool, true, false, ◌==◌, List, [], ◌∷◌, length, refl, ap, sym, ◌∙◌, arith, mul_assoc, add-mul, eqb-true, eq-eqb}
 use Rattle.std.specs.Int.{w32, w128, from_be_bytes}
 use Rattle.std.specs.Str.{bytes_eq}
 use Rattle.std.proofs.lemmas.Nat.{mod-mul-add, div-mul-add, pow-add, pow_pos}
@@ -18,7 +18,8 @@ four_bytes (a ∷ b ∷ c ∷ d ∷ []) four = omega arith
 four_bytes (a ∷ b ∷ c ∷ d ∷ e ∷ others) four = absurd (omega (arith, four))
 
 -- Sixteen bytes as a number.
-sixteen : (a b c d e f g h i j k l m n o p : ℕ) → from_be_bytes w128 (a ∷ b ∷ c ∷ d ∷ e ∷ f ∷ g ∷ h ∷ i ∷ j ∷ k ∷ l ∷ m ∷ n ∷ o ∷ p ∷ [])
+sixteen : (a b c d e f g h i j k l m n o p : ℕ)
+    → from_be_bytes w128 (a ∷ b ∷ c ∷ d ∷ e ∷ f ∷ g ∷ h ∷ i ∷ j ∷ k ∷ l ∷ m ∷ n ∷ o ∷ p ∷ [])
     ≡ big_endian (a ∷ b ∷ c ∷ d ∷ e ∷ f ∷ g ∷ h ∷ i ∷ j ∷ k ∷ l ∷ m ∷ n ∷ o ∷ p ∷ [])
 sixteen a b c d e f g h i j k l m n o p = omega arith
 
@@ -172,7 +173,12 @@ short_prefix bits byte bytes small short =
     let same : 2 ^ (8 * suc (length bytes) - bits) ≡ size * high =
     ap (λ (k : ℕ). 2 ^ k) (omega (arith, short)) ∙ pow-add 2 (8 - bits) (8 * length bytes)
     ∙ ap (λ (p : ℕ). size * p) (sym (power (length bytes))) in
-    omega (arith, first, none, low_lost byte high (big_endian bytes) size (below bytes (λ i. small (suc i))) (pow_pos (8 - bits)))
+    omega (
+      arith,
+      first,
+      none,
+      low_lost byte high (big_endian bytes) size (below bytes (λ i. small (suc i))) (pow_pos (8 - bits)),
+    )
     ∙ ap (λ (p : ℕ). big_endian (byte ∷ bytes) - big_endian (byte ∷ bytes) % p) (sym same)
 
 pub sides : (m n : ℕ) → (m < n) ⊎ (n ≤ m)

@@ -1,10 +1,9 @@
 -- Lemmas about running the steps of a filter.
-use Rattle.std.proofs.Common.{◌≡◌, ℕ, zero, suc, ◌≤◌, Bool, true, false, not, ◌&&◌, ◌||◌, List, [], ◌∷◌, ◌++◌, length, get_or, drop, Option, Some, None, refl, ap, sym, ◌∙◌, append_assoc, arith}
-use Rattle.std.specs.Prelude.{if◌then◌else◌}
+use Rattle.std.proofs.Common.{◌≡◌, ℕ, zero, suc, ◌≤◌, Bool, true, false, ◌&&◌, ◌||◌, List, [], ◌∷◌, ◌++◌, length, get_or, drop, Option, Some, None, refl, ap, sym, ◌∙◌, append_assoc, arith}
 use Rattle.std.proofs.lemmas.List.{append-nil}
 use Rattle.packet_filter.specs.declared.step.Step.{Step}
 use Rattle.packet_filter.specs.declared.step.Step.TheVariants as step
-use Rattle.packet_filter.specs.Meaning.{matches_primitive, matches_expr, meaning}
+use Rattle.packet_filter.specs.Meaning.{matches_expr, meaning}
 use Rattle.packet_filter.specs.Packets.{Packet}
 use Rattle.packet_filter.specs.Running.{value_after}
 use Rattle.packet_filter.specs.Trees.{Expr, test, negated, both, either, steps_of, steps_of_text, tree_of}

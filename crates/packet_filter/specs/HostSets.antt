@@ -36,4 +36,5 @@ is_one_of set address = list_any (λ number. bytes_eq address (bytes_of set.widt
 -- Whether a host of a set matches a packet.
 abbrev pub matches_set : HostSet → Packet → Bool
 matches_set set packet =
-    option_map_or (λ net. at_side_of set.side (is_one_of set) (addresses_of set.layer net)) packet.layers.net.layer false
+    option_map_or (λ net. at_side_of set.side (is_one_of set) (addresses_of set.layer net)) packet.layers.net.layer
+    false

@@ -76,8 +76,8 @@ impl<'s, 'a> Subject<'s, 'a> {
         }
     }
 
-    /// Returns the payload of IP: the reassembled one, or that of the packet; `None` without IP layer. It may be that of
-    /// a later fragment.
+    /// Returns the payload of IP: the reassembled one, or that of the packet, which can be a later fragment; `None`
+    /// without IP layer.
     #[inline(always)]
     pub fn payload(&self) -> Option<&'s LaxIpPayloadSlice<'s>>
         ensures { option_map lax_ip_payload_of (option_copied result)

@@ -1,4 +1,4 @@
-use Rattle.std.proofs.Common.{◌+◌, ◌++◌, ℕ, List, ap, arith, refl, subst, sym, ◌∙◌}
+use Rattle.std.proofs.Common.{◌++◌, ℕ, List, ap, arith, refl, subst, sym, ◌∙◌}
 use Rattle.std.proofs.lemmas.List.{append-nil}
 use Rattle.capture_reader.specs.Readers.{reader_rest}
 use Rattle.packet_dump.specs.Sessions.{HasProcessed, with_lines}

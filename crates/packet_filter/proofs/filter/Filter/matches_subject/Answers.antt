@@ -48,7 +48,8 @@ loop-steps-preserved-then-holds-2 c =
     let next : List Step = c.steps_if_true-steps.result.now in
     let (n, next_is) = c.steps_if_true-steps.ensures.later in
     goes_on c.args.self.now steps next c.loop-steps.sets.now c.later_sets-sets.result.now packet c.loop-steps.holds
-    c.loop-steps.holds (1 + n) (next_is ∙ ap (λ (list : List Step). drop n list) (take_rest steps 1) ∙ drop-drop n 1 steps)
+    c.loop-steps.holds (1 + n)
+    (next_is ∙ ap (λ (list : List Step). drop n list) (take_rest steps 1) ∙ drop-drop n 1 steps)
     c.later_sets-sets.ensures
     (ap (λ (value : Bool). value_after next 0 value packet) c.if-holds-2.true
     ∙ c.steps_if_true-steps.ensures.value packet

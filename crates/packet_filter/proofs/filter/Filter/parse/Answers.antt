@@ -1,9 +1,9 @@
-use Rattle.std.proofs.Common.{◌≡◌, List, Option, ap, subst, sym, ◌∙◌}
+use Rattle.std.proofs.Common.{List, ap, subst, sym, ◌∙◌}
 use Rattle.std.specs.List.{All}
 use Rattle.packet_filter.specs.declared.step.Step.{Step}
 use Rattle.packet_filter.specs.HostSets.{HasHostSet}
 use Rattle.packet_filter.specs.Refusals.{IsFilterText}
-use Rattle.packet_filter.specs.Trees.{Expr, steps_of_text, tree_of}
+use Rattle.packet_filter.specs.Trees.{steps_of_text, tree_of}
 use Rattle.packet_filter.proofs.TreeLemmas.{reads_back}
 use Rattle.packet_filter.proofs.filter.Filter.parse.Goals as goal
 
@@ -18,4 +18,5 @@ invariant_of-result c =
 pub returns-in-Ok-host_sets-clause-ok : goal.returns-in-Ok-host_sets-clause-ok
 returns-in-Ok-host_sets-clause-ok c =
     let (tree, text, is) = c.in-Ok.ensures.ok in
-    rw (← c.as_bytes.ensures.value) (subst (IsFilterText c.as_bytes.result.now) (sym (ap tree_of is ∙ reads_back tree)) text)
+    rw (← c.as_bytes.ensures.value)
+    (subst (IsFilterText c.as_bytes.result.now) (sym (ap tree_of is ∙ reads_back tree)) text)
