@@ -50,6 +50,8 @@ if gcc --version > /dev/null 2>&1; then
     {
         "$work/expression" "udp port 53 and not host 192.168.1.2"
         "$work/expression" "udp port 53 and hots 192.168.1.2" || [ $? = 2 ]
+        "$work/expression" $'udp\tport 53\nand host' || [ $? = 2 ] # control characters are printed as spaces
+        "$work/expression" "$(printf '%65537s' tcp)" || [ $? = 2 ]
     } | tee "$work/expression.out"
     cmp "$work/expression.out" c/examples/expression.out
     build tests statuses # with its own allocator
@@ -59,7 +61,7 @@ if gcc --version > /dev/null 2>&1; then
         cmp "$work/$name.out" "c/tests/$name.out"
     done
     # Mistakes of a caller that a compiler must reject, and a header of another layout, which must not link.
-    for mistake in NULL_PACKET NULL_FRAME SHORT_SEED STATUS_IGNORED STATUS_FORGOTTEN; do
+    for mistake in NULL_PACKET NULL_FRAME SHORT_SEED SHORT_MATCHES STATUS_IGNORED STATUS_FORGOTTEN; do
         if gcc -std=c99 -Wall -Wextra -Werror -O2 -Ic -D"$mistake" -c c/tests/mistakes.c -o "$work/mistake.o" \
             2> /dev/null; then
             echo "bindings: the compiler says nothing of $mistake" && exit 1

@@ -370,9 +370,10 @@ etherparse_slice_lax(uint32_t entry, uint16_t ether_type, const uint8_t *bytes, 
  * packets[i] is filled as by etherparse_slice with frame i: the kind of its refusal is 0 if that returns ETHERPARSE_OK.
  * `packets` has `count` elements; `sliced` is the number of filled ones. Returns
  * - ETHERPARSE_OK: all frames are sliced;
+ * - ETHERPARSE_TOO_SMALL: `packets` is null and `count` is not 0; no frame is sliced, whatever `entry` is;
  * - ETHERPARSE_UNKNOWN_CHOICE: `entry` is another number, and no frame is sliced; or ends[*sliced] is less than the end
  *   before it or greater than `len`, and the frames before it are sliced.
- * The other packets are unchanged. `bytes` may be null if `len` is 0, `ends` and `packets` if `count` is 0. */
+ * The other packets are unchanged. `bytes` may be null if `len` is 0, and `ends` if `count` is 0. */
 ETHERPARSE_MUST_USE ETHERPARSE_NONNULL((8)) ETHERPARSE_READS(3, 4) ETHERPARSE_READS(5, 6)
 static inline enum etherparse_status
 etherparse_slice_many(uint32_t entry, uint16_t ether_type, const uint8_t *bytes, size_t len, const size_t *ends,
@@ -382,7 +383,7 @@ etherparse_slice_many(uint32_t entry, uint16_t ether_type, const uint8_t *bytes,
     struct etherparse_packet no_packet;
     return ETHERPARSE_AS_STATUS(etherparse_1_slice_many(entry, ether_type, bytes ? bytes : &none, len,
                                                         ends ? ends : &no_end, count,
-                                                        packets ? packets : &no_packet, count, sliced));
+                                                        packets ? packets : &no_packet, packets ? count : 0, sliced));
 }
 
 /* Slices `count` consecutive packets in `bytes` laxly. The parameters and statuses are those of etherparse_slice_many,
@@ -398,7 +399,8 @@ etherparse_slice_lax_many(uint32_t entry, uint16_t ether_type, const uint8_t *by
     struct etherparse_packet no_packet;
     return ETHERPARSE_AS_STATUS(etherparse_1_slice_lax_many(entry, ether_type, bytes ? bytes : &none, len,
                                                             ends ? ends : &no_end, count,
-                                                            packets ? packets : &no_packet, count, sliced));
+                                                            packets ? packets : &no_packet, packets ? count : 0,
+                                                            sliced));
 }
 
 /* Buffer length that is enough for the text of every error, including its zero byte. */
@@ -409,12 +411,12 @@ etherparse_slice_lax_many(uint32_t entry, uint16_t ether_type, const uint8_t *by
  * - ETHERPARSE_UNKNOWN_CHOICE: the numbers are not those of an error, as for a valid frame; `written` is 0;
  * - ETHERPARSE_TOO_SMALL: the buffer is too small, and `written` is the needed length;
  * - ETHERPARSE_OUT_OF_MEMORY: an allocation failed; `written` is 0.
- * Except for ETHERPARSE_OK the buffer is unchanged. It may be null if `len` is 0. */
+ * Except for ETHERPARSE_OK the buffer is unchanged. A null buffer has length 0, whatever `len` is. */
 ETHERPARSE_MUST_USE ETHERPARSE_NONNULL((1, 4)) ETHERPARSE_WRITES(2, 3) static inline enum etherparse_status
 etherparse_refusal_text(const struct etherparse_refusal *refusal, char *buffer, size_t len, size_t *written) {
     char none;
-    return ETHERPARSE_AS_STATUS(etherparse_1_refusal_text(refusal, (uint8_t *)(buffer ? buffer : &none), len,
-                                                          written));
+    return ETHERPARSE_AS_STATUS(etherparse_1_refusal_text(refusal, (uint8_t *)(buffer ? buffer : &none),
+                                                          buffer ? len : 0, written));
 }
 
 /* Returns the Internet checksum (RFC 1071) of the bytes, as a number that is written in big-endian order. An odd last
@@ -436,7 +438,8 @@ ETHERPARSE_MUST_USE ETHERPARSE_READS(1, 2) static inline uint16_t etherparse_che
  * Except for ETHERPARSE_OK the buffer is unchanged, and except for ETHERPARSE_TOO_SMALL `written` is then 0.
  *
  * Fields without a parameter are 0, except that IPv4 has "don't fragment" set. A frame is not padded to the minimum
- * length of Ethernet. The payload, the options and the buffer may be null if their length is 0. */
+ * length of Ethernet. The payload and the options may be null if their length is 0. A null buffer has length 0,
+ * whatever `buffer_len` is. */
 
 /* Headers before the transport header. The addresses of the other IP version are ignored, and those of Ethernet if
  * with_ethernet is 0. */
@@ -483,7 +486,8 @@ etherparse_build_udp(const struct etherparse_route *route, uint16_t source_port,
     const uint8_t none = 0;
     uint8_t no_room;
     return ETHERPARSE_AS_STATUS(etherparse_1_build_udp(route, source_port, destination_port, payload ? payload : &none,
-                                                       payload_len, buffer ? buffer : &no_room, buffer_len, written));
+                                                       payload_len, buffer ? buffer : &no_room, buffer ? buffer_len : 0,
+                                                       written));
 }
 
 /* Builds a TCP segment. */
@@ -494,7 +498,7 @@ etherparse_build_tcp(const struct etherparse_route *route, const struct etherpar
     const uint8_t none = 0;
     uint8_t no_room;
     return ETHERPARSE_AS_STATUS(etherparse_1_build_tcp(route, fields, payload ? payload : &none, payload_len,
-                                                       buffer ? buffer : &no_room, buffer_len, written));
+                                                       buffer ? buffer : &no_room, buffer ? buffer_len : 0, written));
 }
 
 /* Builds an echo message of ICMP, or of ICMPv6 if the version is 6: a request if is_reply is 0, else a reply. */
@@ -506,8 +510,8 @@ etherparse_build_icmp_echo(const struct etherparse_route *route, uint8_t is_repl
     const uint8_t none = 0;
     uint8_t no_room;
     return ETHERPARSE_AS_STATUS(etherparse_1_build_icmp_echo(route, is_reply, id, seq, payload ? payload : &none,
-                                                             payload_len, buffer ? buffer : &no_room, buffer_len,
-                                                             written));
+                                                             payload_len, buffer ? buffer : &no_room,
+                                                             buffer ? buffer_len : 0, written));
 }
 
 /* A route with VLAN tags (IEEE 802.1Q) after its Ethernet II header. */
@@ -528,7 +532,8 @@ etherparse_build_tagged_udp(const struct etherparse_tagged_route *route, uint16_
     uint8_t no_room;
     return ETHERPARSE_AS_STATUS(etherparse_1_build_tagged_udp(route, source_port, destination_port,
                                                               payload ? payload : &none, payload_len,
-                                                              buffer ? buffer : &no_room, buffer_len, written));
+                                                              buffer ? buffer : &no_room, buffer ? buffer_len : 0,
+                                                              written));
 }
 
 /* Builds a TCP segment after VLAN tags, with these options (RFC 9293, 3.1): at most 40 bytes, padded with zero bytes to
@@ -542,7 +547,8 @@ etherparse_build_tagged_tcp(const struct etherparse_tagged_route *route, const s
     uint8_t no_room;
     return ETHERPARSE_AS_STATUS(etherparse_1_build_tagged_tcp(route, fields, options ? options : &no_option,
                                                               options_len, payload ? payload : &none, payload_len,
-                                                              buffer ? buffer : &no_room, buffer_len, written));
+                                                              buffer ? buffer : &no_room, buffer ? buffer_len : 0,
+                                                              written));
 }
 
 /* Builds an echo message after VLAN tags. */
@@ -555,7 +561,8 @@ etherparse_build_tagged_icmp_echo(const struct etherparse_tagged_route *route, u
     uint8_t no_room;
     return ETHERPARSE_AS_STATUS(etherparse_1_build_tagged_icmp_echo(route, is_reply, id, seq,
                                                                     payload ? payload : &none, payload_len,
-                                                                    buffer ? buffer : &no_room, buffer_len, written));
+                                                                    buffer ? buffer : &no_room, buffer ? buffer_len : 0,
+                                                                    written));
 }
 
 /* Fields of a fragment: of the IPv4 header (RFC 791, 3.1), or of the IPv6 fragment header (RFC 8200, 4.5). */
@@ -576,7 +583,8 @@ etherparse_build_fragment(const struct etherparse_tagged_route *route, const str
     const uint8_t none = 0;
     uint8_t no_room;
     return ETHERPARSE_AS_STATUS(etherparse_1_build_fragment(route, fields, payload ? payload : &none, payload_len,
-                                                            buffer ? buffer : &no_room, buffer_len, written));
+                                                            buffer ? buffer : &no_room, buffer ? buffer_len : 0,
+                                                            written));
 }
 
 /* ---- Reassembling fragmented payloads
@@ -648,7 +656,8 @@ struct etherparse_pool_answer {
  * - ETHERPARSE_REFUSED, ETHERPARSE_FRAGMENT_REFUSED, ETHERPARSE_OUT_OF_MEMORY (for the fragment),
  *   ETHERPARSE_UNKNOWN_CHOICE (of the entry, also if a payload waits): the streams are unchanged;
  * - ETHERPARSE_PAYLOAD_WAITS: the frame was ignored, since a payload of `answer->len` bytes waits.
- * Except for ETHERPARSE_COMPLETE the buffer is unchanged. `bytes` and `buffer` may be null if their length is 0. */
+ * Except for ETHERPARSE_COMPLETE the buffer is unchanged. `bytes` may be null if `len` is 0. A null `buffer` has length
+ * 0, whatever `buffer_len` is. */
 ETHERPARSE_MUST_USE ETHERPARSE_NONNULL((1, 10)) ETHERPARSE_READS(4, 5) ETHERPARSE_WRITES(8, 9)
 static inline enum etherparse_status
 etherparse_pool_push(struct etherparse_pool *pool, uint32_t entry, uint16_t ether_type, const uint8_t *bytes,
@@ -657,18 +666,20 @@ etherparse_pool_push(struct etherparse_pool *pool, uint32_t entry, uint16_t ethe
     const uint8_t none = 0;
     uint8_t no_room;
     return ETHERPARSE_AS_STATUS(etherparse_1_pool_push(pool, entry, ether_type, bytes ? bytes : &none, len, timestamp,
-                                                       channel, buffer ? buffer : &no_room, buffer_len, answer));
+                                                       channel, buffer ? buffer : &no_room, buffer ? buffer_len : 0,
+                                                       answer));
 }
 
 /* Copies the payload that waits in a pool to the start of `buffer`. Returns ETHERPARSE_COMPLETE; ETHERPARSE_TOO_SMALL,
  * and it still waits; or ETHERPARSE_OK if none waits. With the last two the buffer is unchanged. The memory of a
  * payload that is taken is freed; a waiting payload is freed with its pool, and etherparse_pool_drop_older does not
- * drop it. `buffer` may be null if its length is 0. */
+ * drop it. A null `buffer` has length 0, whatever `buffer_len` is. */
 ETHERPARSE_MUST_USE ETHERPARSE_NONNULL((1, 4)) ETHERPARSE_WRITES(2, 3) static inline enum etherparse_status
 etherparse_pool_take(struct etherparse_pool *pool, uint8_t *buffer, size_t buffer_len,
                      struct etherparse_pool_answer *answer) {
     uint8_t no_room;
-    return ETHERPARSE_AS_STATUS(etherparse_1_pool_take(pool, buffer ? buffer : &no_room, buffer_len, answer));
+    return ETHERPARSE_AS_STATUS(etherparse_1_pool_take(pool, buffer ? buffer : &no_room, buffer ? buffer_len : 0,
+                                                       answer));
 }
 
 /* Discards the payload that waits in a pool, if any, and frees its memory. */
@@ -762,7 +773,8 @@ static inline void etherparse_bounded_pool_free(struct etherparse_bounded_pool *
  *   fragment's own had expired;
  * - ETHERPARSE_REFUSED, ETHERPARSE_UNKNOWN_CHOICE, ETHERPARSE_PAYLOAD_WAITS: as etherparse_pool_push, and the streams
  *   are unchanged.
- * Except for ETHERPARSE_COMPLETE the buffer is unchanged. `bytes` and `buffer` may be null if their length is 0. */
+ * Except for ETHERPARSE_COMPLETE the buffer is unchanged. `bytes` may be null if `len` is 0. A null `buffer` has length
+ * 0, whatever `buffer_len` is. */
 ETHERPARSE_MUST_USE ETHERPARSE_NONNULL((1, 10)) ETHERPARSE_READS(4, 5) ETHERPARSE_WRITES(8, 9)
 static inline enum etherparse_status
 etherparse_bounded_pool_push(struct etherparse_bounded_pool *pool, uint32_t entry, uint16_t ether_type,
@@ -772,16 +784,17 @@ etherparse_bounded_pool_push(struct etherparse_bounded_pool *pool, uint32_t entr
     uint8_t no_room;
     return ETHERPARSE_AS_STATUS(etherparse_1_bounded_pool_push(pool, entry, ether_type, bytes ? bytes : &none, len,
                                                                timestamp, channel, buffer ? buffer : &no_room,
-                                                               buffer_len, answer));
+                                                               buffer ? buffer_len : 0, answer));
 }
 
-/* Copies the payload that waits in a bounded pool to the start of `buffer`. Returns as etherparse_pool_take. `buffer`
- * may be null if its length is 0. */
+/* Copies the payload that waits in a bounded pool to the start of `buffer`. Returns as etherparse_pool_take. A null
+ * `buffer` has length 0, whatever `buffer_len` is. */
 ETHERPARSE_MUST_USE ETHERPARSE_NONNULL((1, 4)) ETHERPARSE_WRITES(2, 3) static inline enum etherparse_status
 etherparse_bounded_pool_take(struct etherparse_bounded_pool *pool, uint8_t *buffer, size_t buffer_len,
                              struct etherparse_pool_answer *answer) {
     uint8_t no_room;
-    return ETHERPARSE_AS_STATUS(etherparse_1_bounded_pool_take(pool, buffer ? buffer : &no_room, buffer_len, answer));
+    return ETHERPARSE_AS_STATUS(etherparse_1_bounded_pool_take(pool, buffer ? buffer : &no_room,
+                                                               buffer ? buffer_len : 0, answer));
 }
 
 /* Discards the payload that waits in a bounded pool, if any, and frees its memory. */
@@ -904,9 +917,10 @@ etherparse_bounded_pool_evicted(struct etherparse_bounded_pool *pool, size_t ind
 
 /* ---- Filtering packets
  *
- * A filter is a parsed expression of the kind that tcpdump takes: `tcp port 443 and not host 10.0.0.1`. The language
- * and its meaning are those of crates/packet_filter. The rules for memory and threads are those of a pool: a filter is
- * used by one call at a time, so each thread makes its own. */
+ * A filter is a parsed expression of the kind that people type for tcpdump: `tcp port 443 and not host 10.0.0.1`. The
+ * manual page etherparse-filter(7) has the language, what each primitive matches, and the differences from tcpdump.
+ * The rules for memory and threads are those of a pool: a filter is used by one call at a time, so each thread makes
+ * its own. */
 
 /* Reason why a text is not a filter expression. */
 enum etherparse_filter_error_kind {
@@ -933,7 +947,7 @@ enum etherparse_filter_error_kind {
     ETHERPARSE_FILTER_HOST_BITS = 21,      /* a bit of the address after the prefix is 1 */
     ETHERPARSE_FILTER_NET_ONLY = 22,       /* a prefix length or mask after a host */
     ETHERPARSE_FILTER_DEEP = 23,           /* the 65th `(` or `not` that is open */
-    ETHERPARSE_FILTER_LONG = 24,           /* the bytes after the first 65,536 */
+    ETHERPARSE_FILTER_LONG = 24,           /* bytes after the first 65,536, which may begin within a character */
     ETHERPARSE_FILTER_NOT_UTF8 = 25        /* the text is not UTF-8 */
 };
 
@@ -983,10 +997,11 @@ etherparse_filter_matches(struct etherparse_filter *filter, uint32_t entry, uint
  * filter matches packet i, and 0 if not. wire_lens[i] is the original length of packet i; if `wire_lens` is null, that
  * is the number of its bytes. `matched` is the number of written elements of `matches`, which has `count`. Returns
  * - ETHERPARSE_OK: all packets are matched;
+ * - ETHERPARSE_TOO_SMALL: `matches` is null and `count` is not 0; no packet is matched, whatever `entry` is;
  * - ETHERPARSE_UNKNOWN_CHOICE: `entry` is another number, and no packet is matched; or ends[*matched] is less than the
  *   end before it or greater than `len`, and the packets before it are matched.
- * The other elements are unchanged. `bytes` may be null if `len` is 0, `ends` and `matches` if `count` is 0. */
-ETHERPARSE_MUST_USE ETHERPARSE_NONNULL((1, 10)) ETHERPARSE_READS(4, 5) ETHERPARSE_READS(6, 7)
+ * The other elements are unchanged. `bytes` may be null if `len` is 0, and `ends` if `count` is 0. */
+ETHERPARSE_MUST_USE ETHERPARSE_NONNULL((1, 10)) ETHERPARSE_READS(4, 5) ETHERPARSE_READS(6, 7) ETHERPARSE_WRITES(9, 7)
 static inline enum etherparse_status
 etherparse_filter_matches_many(struct etherparse_filter *filter, uint32_t entry, uint16_t ether_type,
                                const uint8_t *bytes, size_t len, const size_t *ends, size_t count,
@@ -997,19 +1012,21 @@ etherparse_filter_matches_many(struct etherparse_filter *filter, uint32_t entry,
     uint8_t no_match;
     return ETHERPARSE_AS_STATUS(etherparse_1_filter_matches_many(
         filter, entry, ether_type, bytes ? bytes : &none, len, ends ? ends : &no_end, count,
-        wire_lens ? wire_lens : &no_len, wire_lens ? count : 0, matches ? matches : &no_match, count, matched));
+        wire_lens ? wire_lens : &no_len, wire_lens ? count : 0, matches ? matches : &no_match, matches ? count : 0,
+        matched));
 }
 
 /* Writes the expression of a filter and a zero byte to the start of `buffer`: each primitive with its qualifiers, and
- * no redundant parentheses. Parsing it gives the same filter. Returns
+ * no redundant parentheses. Parsing it gives the same filter, if it has at most 65,536 bytes. Returns
  * - ETHERPARSE_OK: `written` is the number of bytes, including the zero byte;
  * - ETHERPARSE_TOO_SMALL: the buffer is too small, and `written` is the needed length;
  * - ETHERPARSE_OUT_OF_MEMORY: an allocation failed; `written` is 0.
- * Except for ETHERPARSE_OK the buffer is unchanged. It may be null if `len` is 0. */
+ * Except for ETHERPARSE_OK the buffer is unchanged. A null buffer has length 0, whatever `len` is. */
 ETHERPARSE_MUST_USE ETHERPARSE_NONNULL((1, 4)) ETHERPARSE_WRITES(2, 3) static inline enum etherparse_status
 etherparse_filter_text(struct etherparse_filter *filter, char *buffer, size_t len, size_t *written) {
     char none;
-    return ETHERPARSE_AS_STATUS(etherparse_1_filter_text(filter, (uint8_t *)(buffer ? buffer : &none), len, written));
+    return ETHERPARSE_AS_STATUS(etherparse_1_filter_text(filter, (uint8_t *)(buffer ? buffer : &none),
+                                                         buffer ? len : 0, written));
 }
 
 /* Buffer length that is enough for the text of every reason, including its zero byte. */
@@ -1019,12 +1036,12 @@ etherparse_filter_text(struct etherparse_filter *filter, char *buffer, size_t le
  * - ETHERPARSE_OK: `written` is the number of bytes, including the zero byte, at most ETHERPARSE_REASON_TEXT_MAX;
  * - ETHERPARSE_UNKNOWN_CHOICE: `kind` is another number; `written` is 0;
  * - ETHERPARSE_TOO_SMALL: the buffer is too small, and `written` is the needed length.
- * Except for ETHERPARSE_OK the buffer is unchanged. It may be null if `len` is 0. */
+ * Except for ETHERPARSE_OK the buffer is unchanged. A null buffer has length 0, whatever `len` is. */
 ETHERPARSE_MUST_USE ETHERPARSE_NONNULL((4)) ETHERPARSE_WRITES(2, 3) static inline enum etherparse_status
 etherparse_filter_error_text(uint32_t kind, char *buffer, size_t len, size_t *written) {
     char none;
-    return ETHERPARSE_AS_STATUS(etherparse_1_filter_error_text(kind, (uint8_t *)(buffer ? buffer : &none), len,
-                                                               written));
+    return ETHERPARSE_AS_STATUS(etherparse_1_filter_error_text(kind, (uint8_t *)(buffer ? buffer : &none),
+                                                               buffer ? len : 0, written));
 }
 
 /* ---- Memory

@@ -17,6 +17,16 @@ release=$(echo "$work"/etherparse-c-*-x86_64-linux)
 prefix=$work/prefix
 make -s -C "$release" check
 make -s -C "$release" install PREFIX="$prefix"
+# The manual pages are installed, name each other and this version, and are formatted without a warning.
+for page in man3/etherparse.3 man7/etherparse-filter.7; do
+    grep -q '^\.TH .* "etherparse-c [0-9.]*" ' "$prefix/share/man/$page"
+    if groff --version > /dev/null 2>&1; then
+        groff -man -Tutf8 -ww "$prefix/share/man/$page" 2>&1 > /dev/null | tee "$work/log"
+        [ ! -s "$work/log" ]
+    fi
+done
+grep -q '^\.BR etherparse\\-filter (7)' "$prefix/share/man/man3/etherparse.3"
+grep -q '^\.BR etherparse (3)' "$prefix/share/man/man7/etherparse-filter.7"
 flags=(-std=c99 -Wall -Wextra -Werror -O2)
 
 # With pkg-config, from the installed release and from the unpacked one. Without pkg-config its flags are set here.

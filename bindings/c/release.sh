@@ -51,7 +51,7 @@ name=etherparse-c-$version-$arch-linux
 work=$(mktemp -d)
 trap 'rm -rf "$work"' EXIT
 stage=$work/$name
-mkdir -p "$stage"/{include,lib/pkgconfig,lib/cmake/etherparse,share/man/man3,examples,python}
+mkdir -p "$stage"/{include,lib/pkgconfig,lib/cmake/etherparse,share/man/man{3,7},examples,python}
 
 # The archive, with its allocator as a separate member, which is linked unless the program defines these functions.
 case $arch in
@@ -96,6 +96,7 @@ filled "$here/etherparse.pc.in" > "$stage/lib/pkgconfig/etherparse.pc"
 cp "$here/etherparse-config.cmake" "$stage/lib/cmake/etherparse"
 filled "$here/etherparse-config-version.cmake.in" > "$stage/lib/cmake/etherparse/etherparse-config-version.cmake"
 filled "$here/etherparse.3" > "$stage/share/man/man3/etherparse.3"
+filled "$here/etherparse-filter.7" > "$stage/share/man/man7/etherparse-filter.7"
 cp "$here/Makefile" "$here/../README.md" "$stage"
 cp "$here/etherparse_heap.c" "$stage/examples"
 cp "$here"/examples/*.c "$here"/examples/*.out "$stage/examples"

@@ -3,13 +3,24 @@
 #include <stdio.h>
 #include <string.h>
 
-/* Prints where the text is wrong, and why. */
+/* Prints characters of a text, with a space for each control character. */
+static void print(const char *text, size_t len) {
+    for (size_t i = 0; i < len; i++) putchar((unsigned char)text[i] < 32 || text[i] == 127 ? ' ' : text[i]);
+}
+
+/* Prints where the text is wrong, and why; of a text that is too long only why. */
 static int wrong(const char *text, const struct etherparse_filter_error *error) {
     char why[ETHERPARSE_REASON_TEXT_MAX];
     size_t written;
     if (etherparse_filter_error_text(error->kind, why, sizeof why, &written) != ETHERPARSE_OK) return 1;
-    printf("%.*s: %s\n  %s\n  %*s\n", (int)(error->end - error->start), text + error->start, why, text,
-           (int)error->start + 1, "^");
+    if (error->kind == ETHERPARSE_FILTER_LONG) {
+        puts(why);
+        return 2;
+    }
+    print(text + error->start, error->end - error->start);
+    printf("%s%s\n  ", error->start < error->end ? ": " : "", why);
+    print(text, strlen(text));
+    printf("\n  %*s\n", (int)error->start + 1, "^");
     return 2;
 }
 

@@ -13,6 +13,15 @@ int mistakes(const uint8_t *frame, size_t len, struct etherparse_packet *packet)
     const uint8_t seed[8] = {1};
     struct etherparse_bounded_pool *pool;
     enum etherparse_status status = etherparse_bounded_pool_new(NULL, seed, &pool);
+#elif defined(SHORT_MATCHES)
+    (void)packet;
+    struct etherparse_filter *filter;
+    const size_t ends[3] = {1, 2, 3};
+    uint8_t matches[2];
+    size_t matched;
+    enum etherparse_status status = etherparse_filter_new(NULL, 0, &filter, NULL);
+    if (status == ETHERPARSE_OK)
+        status = etherparse_filter_matches_many(filter, 0, 0, frame, len, ends, 3, NULL, matches, &matched);
 #elif defined(NULL_FRAME)
     (void)frame, (void)len;
     enum etherparse_status status = etherparse_slice(ETHERPARSE_ENTRY_IP, 0, NULL, 14, packet);

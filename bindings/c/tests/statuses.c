@@ -43,6 +43,7 @@ static void want(bool holds, const char *what, int line) {
 
 enum { ROOM = 200, LONG = 70000 };
 static uint8_t buffer[ROOM], untouched[ROOM], payload[LONG];
+static uint8_t *volatile target = buffer; /* the buffer that calls write to; may be null */
 static size_t written;
 static const struct etherparse_route route = {
     .version = 4, .with_ethernet = 1, .hop_limit = 20, .ipv4_source = {10, 0, 0, 1}, .ipv4_destination = {10, 0, 0, 2}};
@@ -52,16 +53,16 @@ static bool is_untouched(size_t from) { return memcmp(buffer + from, untouched +
 /* ---- calls that write to a buffer: each takes a route, the payload's length and the buffer's length */
 
 static uint32_t udp(const struct etherparse_route *r, size_t len, size_t room) {
-    return etherparse_build_udp(r, 21, 1234, payload, len, buffer, room, &written);
+    return etherparse_build_udp(r, 21, 1234, payload, len, target, room, &written);
 }
 
 static uint32_t tcp(const struct etherparse_route *r, size_t len, size_t room) {
     struct etherparse_tcp_fields fields = {.source_port = 80, .destination_port = 4000, .flags = ETHERPARSE_TCP_SYN};
-    return etherparse_build_tcp(r, &fields, payload, len, buffer, room, &written);
+    return etherparse_build_tcp(r, &fields, payload, len, target, room, &written);
 }
 
 static uint32_t echo(const struct etherparse_route *r, size_t len, size_t room) {
-    return etherparse_build_icmp_echo(r, 1, 2, 3, payload, len, buffer, room, &written);
+    return etherparse_build_icmp_echo(r, 1, 2, 3, payload, len, target, room, &written);
 }
 
 static struct etherparse_tagged_route tagged = {.tag_count = 2, .vlan_ids = {1, 4095}};
@@ -71,34 +72,35 @@ static size_t options_len = 40;
 
 static uint32_t tagged_udp(const struct etherparse_route *r, size_t len, size_t room) {
     tagged.route = *r;
-    return etherparse_build_tagged_udp(&tagged, 21, 1234, payload, len, buffer, room, &written);
+    return etherparse_build_tagged_udp(&tagged, 21, 1234, payload, len, target, room, &written);
 }
 
 static uint32_t tagged_tcp(const struct etherparse_route *r, size_t len, size_t room) {
     struct etherparse_tcp_fields fields = {.source_port = 80, .destination_port = 4000, .flags = ETHERPARSE_TCP_SYN};
     tagged.route = *r;
-    return etherparse_build_tagged_tcp(&tagged, &fields, payload, options_len, payload, len, buffer, room, &written);
+    return etherparse_build_tagged_tcp(&tagged, &fields, payload, options_len, payload, len, target, room, &written);
 }
 
 static uint32_t tagged_echo(const struct etherparse_route *r, size_t len, size_t room) {
     tagged.route = *r;
-    return etherparse_build_tagged_icmp_echo(&tagged, 1, 2, 3, payload, len, buffer, room, &written);
+    return etherparse_build_tagged_icmp_echo(&tagged, 1, 2, 3, payload, len, target, room, &written);
 }
 
 static uint32_t fragments(const struct etherparse_route *r, size_t len, size_t room) {
     tagged.route = *r;
-    return etherparse_build_fragment(&tagged, &fragment_fields, payload, len, buffer, room, &written);
+    return etherparse_build_fragment(&tagged, &fragment_fields, payload, len, target, room, &written);
 }
 
 static uint32_t text(const struct etherparse_route *r, size_t len, size_t room) {
     (void)r, (void)len;
     struct etherparse_refusal it = {.kind = ETHERPARSE_REFUSAL_IPV4_VERSION, .number = 15};
-    return etherparse_refusal_text(&it, (char *)buffer, room, &written);
+    return etherparse_refusal_text(&it, (char *)target, room, &written);
 }
 
 typedef uint32_t writing(const struct etherparse_route *, size_t, size_t);
 
-/* A call that writes `whole` bytes: with a large enough buffer, with a small one, and with each allocation failing. */
+/* A call that writes `whole` bytes: with a large enough buffer, with a small one, with a null one whose length is not
+ * 0, and with each allocation failing. */
 static void writes(const char *name, writing *call, size_t whole) {
     memcpy(buffer, untouched, ROOM);
     requests = refused = 0;
@@ -113,6 +115,9 @@ static void writes(const char *name, writing *call, size_t whole) {
         WANT(call(&route, 8, room) == ETHERPARSE_TOO_SMALL);
         WANT(written == whole && is_untouched(0) && blocks == 0);
     }
+    target = NULL, written = 7;
+    WANT(call(&route, 8, ROOM) == ETHERPARSE_TOO_SMALL && written == whole && blocks == 0);
+    target = buffer;
     WANT((asked > 0) == (call == text)); /* building a frame does not allocate */
     for (unsigned long i = 1; i <= asked; i++) {
         requests = 0, refused = i, written = 7;
@@ -234,6 +239,10 @@ static void many(const struct slicing *slices) {
     WANT(slices->many(4, 0, frames, len, ends, 3, packets, &sliced) == ETHERPARSE_UNKNOWN_CHOICE);
     WANT(sliced == 0 && memcmp(&before, &packets[1], sizeof before) == 0);
     WANT(slices->many(0, 0, NULL, 0, NULL, 0, NULL, &sliced) == ETHERPARSE_OK && sliced == 0);
+    for (uint32_t entry = 0; entry < 5; entry += 4) { /* a null pointer, and a count above 0 */
+        sliced = 7;
+        WANT(slices->many(entry, 0, frames, len, ends, 3, NULL, &sliced) == ETHERPARSE_TOO_SMALL && sliced == 0);
+    }
     WANT(slices->export(0, 0, frames, len, ends, 3, packets, 2, &sliced) == ETHERPARSE_TOO_SMALL);
     WANT(sliced == 0 && requests == 0);
     printf("%s: as one call for each, up to a bad end\n", slices->name);
@@ -355,7 +364,7 @@ static uint32_t push(struct etherparse_pool *pool, uint8_t stream, size_t from, 
                      size_t room, struct etherparse_pool_answer *told) {
     uint8_t frame[ROOM];
     size_t len = fragment(frame, stream, from, to, more);
-    return etherparse_pool_push(pool, ETHERPARSE_ENTRY_IP, 0, frame, len, time, 0, buffer, room, told);
+    return etherparse_pool_push(pool, ETHERPARSE_ENTRY_IP, 0, frame, len, time, 0, target, room, told);
 }
 
 /* Pushes a fragment; each allocation fails once before it succeeds. The pool may keep earlier allocations. */
@@ -416,7 +425,10 @@ static void pools(void) {
     WANT(told.refusal.kind != ETHERPARSE_REFUSAL_NONE && told.len == 0 && is_untouched(0));
     /* a payload that no buffer is large enough for is discarded, and the pool continues */
     WANT(push(pool, 9, 8, 16, false, 2, 0, &told) == ETHERPARSE_OK);
-    WANT(push(pool, 9, 0, 8, true, 2, 0, &told) == ETHERPARSE_TOO_SMALL && told.len == 16);
+    target = NULL;
+    WANT(push(pool, 9, 0, 8, true, 2, ROOM, &told) == ETHERPARSE_TOO_SMALL && told.len == 16);
+    WANT(etherparse_pool_take(pool, target, ROOM, &told) == ETHERPARSE_TOO_SMALL && told.len == 16);
+    target = buffer;
     WANT(etherparse_pool_streams(pool) == 1 && etherparse_pool_bytes(pool) == 16 + 16);
     held = blocks;
     etherparse_pool_discard(pool);
@@ -447,7 +459,7 @@ static uint32_t bounded_push(struct etherparse_bounded_pool *pool, uint8_t strea
                              uint64_t time, size_t room, struct etherparse_pool_answer *told) {
     uint8_t frame[ROOM];
     size_t len = fragment(frame, stream, from, to, more);
-    return etherparse_bounded_pool_push(pool, ETHERPARSE_ENTRY_IP, 0, frame, len, time, 7, buffer, room, told);
+    return etherparse_bounded_pool_push(pool, ETHERPARSE_ENTRY_IP, 0, frame, len, time, 7, target, room, told);
 }
 
 /* Whether the last call evicted or discarded this stream alone. */
@@ -698,7 +710,10 @@ static void bounded_pools(void) {
     etherparse_bounded_pool_discard(pool);
     WANT(bounded_push(pool, 7, 8, 16, false, 20, ROOM, &told) == ETHERPARSE_OK);
     WANT(bounded_push(pool, 8, 8, 16, false, 20, ROOM, &told) == ETHERPARSE_OK);
-    WANT(bounded_push(pool, 8, 0, 8, true, 20, 15, &told) == ETHERPARSE_TOO_SMALL);
+    target = NULL;
+    WANT(bounded_push(pool, 8, 0, 8, true, 20, ROOM, &told) == ETHERPARSE_TOO_SMALL && told.len == 16);
+    WANT(etherparse_bounded_pool_take(pool, target, ROOM, &told) == ETHERPARSE_TOO_SMALL && told.len == 16);
+    target = buffer;
     etherparse_bounded_pool_free(pool);
     WANT(blocks == 0 && is_untouched(0));
 
@@ -771,7 +786,7 @@ static const struct {
     {"net 10.0.0.1/8", 14, 13, 14, ETHERPARSE_FILTER_HOST_BITS, "the address has bits set after the prefix"},
     {"host 10.0.0.1/8", 15, 13, 14, ETHERPARSE_FILTER_NET_ONLY, "only networks have a prefix length or mask"},
     {(const char *)payload, 65, 64, 65, ETHERPARSE_FILTER_DEEP, "more than 64 open parentheses and not"},
-    {(const char *)payload, LONG, 65536, LONG, ETHERPARSE_FILTER_LONG, "more than 65536 bytes"},
+    {(const char *)payload, LONG, 65536, LONG, ETHERPARSE_FILTER_LONG, "the filter has more than 65536 bytes"},
     {"tcp \xc3\xbc\xff or udp", 14, 6, 14, ETHERPARSE_FILTER_NOT_UTF8, "not UTF-8"},
 };
 
@@ -797,6 +812,10 @@ static void filter_errors(void) {
             WANT(is_untouched(room < whole ? 0 : whole));
         }
         WANT(strcmp((char *)buffer, wrong[i].why) == 0);
+        target = NULL, written = 7;
+        WANT(etherparse_filter_error_text(i + 1, (char *)target, ROOM, &written) == ETHERPARSE_TOO_SMALL);
+        WANT(written == whole);
+        target = buffer;
     }
     memcpy(buffer, untouched, ROOM);
     for (uint32_t i = 26; i != 1; i = i < 300 ? i + 1 : i == 300 ? UINT32_MAX : i == UINT32_MAX ? 0 : 1) {
@@ -848,10 +867,21 @@ static void filters(void) {
         WANT(matched == 0 && etherparse_1_filter_matches_many(filter, 0, 0, frame, total, ends, 3, wire_lens, 0, all, 2,
                                                               &matched)
                                  == ETHERPARSE_TOO_SMALL);
+        target = NULL;
+        for (uint32_t entry = 0; entry < 5; entry += 4) { /* a null pointer, and a count above 0 */
+            matched = 7;
+            WANT(etherparse_filter_matches_many(filter, entry, 0, frame, total, ends, 3, NULL, target, &matched)
+                 == ETHERPARSE_TOO_SMALL);
+            WANT(matched == 0);
+        }
         WANT(matched == 0 && requests == 0); /* matching does not allocate */
         size_t whole = strlen(rows[i].printed) + 1;
         WANT(etherparse_filter_text(filter, NULL, 0, &written) == ETHERPARSE_TOO_SMALL && written == whole);
         unsigned long asked = requests;
+        written = 7;
+        WANT(etherparse_filter_text(filter, (char *)target, ROOM, &written) == ETHERPARSE_TOO_SMALL);
+        WANT(written == whole);
+        target = buffer;
         for (unsigned long j = 0; j <= asked; j++) {
             memcpy(buffer, untouched, ROOM);
             requests = 0, refused = j;

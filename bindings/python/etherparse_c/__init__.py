@@ -423,9 +423,13 @@ class UnknownChoice(EtherparseError, ValueError):
     """A number is not valid for its field."""
 
 
+_SPACES = dict.fromkeys((*range(32), 127), " ")  # of control characters
+
+
 class FilterError(EtherparseError, ValueError):
     """A text is not a filter expression: `kind` is the reason, and text[start:end] the wrong token; both are the length
-    of the text if it ends too early. The message has the text with a caret under the token."""
+    of the text if it ends too early. The message has the text with a caret under the token, and a space for each
+    control character; for a text of more than 65,536 bytes it has only the reason."""
 
     def __init__(self, text: str, kind: int, start: int, end: int) -> None:
         self.text, self.kind, self.start, self.end = text, FilterErrorKind(kind), start, end
@@ -433,8 +437,13 @@ class FilterError(EtherparseError, ValueError):
         _library.etherparse_1_filter_error_text(kind, buffer, 80, ctypes.byref(written))
         self.reason = bytes(buffer[: max(written.value, 1) - 1]).decode("ascii")
         """Text of the reason."""
-        token = f"{text[start:end]}: " if start < end else ""
-        super().__init__(f"{token}{self.reason}\n  {text}\n  {' ' * start}^")
+        if self.kind == FilterErrorKind.LONG:
+            message = self.reason
+        else:
+            shown = text.translate(_SPACES)
+            token = f"{shown[start:end]}: " if start < end else ""
+            message = f"{token}{self.reason}\n  {shown}\n  {' ' * start}^"
+        super().__init__(message)
 
     def __reduce__(self) -> Tuple[Any, ...]:
         return type(self), (self.text, int(self.kind), self.start, self.end)
@@ -1113,11 +1122,13 @@ class BoundedPool(_AnyPool):
 
 
 class Filter:
-    """Filter expression of the kind that tcpdump takes, such as "tcp port 443 and not host 10.0.0.1".
+    """Filter expression of the kind that people type for tcpdump, such as "tcp port 443 and not host 10.0.0.1".
 
-    Raises FilterError if the text is not a filter expression. `str` of a filter is its expression with each qualifier.
-    Calls on one filter wait for each other. A `with` statement closes it and frees its memory at the end; later calls
-    raise ValueError.
+    The manual page etherparse-filter(7) of a release (share/man/man7) has the language, what each primitive matches,
+    and the differences from tcpdump. Raises FilterError if the text is not a filter expression. `str` of a filter is
+    its expression with each qualifier; parsing it gives the same filter, if it has at most 65,536 bytes. Calls on one
+    filter wait for each other, so each thread should make its own. A `with` statement closes a filter and frees its
+    memory at the end; later calls raise ValueError.
 
     >>> datagram = build_udp(Route(version=4), 53, 1234, b"")
     >>> Filter("udp port 53").matches(datagram, Entry.IP)

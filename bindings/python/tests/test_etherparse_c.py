@@ -428,6 +428,17 @@ class Pools(unittest.TestCase):
         with self.assertRaises(ValueError) as raised:
             ep.Filter("udp port")
         self.assertEqual((raised.exception.start, raised.exception.reason), (8, "the filter ends too early"))
+        for text, message in (
+            ("udp\tport 53\nand hots\r", "hots: not a port (a number up to 65535, or a name such as http)\n"
+                                        "  udp port 53 and hots \n                  ^"),
+            ("udp\nport", "the filter ends too early\n  udp port\n          ^"),
+            ("udp\x7f or \x1b[1m", " : unexpected character\n  udp  or  [1m\n     ^"),
+            ("é" * 40000, "the filter has more than 65536 bytes"),
+            (" " * 65535 + "é", "the filter has more than 65536 bytes"),
+        ):
+            with self.assertRaises(ep.FilterError) as raised:
+                ep.Filter(text)
+            self.assertEqual((str(raised.exception), raised.exception.text), (message, text))
 
     def test_threads(self):
         """Many threads on one pool: each payload is returned once."""

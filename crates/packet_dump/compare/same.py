@@ -25,12 +25,13 @@ from concurrent.futures import ThreadPoolExecutor
 WRITTEN = "written"
 CHOICES = (
     ("", "--strict"),
-    ("", "--reassemble", "--reassemble --timeout 1 --streams 3 --limit 2000"),
+    ("", "--reassemble", "--reassemble --timeout 1 --streams 3 --limit 2000",
+     "--reassemble --overlap discard --fragment-age 2 --fragment-bytes 20000"),
     ("", "--verbose"),
     ("", "--summary", "--summary --quiet"),
     ("", f"--write {WRITTEN}"),
     ("", "--only udp", "--only stopped", "--only refused --count 40", "--port 53", "--only tcp --net 128.0.0.0/1",
-     "--host 192.168.1.2 --vlan 5"),
+     "--host 192.168.1.2 --vlan 5", "not tcp and len > 60"),
 )
 TURNS = list(map(" ".join, itertools.product(("", "--hex", "--hex=frame"), ("", "--time epoch", "--time utc"))))
 HERE = os.path.dirname(os.path.dirname(os.path.abspath(__file__)))
@@ -153,7 +154,7 @@ def make_captures(folder):
 def ran(program, words, capture):
     """The outputs of a run, and its status."""
     with tempfile.TemporaryDirectory() as folder:
-        done = subprocess.run([program, *words, capture], cwd=folder, stdin=subprocess.DEVNULL, capture_output=True,
+        done = subprocess.run([program, *words, "-r", capture], cwd=folder, stdin=subprocess.DEVNULL, capture_output=True,
                               timeout=120)
         written, path = None, os.path.join(folder, WRITTEN)
         if os.path.exists(path):

@@ -1,10 +1,15 @@
 -- Texts of errors, and the exit status.
-use Rattle.std.specs.Prelude.{ℕ, ◌==◌, ◌/◌, ◌&&◌, nat_le, nat_lt, if◌then◌else◌, Bool, List, [], ◌∷◌, ◌++◌, Option, Some, None}
-use Rattle.std.specs.Prelude.{Result, Ok, Err, codes, take}
+use Rattle.std.specs.Prelude.{ℕ, ◌-◌, ◌==◌, ◌/◌, ◌&&◌, ◌||◌, nat_le, nat_lt, not, if◌then◌else◌, Bool, true, false}
+use Rattle.std.specs.Prelude.{List, [], ◌∷◌, ◌++◌, Option, Some, None, Result, Ok, Err, codes, drop, length, take}
+use Rattle.std.specs.List.{list_any}
 use Rattle.capture_reader.specs.declared.refusal.Refusal.{Refusal}
 use Rattle.capture_reader.specs.declared.refusal.Refusal.TheVariants.{UnknownMagic}
 use Rattle.line_io.specs.declared.run_error.RunError.{RunError}
 use Rattle.line_io.specs.declared.run_error.RunError.TheVariants.{Read, Write, OutOfMemory}
+use Rattle.packet_filter.specs.KindTexts.{kind_text}
+use Rattle.packet_filter.specs.declared.filter_error.FilterError.{FilterError}
+use Rattle.packet_filter.specs.declared.filter_error.FilterErrorKind.{FilterErrorKind}
+use Rattle.packet_filter.specs.declared.filter_error.FilterErrorKind.TheVariants.{Long}
 use Rattle.packet_dump.specs.declared.ending.Ending.{Ending}
 use Rattle.packet_dump.specs.declared.ending.Ending.TheVariants.{Complete, Enough, Broken}
 use Rattle.packet_dump.specs.declared.filters.FilterFault.{FilterFault}
@@ -55,17 +60,61 @@ abbrev pub hint_text : Refusal → Option (List ℕ)
 hint_text (UnknownMagic magic) = magic_hint magic
 hint_text other = None
 
--- ---- the place of a wrong token in a filter expression
+-- ---- the error of a filter expression
 
--- True if a byte of UTF-8 continues a character (RFC 3629, 3).
-abbrev pub is_continuation : ℕ → Bool
-is_continuation byte = nat_le 128 byte && nat_lt byte 192
+-- True for the error of a text that is too long.
+abbrev pub is_long : FilterErrorKind → Bool
+is_long Long = true
+is_long kind = false
 
--- a space for each character
-abbrev pub blanks : List ℕ → List ℕ
-blanks [] = []
-blanks (byte ∷ bytes) = (if is_continuation byte then [] else codes " ") ++ blanks bytes
+-- a byte of a text in a line: a space for a control character
+abbrev pub line_byte : ℕ → ℕ
+line_byte byte = if nat_lt byte 32 || byte == 127 then 32 else byte
 
--- the line with a `^` under the character at an offset of a text, which is printed after two spaces
-abbrev pub caret_text : List ℕ → ℕ → List ℕ
-caret_text text start = codes "  " ++ blanks (take start text) ++ codes "^"
+-- a text in a line
+abbrev pub line_text : List ℕ → List ℕ
+line_text [] = []
+line_text (byte ∷ bytes) = line_byte byte ∷ line_text bytes
+
+-- the wrong token; none at the end of the text, and for a text that is too long
+abbrev pub marked_token : List ℕ → FilterError → List ℕ
+marked_token text error = if is_long error.kind then [] else take (error.end - error.start) (drop error.start text)
+
+-- True if the bytes contain a blank or another control character.
+abbrev pub has_blank : List ℕ → Bool
+has_blank bytes = list_any (λ byte. nat_le byte 32) bytes
+
+-- True if the wrong token is in the first word of the text, which may be meant as a second file.
+abbrev pub is_in_first_word : List ℕ → FilterError → Bool
+is_in_first_word text error =
+    not (length (marked_token text error) == 0) && not (has_blank (take error.start text))
+
+-- the token in quotation marks, if there is one
+abbrev pub quoted_token : List ℕ → List ℕ
+quoted_token token = if length token == 0 then [] else codes "'" ++ line_text token ++ codes "': "
+
+-- the hint that only one file is read, if wanted
+abbrev pub hint_if : Bool → List ℕ
+hint_if true = codes "; only one file is read"
+hint_if false = []
+
+-- the line with the wrong token and the reason; `reads` is whether a capture is read
+abbrev pub reason_text : List ℕ → FilterError → Bool → List ℕ
+reason_text text error reads =
+    codes "packet_dump: " ++ quoted_token (marked_token text error) ++ kind_text error.kind
+    ++ hint_if (reads && is_in_first_word text error) ++ codes "\n"
+
+-- a space for each byte
+abbrev pub spaces : List ℕ → List ℕ
+spaces [] = []
+spaces (byte ∷ bytes) = 32 ∷ spaces bytes
+
+-- the lines with the text, and with a `^` under the first character of the token: what precedes the token is in ASCII
+abbrev pub marked_text : List ℕ → ℕ → List ℕ
+marked_text text start =
+    codes "  " ++ line_text text ++ codes "\n  " ++ spaces (take start text) ++ codes "^\n"
+
+-- the lines of an error
+abbrev pub expression_error_text : List ℕ → FilterError → Bool → List ℕ
+expression_error_text text error reads =
+    reason_text text error reads ++ (if is_long error.kind then [] else marked_text text error.start)

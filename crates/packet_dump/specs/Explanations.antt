@@ -1,8 +1,8 @@
--- The text of `--explain`: a filter expression with all qualifiers, and the steps of the filter.
+-- The text of `--explain`: the canonical form of a filter expression, and the steps of the filter.
 use Rattle.std.specs.Prelude.{ℕ, ◌+◌, List, [], ◌∷◌, ◌++◌}
 use Rattle.std.specs.Fmt.{decimal}
 use Rattle.line_io.specs.Lines.{line_feed, space}
-use Rattle.packet_filter.specs.Printing.{printed, step_text}
+use Rattle.packet_filter.specs.Printing.{canonical, step_text}
 use Rattle.packet_filter.specs.Trees.{tree_of}
 use Rattle.packet_filter.specs.declared.step.Step.{Step}
 
@@ -12,6 +12,6 @@ steps_text number [] = []
 steps_text number (step ∷ steps) =
     (decimal number ++ space ∷ step_text step ++ line_feed ∷ []) ++ steps_text (number + 1) steps
 
--- the line of the expression of a filter, and the lines of its steps
+-- the line of the canonical form of a filter, and the lines of its steps
 abbrev pub explanation_text : List Step → List ℕ
-explanation_text filter = (printed (tree_of filter) ++ line_feed ∷ []) ++ steps_text 0 filter
+explanation_text filter = (canonical (tree_of filter) ++ line_feed ∷ []) ++ steps_text 0 filter

@@ -52,9 +52,9 @@ tree_in None = None
 tree_in (Some steps) = tree_of steps
 
 -- The filter, if there is one, is not the empty one.
-abbrev pub IsNoEmpty : Option (List Step) → Type 0
-IsNoEmpty None = Unit {0}
-IsNoEmpty (Some steps) = is_some (tree_of steps) ≡ true
+abbrev pub IsNonEmpty : Option (List Step) → Type 0
+IsNonEmpty None = Unit {0}
+IsNonEmpty (Some steps) = is_some (tree_of steps) ≡ true
 
 -- ---- no filter
 
@@ -68,11 +68,12 @@ IsOptionFault None fault = ⊥
 IsOptionFault (Some option) fault = IsTextFault (option_text option) fault
 
 -- The option, if there is one, has an expression.
-abbrev pub IsOption : Option FilterText → Type 0
-IsOption None = Unit {0}
-IsOption (Some option) = (own : Option Expr) × IsFilterText (option_text option) own
+abbrev pub IsValidOption : Option FilterText → Type 0
+IsValidOption None = Unit {0}
+IsValidOption (Some option) = (own : Option Expr) × IsFilterText (option_text option) own
 
 -- The error is that of the first of these options that has one, else of the text.
-abbrev pub IsFault : List (Option FilterText) → List ℕ → FilterFault → Type 0
-IsFault [] text fault = IsTextFault text fault
-IsFault (place ∷ places) text fault = IsOptionFault place fault ⊎ (IsOption place × IsFault places text fault)
+abbrev pub IsFilterFault : List (Option FilterText) → List ℕ → FilterFault → Type 0
+IsFilterFault [] text fault = IsTextFault text fault
+IsFilterFault (place ∷ places) text fault =
+    IsOptionFault place fault ⊎ (IsValidOption place × IsFilterFault places text fault)

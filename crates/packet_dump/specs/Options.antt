@@ -45,7 +45,7 @@ policy_name policy.LastWins = codes "last"
 policy_name policy.FirstWins = codes "first"
 policy_name policy.Discard = codes "discard"
 
--- the option that adds a filter primitive
+-- the options that add an expression to the filter
 abbrev pub filter_option : FilterKind → List ℕ
 filter_option Host = codes "--host"
 filter_option Port = codes "--port"
@@ -169,11 +169,11 @@ IsItem words standard_input = words ≡ codes "-" ∷ []
 IsItem words (argument text) = (words ≡ text ∷ []) × (is_dashed text ≡ false)
 IsItem words item = IsOption words item
 
--- Six slots for filter primitives as text. They are parsed after the command line.
+-- Six slots for filter options as text. They are parsed after the command line.
 abbrev pub Filters : Type 0
 Filters = List (Option (FilterKind × List ℕ))
 
--- the filter primitives as text of the command line
+-- the filter options of the command line as text
 abbrev pub filter_places : FilterTexts → List (Option FilterText)
 filter_places words =
     words.first ∷ words.second ∷ words.third ∷ words.fourth ∷ words.fifth ∷ words.sixth ∷ []
@@ -267,7 +267,7 @@ with_item settings (explain text) = record settings { explained = Some text }
 with_item settings (argument text) = record settings { words = settings.words ++ text ∷ [] }
 with_item settings item = record settings { options = options_with settings.options item }
 
--- the settings of the items: the last one of several of an option decides, but the last six filter primitives are kept
+-- the settings of the items: the last one of several of an option decides, but the last six filter options are kept
 abbrev pub settings_of : List Item → Settings
 settings_of items = fold with_item default_settings items
 

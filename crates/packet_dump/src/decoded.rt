@@ -28,9 +28,11 @@ use link_types::{Opening, opening_of};
 pub struct CapturedPacket<'a> {
     /// Number of the packet in the capture, counted from 1.
     pub number: u64,
-    /// Timestamp of the first packet of the capture that has one, in nanoseconds; relative times count from it.
+    /// Timestamp of the first packet of the capture that has one, in nanoseconds since 2^63 seconds before 1970;
+    /// relative times count from it.
     pub first: Option<u128>,
-    /// Timestamp of the packet, or of the last packet before it that has one, in nanoseconds.
+    /// Timestamp of the packet, or of the last packet before it that has one, in nanoseconds since 2^63 seconds before
+    /// 1970; 0 if none has.
     pub latest: u128,
     /// The packet: its bytes, link type, timestamp and original length.
     pub shown: Shown<'a>,
@@ -81,8 +83,8 @@ impl<'a> Decoded<'a> {
         }
     }
 
-    /// Decodes the packet: slices its bytes laxly, and strictly only with `--strict`, for the error of a packet that
-    /// strict slicing rejects.
+    /// Decodes the packet, and tests whether `--only` and the filter select it. Slices its bytes laxly, and strictly
+    /// only with `--strict`, for the error of a packet that strict slicing rejects.
     pub fn decode(&mut self, options: &DumpOptions)
         ensures decoded { IsDecodedBy options.now self.new }
         ensures captured { self.new.captured ≡ self.old.captured }

@@ -32,7 +32,7 @@ pub const MOST_READS: u64 = 0x8000_0000_0000;
 ///
 /// The capture is read in chunks of 64 KiB, and the lines of a chunk are written before the next chunk is read. The
 /// packets are counted in the summary of `session`, if a summary is wanted. The packets that `--only` and the filter
-/// options select, even if `--quiet` hides their lines, are written to `file`, if a capture file is wanted.
+/// select, even if `--quiet` hides their lines, are written to `file`, if a capture file is wanted.
 pub fn run<R: Read, W: Write, F: Write>(
     session: &mut Session,
     reader: &mut Watched<R>,

@@ -1,4 +1,4 @@
-//! Text of `--explain`: a filter expression with all qualifiers, and the steps of the filter.
+//! Text of `--explain`: the canonical form of a filter expression, and the steps of the filter.
 
 ghost use Rattle.std.specs.Prelude.{◌≡◌, ◌++◌, OnOk};
 ghost use Rattle.packet_dump.specs.Explanations.{explanation_text, steps_text};
@@ -8,11 +8,11 @@ use packet_filter::Filter;
 use packet_filter::step::Step;
 use std::alloc::AllocError;
 
-/// Appends a line with the expression of a filter, and a line for each of its steps, numbered from 0.
+/// Appends a line with the canonical form of a filter, and a line for each of its steps, numbered from 0.
 pub fn append_explanation(output: &mut Vec<u8>, filter: &Filter) -> Result<(), AllocError>
     ensures { OnOk result (output.new.items ≡ output.old.items ++ explanation_text filter.now) }
 {
-    filter.append_text(output)?;
+    filter.append_canonical(output)?;
     output.push(b'\n')?;
     append_steps(output, filter.steps())
 }

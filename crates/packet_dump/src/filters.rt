@@ -4,8 +4,8 @@
 ghost use Rattle.std.specs.Prelude.{◌≡◌, IfErr, IfOk, string_bytes};
 ghost use Rattle.packet_filter.specs.Refusals.{IsFilterText};
 ghost use Rattle.packet_filter.specs.Trees.{both_of, tree_of};
-ghost use Rattle.packet_dump.specs.Filters.{AddsOption, IsFault, IsFilterOf, IsNoEmpty, IsOptionFault, IsTextFault};
-ghost use Rattle.packet_dump.specs.Filters.{option_places, option_text, qualifier, tree_in};
+ghost use Rattle.packet_dump.specs.Filters.{AddsOption, IsFilterFault, IsFilterOf, IsNonEmpty, IsOptionFault};
+ghost use Rattle.packet_dump.specs.Filters.{IsTextFault, option_places, option_text, qualifier, tree_in};
 ghost use Rattle.packet_dump.specs.declared.filters.FilterFault.{FilterFault};
 
 use crate::options::{FilterKind, FilterText, FilterTexts};
@@ -31,8 +31,8 @@ pub fn filter_of(
 ) -> Result<Option<Filter>, FilterFault>
     ensures ok { IfOk result
         (λ filter. IsFilterOf (option_places options.entry) (string_bytes expression) (tree_in filter)) }
-    ensures some { IfOk result IsNoEmpty }
-    ensures err { IfErr result (IsFault (option_places options.entry) (string_bytes expression)) }
+    ensures some { IfOk result IsNonEmpty }
+    ensures err { IfErr result (IsFilterFault (option_places options.entry) (string_bytes expression)) }
 {
     let mut filter = None;
     filter = with_option(alloc, filter, options.sixth)?;
@@ -51,7 +51,7 @@ fn with_option(
     option: Option<FilterText<'_>>,
 ) -> Result<Option<Filter>, FilterFault>
     ensures ok { IfOk result (λ filter. AddsOption (tree_in before) option.entry (tree_in filter)) }
-    ensures some { IsNoEmpty before → IfOk result IsNoEmpty }
+    ensures some { IsNonEmpty before → IfOk result IsNonEmpty }
     ensures err { IfErr result (IsOptionFault option.entry) }
 {
     let Some(option) = option else {
@@ -66,7 +66,7 @@ fn with_option(
 /// Combines the filter of the texts before a text with that of the text. A filter that matches every packet is `None`.
 fn with_text(before: Option<Filter>, own: Filter) -> Result<Option<Filter>, FilterFault>
     ensures tree { IfOk result (λ filter. tree_in filter ≡ both_of (tree_in before) (tree_of own)) }
-    ensures some { IsNoEmpty before → IfOk result IsNoEmpty }
+    ensures some { IsNonEmpty before → IfOk result IsNonEmpty }
     ensures err { IfErr result (λ fault. fault ≡ FilterFault.OutOfMemory) }
 {
     if own.is_empty() {

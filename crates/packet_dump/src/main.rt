@@ -7,15 +7,15 @@
 #![tactic(auto)]
 
 ghost use Rattle.std.specs.Prelude.{◌≡◌, ◌≢◌, ◌^◌, ◌↔◌, if◌then◌else◌, [], false, true, Err, IfOk, List, OnErr};
-ghost use Rattle.std.specs.Prelude.{OnOk, ℕ, ◌++◌, string_bytes, take};
+ghost use Rattle.std.specs.Prelude.{OnOk, ℕ};
 ghost use Rattle.std.specs.Io.KnownBytes.{Appends};
 ghost use Rattle.std.specs.Option.{option_copied};
 ghost use Rattle.std.specs.Process.{exit_status};
 ghost use Rattle.line_io.specs.Transfers.{Transfers};
 ghost use Rattle.line_io.specs.WatchedWords.{has_ended, has_failed, inner_of, reads_left};
 ghost use Rattle.packet_dump.specs.Dumps.{BeginsDump};
-ghost use Rattle.packet_dump.specs.ErrorTexts.{blanks, caret_text, filter_status, hint_text, is_continuation};
-ghost use Rattle.packet_dump.specs.ErrorTexts.{magic_hint, status_of, status_with, usage_status};
+ghost use Rattle.packet_dump.specs.ErrorTexts.{filter_status, hint_text, magic_hint, status_of, status_with};
+ghost use Rattle.packet_dump.specs.ErrorTexts.{usage_status};
 ghost use Rattle.packet_dump.specs.Saves.{BeginsSaved, IsCopy, asks, is_failed};
 ghost use Rattle.packet_dump.specs.Sessions.{IsNew};
 ghost use Rattle.packet_dump.specs.Summaries.{plain_of};
@@ -28,6 +28,7 @@ pub mod ending;
 pub mod engine;
 mod eviction_lines;
 mod explanation;
+mod expression_error;
 mod filters;
 mod fragments;
 pub mod laws;
@@ -46,7 +47,8 @@ use crate::dump_options::DumpOptions;
 use crate::ending::{Ending, error_text};
 use crate::engine::{MOST_READS, run};
 use crate::explanation::append_explanation;
-use crate::filters::{FilterFault, filter_of, parse_text};
+use crate::expression_error::append_expression_error;
+use crate::filters::{FilterFault, filter_of};
 use crate::options::{FilterTexts, Request, UsageError, parse};
 use crate::saving::{SaveFault, SaveState};
 use crate::session::Session;
@@ -55,8 +57,7 @@ use crate::summary::Summary;
 use crate::target::{NoFile, Target};
 use capture_reader::Refusal;
 use line_io::{RunError, Watched};
-use packet_filter::{Filter, FilterError, FilterErrorKind};
-use std::alloc::{AllocError, Global};
+use packet_filter::{Filter, FilterError};
 use std::hash::RandomState;
 use std::io::{IsTerminal, Read, Write};
 use std::process::ExitCode;
@@ -86,8 +87,9 @@ a length field counts 1448 bytes, of which 22 were captured.
                      the filters 'host A', 'net N', 'vlan V' and 'port P'; up to
                      six of these can be given, and packets have to match all of
                      them, and the filter expression
-  --explain EXPR     print a filter expression with all its qualifiers, and the
-                     steps in which it is matched
+  --explain EXPR     print a filter expression with all its qualifiers and
+                     parentheses, and the steps in which it is matched; no
+                     capture is read
   --time FORMAT      times since the first packet (relative), in seconds since
                      1970 (epoch), or as dates and times of day in UTC (utc)
   --strict           report each packet that is not one complete, valid frame as
@@ -181,7 +183,7 @@ fn main(rt: HostRuntime) -> ExitCode {
                 summary,
             },
         ) => match explained {
-            Some(text) => explain(&rt, text),
+            Some(text) => explain(&rt, filter, text, path),
             None => match command_filter(&rt, filter, words.as_slice()) {
                 Ok(filter) => {
                     let options = DumpOptions { filter, ..options };
@@ -190,22 +192,34 @@ fn main(rt: HostRuntime) -> ExitCode {
                 Err(status) => status,
             },
         },
-        Err(error) => refused(&rt, &error),
+        Err(error) => print_usage_error(&rt, &error),
     }
 }
 
-/// Prints a filter expression with all qualifiers, and the steps of the filter (`--explain`). Returns the exit status.
-fn explain(rt: &HostRuntime, text: &str) -> ExitCode {
+/// Prints the canonical form of the filter options and a filter expression, and the steps of this filter (`--explain`).
+/// `path` is the first word of the command line that is no option; it is an error, since the expression is one argument.
+/// Returns the exit status.
+fn explain(rt: &HostRuntime, options: FilterTexts<'_>, text: &str, path: Option<&str>) -> ExitCode {
+    if let Some(word) = path {
+        let _ = eprintln!(rt;
+            "packet_dump: unexpected argument '{word}'; --explain takes one argument and reads no file"
+        );
+        return ExitCode::from(2);
+    }
     let mut expression = String::new(rt.alloc());
     if expression.push_str(text).is_err() {
         return print_error(rt, "packet_dump: out of memory", 1);
     }
-    let filter = match parse_text(rt.alloc(), expression) {
+    let filter = match filter_of(rt.alloc(), options, expression) {
         Ok(filter) => filter,
-        Err(fault) => return refused_filter(rt, &fault, false),
+        Err(fault) => return print_filter_fault(rt, &fault, false),
     };
     let mut output = Vec::new(rt.alloc());
-    if append_explanation(&mut output, &filter).is_err() {
+    let appended = match &filter {
+        Some(filter) => append_explanation(&mut output, filter),
+        None => output.extend_from_slice(b"\n"),
+    };
+    if appended.is_err() {
         return print_error(rt, "packet_dump: out of memory", 1);
     }
     printed(&mut Watched::new(rt.stdout(), 0), output.as_slice())
@@ -223,7 +237,7 @@ fn command_filter(
     };
     match filter_of(rt.alloc(), options, expression) {
         Ok(filter) => Ok(filter),
-        Err(fault) => Err(refused_filter(rt, &fault, true)),
+        Err(fault) => Err(print_filter_fault(rt, &fault, true)),
     }
 }
 
@@ -249,7 +263,7 @@ fn print_error(rt: &impl Eprint, line: &str, status: u8) -> ExitCode
 }
 
 /// Prints the error of an invalid command line to standard error. Returns exit status 2, or 1 if the allocation failed.
-fn refused(rt: &impl Eprint, error: &UsageError<'_>) -> ExitCode
+fn print_usage_error(rt: &impl Eprint, error: &UsageError<'_>) -> ExitCode
     ensures { exit_status result ≡ usage_status error.now }
 {
     let _ = match error {
@@ -305,95 +319,25 @@ fn refused(rt: &impl Eprint, error: &UsageError<'_>) -> ExitCode
 
 /// Prints why a command line has no filter to standard error, and returns exit status 2; 1 if the allocation failed.
 /// `reads` is whether a capture is read, so that the first word of an expression may be meant as a second file.
-fn refused_filter(rt: &HostRuntime, fault: &FilterFault, reads: bool) -> ExitCode
+fn print_filter_fault(rt: &HostRuntime, fault: &FilterFault, reads: bool) -> ExitCode
     ensures { exit_status result ≡ filter_status fault.now }
 {
     match fault {
         FilterFault::OutOfMemory => print_error(rt, "packet_dump: out of memory", 1),
         FilterFault::Wrong { text, error } => {
-            print_wrong(rt, text.as_str(), error, reads);
+            print_expression_error(rt, text.as_str(), error, reads);
             ExitCode::from(2)
         }
     }
 }
 
-/// Prints the error of a filter expression to standard error, in three lines: what is wrong with the token, the text,
-/// and a `^` under the first character of the token.
-fn print_wrong(rt: &HostRuntime, text: &str, error: &FilterError, reads: bool) {
-    let reason = error.kind.description();
-    let token = token_in(text, error);
-    let _ = if token.is_empty() {
-        eprintln!(rt; "packet_dump: {reason}")
-    } else if reads && error.start == 0 {
-        eprintln!(rt; "packet_dump: '{token}': {reason}; only one file is read")
-    } else {
-        eprintln!(rt; "packet_dump: '{token}': {reason}")
+/// Prints the error of a filter expression to standard error.
+fn print_expression_error(rt: &HostRuntime, text: &str, error: &FilterError, reads: bool) {
+    let mut lines = Vec::new(rt.alloc());
+    let _ = match append_expression_error(&mut lines, text.as_bytes(), error, reads) {
+        Ok(()) => rt.stderr().write_all(lines.as_slice()),
+        Err(_) => rt.eprintln("packet_dump: out of memory"),
     };
-    let _ = eprintln!(rt; "  {text}");
-    if let Ok(line) = caret_line(rt.alloc(), text, error.start) {
-        let _ = rt.eprintln(line.as_str());
-    }
-}
-
-/// Returns the wrong token of a filter expression; nothing for the end of the text, and for the bytes after the longest
-/// text.
-fn token_in<'a>(text: &'a str, error: &FilterError) -> &'a str {
-    if let FilterErrorKind::Long = error.kind {
-        return "";
-    }
-    let Some((_, later)) = text.split_at_checked(error.start) else {
-        return "";
-    };
-    let len = error.end.saturating_sub(error.start);
-    // A character that no token contains ends after its first byte, and has up to three more.
-    for more in 0..4 {
-        if let Some((token, _)) = later.split_at_checked(len.saturating_add(more)) {
-            return token;
-        }
-    }
-    ""
-}
-
-/// Returns the line with a `^` under the character at an offset of a text, which is printed after two spaces: one space
-/// for each character before it.
-fn caret_line(alloc: Global, text: &str, start: usize) -> Result<String, AllocError>
-    ensures { IfOk result (λ line. string_bytes line ≡ caret_text text.now start) }
-{
-    let mut line = String::new(alloc);
-    line.push_str("  ")?;
-    push_blanks(&mut line, first_bytes(text.as_bytes(), start))?;
-    line.push_str("^")?;
-    Ok(line)
-}
-
-/// Appends a space for each character.
-fn push_blanks(line: &mut String, characters: &[u8]) -> Result<(), AllocError>
-    ensures { OnOk result (string_bytes line.new ≡ string_bytes line.old ++ blanks characters.now) }
-{
-    for byte in characters {
-        if !is_continuation(*byte) {
-            line.push_str(" ")?;
-        }
-    }
-    Ok(())
-}
-
-/// Returns the first `len` bytes, or all if there are fewer.
-fn first_bytes(bytes: &[u8], len: usize) -> &[u8]
-    ensures { result.now ≡ take len bytes.now }
-{
-    if len < bytes.len() {
-        &bytes[..len]
-    } else {
-        bytes
-    }
-}
-
-/// Returns whether a byte of UTF-8 continues a character (RFC 3629, 3).
-fn is_continuation(byte: u8) -> bool
-    ensures { result ≡ is_continuation byte }
-{
-    byte >= 0x80 && byte < 0xc0
 }
 
 /// Runs `packet_dump` on a capture file or on standard input, with a summary (`--summary`) and a new capture file of

@@ -1,29 +1,33 @@
 #!/usr/bin/env python3
 """Compares packet_dump's filter expressions with the second reader, and with tcpdump: filters.py PROGRAM
 
-Random expressions by a seed, a quarter of them with a mistake, are run over captures of 300 packets: plain ones, with VLAN
-and MACsec tags, fragments, extension headers, truncated and malformed ones, Linux cooked captures and raw IP. The packets
-that the program prints are those that the second reader matches; the error of a text and its place are the second
-reader's too. Each difference is printed, and the status is then 1.
+Random expressions by a seed, a third of them with a mistake, are run over captures of 300 packets: plain ones, with
+VLAN and MACsec tags, fragments, extension headers, truncated and malformed ones, Linux cooked captures, raw IP, and
+datagrams in fragments with `--reassemble`. The packets and reassembled payloads that the program prints are those that
+the second reader matches; the error of a text and its place are the second reader's too. Each difference is printed,
+and the status is then 1.
 
 --count N       number of expressions (10,000)
 --seed N        seed of expressions and captures (1)
---tcpdump       also compares the packets with those of `tcpdump -O`, which has to be installed: every difference belongs
-                to a habit of the table in ../README.md, and their numbers are printed (with its optimizer tcpdump also
-                matches every packet of `ip and ether[40] & 0xffffffff != 0` that is IPv4)
+--tcpdump       also compares the packets with those of `tcpdump -O`, which has to be installed. Prints how many packets
+                differ by each smallest set of habits of the table in ../README.md that explains them. A packet that no
+                set explains, or for which tcpdump_habits.py emulates another answer than tcpdump's, is a difference.
+                (With its optimizer tcpdump also matches every IPv4 packet of `ip and ether[40] & 0xffffffff != 0`.)
 """
 import argparse
 import collections
+import functools
 import os
 import random
-import re
 import struct
 import subprocess
 import sys
 import tempfile
+import typing
 
 sys.path.insert(0, os.path.dirname(os.path.abspath(__file__)))
 import second_reader  # noqa: E402
+import tcpdump_habits  # noqa: E402
 
 PACKETS = 300
 HOSTS = ("10.0.0.1", "10.0.0.2", "192.168.1.7", "224.0.0.251", "2001:db8::1", "2001:db8::2", "fe80::1", "ff02::fb")
@@ -33,8 +37,16 @@ STATIONS = ("02:00:00:00:00:01", "2:0:0:0:0:2", "ff:ff:ff:ff:ff:ff")
 NUMBERS = ("0", "1", "2", "6", "17", "18", "60", "64", "100", "0x0f", "2048", "0xffffffff")
 FIELDS = ("ether[{}]", "ip[{}]", "ip6[{}]", "arp[{}]", "tcp[{}]", "udp[{}]", "sctp[{}]", "icmp[{}]", "icmp6[{}]")
 OFFSETS = ("0", "6", "9", "12:2", "13", "tcpflags", "2:2", "16:4", "40", "0:1")
-MISTAKES = ("and", ")", "(", "port", "host", "10.0.0.1", "80", "tpc", "/8", "mask", "|", "&", "+", "[", "gateway", "src", "70000",
-            "1.2.3.400", "@", "vlan", "4096", "less", "::", "not", "ether", "proto", "256")
+MISTAKES = ("and", ")", "(", "port", "host", "10.0.0.1", "80", "tpc", "/8", "mask", "|", "&", "+", "[", "gateway",
+            "src", "70000", "1.2.3.400", "@", "vlan", "4096", "less", "::", "not", "ether", "proto", "256")
+# Values near a limit, on either side of it, and others that are invalid.
+LIMITS = ("port 65535", "port 65536", "port sip-tls", "portrange 1-65536", "proto 255", "proto 256", "ether proto 1535",
+          "ether proto 1536", "vlan 4095", "vlan 4096", "less 4294967295", "less 4294967296", "net 255", "net 256",
+          "net 0", "ether host 1:2:3:4:5", "ether host 1:2:3:4:5:6", "src 10.0.0.1/32", "host 10.0.0.256", "10.0.0.1",
+          "tpc", "\u00e9")
+PREFIXES = ("/8", "/16", "/24", "/32", "/33", "/64", "/128", "/129", "/08", "/0x8", " mask 255.0.0.0",
+            " mask 255.255.0.0", " mask 255.0.255.0", " mask 0.0.0.255", " mask 8", " mask ::")
+SIZES = ("0", "1", "2", "3", "4", "8", "0x2", "02", "tcpflags")
 
 
 # ---- expressions
@@ -63,28 +75,37 @@ class Expressions:
             return " or ".join(value() for _ in range(self.random.randrange(3, 9)))
         return value()
 
+    def address(self, layer, addresses):
+        """Returns an address, mostly of the layer's IP version."""
+        if layer and self.random.randrange(8):
+            addresses = [text for text in addresses if (":" in text) == (layer == "ip6 ")]
+        return self.one_of(*addresses)
+
     def primitive(self):
         kind = self.random.randrange(12)
         if kind == 0:
             return self.one_of("ip", "ip6", "arp", "tcp", "udp", "sctp", "icmp", "icmp6", "igmp", "ah", "esp")
         if kind == 1:
             layer = self.one_of("", "ip ", "ip6 ", "arp ")
-            return layer + (self.side() or "host ") + self.values(lambda: self.one_of(*HOSTS))
+            return layer + (self.side() or "host ") + self.values(lambda: self.address(layer, HOSTS))
         if kind == 2:
-            return self.one_of("", "ip ", "ip6 ") + self.side() + "net " + self.values(lambda: self.one_of(*NETWORKS))
+            layer = self.one_of("", "ip ", "ip6 ")
+            return layer + self.side() + "net " + self.values(lambda: self.address(layer, NETWORKS))
         if kind == 3:
-            return self.one_of("", "tcp ", "udp ", "sctp ") + self.side() + "port " + self.values(lambda: self.one_of(*PORTS))
+            protocol = self.one_of("", "tcp ", "udp ", "sctp ")
+            return protocol + self.side() + "port " + self.values(lambda: self.one_of(*PORTS))
         if kind == 4:
             return self.one_of("", "tcp ", "udp ") + self.side() + f"portrange {self.one_of('1-100', '443-22', '53')}"
         if kind == 5:
-            return self.one_of("", "ip ", "ip6 ") + "proto " + self.values(lambda: self.one_of("1", "6", "17", "44", "51", "0x3a"))
+            number = functools.partial(self.one_of, "1", "6", "17", "44", "51", "0x3a")
+            return self.one_of("", "ip ", "ip6 ") + "proto " + self.values(number)
         if kind == 6:
             return "ether proto " + self.one_of("0x0800", "0x86dd", "0x8100", "0x88a8", "2054")
         if kind == 7:
             return "ether " + (self.side() or "host ") + self.one_of(*STATIONS)
         if kind == 8:
-            return self.one_of("broadcast", "multicast", "ether multicast", "ip multicast", "ip6 multicast", "vlan", "vlan 5",
-                               "vlan 6", "less 64", "greater 100")
+            return self.one_of("broadcast", "multicast", "ether multicast", "ip multicast", "ip6 multicast", "vlan",
+                               "vlan 5", "vlan 6", "less 64", "greater 100")
         operand = self.one_of("len", *(field.format(self.one_of(*OFFSETS)) for field in FIELDS))
         mask = self.one_of("", "", " & 2", " & (tcp-syn|tcp-ack)", " & 0x0f", " & 0xffffffff")
         if self.random.randrange(5) == 0:
@@ -106,11 +127,30 @@ class Expressions:
             text += self.one_of(" and ", " or ", " && ", "||") + self.operand(depth)
         return text
 
+    def limited(self, text):
+        """Returns a text with a value, network, size, depth or length near a limit, on either side of it."""
+        kind = self.random.randrange(8)
+        if kind < 3:
+            return f"{self.one_of(*LIMITS)} or {text}"
+        if kind < 5:
+            address = self.one_of("10", "10.0.0.1", "192.168.1.7", "2001:db8::", "2001:db8::1")
+            return f"{text} or net {address}{self.one_of(*PREFIXES)}"
+        if kind < 6:
+            return f"{text} or {self.one_of('ether', 'ip', 'tcp')}[{self.one_of('0', '13')}:{self.one_of(*SIZES)}] != 0"
+        more = self.random.randrange(-2, 3)
+        if kind == 6:
+            opened = [self.one_of("(", "(", "not ") for _ in range(second_reader.MOST_LEVELS + more)]
+            return "".join(opened) + text + ")" * opened.count("(")
+        return text.ljust(second_reader.MOST_BYTES + more)
+
     def mistaken(self, text):
-        """A text in which a word is missing, twice there, or another one."""
+        """Returns a text near a limit, or one in which a word is missing, is repeated, or is another one."""
+        if self.random.randrange(3) == 0:
+            return self.limited(text)
         words = text.split(" ")
         at = self.random.randrange(len(words))
-        words[at : at + 1] = self.one_of([], [words[at]] * 2, [self.one_of(*MISTAKES)], [words[at], self.one_of(*MISTAKES)])
+        mistake = self.one_of(*MISTAKES)
+        words[at : at + 1] = self.one_of([], [words[at]] * 2, [mistake], [words[at], mistake])
         return " ".join(words)
 
 
@@ -143,7 +183,8 @@ class Packets:
         if chains and self.random.randrange(2):
             payload, number = bytes((number, 1)) + bytes(10) + payload, 51
         flags = self.one_of(0x2000, 0x2001, 0x0001, 0) if fragments else 0
-        addresses = b"".join(self.one_of(b"\x0a\0\0\1", b"\x0a\0\0\2", b"\xc0\xa8\1\7", b"\xe0\0\0\xfb") for _ in range(2))
+        ends = b"\x0a\0\0\1", b"\x0a\0\0\2", b"\xc0\xa8\1\7", b"\xe0\0\0\xfb"
+        addresses = self.one_of(*ends) + self.one_of(*ends)
         words = self.one_of(0, 0, 0, 1, 3)
         total_len = self.one_of(*[20 + 4 * words + len(payload)] * 7, 0)
         header = struct.pack(">BBHHHBBH", 0x45 + words, 0, total_len, 7, flags, 64, number, 0)
@@ -158,10 +199,11 @@ class Packets:
             kind = self.one_of(0, 43, 60, 51)
             payload = (bytes((number, 1)) + bytes(10) if kind == 51 else bytes((number, 0)) + bytes(6)) + payload
             number = kind
-        ends = (b"\x20\1\x0d\xb8" + bytes(11) + b"\1", b"\x20\1\x0d\xb8" + bytes(11) + b"\2", b"\xfe\x80" + bytes(13) + b"\1",
-                b"\xff\2" + bytes(13) + b"\xfb")
+        ends = (b"\x20\1\x0d\xb8" + bytes(11) + b"\1", b"\x20\1\x0d\xb8" + bytes(11) + b"\2",
+                b"\xfe\x80" + bytes(13) + b"\1", b"\xff\2" + bytes(13) + b"\xfb")
         payload_len = self.one_of(*[len(payload)] * 7, 0)
-        return (struct.pack(">IHBB", 6 << 28, payload_len, number, 64) + self.one_of(*ends) + self.one_of(*ends)) + payload
+        header = struct.pack(">IHBB", 6 << 28, payload_len, number, 64)
+        return header + self.one_of(*ends) + self.one_of(*ends) + payload
 
     def arp(self, odd=False):
         kind = self.one_of(0x0800, 0x0806) if odd else 0x0800
@@ -180,12 +222,50 @@ class Packets:
         for _ in range(self.random.randrange(5)):
             if self.random.randrange(6) == 0:
                 control = self.one_of(0, 0x0C, 0x20)
-                payload, ether_type = bytes((control, self.one_of(0, 0, 40))) + bytes(12 if control & 0x20 else 4) + struct.pack(
-                    ">H", ether_type) + payload, 0x88E5
+                tag = bytes((control, self.one_of(0, 0, 40))) + bytes(12 if control & 0x20 else 4)
+                payload, ether_type = tag + struct.pack(">H", ether_type) + payload, 0x88E5
             else:
                 payload = struct.pack(">HH", self.one_of(5, 6, 0x2005), ether_type) + payload
                 ether_type = self.one_of(0x8100, 0x8100, 0x88A8, 0x9100)
         return ether_type, payload
+
+    def fragments(self, identification):
+        """Returns frames with the fragments of a datagram, two at least, and the protocol and bytes of its payload."""
+        version, number = self.one_of((4, 1), (4, 6), (4, 17), (4, 132), (6, 6), (6, 17), (6, 58), (6, 132))
+        payload = self.transport(number) + bytes(8)
+        addresses = self.ipv4()[12:20] if version == 4 else self.ipv6()[8:40]
+        options = self.one_of(b"", bytes((44, 0)) + bytes(6))
+        link = b"\2\0\0\0\0\1\2\0\0\0\0\2" + self.one_of(b"", b"\x81\0\0\5")
+        link += b"\x08\0" if version == 4 else b"\x86\xdd"
+        starts = [start for start in (0, 8, self.one_of(16, 24)) if start < len(payload)]
+        frames = []
+        for start, end in zip(starts, [*starts[1:], len(payload)]):
+            data, more = payload[start:end], end < len(payload)
+            if version == 4:
+                header = struct.pack(">BBHHHBBH", 0x45, 0, 20 + len(data), identification, more << 13 | start // 8, 64,
+                                     number, 0)
+            else:
+                data = options + struct.pack(">BBHI", number, 0, start | more, identification) + data
+                header = struct.pack(">IHBB", 6 << 28, len(data), 0 if options else 44, 64)
+            frames.append(link + header + addresses + data)
+        return frames, (number, payload)
+
+    def datagrams(self):
+        """Returns frames with the fragments of datagrams, of two datagrams in any order, some missing; and the protocol
+        and bytes of each payload by the number of the frame that completes it."""
+        frames, payloads = [], {}
+        while len(frames) < PACKETS:
+            pair = [self.fragments(len(frames) + at) for at in range(2)]
+            mixed = [(frame, *datagram) for datagram in pair for frame in datagram[0]]
+            self.random.shuffle(mixed)
+            if self.random.randrange(4) == 0:
+                mixed.pop()
+            for frame, missing, payload in mixed:
+                frames.append((frame, len(frame)))
+                missing.remove(frame)
+                if not missing:
+                    payloads[len(frames)] = payload
+        return frames, payloads
 
     def frame(self, kind):
         """A frame, and its original length."""
@@ -199,8 +279,8 @@ class Packets:
         stations = (b"\2\0\0\0\0\1", b"\2\0\0\0\0\2", b"\xff" * 6, b"\1\0\x5e\0\0\xfb")
         link = self.one_of(*stations) + self.one_of(*stations) + struct.pack(">H", ether_type)
         if kind == "sll":
-            link = struct.pack(">HHH", self.one_of(0, 4, 4, 9), self.one_of(1, 1, 772, 824), 6) + bytes(8) + struct.pack(
-                ">H", ether_type)
+            link = struct.pack(">HHH", self.one_of(0, 4, 4, 9), self.one_of(1, 1, 772, 824), 6) + bytes(8)
+            link += struct.pack(">H", ether_type)
         data = link + payload + (bytes(self.random.randrange(20)) if kind == "odd" else b"")
         wire_len = len(data)
         if kind in ("odd", "cut") and self.random.randrange(2):
@@ -213,7 +293,17 @@ class Packets:
 
 # Captures by kind: the number of their link type, and the first header for the second reader.
 KINDS = {"plain": (1, "ethernet"), "tags": (1, "ethernet"), "fragments": (1, "ethernet"), "chains": (1, "ethernet"),
-         "odd": (1, "ethernet"), "cut": (1, "ethernet"), "sll": (113, "sll"), "ip": (101, "ip")}
+         "odd": (1, "ethernet"), "cut": (1, "ethernet"), "sll": (113, "sll"), "ip": (101, "ip"),
+         "datagrams": (1, "ethernet")}
+
+
+class Capture(typing.NamedTuple):
+    """A capture: its file, its packets for the second reader, and by number the packets that complete a datagram, with
+    the reassembled payload."""
+
+    path: str
+    packets: list
+    reassembled: dict
 
 
 def write_capture(path, link_type, frames):
@@ -224,15 +314,46 @@ def write_capture(path, link_type, frames):
             out.write(struct.pack("<IIII", number, 0, len(data), wire_len) + data)
 
 
+def captures_in(folder, seed):
+    """Writes a capture of each kind, and yields it."""
+    packets = Packets(seed)
+    for kind, (link_type, entry) in KINDS.items():
+        if kind == "datagrams":
+            frames, payloads = packets.datagrams()
+        else:
+            frames, payloads = [packets.frame(kind) for _ in range(PACKETS)], {}
+        path = os.path.join(folder, kind)
+        write_capture(path, link_type, frames)
+        reassembled = {number: second_reader.Packet(*frames[number - 1], entry).reassembled(*payload)
+                       for number, payload in payloads.items()}
+        yield Capture(path, [second_reader.Packet(*frame, entry) for frame in frames], reassembled)
+
+
 # ---- programs
 
 
-def printed_by(program, path, text):
-    """The packets that the program prints; or its exit status and the lines of its error."""
-    done = subprocess.run([program, path, *([text] if text else [])], capture_output=True, check=False)
-    if done.returncode == 0:
-        return [int(line.split(b" ", 1)[0]) for line in done.stdout.splitlines()]
-    return done.returncode, done.stderr.decode().splitlines()
+def printed_by(program, path, text, *options):
+    """Returns the numbers of the packets that the program prints, negative for a reassembled payload; or its status and
+    the lines of its error."""
+    done = subprocess.run([program, *options, path, *([text] if text else [])], capture_output=True, check=False)
+    if done.returncode:
+        return done.returncode, done.stderr.decode().splitlines()
+    return [int(line.split(b" ", 1)[0]) * (-1 if b" reassembled" in line else 1) for line in done.stdout.splitlines()]
+
+
+def expected_of(capture, text):
+    """Returns what `printed_by` returns by the second reader, and the kind of the error or None."""
+    try:
+        expression = second_reader.parse(text.encode())
+    except second_reader.FilterError as error:
+        return (2, error.lines(text)), error.args[0]
+    numbers = []
+    for number, packet in enumerate(capture.packets, 1):
+        if second_reader.matches(expression, packet):
+            numbers.append(number)
+        if number in capture.reassembled and second_reader.matches(expression, capture.reassembled[number]):
+            numbers.append(-number)
+    return numbers, None
 
 
 def numbers_in(capture):
@@ -251,46 +372,64 @@ def matched_by_tcpdump(path, text):
     return numbers_in(done.stdout) if done.returncode == 0 else None
 
 
-# ---- habits of tcpdump
-
-
-def reads_past_end(expression, packet):
-    """Whether a byte test reads bytes of a layer after its captured ones."""
-    if expression[0] in ("not", "and", "or"):
-        return any(reads_past_end(operand, packet) for operand in expression[1:])
-    if expression[0] != "number" or expression[1] == "len":
-        return False
-    layer, offset, size = expression[1]
-    data = packet.bytes_of(layer)
-    return data is not None and len(data) < offset + size
-
-
-def habits_of(text, expression, packet):
-    """Letters of the table in ../README.md: habits of tcpdump that can change its answer for a packet."""
-    habits = set()
-    if packet.tags or re.search(r"\bvlan\b", text):
-        habits.add("T")
-    if len(packet.numbers) > 1:
-        habits.add("C")
-    if packet.version == 6 and re.search(r"\b(tcp|udp|sctp)\[", text):
-        habits.add("B")
-    short = packet.transport is not None and len(packet.transport[1]) < 4
-    if len(packet.data) < packet.wire_len or short or reads_past_end(expression, packet):
-        habits.add("R")
-    if packet.version is None:
-        habits.add("S")
-    if packet.transport is not None and not packet.data.endswith(packet.transport[1]):
-        habits.add("L")
-    if packet.version == "arp" and (packet.addresses is None or packet.data[packet.after_tags + 4] != 6):
-        habits.add("P")
-    if packet.entry != "ethernet" and re.search(r"\bether\[|multicast", text):
-        habits.add("E")
-    if re.search(r"\b(domain|http)\b", text):
-        habits.add("N")
-    return habits
-
-
 # ---- comparing
+
+
+class Comparison:
+    """Compares texts, prints each difference, and counts them: errors by kind, packets by the habits of tcpdump."""
+
+    def __init__(self, program):
+        self.program = os.path.abspath(program)
+        self.filters, self.errors, self.differences = 0, collections.Counter(), 0
+        self.taken, self.pairs, self.habits = 0, 0, collections.Counter()
+
+    def print_difference(self, capture, text, *lines):
+        self.differences += 1
+        print("\n  ".join((f"{os.path.basename(capture.path)}: {text}", *lines)))
+
+    def compare_with_program(self, capture, text):
+        """Compares the program with the second reader. Returns the numbers of the packets that a filter matches, None
+        for an error or a difference."""
+        options = ["--reassemble"] if capture.reassembled else []
+        printed = printed_by(self.program, capture.path, text, *options)
+        expected, error = expected_of(capture, text)
+        if error:
+            self.errors[error] += 1
+        else:
+            self.filters += 1
+        if printed != expected:
+            self.print_difference(capture, text, f"the program: {printed}", f"the second reader: {expected}")
+            return None
+        return None if error else {number for number in printed if number > 0}
+
+    def compare_with_tcpdump(self, capture, text, expected):
+        """Compares the packets of a filter with those of tcpdump, if tcpdump takes the text."""
+        others = matched_by_tcpdump(capture.path, text)
+        if others is None:
+            return
+        self.taken += 1
+        self.pairs += len(capture.packets)
+        expression = tcpdump_habits.placed(text.encode())
+        for number, packet in enumerate(capture.packets, 1):
+            theirs = number in others
+            if tcpdump_habits.emulated(expression, packet) != theirs:
+                self.print_difference(capture, text, f"packet {number}: tcpdump's answer is not the emulated one")
+            if theirs == (number in expected):
+                continue
+            habits = tcpdump_habits.fewest_habits(expression, packet, theirs)
+            if habits is None:
+                self.print_difference(capture, text, f"packet {number}: no habits explain tcpdump's answer")
+            self.habits[habits or "none"] += 1
+
+    def print_counts(self, by_tcpdump):
+        errors, kinds = sum(self.errors.values()), len(self.errors)
+        if by_tcpdump:
+            differing = sum(self.habits.values())
+            print(f"tcpdump takes {self.taken} of the filters, and differs in {differing} of {self.pairs} pairs of a "
+                  "packet and an expression. By habits:")
+            for habits, number in self.habits.most_common():
+                print(f"  {habits} {number}")
+        print(f"{self.filters} filters, {errors} errors of {kinds} kinds, {self.differences} differences")
 
 
 def main():
@@ -300,55 +439,19 @@ def main():
     arguments.add_argument("--seed", type=int, default=1)
     arguments.add_argument("--tcpdump", action="store_true")
     options = arguments.parse_args()
-    program = os.path.abspath(options.program)
-    expressions, packets = Expressions(options.seed), Packets(options.seed)
-    found, refused, differ, pairs, taken = 0, 0, 0, 0, 0
-    habits = collections.Counter()
+    expressions, comparison = Expressions(options.seed), Comparison(options.program)
     with tempfile.TemporaryDirectory() as folder:
-        captures = []
-        for kind, (link_type, entry) in KINDS.items():
-            frames = [packets.frame(kind) for _ in range(PACKETS)]
-            path = os.path.join(folder, kind)
-            write_capture(path, link_type, frames)
-            captures.append((path, [second_reader.Packet(data, wire_len, entry) for data, wire_len in frames]))
+        captures = list(captures_in(folder, options.seed))
         for at in range(options.count):
             text = expressions.expression()
-            if at % 4 == 3:
+            if at % 3 == 2:
                 text = expressions.mistaken(text)
-            path, read = captures[at // 4 % len(captures)]
-            printed = printed_by(program, path, text)
-            try:
-                expression = second_reader.parse(text.encode())
-            except second_reader.FilterError as error:
-                refused += 1
-                expected = 2, error.lines(text)
-            else:
-                found += 1
-                expected = [number for number, packet in enumerate(read, 1) if second_reader.matches(expression, packet)]
-            if printed != expected:
-                differ += 1
-                print(f"{os.path.basename(path)}: {text}\n  the program: {printed}\n  the second reader: {expected}")
-                continue
-            if not options.tcpdump or isinstance(expected, tuple):
-                continue
-            others = matched_by_tcpdump(path, text)
-            if others is None:
-                continue
-            taken += 1
-            pairs += PACKETS
-            for number in set(expected) ^ set(others):
-                causes = "".join(sorted(habits_of(text, expression, read[number - 1])))
-                habits[causes] += 1
-                if not causes:
-                    differ += 1
-                    print(f"{os.path.basename(path)}: {text}\n  packet {number}, by no habit: "
-                          f"{'the program' if number in expected else 'tcpdump'} alone")
-    print(f"{found} filters, {refused} errors, {differ} differences")
-    if options.tcpdump:
-        print(f"tcpdump takes {taken} of them; of {pairs} pairs of packet and expression it differs in {sum(habits.values())}:")
-        for causes, number in habits.most_common():
-            print(f"  {causes or '-'} {number}")
-    sys.exit(1 if differ else 0)
+            capture = captures[at // 3 % len(captures)]
+            expected = comparison.compare_with_program(capture, text)
+            if options.tcpdump and expected is not None:
+                comparison.compare_with_tcpdump(capture, text, expected)
+    comparison.print_counts(options.tcpdump)
+    sys.exit(1 if comparison.differences else 0)
 
 
 if __name__ == "__main__":

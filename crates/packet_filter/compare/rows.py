@@ -1,8 +1,9 @@
 #!/usr/bin/env python3
 """Compares rows written by hand with packet_dump and with the second reader: rows.py PROGRAM
 
-Reads rows.txt: texts and their filter, texts and their error, texts and how their filter is printed, and frames with the
-texts that match them. Prints each difference, and how many rows there are; the status is 1 if a row differs.
+Reads rows.txt: texts and their filter in its canonical form, texts and their error, texts and their filter without
+redundant parentheses, and frames with the texts that match them. Prints each difference, and how many rows there are; the
+status is 1 if a row differs.
 """
 import os
 import re
@@ -51,13 +52,10 @@ def faults_of_text(program, kind, wanted, text):
         return [] if found == (2, "", error.lines(text, reads=False)) else ["the program"]
     if error is not None or found[0] != 0:
         return ["an error"]
-    printed = found[1].split("\n")[0]
-    if kind == ">":
-        return [] if wanted == printed == second_reader.printed(tree) else ["the printed text"]
-    whole = second_reader.parse(wanted.encode())
-    same = found == explained(program, wanted) == explained(program, printed)
-    same = same and printed == second_reader.printed(tree)
-    return ([] if whole == tree else ["the second reader"]) + ([] if same else ["the program"])
+    whole, printed = second_reader.canonical(tree), second_reader.printed(tree)
+    right = wanted == (printed if kind == ">" else whole) and second_reader.parse(wanted.encode()) == tree
+    same = found[1].split("\n")[0] == whole and found == explained(program, wanted) == explained(program, printed)
+    return ([] if right else ["the second reader"]) + ([] if same else ["the program"])
 
 
 def faults_of_packet(program, path, packet, wanted, text):

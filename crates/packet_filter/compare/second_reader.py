@@ -6,6 +6,7 @@ number), ("address", layer, side, network), ("station", side, bytes), ("port", p
 identifier or None), ("number", operand, mask, relation, number). The empty filter is None.
 """
 import ipaddress
+import operator
 import re
 
 MOST_LEVELS = 64
@@ -71,7 +72,7 @@ DESCRIPTIONS = {
     "WrongFamily": "an address of the other IP version", "NotALength": "not a prefix length of the address",
     "NotAMask": "not a mask (ones, followed by zeros)", "HostBits": "the address has bits set after the prefix",
     "NetOnly": "only networks have a prefix length or mask", "Deep": "more than 64 open parentheses and not",
-    "Long": "more than 65536 bytes",
+    "Long": "the filter has more than 65536 bytes",
 }
 
 
@@ -81,9 +82,17 @@ class FilterError(Exception):
     def lines(self, text, reads=True):
         """Lines that packet_dump writes to standard error. `reads` is false with --explain, which reads no file."""
         kind, start, end = self.args
-        token = text[start:end] if kind != "Long" else ""
-        second = "; only one file is read" if reads and start == 0 and token else ""
-        return [f"packet_dump: {quoted(token)}{DESCRIPTIONS[kind]}{second}", f"  {text}", "  " + " " * start + "^"]
+        if kind == "Long":
+            return [f"packet_dump: {DESCRIPTIONS[kind]}"]
+        data = text.encode()
+        token = in_line(data[start:end])
+        second = "; only one file is read" if reads and token and min(data[:start], default=33) > 32 else ""
+        return [f"packet_dump: {quoted(token)}{DESCRIPTIONS[kind]}{second}", "  " + in_line(data), "  " + " " * start + "^"]
+
+
+def in_line(data):
+    """Bytes as a part of a line: each control character is a space."""
+    return bytes(32 if byte < 32 or byte == 127 else byte for byte in data).decode()
 
 
 def quoted(token):
@@ -95,18 +104,18 @@ def quoted(token):
 SYMBOLS = ("&&", "||", "!=", "!", "==", "=", "<=", "<<", "<", ">=", ">>", ">", "(", ")", "[", "]", ":", "/", "&", "|", "+", "*",
            "%", "^", "-")
 SAME = {"&&": "and", "||": "or", "!": "not", "==": "="}
+BLANKS, RUN = re.compile(rb"[ \t\n\r]*"), re.compile(rb"[A-Za-z0-9._:-]*")
 
 
 def tokens_of(text):
     """Returns the tokens of a text: kind, text, start, end. The kind of a wrong one is its error."""
     found, at = [], 0
     while True:
-        while at < len(text) and text[at] in b" \t\n\r":
-            at += 1
+        at = BLANKS.match(text, at).end()
         if at == len(text):
             found.append(("End", b"", at, at))
             return found
-        run = re.match(rb"[A-Za-z0-9._:-]*", text[at:]).group()
+        run = RUN.match(text, at).group()
         if run and (run[:1].isalnum() or (run[:1] == b":" and run.count(b":") >= 2)):
             word = run if run.count(b":") >= 2 else run.split(b":")[0]
             name, end = word.decode(), at + len(word)
@@ -117,7 +126,7 @@ def tokens_of(text):
             else:
                 found.append(("NotTaken" if name in NOT_TAKEN else "word", word, at, end))
         elif text[at : at + 1] == b"\\":
-            run = re.match(rb"[A-Za-z0-9._:-]*", text[at + 1 :]).group()
+            run = RUN.match(text, at + 1).group()
             end = at + 1 + len(run)
             found.append(("NotTaken" if run else "Character", text[at:end], at, end))
         else:
@@ -212,10 +221,11 @@ def simple_value(head, word):
 
 
 class Parser:
-    """Reads the tokens from left to right; the first token that is not allowed after those before it is the error."""
+    """Reads the tokens from left to right; the first token that is not allowed after those before it is the error.
+    `values` has the value's word for each primitive from left to right, None for a primitive without a value."""
 
     def __init__(self, text):
-        self.tokens, self.at, self.head, self.levels = tokens_of(text), 0, None, 0
+        self.tokens, self.at, self.head, self.levels, self.values = tokens_of(text), 0, None, 0, []
 
     def kind(self):
         return self.tokens[self.at][0]
@@ -289,7 +299,9 @@ class Parser:
             if found is None:
                 return self.operand(True, 0)
             self.head = None
+            self.values.append(None)
             return found, closed
+        self.values.append(self.word())
         return self.value(), 0
 
     def primitive(self, closable):
@@ -527,6 +539,17 @@ def grouped(operand):
     return f"({printed(operand)})" if operand[0] in ("and", "or") else printed(operand)
 
 
+def canonical(expression):
+    """Returns the canonical form of an expression: with all qualifiers, and each operator and not in parentheses."""
+    if expression is None:
+        return ""
+    if expression[0] == "not":
+        return f"(not {canonical(expression[1])})"
+    if expression[0] in ("and", "or"):
+        return f"({canonical(expression[1])} {expression[0]} {canonical(expression[2])})"
+    return primitive_text(expression)
+
+
 # ---- packets
 
 VLAN_TYPES, MACSEC_TYPE = (0x8100, 0x88A8, 0x9100), 0x88E5
@@ -551,18 +574,21 @@ class Packet:
         else:
             self.link()
 
-    def link(self):
+    def link_header(self):
+        """Reads the link header, and returns its ether type; None if it has none or is invalid."""
         data = self.data
         if self.entry == "ethernet":
             if len(data) < 14:
-                return
-            self.stations, self.after_tags, ether_type = (data[6:12], data[:6]), 14, word_at(data, 12)
-        else:
-            if len(data) < 16 or word_at(data, 0) > 7 or word_at(data, 2) not in SLL_HARDWARE:
-                return
-            self.after_tags, ether_type = 16, word_at(data, 14)
-            if word_at(data, 2) not in (1, 772) or ether_type < 1536:
-                ether_type = None
+                return None
+            self.stations, self.after_tags = (data[6:12], data[:6]), 14
+            return word_at(data, 12)
+        if len(data) < 16 or word_at(data, 0) > 7 or word_at(data, 2) not in SLL_HARDWARE:
+            return None
+        self.after_tags, ether_type = 16, word_at(data, 14)
+        return ether_type if word_at(data, 2) in (1, 772) and ether_type >= 1536 else None
+
+    def link(self):
+        data, ether_type = self.data, self.link_header()
         end = len(data)
         while ether_type is not None:
             self.types.append(ether_type)
@@ -585,13 +611,13 @@ class Packet:
                 self.type_after = ether_type
             else:
                 break
-        rest = data[self.after_tags : end]
+        self.link_payload(data[self.after_tags : end])
+
+    def link_payload(self, data):
         if self.type_after == 0x0806:
-            self.arp(rest)
+            self.arp(data)
         elif self.type_after in (0x0800, 0x86DD):
-            version = 4 if self.type_after == 0x0800 else 6
-            if rest and rest[0] >> 4 == version:
-                self.network(version, rest)
+            self.network(4 if self.type_after == 0x0800 else 6, data)
 
     @staticmethod
     def macsec(data):
@@ -615,6 +641,8 @@ class Packet:
                 self.addresses = (data[sender : sender + 4], data[target : target + 4])
 
     def network(self, version, data):
+        if not data or data[0] >> 4 != version:
+            return
         if version == 4:
             header_len = 4 * (data[0] & 15)
             if len(data) < 20 or not 20 <= header_len <= len(data):
@@ -628,9 +656,14 @@ class Packet:
             self.addresses, later, number = (data[8:24], data[24:40]), False, data[6]
         else:
             return
-        self.version, self.numbers, is_first = version, [number], True
+        self.version, self.numbers = version, [number]
+        self.extensions(payload, later)
+
+    def extensions(self, payload, later):
+        """Reads the extension headers that the payload of IP begins with. `later` says whether it is of a later fragment."""
+        number, is_first = self.numbers[0], True
         while True:
-            header_len = extension_len(version, number, payload, is_first)
+            header_len = extension_len(self.version, number, payload, is_first)
             if header_len is None:
                 break
             if number == 44 and word_at(payload, 2) & 0xFFF8:
@@ -676,6 +709,11 @@ def extension_len(version, number, data, is_first):
 
 # ---- meaning
 
+# IP versions of a layer, with those of addresses and of protocols.
+ADDRESS_VERSIONS = {"": (4, 6, "arp"), "ip": (4,), "ip6": (6,), "arp": ("arp",)}
+PROTOCOL_VERSIONS = {"": (4, 6), "ip": (4,), "ip6": (6,)}
+RELATIONS = {"=": operator.eq, "!=": operator.ne, "<": operator.lt, "<=": operator.le, ">": operator.gt, ">=": operator.ge}
+
 
 def at_side(side, source, destination):
     return {"src": source, "dst": destination, "src or dst": source or destination,
@@ -689,20 +727,15 @@ def is_within(address, network):
     return (int.from_bytes(address, "big") ^ int(first)) >> (first.max_prefixlen - bits) == 0
 
 
-def has_relation(relation, a, b):
-    return {"=": a == b, "!=": a != b, "<": a < b, "<=": a <= b, ">": a > b, ">=": a >= b}[relation]
-
-
 def matches_primitive(primitive, packet):
     kind, *parts = primitive
     if kind == "type":
         return parts[0] in packet.types
     if kind == "protocol":
-        version = {"ip": (4,), "ip6": (6,), "": (4, 6)}[parts[0]]
-        return packet.version in version and parts[1] in packet.numbers
+        return packet.version in PROTOCOL_VERSIONS[parts[0]] and parts[1] in packet.numbers
     if kind == "address":
         layer, side, network = parts
-        if packet.addresses is None or packet.version not in {"": (4, 6, "arp"), "ip": (4,), "ip6": (6,), "arp": ("arp",)}[layer]:
+        if packet.addresses is None or packet.version not in ADDRESS_VERSIONS[layer]:
             return False
         return at_side(side, *(is_within(address, network) for address in packet.addresses))
     if kind == "station":
@@ -717,22 +750,23 @@ def matches_primitive(primitive, packet):
         return any(tag is not None and parts[0] in (None, tag) for tag in packet.tags)
     operand, mask, relation, number = parts
     if operand == "len":
-        return has_relation(relation, packet.wire_len & mask, number)
+        return RELATIONS[relation](packet.wire_len & mask, number)
     layer, offset, size = operand
     data = packet.bytes_of(layer)
     if data is None or len(data) < offset + size:
         return False
-    return has_relation(relation, int.from_bytes(data[offset : offset + size], "big") & mask, number)
+    return RELATIONS[relation](int.from_bytes(data[offset : offset + size], "big") & mask, number)
 
 
-def matches(expression, packet):
+def matches(expression, packet, answer_of=matches_primitive):
     """Whether an expression matches a packet; the empty filter (None) matches every packet."""
     if expression is None:
         return True
-    if expression[0] == "not":
-        return not matches(expression[1], packet)
-    if expression[0] == "and":
-        return matches(expression[1], packet) and matches(expression[2], packet)
-    if expression[0] == "or":
-        return matches(expression[1], packet) or matches(expression[2], packet)
-    return matches_primitive(expression, packet)
+    kind = expression[0]
+    if kind == "or":
+        return matches(expression[1], packet, answer_of) or matches(expression[2], packet, answer_of)
+    if kind == "and":
+        return matches(expression[1], packet, answer_of) and matches(expression[2], packet, answer_of)
+    if kind == "not":
+        return not matches(expression[1], packet, answer_of)
+    return answer_of(expression, packet)

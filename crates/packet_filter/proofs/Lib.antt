@@ -1,6 +1,7 @@
 pub mod AcceptLemmas
 pub mod AddressTextLemmas
 pub mod AwaitLemmas
+pub mod CanonicalLemmas
 pub mod ChangeLemmas
 pub mod CloseLemmas
 pub mod ContextLemmas

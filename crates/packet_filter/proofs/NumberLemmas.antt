@@ -112,7 +112,7 @@ power (suc n) =
     pow-suc 256 n ∙ ap (λ (p : ℕ). p * 256) (power n) ∙ sym (pow-add 2 (8 * n) 8)
     ∙ ap (λ (k : ℕ). 2 ^ k) (omega arith)
 
--- A power of two that divides what is above does not see it.
+-- If `low` divides `high`, adding a multiple of `high` leaves the remainder by `low`.
 high_kept : (byte high rest low times : ℕ) → high ≡ times * low → (byte * high + rest) % low ≡ rest % low
 high_kept byte high rest low times divides =
     ap (λ (above : ℕ). (above + rest) % low)

@@ -1,5 +1,5 @@
--- Filters as text: each primitive with its qualifiers, and no redundant parentheses.
-use Rattle.std.specs.Prelude.{ℕ, ◌≡◌, ◌+◌, ◌/◌, ◌%◌, ◌==◌, nat_lt, if◌then◌else◌, Bool, true, false, List, [], ◌∷◌, ◌++◌, codes, take, Option, Some, None}
+-- Filters as text: each primitive with its qualifiers, with no redundant parentheses or with all (the canonical form).
+use Rattle.std.specs.Prelude.{ℕ, zero, suc, ◌≡◌, ◌+◌, ◌/◌, ◌%◌, ◌==◌, nat_lt, if◌then◌else◌, Bool, true, false, List, [], ◌∷◌, ◌++◌, codes, take, Option, Some, None}
 use Rattle.std.specs.Fmt.{decimal}
 use Rattle.std.specs.Net.Text.{ip_text}
 use Rattle.packet_filter.specs.declared.network.Network.{Network}
@@ -138,6 +138,19 @@ abbrev pub printed : Option Expr → List ℕ
 printed None = []
 printed (Some e) = expression_text e
 
+-- The canonical form of an expression: each primitive with its qualifiers, and each `not`, `and` and `or` in
+-- parentheses.
+abbrev pub canonical_text : Expr → List ℕ
+canonical_text (test p) = primitive_text p
+canonical_text (negated e) = codes "(not " ++ canonical_text e ++ codes ")"
+canonical_text (both e f) = codes "(" ++ canonical_text e ++ codes " and " ++ canonical_text f ++ codes ")"
+canonical_text (either e f) = codes "(" ++ canonical_text e ++ codes " or " ++ canonical_text f ++ codes ")"
+
+-- The canonical form of a filter; the empty one has no text.
+abbrev pub canonical : Option Expr → List ℕ
+canonical None = []
+canonical (Some e) = canonical_text e
+
 -- The text of a step that skips steps if the value is this word.
 abbrev pub skip_text : ℕ → List ℕ → List ℕ
 skip_text skipped value = codes "skip " ++ decimal skipped ++ codes " if " ++ value
@@ -182,3 +195,29 @@ IsOpened text steps None = text ≡ []
 IsOpened text steps (Some len) =
     (operand : Expr) × (take len steps ≡ steps_of operand)
     × (text ≡ codes "not " ++ (opening (ends_with_operator operand) ++ openings operand))
+
+-- ---- how the canonical form is appended: first the parentheses before its first primitive
+
+-- For each `not`, `and` and `or` of steps that is in no right operand, whether it is `not`, in order. The first
+-- `skipped` steps are left out.
+abbrev pub nots_in : List Step → (skipped : ℕ) → List Bool
+nots_in [] skipped = []
+nots_in (first ∷ steps) (suc skipped) = nots_in steps skipped
+nots_in (step.Test p ∷ steps) zero = nots_in steps zero
+nots_in (step.Negate ∷ steps) zero = true ∷ nots_in steps zero
+nots_in (step.SkipIfFalse skipped ∷ steps) zero = false ∷ nots_in steps skipped
+nots_in (step.SkipIfTrue skipped ∷ steps) zero = false ∷ nots_in steps skipped
+
+-- The parenthesis before an expression that ends with `not`, or with `and` or `or`.
+abbrev pub start_text : (is_not : Bool) → List ℕ
+start_text true = codes "(not "
+start_text false = codes "("
+
+-- The parentheses before the first primitive: that of the last `not`, `and` or `or` first.
+abbrev pub starts_text : List Bool → List ℕ
+starts_text [] = []
+starts_text (is_not ∷ nots) = starts_text nots ++ start_text is_not
+
+-- `and` or `or`, its right operand, and the parenthesis that ends its expression.
+abbrev pub right_text : (operator : List ℕ) → Option Expr → List ℕ
+right_text operator right = operator ++ canonical right ++ codes ")"

@@ -1,16 +1,17 @@
 //! Filters: which packets they match.
 
-ghost use Rattle.std.specs.Prelude.{◌≡◌, ◌⊎◌, ◌++◌, [], ◌∷◌, is_none, length, IfErr, IfOk, OnOk};
+ghost use Rattle.std.specs.Prelude.{◌≡◌, ◌≤◌, ◌⊎◌, ◌++◌, [], ◌∷◌, is_none, length, IfErr, IfOk, OnOk};
 ghost use Rattle.ep_lax.specs.LaxPackets.{lax_layers_of};
 ghost use Rattle.packet_filter.specs.Meaning.{meaning};
 ghost use Rattle.packet_filter.specs.Packets.{packet_of, reassembled_packet};
-ghost use Rattle.packet_filter.specs.Printing.{printed};
+ghost use Rattle.packet_filter.specs.Printing.{canonical, printed};
 ghost use Rattle.packet_filter.specs.Refusals.{IsFilterText, RefusesText};
 ghost use Rattle.packet_filter.specs.Shown.{shown_packet};
 ghost use Rattle.packet_filter.specs.Trees.{both_of, tree_of};
 ghost use Rattle.packet_filter.specs.declared.filter_error.FilterErrorKind.{FilterErrorKind};
 ghost use Rattle.packet_filter.specs.declared.step.Step.TheVariants as step;
 
+use crate::canonical::append_canonical;
 use crate::filter_error::{FilterError, FilterErrorKind};
 use crate::host_set::HostSet;
 use crate::host_sets::{host_sets, later_sets};
@@ -60,6 +61,7 @@ impl Filter {
     pub fn parse(alloc: Global, text: &str) -> Result<Filter, FilterError>
         ensures ok { IfOk result (λ filter. IsFilterText text.now (tree_of filter)) }
         ensures err { IfErr result (λ error. (error.kind ≡ FilterErrorKind.Memory) ⊎ RefusesText text.now error) }
+        ensures place { IfErr result (λ error. (error.start ≤ error.end) × (error.end ≤ length text.now)) }
     {
         match parser::parse(alloc, text.as_bytes()) {
             Ok(steps) => match host_sets(alloc, steps.as_slice()) {
@@ -107,6 +109,14 @@ impl Filter {
         ensures { OnOk result (output.new.items ≡ output.old.items ++ printed (tree_of self.now)) }
     {
         append_expression(output, self.steps.as_slice())
+    }
+
+    /// Appends the canonical form of the filter's expression: each primitive with its qualifiers, and each `and`, `or`
+    /// and `not` in parentheses. It can have too many levels to be parsed.
+    pub fn append_canonical(&self, output: &mut Vec<u8>) -> Result<(), AllocError>
+        ensures { OnOk result (output.new.items ≡ output.old.items ++ canonical (tree_of self.now)) }
+    {
+        append_canonical(output, self.steps.as_slice())
     }
 
     /// Steps of the filter, in order.

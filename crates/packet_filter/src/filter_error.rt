@@ -13,7 +13,7 @@ pub struct FilterError {
     /// Reason for the error.
     pub kind: FilterErrorKind,
     /// Offset in bytes at which the token begins; the length of the text if the text ends too early or an allocation
-    /// fails.
+    /// fails. For `Long` it is 65,536, which may be within a character (so use `get` to slice the text).
     pub start: usize,
     /// Offset in bytes at which the token ends.
     pub end: usize,
@@ -104,7 +104,7 @@ impl FilterErrorKind {
             FilterErrorKind::HostBits => "the address has bits set after the prefix",
             FilterErrorKind::NetOnly => "only networks have a prefix length or mask",
             FilterErrorKind::Deep => "more than 64 open parentheses and not",
-            FilterErrorKind::Long => "more than 65536 bytes",
+            FilterErrorKind::Long => "the filter has more than 65536 bytes",
             FilterErrorKind::Memory => "out of memory",
         }
     }

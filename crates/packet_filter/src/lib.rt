@@ -23,8 +23,9 @@
 //! relation   = "=" | "==" | "!=" | "<" | "<=" | ">" | ">="
 //! ```
 //!
-//! - A value without qualifiers has those of the value before it: `tcp port 80 or 443`. A parenthesis that ends restores
-//!   the qualifiers before it; a `bare` primitive leaves none. `&&`, `||` and `!` are `and`, `or` and `not`.
+//! - A value without qualifiers has the qualifiers of the value before it: `tcp port 80 or 443`. After a closing
+//!   parenthesis the qualifiers before the opening one hold again; a `bare` primitive leaves none. `&&`, `||` and `!` are
+//!   `and`, `or` and `not`.
 //! - A host is an address as std parses it. A network is an address, or the first one to three numbers of an IPv4 address
 //!   (`10.1`; a single 0 is none), and then `/` and a prefix length, or `mask` and an IPv4 mask of ones followed by zeros.
 //!   No bit may be set after the prefix. `ip` and `arp` require IPv4 addresses, `ip6` IPv6 addresses.
@@ -36,10 +37,10 @@
 //!   4095, and a size 1, 2 or 4. Numbers are decimal without leading zeros, or hexadecimal after `0x`.
 //! - A constant of a byte test is a number or a name: `tcpflags` and `tcp-syn` (-fin, -rst, -push, -ack, -urg, -ece, -cwr),
 //!   `icmptype`, `icmpcode`, `icmp6type`, `icmp6code`, and the types of ICMP messages (`icmp-echo`) as tcpdump names them.
-//! - At most 64 `(` and `not` are open at a time, without those around constants, and a text has at most 65,536 bytes.
+//! - At most 64 `(` and `not` are open at a time; a `(` around constants does not count. A text has at most 65,536 bytes.
 //!
-//! An error is that of the first token that is not allowed after those before it ([`FilterError`]). Arithmetic, such as
-//! `ip[2:2] - 4`, names of hosts, and layers that the library does not parse have errors of their own.
+//! An error is about the first token that is not allowed after the tokens before it ([`FilterError`]). Arithmetic, such
+//! as `ip[2:2] - 4`, names of hosts, and layers that the library does not parse have errors of their own.
 //!
 //! # What a primitive matches
 //!
@@ -61,6 +62,7 @@
 //! A primitive does not match if its layer is missing, and then its `not` matches.
 #![tactic(auto)]
 
+mod canonical;
 pub mod filter;
 pub mod filter_error;
 pub mod head;

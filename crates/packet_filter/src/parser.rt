@@ -1,6 +1,6 @@
 //! Parsing of filter expressions, in one pass over the tokens of the text.
 
-ghost use Rattle.std.specs.Prelude.{◌≡◌, ◌⊎◌, [], IfErr, IfOk, List, MatchResult, None, OnOk, Option, Some, length, ℕ};
+ghost use Rattle.std.specs.Prelude.{◌≡◌, ◌≤◌, ◌⊎◌, [], IfErr, IfOk, List, MatchResult, None, OnOk, Option, Some, length, ℕ};
 ghost use Rattle.packet_filter.specs.Grammar.{most_levels};
 ghost use Rattle.packet_filter.specs.Parsing.{IsApt, IsAptIn, IsChange, IsDone, IsShown, IsWithin, changed, settled_by, state_of};
 ghost use Rattle.packet_filter.specs.Refusals.{IsFilterText, RefusesText};
@@ -45,6 +45,7 @@ pub(crate) fn parse(alloc: Global, text: &[u8]) -> Result<Vec<Step>, FilterError
     ensures ok { IfOk result (λ steps. (tree : Option Expr) × IsFilterText text.now tree
         × (steps.items ≡ steps_of_text tree)) }
     ensures err { IfErr result (λ error. (error.kind ≡ FilterErrorKind.Memory) ⊎ RefusesText text.now error) }
+    ensures place { IfErr result (λ error. (error.start ≤ error.end) × (error.end ≤ length text.now)) }
 {
     if text.len() > MOST_BYTES {
         return Err(FilterError {

@@ -74,7 +74,7 @@ fn append_right(output: &mut Vec<u8>, steps: &[Step]) -> Result<(), AllocError>
 }
 
 /// Returns the first `len` steps.
-fn first_steps(steps: &[Step], len: usize) -> &[Step]
+pub(crate) fn first_steps(steps: &[Step], len: usize) -> &[Step]
     ensures { result.now ≡ take len steps.now }
 {
     if len < steps.len() {

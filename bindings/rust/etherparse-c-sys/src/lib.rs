@@ -265,7 +265,7 @@ pub const FILTER_HOST_BITS: u32 = 21;
 pub const FILTER_NET_ONLY: u32 = 22;
 /// The 65th `(` or `not` that is open.
 pub const FILTER_DEEP: u32 = 23;
-/// The bytes after the first 65,536.
+/// Bytes after the first 65,536, which may begin within a character.
 pub const FILTER_LONG: u32 = 24;
 /// The text is not UTF-8.
 pub const FILTER_NOT_UTF8: u32 = 25;

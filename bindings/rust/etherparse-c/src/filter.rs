@@ -55,42 +55,10 @@ numbered! {
         NetOnly = FILTER_NET_ONLY,
         /// The 65th `(` or `not` that is open.
         Deep = FILTER_DEEP,
-        /// The bytes after the first 65,536.
+        /// Bytes after the first 65,536, which may begin within a character (so use `get`).
         Long = FILTER_LONG,
         /// The text is not UTF-8.
         NotUtf8 = FILTER_NOT_UTF8,
-    }
-}
-
-impl FilterErrorKind {
-    fn number(self) -> u32 {
-        match self {
-            FilterErrorKind::Character => sys::FILTER_CHARACTER,
-            FilterErrorKind::Arithmetic => sys::FILTER_ARITHMETIC,
-            FilterErrorKind::NotTaken => sys::FILTER_NOT_TAKEN,
-            FilterErrorKind::End => sys::FILTER_END,
-            FilterErrorKind::Misplaced => sys::FILTER_MISPLACED,
-            FilterErrorKind::Unqualified => sys::FILTER_UNQUALIFIED,
-            FilterErrorKind::Unknown => sys::FILTER_UNKNOWN,
-            FilterErrorKind::NotAnAddress => sys::FILTER_NOT_AN_ADDRESS,
-            FilterErrorKind::NotANetwork => sys::FILTER_NOT_A_NETWORK,
-            FilterErrorKind::NotAStation => sys::FILTER_NOT_A_STATION,
-            FilterErrorKind::NotAPort => sys::FILTER_NOT_A_PORT,
-            FilterErrorKind::NotARange => sys::FILTER_NOT_A_RANGE,
-            FilterErrorKind::NotAProtocol => sys::FILTER_NOT_A_PROTOCOL,
-            FilterErrorKind::NotAnEtherType => sys::FILTER_NOT_AN_ETHER_TYPE,
-            FilterErrorKind::NotAVlan => sys::FILTER_NOT_A_VLAN,
-            FilterErrorKind::NotANumber => sys::FILTER_NOT_A_NUMBER,
-            FilterErrorKind::NotASize => sys::FILTER_NOT_A_SIZE,
-            FilterErrorKind::WrongFamily => sys::FILTER_WRONG_FAMILY,
-            FilterErrorKind::NotALength => sys::FILTER_NOT_A_LENGTH,
-            FilterErrorKind::NotAMask => sys::FILTER_NOT_A_MASK,
-            FilterErrorKind::HostBits => sys::FILTER_HOST_BITS,
-            FilterErrorKind::NetOnly => sys::FILTER_NET_ONLY,
-            FilterErrorKind::Deep => sys::FILTER_DEEP,
-            FilterErrorKind::Long => sys::FILTER_LONG,
-            FilterErrorKind::NotUtf8 => sys::FILTER_NOT_UTF8,
-        }
     }
 }
 
@@ -99,7 +67,7 @@ impl fmt::Display for FilterErrorKind {
         let (mut text, mut written) = ([0; sys::REASON_TEXT_MAX as usize], 0);
         // SAFETY: all pointers come from references that outlive the call, and none overlap.
         let status =
-            unsafe { sys::etherparse_filter_error_text(self.number(), text.as_mut_ptr(), text.len(), &mut written) };
+            unsafe { sys::etherparse_filter_error_text(*self as u32, text.as_mut_ptr(), text.len(), &mut written) };
         debug_assert_eq!(status, sys::OK);
         f.write_str(core::str::from_utf8(&text[..written.saturating_sub(1)]).map_err(|_| fmt::Error)?)
     }
@@ -109,8 +77,9 @@ impl fmt::Display for FilterErrorKind {
 #[derive(Clone, Copy, Debug, PartialEq, Eq, Hash)]
 #[non_exhaustive]
 pub enum FilterError {
-    /// The text is not a filter expression: `text[start..end]` is the first token that is not allowed after the tokens
-    /// before it. If the text ends too early, both are its length.
+    /// The text is not a filter expression: the bytes from `start` to `end` are its first token that is not allowed
+    /// after the tokens before it. If the text ends too early, both are its length. For the kind
+    /// [`Long`](FilterErrorKind::Long) `start` may be within a character (so use `get`).
     Wrong {
         /// Reason.
         kind: FilterErrorKind,
@@ -134,7 +103,10 @@ impl fmt::Display for FilterError {
 
 impl core::error::Error for FilterError {}
 
-/// Filter expression of the kind that tcpdump takes.
+/// Filter expression of the kind that people type for tcpdump.
+///
+/// The manual page etherparse-filter(7) of a release (`share/man/man7`) has the language, what each primitive matches,
+/// and the differences from tcpdump.
 ///
 /// ```
 /// use etherparse_c::{Entry, Filter, FilterError, FilterErrorKind, PacketBuilder};
@@ -155,7 +127,8 @@ impl core::error::Error for FilterError {}
 /// # Ok::<(), Box<dyn std::error::Error>>(())
 /// ```
 ///
-/// A filter may be sent to another thread, but is used by one at a time.
+/// A filter may be sent to another thread, but threads cannot share it (it is not `Sync`): each thread parses its own,
+/// or they share one in a `Mutex`.
 ///
 /// ```
 /// fn sent<T: Send>() {}
@@ -272,7 +245,7 @@ impl Filter {
 
 impl fmt::Display for Filter {
     /// Writes the expression: each primitive with its qualifiers, and no redundant parentheses. Parsing it gives the
-    /// same filter.
+    /// same filter, if it has at most 65,536 bytes.
     fn fmt(&self, f: &mut fmt::Formatter<'_>) -> fmt::Result {
         let (mut text, mut written) = (vec![0; 80], 0);
         loop {

@@ -1,6 +1,7 @@
 //! Kinds that the declared calls return as numbers.
 
-/// Defines enums of kinds, each with the number of its declaration, and a conversion from a number to its kind.
+/// Defines enums of kinds, each with the number of its declaration (`kind as u32`), and a conversion from a number to
+/// its kind.
 macro_rules! numbered {
     ($($(#[$about:meta])* pub enum $name:ident {
         $($(#[$meaning:meta])* $kind:ident = $number:ident,)*
@@ -9,7 +10,7 @@ macro_rules! numbered {
         #[derive(Clone, Copy, Debug, PartialEq, Eq, PartialOrd, Ord, Hash)]
         #[non_exhaustive]
         pub enum $name {
-            $($(#[$meaning])* $kind,)*
+            $($(#[$meaning])* $kind = sys::$number as isize,)*
         }
 
         impl $name {

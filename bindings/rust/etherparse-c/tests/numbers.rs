@@ -303,7 +303,6 @@ fn rust_kinds_have_the_names_of_their_numbers() {
         ("OVERLAP_", 3, "", " = OVERLAP_"),
         ("EVICTED_", 4, "", " = EVICTED_"),
         ("FILTER_", 25, "", " = FILTER_"),
-        ("FILTER_", 25, "FilterErrorKind::", " => sys::FILTER_"),
     ];
     for (first, count, before, between) in named {
         let kinds: Vec<_> = pairs(&text, before, between).collect();

@@ -49,4 +49,5 @@ returns-in-Err-accept c =
       err = refuses_token c.args.text.now c.loop-parser.at c.loop-parser.parser c.token_at-token.result
           c.in-Err-accept.kind c.loop-parser.invariant.1 (read.start, read.order.2, read.some, read.token)
           c.in_default.not-End small c.in-Err-accept.ensures;
+      place = (read.order.1, read.order.2);
     }
