@@ -3,7 +3,7 @@
 #include <stdio.h>
 #include <string.h>
 
-/* Prints characters of a text, with a space for each control character. */
+/* Prints characters of a text, with a space for each ASCII control character. */
 static void print(const char *text, size_t len) {
     for (size_t i = 0; i < len; i++) putchar((unsigned char)text[i] < 32 || text[i] == 127 ? ' ' : text[i]);
 }

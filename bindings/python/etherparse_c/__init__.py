@@ -423,7 +423,7 @@ class UnknownChoice(EtherparseError, ValueError):
     """A number is not valid for its field."""
 
 
-_SPACES = dict.fromkeys((*range(32), 127), " ")  # of control characters
+_SPACES = dict.fromkeys((*range(32), *range(127, 160)), " ")  # of control characters
 
 
 class FilterError(EtherparseError, ValueError):
@@ -1141,7 +1141,7 @@ class Filter:
         given, made, error = text.encode(), _filter(), _FilterError()
         status = _library.etherparse_1_filter_new(given, len(given), ctypes.byref(made), ctypes.byref(error))
         if status == Status.REFUSED:
-            start, end = (len(given[:place].decode(errors="replace")) for place in (error.start, error.end))
+            start, end = (len(given[:place].decode(errors="ignore")) for place in (error.start, error.end))
             raise FilterError(text, error.kind, start, end)
         if status != Status.OK:
             raise MemoryError

@@ -67,7 +67,7 @@ abbrev pub is_long : FilterErrorKind → Bool
 is_long Long = true
 is_long kind = false
 
--- a byte of a text in a line: a space for a control character
+-- a byte of a text in a line: a space for an ASCII control character
 abbrev pub line_byte : ℕ → ℕ
 line_byte byte = if nat_lt byte 32 || byte == 127 then 32 else byte
 
@@ -80,7 +80,7 @@ line_text (byte ∷ bytes) = line_byte byte ∷ line_text bytes
 abbrev pub marked_token : List ℕ → FilterError → List ℕ
 marked_token text error = if is_long error.kind then [] else take (error.end - error.start) (drop error.start text)
 
--- True if the bytes contain a blank or another control character.
+-- True if the bytes contain a space or a byte below it.
 abbrev pub has_blank : List ℕ → Bool
 has_blank bytes = list_any (λ byte. nat_le byte 32) bytes
 
@@ -109,7 +109,7 @@ abbrev pub spaces : List ℕ → List ℕ
 spaces [] = []
 spaces (byte ∷ bytes) = 32 ∷ spaces bytes
 
--- the lines with the text, and with a `^` under the first character of the token: what precedes the token is in ASCII
+-- the lines with the text, and with a `^` under the first character of the token, if what precedes it is in ASCII
 abbrev pub marked_text : List ℕ → ℕ → List ℕ
 marked_text text start =
     codes "  " ++ line_text text ++ codes "\n  " ++ spaces (take start text) ++ codes "^\n"

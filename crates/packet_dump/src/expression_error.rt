@@ -96,7 +96,7 @@ fn is_in_first_word(text: &[u8], error: &FilterError) -> bool
     !marked_token(text, error).is_empty() && !has_blank(first_bytes(text, error.start))
 }
 
-/// Returns whether bytes contain a blank or another control character.
+/// Returns whether bytes contain a space or a byte below it.
 fn has_blank(bytes: &[u8]) -> bool
     ensures { result ≡ has_blank bytes.now }
 {
@@ -110,7 +110,7 @@ fn is_long(kind: FilterErrorKind) -> bool
     matches!(kind, FilterErrorKind::Long)
 }
 
-/// Appends bytes as a part of a line: each control character as a space.
+/// Appends bytes as a part of a line: each ASCII control character as a space.
 fn append_line(output: &mut Vec<u8>, bytes: &[u8]) -> Result<(), AllocError>
     ensures { OnOk result (output.new.items ≡ output.old.items ++ line_text bytes.now) }
 {
@@ -120,7 +120,7 @@ fn append_line(output: &mut Vec<u8>, bytes: &[u8]) -> Result<(), AllocError>
     Ok(())
 }
 
-/// Returns a space for a control character, and any other byte itself.
+/// Returns a space for an ASCII control character, and any other byte itself.
 fn line_byte(byte: u8) -> u8
     ensures { result ≡ line_byte byte }
 {

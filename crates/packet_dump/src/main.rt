@@ -87,9 +87,9 @@ a length field counts 1448 bytes, of which 22 were captured.
                      the filters 'host A', 'net N', 'vlan V' and 'port P'; up to
                      six of these can be given, and packets have to match all of
                      them, and the filter expression
-  --explain EXPR     print a filter expression with all its qualifiers and
-                     parentheses, and the steps in which it is matched; no
-                     capture is read
+  --explain EXPR     print the filter options that are given and this expression
+                     with all qualifiers and parentheses, and the steps in which
+                     they are matched; no capture is read
   --time FORMAT      times since the first packet (relative), in seconds since
                      1970 (epoch), or as dates and times of day in UTC (utc)
   --strict           report each packet that is not one complete, valid frame as
@@ -183,7 +183,7 @@ fn main(rt: HostRuntime) -> ExitCode {
                 summary,
             },
         ) => match explained {
-            Some(text) => explain(&rt, filter, text, path),
+            Some(text) => explain(&rt, filter, text, unexpected(path, words.as_slice())),
             None => match command_filter(&rt, filter, words.as_slice()) {
                 Ok(filter) => {
                     let options = DumpOptions { filter, ..options };
@@ -197,10 +197,14 @@ fn main(rt: HostRuntime) -> ExitCode {
 }
 
 /// Prints the canonical form of the filter options and a filter expression, and the steps of this filter (`--explain`).
-/// `path` is the first word of the command line that is no option; it is an error, since the expression is one argument.
-/// Returns the exit status.
-fn explain(rt: &HostRuntime, options: FilterTexts<'_>, text: &str, path: Option<&str>) -> ExitCode {
-    if let Some(word) = path {
+/// `unexpected` is an argument besides these, or the name of an input file; it is an error. Returns the exit status.
+fn explain(
+    rt: &HostRuntime,
+    options: FilterTexts<'_>,
+    text: &str,
+    unexpected: Option<&str>,
+) -> ExitCode {
+    if let Some(word) = unexpected {
         let _ = eprintln!(rt;
             "packet_dump: unexpected argument '{word}'; --explain takes one argument and reads no file"
         );
@@ -223,6 +227,15 @@ fn explain(rt: &HostRuntime, options: FilterTexts<'_>, text: &str, path: Option<
         return print_error(rt, "packet_dump: out of memory", 1);
     }
     printed(&mut Watched::new(rt.stdout(), 0), output.as_slice())
+}
+
+/// Returns the name of the input file, or else the first word after it, if there is one.
+fn unexpected<'a>(path: Option<&'a str>, words: &[&'a str]) -> Option<&'a str> {
+    match (path, words) {
+        (Some(word), _) => Some(word),
+        (None, [word, ..]) => Some(*word),
+        (None, []) => None,
+    }
 }
 
 /// Parses the filter of the command line: its filter options, and `words`, which are joined to its filter expression.

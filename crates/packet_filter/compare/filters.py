@@ -403,7 +403,7 @@ class Comparison:
         return None if error else {number for number in printed if number > 0}
 
     def compare_with_tcpdump(self, capture, text, expected):
-        """Compares the packets of a filter with those of tcpdump, if tcpdump takes the text."""
+        """Compares the packets of a filter with those of tcpdump, if tcpdump accepts the text."""
         others = matched_by_tcpdump(capture.path, text)
         if others is None:
             return
@@ -417,7 +417,7 @@ class Comparison:
             if theirs == (number in expected):
                 continue
             habits = tcpdump_habits.fewest_habits(expression, packet, theirs)
-            if habits is None:
+            if not habits:
                 self.print_difference(capture, text, f"packet {number}: no habits explain tcpdump's answer")
             self.habits[habits or "none"] += 1
 

@@ -87,11 +87,12 @@ class FilterError(Exception):
         data = text.encode()
         token = in_line(data[start:end])
         second = "; only one file is read" if reads and token and min(data[:start], default=33) > 32 else ""
-        return [f"packet_dump: {quoted(token)}{DESCRIPTIONS[kind]}{second}", "  " + in_line(data), "  " + " " * start + "^"]
+        reason = f"packet_dump: {quoted(token)}{DESCRIPTIONS[kind]}{second}"
+        return [reason, "  " + in_line(data), "  " + " " * start + "^"]
 
 
 def in_line(data):
-    """Bytes as a part of a line: each control character is a space."""
+    """Bytes as a part of a line: each ASCII control character is a space."""
     return bytes(32 if byte < 32 or byte == 127 else byte for byte in data).decode()
 
 

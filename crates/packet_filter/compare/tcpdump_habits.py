@@ -14,6 +14,7 @@ from second_reader import ALONE, IP_NUMBERS, MOST_NUMBER, PORTS, RELATIONS, VLAN
 
 HABITS = "TCBRSLPNE"
 IPV4, IPV6, ARP, RARP = 0x0800, 0x86DD, 0x0806, 0x8035
+EXTENSIONS = (0, 43, 44, 51, 60)
 LINK_LENGTHS = {"ethernet": 14, "sll": 16, "ip": 0}
 # Offsets of the source and destination address in the network layer.
 ADDRESSES = {IPV4: (12, 16), IPV6: (8, 24), ARP: (14, 24), RARP: (14, 24)}
@@ -184,9 +185,9 @@ class HabitPacket(second_reader.Packet):
     def link_header(self):
         """Reads the link header, also if it is truncated or invalid (S)."""
         ether_type = super().link_header()
-        if "S" in self.habits and self.entry == "ethernet":
+        if "S" in self.habits and self.entry == "ethernet" and len(self.data) < 14:
             self.stations = (self.data[6:12], self.data[:6])
-        if "S" in self.habits and self.entry == "sll" and len(self.data) >= 16:
+        if "S" in self.habits and self.entry == "sll" and ether_type is None and len(self.data) >= 16:
             self.after_tags, ether_type = 16, word_at(self.data, 14)
         return ether_type
 
@@ -216,13 +217,14 @@ class HabitPacket(second_reader.Packet):
             self.version = "arp"
             if word_at(data, 2) == IPV4 and data[5:6] == b"\4":
                 self.addresses = tuple(data[at : at + 4] for at in (8 + data[4], 12 + 2 * data[4]))
-        if self.version == "arp" and "P" in self.habits:
+        if self.version == "arp" and "P" in self.habits and data[2:6] != b"\x08\0\6\4":
             self.addresses = (data[14:18], data[24:28])
 
     def network(self, version, data):
         """Reads an IP header, also if it is truncated or invalid (S), and its payload without the length limit (L)."""
         super().network(version, data)
-        if self.version is None and ("S" not in self.habits or version not in (4, 6) or not data):
+        is_valid, kept = self.version is not None, self.addresses
+        if not is_valid and ("S" not in self.habits or version not in (4, 6) or not data):
             return
         if version == 4:
             header_len, length, later = 4 * (data[0] & 15), word_at(data, 2), word_at(data, 6) & 0x1FFF != 0
@@ -233,13 +235,17 @@ class HabitPacket(second_reader.Packet):
             number, addresses = data[6:7], (data[8:24], data[24:40])
             self.addresses = tuple(address if len(address) == 16 else b"" for address in addresses)
             end = 40 + length if length else len(data)
+        if is_valid:
+            self.addresses = kept
+            if not ("C" in self.habits and number[0] in EXTENSIONS or "L" in self.habits and end < len(data)):
+                return
         self.version, self.numbers, self.transport = version, list(number), None
         if number:
             self.extensions(data[header_len : len(data) if "L" in self.habits else end], later)
 
     def extensions(self, payload, later):
         """Reads no extension header but the number in a fragment header (C)."""
-        if "C" not in self.habits:
+        if "C" not in self.habits or self.numbers[0] not in EXTENSIONS:
             super().extensions(payload, later)
             return
         if not later:

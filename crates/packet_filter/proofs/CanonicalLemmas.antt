@@ -100,7 +100,7 @@ form_is (either e f) =
     (operand_joined (canonical_text e) (codes " or ") (canonical_text f) (codes ")"))
     ∙ ended (nots e) false (canonical_text e) (body e) (right_text (codes " or ") (Some f)) (form_is e)
 
--- Whether a text is that of steps without the first `skipped`.
+-- Whether a text is the text of steps without the first `skipped`.
 abbrev pub IsForm : List Step → (skipped : ℕ) → List ℕ → Type 0
 IsForm [] skipped text = text ≡ []
 IsForm (first ∷ steps) (suc skipped) text = IsForm steps skipped text

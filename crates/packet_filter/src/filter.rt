@@ -112,7 +112,7 @@ impl Filter {
     }
 
     /// Appends the canonical form of the filter's expression: each primitive with its qualifiers, and each `and`, `or`
-    /// and `not` in parentheses. It can have too many levels to be parsed.
+    /// and `not` in parentheses. The text can have too many levels, or too many bytes, to be parsed.
     pub fn append_canonical(&self, output: &mut Vec<u8>) -> Result<(), AllocError>
         ensures { OnOk result (output.new.items ≡ output.old.items ++ canonical (tree_of self.now)) }
     {

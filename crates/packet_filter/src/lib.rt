@@ -27,8 +27,9 @@
 //!   parenthesis the qualifiers before the opening one hold again; a `bare` primitive leaves none. `&&`, `||` and `!` are
 //!   `and`, `or` and `not`.
 //! - A host is an address as std parses it. A network is an address, or the first one to three numbers of an IPv4 address
-//!   (`10.1`; a single 0 is none), and then `/` and a prefix length, or `mask` and an IPv4 mask of ones followed by zeros.
-//!   No bit may be set after the prefix. `ip` and `arp` require IPv4 addresses, `ip6` IPv6 addresses.
+//!   (`10.1`; a single 0 is none), and then `/` and a decimal prefix length, or `mask` and an IPv4 mask of ones followed by
+//!   zeros. Without both, the prefix is the whole address, or 8 bits for each number. No bit may be set after the prefix.
+//!   `ip` and `arp` require IPv4 addresses, `ip6` IPv6 addresses.
 //! - A MAC address (`ether`) is six numbers of one or two hexadecimal digits with `:` between.
 //! - A port is a number up to 65535 or a name (ftp-data, ftp, ssh, telnet, smtp, domain, bootps, bootpc, tftp, http, pop3,
 //!   ntp, imap, snmp, snmptrap, bgp, ldap, https, syslog, submission, imaps, sip, mdns). A range of ports is a decimal
@@ -47,7 +48,7 @@
 //! - `ip`, `ip6`, `arp`, `ether proto N`: the ether type is that of the link layer, or of the payload of a tag; of raw IP
 //!   it is that of the IP version.
 //! - `tcp`, `udp`, `sctp`, `icmp`, `icmp6`, `igmp`, `ah`, `esp`, `proto N`: the number is that of the IP header, or of an
-//!   extension header that was parsed.
+//!   extension header that was parsed. `icmp` is `ip proto 1`, `igmp` is `ip proto 2`, and `icmp6` is `ip6 proto 58`.
 //! - `host`, `net`: the source or destination address of IP, or the sender or target address of ARP for IPv4. `ip multicast`
 //!   is `ip dst net 224.0.0.0/3`, `ip6 multicast` is `ip6 dst net ff00::/8`.
 //! - `ether host`: the source or destination address of Ethernet II. `broadcast` is `ether dst ff:ff:ff:ff:ff:ff`, and

@@ -10,7 +10,7 @@ decreases-append_canonical l = 2 * length l.steps.now
 abbrev pub decreases-append_right_operand : goal.decreases-append_right_operand
 decreases-append_right_operand l = 2 * length l.steps.now + 1
 
--- The text so far, with that of the steps that are left, is the canonical form.
+-- The text so far, with the text of the steps that are left, is the canonical form.
 abbrev pub invariant-append_canonical-loop-left : goal.invariant-append_canonical-loop-left
 invariant-append_canonical-loop-left l =
     (length l.left ≤ length l.fn.steps)

@@ -2,7 +2,7 @@ use Rattle.std.proofs.Common.{◌≡◌, ◌++◌, length}
 use Rattle.packet_filter.specs.Printing.{nots_in, starts_text}
 use Rattle.packet_filter.proofs.canonical.append_starts.Given as goal
 
--- The parentheses so far, and those that are left, are all.
+-- The parentheses so far, and the parentheses that are left, are all.
 abbrev pub invariant-loop-is_not : goal.invariant-loop-is_not
 invariant-loop-is_not l =
     l.output.items ++ starts_text l.nots.items ≡ l.fn.output.items ++ starts_text (nots_in l.fn.steps 0)
