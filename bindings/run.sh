@@ -41,7 +41,7 @@ if gcc --version > /dev/null 2>&1; then
     build examples filter "$heap"
     "$work/filter" 1234 "$work/capture" | tee "$work/filter.out"
     cmp "$work/filter.out" c/examples/filter.out
-    for name in build reassemble bounded; do
+    for name in build reassemble bounded headers; do
         build examples "$name" "$heap"
         "$work/$name" | tee "$work/$name.out"
         cmp "$work/$name.out" "c/examples/$name.out"
@@ -56,19 +56,20 @@ if gcc --version > /dev/null 2>&1; then
     cmp "$work/expression.out" c/examples/expression.out
     build tests statuses # with its own allocator
     build tests stack "$heap" -pthread -Wl,-z,now # lazy binding needs stack too
-    for name in statuses stack; do
+    build tests fields "$heap"
+    for name in statuses stack fields; do
         "$work/$name" | tee "$work/$name.out"
         cmp "$work/$name.out" "c/tests/$name.out"
     done
     # Mistakes of a caller that a compiler must reject, and a header of another layout, which must not link.
-    for mistake in NULL_PACKET NULL_FRAME SHORT_SEED SHORT_MATCHES STATUS_IGNORED STATUS_FORGOTTEN; do
+    for mistake in NULL_PACKET NULL_FRAME NULL_BYTES SHORT_SEED SHORT_MATCHES STATUS_IGNORED STATUS_FORGOTTEN; do
         if gcc -std=c99 -Wall -Wextra -Werror -O2 -Ic -D"$mistake" -c c/tests/mistakes.c -o "$work/mistake.o" \
             2> /dev/null; then
             echo "bindings: the compiler says nothing of $mistake" && exit 1
         fi
     done
     gcc -std=c99 -Wall -Wextra -Werror -O2 -Ic -c c/tests/mistakes.c -o "$work/mistake.o"
-    sed 's/etherparse_1_/etherparse_2_/g' c/etherparse.h > "$work/etherparse.h"
+    sed 's/etherparse_2_/etherparse_3_/g' c/etherparse.h > "$work/etherparse.h"
     if gcc -std=c99 -O2 -I"$work" c/examples/build.c "$heap" "$archive" -o "$work/other" 2> /dev/null; then
         echo "bindings: a header of another layout links" && exit 1
     fi
@@ -77,7 +78,7 @@ else
     echo "bindings: no gcc, so the C examples were not run"
 fi
 if g++ --version > /dev/null 2>&1; then
-    g++ -std=c++98 -Wall -Wextra -Werror -fsyntax-only -x c++ c/etherparse.h
+    g++ -std=c++98 -Wall -Wextra -Wshadow -Werror -fsyntax-only -x c++ c/etherparse.h
     g++ -std=c++17 -Wall -Wextra -Werror -fsyntax-only c/examples/compare.cc
     g++ -std=c++17 -Wall -Wextra -Werror -fsyntax-only -x c++ c/etherparse_heap.c
     echo "bindings: the header and the memory are C++ too, and c/examples/compare.cc compiles"
@@ -89,4 +90,5 @@ fi
 export ETHERPARSE_C_ARCHIVE=$archive
 bash rust/test.sh "$work/capture"
 bash python/test.sh
-bash c/install_test.sh
+bash c/debug_test.sh
+bash c/install_test.sh "$work/capture"

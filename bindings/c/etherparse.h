@@ -15,12 +15,12 @@
  * - A call that allocates, or that uses a pool or filter, must not be used in a signal handler, nor in the forked child
  *   of a process with threads.
  * - size_t has 64 bits.
- * - A call needs at most ETHERPARSE_STACK bytes of stack (slicing about 1,700, building 1,100, a text 500, the others
- *   300; measured on x86-64), except the calls on pools and filters, which need at most ETHERPARSE_STACK_OF_POOLS
- *   (pushing 1,800, or 5,600 if the fragment connects three or more parts of its payload; to a bounded pool 4,200 or
- *   6,900; filters 3,200), and etherparse_build_fragment, whose headers are large values: it needs at most
- *   ETHERPARSE_STACK_OF_FRAGMENTS. If functions of the C library are bound at their first call, that binding needs
- *   about 3,000 more.
+ * - A call needs at most ETHERPARSE_STACK bytes of stack (slicing and verifying about 1,700, building 1,100, a text or
+ *   fields 500, the others 300; measured on x86-64), except the calls on pools and filters, which need at most
+ *   ETHERPARSE_STACK_OF_POOLS (pushing 1,800, or 5,600 if the fragment connects three or more parts of its payload; to
+ *   a bounded pool 4,200 or 6,900; filters 3,200), and etherparse_build_fragment, whose headers are large values: it
+ *   needs at most ETHERPARSE_STACK_OF_FRAGMENTS. If functions of the C library are bound at their first call, that
+ *   binding needs about 3,000 more.
  *
  * Link with the archive libetherparse_c.a or with the shared object of a release. The archive that `rt lib` leaves in
  * crates/etherparse_c/out also needs etherparse_heap.c. The calls are inline functions over exports; the names of the
@@ -34,8 +34,8 @@
 #include <stdint.h>
 
 /* Version of this header: 10000 times the major number, plus 100 times the minor one, plus the patch. */
-#define ETHERPARSE_VERSION 100
-#define ETHERPARSE_VERSION_TEXT "0.1.0"
+#define ETHERPARSE_VERSION 200
+#define ETHERPARSE_VERSION_TEXT "0.2.0"
 
 /* Maximum stack that a call needs, in bytes. */
 #define ETHERPARSE_STACK 2048
@@ -96,6 +96,7 @@ enum etherparse_entry {
  * with the same number in the names, and must not pass null pointers. */
 
 struct etherparse_packet;
+struct etherparse_fields;
 struct etherparse_refusal;
 struct etherparse_route;
 struct etherparse_tagged_route;
@@ -111,90 +112,94 @@ struct etherparse_evicted_stream;
 struct etherparse_filter;
 struct etherparse_filter_error;
 
-uint32_t etherparse_1_version(void);
-uint32_t etherparse_1_slice(uint32_t entry, uint16_t ether_type, const uint8_t *bytes, size_t len,
+uint32_t etherparse_2_version(void);
+uint32_t etherparse_2_slice(uint32_t entry, uint16_t ether_type, const uint8_t *bytes, size_t len,
                             struct etherparse_packet *packet);
-uint32_t etherparse_1_slice_lax(uint32_t entry, uint16_t ether_type, const uint8_t *bytes, size_t len,
+uint32_t etherparse_2_slice_lax(uint32_t entry, uint16_t ether_type, const uint8_t *bytes, size_t len,
                                 struct etherparse_packet *packet);
-uint32_t etherparse_1_slice_many(uint32_t entry, uint16_t ether_type, const uint8_t *bytes, size_t len,
+uint32_t etherparse_2_slice_many(uint32_t entry, uint16_t ether_type, const uint8_t *bytes, size_t len,
                                  const size_t *ends, size_t ends_len, struct etherparse_packet *packets,
                                  size_t packets_len, size_t *sliced);
-uint32_t etherparse_1_slice_lax_many(uint32_t entry, uint16_t ether_type, const uint8_t *bytes, size_t len,
+uint32_t etherparse_2_slice_lax_many(uint32_t entry, uint16_t ether_type, const uint8_t *bytes, size_t len,
                                      const size_t *ends, size_t ends_len, struct etherparse_packet *packets,
                                      size_t packets_len, size_t *sliced);
-uint32_t etherparse_1_refusal_text(const struct etherparse_refusal *refusal, uint8_t *buffer, size_t len,
+uint32_t etherparse_2_fields(const struct etherparse_packet *packet, const uint8_t *bytes, size_t len,
+                             struct etherparse_fields *fields);
+uint32_t etherparse_2_checksums(uint32_t entry, uint16_t ether_type, const uint8_t *bytes, size_t len,
+                                struct etherparse_fields *fields);
+uint32_t etherparse_2_refusal_text(const struct etherparse_refusal *refusal, uint8_t *buffer, size_t len,
                                    size_t *written);
-uint16_t etherparse_1_checksum(const uint8_t *bytes, size_t len);
-uint32_t etherparse_1_build_udp(const struct etherparse_route *route, uint16_t source_port, uint16_t destination_port,
+uint16_t etherparse_2_checksum(const uint8_t *bytes, size_t len);
+uint32_t etherparse_2_build_udp(const struct etherparse_route *route, uint16_t source_port, uint16_t destination_port,
                                 const uint8_t *payload, size_t payload_len, uint8_t *buffer, size_t buffer_len,
                                 size_t *written);
-uint32_t etherparse_1_build_tcp(const struct etherparse_route *route, const struct etherparse_tcp_fields *fields,
+uint32_t etherparse_2_build_tcp(const struct etherparse_route *route, const struct etherparse_tcp_fields *fields,
                                 const uint8_t *payload, size_t payload_len, uint8_t *buffer, size_t buffer_len,
                                 size_t *written);
-uint32_t etherparse_1_build_icmp_echo(const struct etherparse_route *route, uint8_t is_reply, uint16_t id,
+uint32_t etherparse_2_build_icmp_echo(const struct etherparse_route *route, uint8_t is_reply, uint16_t id,
                                       uint16_t seq, const uint8_t *payload, size_t payload_len, uint8_t *buffer,
                                       size_t buffer_len, size_t *written);
-uint32_t etherparse_1_build_tagged_udp(const struct etherparse_tagged_route *route, uint16_t source_port,
+uint32_t etherparse_2_build_tagged_udp(const struct etherparse_tagged_route *route, uint16_t source_port,
                                        uint16_t destination_port, const uint8_t *payload, size_t payload_len,
                                        uint8_t *buffer, size_t buffer_len, size_t *written);
-uint32_t etherparse_1_build_tagged_tcp(const struct etherparse_tagged_route *route,
+uint32_t etherparse_2_build_tagged_tcp(const struct etherparse_tagged_route *route,
                                        const struct etherparse_tcp_fields *fields, const uint8_t *options,
                                        size_t options_len, const uint8_t *payload, size_t payload_len,
                                        uint8_t *buffer, size_t buffer_len, size_t *written);
-uint32_t etherparse_1_build_tagged_icmp_echo(const struct etherparse_tagged_route *route, uint8_t is_reply,
+uint32_t etherparse_2_build_tagged_icmp_echo(const struct etherparse_tagged_route *route, uint8_t is_reply,
                                              uint16_t id, uint16_t seq, const uint8_t *payload, size_t payload_len,
                                              uint8_t *buffer, size_t buffer_len, size_t *written);
-uint32_t etherparse_1_build_fragment(const struct etherparse_tagged_route *route,
+uint32_t etherparse_2_build_fragment(const struct etherparse_tagged_route *route,
                                      const struct etherparse_fragment_fields *fields, const uint8_t *payload,
                                      size_t payload_len, uint8_t *buffer, size_t buffer_len, size_t *written);
-uint32_t etherparse_1_pool_new(struct etherparse_pool **pool);
-uint32_t etherparse_1_pool_with_limit(uint16_t limit, struct etherparse_pool **pool);
-void etherparse_1_pool_free(struct etherparse_pool *pool);
-uint32_t etherparse_1_pool_push(struct etherparse_pool *pool, uint32_t entry, uint16_t ether_type,
+uint32_t etherparse_2_pool_new(struct etherparse_pool **pool);
+uint32_t etherparse_2_pool_with_limit(uint16_t limit, struct etherparse_pool **pool);
+void etherparse_2_pool_free(struct etherparse_pool *pool);
+uint32_t etherparse_2_pool_push(struct etherparse_pool *pool, uint32_t entry, uint16_t ether_type,
                                 const uint8_t *bytes, size_t len, uint64_t timestamp, uint64_t channel,
                                 uint8_t *buffer, size_t buffer_len, struct etherparse_pool_answer *answer);
-uint32_t etherparse_1_pool_take(struct etherparse_pool *pool, uint8_t *buffer, size_t buffer_len,
+uint32_t etherparse_2_pool_take(struct etherparse_pool *pool, uint8_t *buffer, size_t buffer_len,
                                 struct etherparse_pool_answer *answer);
-void etherparse_1_pool_discard(struct etherparse_pool *pool);
-void etherparse_1_pool_drop_older(struct etherparse_pool *pool, uint64_t timestamp);
-size_t etherparse_1_pool_streams(struct etherparse_pool *pool);
-size_t etherparse_1_pool_bytes(struct etherparse_pool *pool);
-void etherparse_1_defrag_limits_default(struct etherparse_defrag_limits *limits);
-uint32_t etherparse_1_bounded_pool_new(const struct etherparse_defrag_limits *limits, const uint8_t *seed,
+void etherparse_2_pool_discard(struct etherparse_pool *pool);
+void etherparse_2_pool_drop_older(struct etherparse_pool *pool, uint64_t timestamp);
+size_t etherparse_2_pool_streams(struct etherparse_pool *pool);
+size_t etherparse_2_pool_bytes(struct etherparse_pool *pool);
+void etherparse_2_defrag_limits_default(struct etherparse_defrag_limits *limits);
+uint32_t etherparse_2_bounded_pool_new(const struct etherparse_defrag_limits *limits, const uint8_t *seed,
                                        struct etherparse_bounded_pool **pool);
-void etherparse_1_bounded_pool_free(struct etherparse_bounded_pool *pool);
-uint32_t etherparse_1_bounded_pool_push(struct etherparse_bounded_pool *pool, uint32_t entry, uint16_t ether_type,
+void etherparse_2_bounded_pool_free(struct etherparse_bounded_pool *pool);
+uint32_t etherparse_2_bounded_pool_push(struct etherparse_bounded_pool *pool, uint32_t entry, uint16_t ether_type,
                                         const uint8_t *bytes, size_t len, uint64_t timestamp, uint64_t channel,
                                         uint8_t *buffer, size_t buffer_len, struct etherparse_pool_answer *answer);
-uint32_t etherparse_1_bounded_pool_take(struct etherparse_bounded_pool *pool, uint8_t *buffer, size_t buffer_len,
+uint32_t etherparse_2_bounded_pool_take(struct etherparse_bounded_pool *pool, uint8_t *buffer, size_t buffer_len,
                                         struct etherparse_pool_answer *answer);
-void etherparse_1_bounded_pool_discard(struct etherparse_bounded_pool *pool);
-size_t etherparse_1_bounded_pool_expire(struct etherparse_bounded_pool *pool, uint64_t now, uint64_t idle);
-size_t etherparse_1_bounded_pool_remove(struct etherparse_bounded_pool *pool, const struct etherparse_stream_id *id);
-void etherparse_1_bounded_pool_clear(struct etherparse_bounded_pool *pool);
-size_t etherparse_1_bounded_pool_streams(struct etherparse_bounded_pool *pool);
-size_t etherparse_1_bounded_pool_discarded_streams(struct etherparse_bounded_pool *pool);
-size_t etherparse_1_bounded_pool_held_bytes(struct etherparse_bounded_pool *pool);
-void etherparse_1_bounded_pool_statistics(struct etherparse_bounded_pool *pool,
+void etherparse_2_bounded_pool_discard(struct etherparse_bounded_pool *pool);
+size_t etherparse_2_bounded_pool_expire(struct etherparse_bounded_pool *pool, uint64_t now, uint64_t idle);
+size_t etherparse_2_bounded_pool_remove(struct etherparse_bounded_pool *pool, const struct etherparse_stream_id *id);
+void etherparse_2_bounded_pool_clear(struct etherparse_bounded_pool *pool);
+size_t etherparse_2_bounded_pool_streams(struct etherparse_bounded_pool *pool);
+size_t etherparse_2_bounded_pool_discarded_streams(struct etherparse_bounded_pool *pool);
+size_t etherparse_2_bounded_pool_held_bytes(struct etherparse_bounded_pool *pool);
+void etherparse_2_bounded_pool_statistics(struct etherparse_bounded_pool *pool,
                                           struct etherparse_defrag_statistics *statistics);
-size_t etherparse_1_bounded_pool_evicted_count(struct etherparse_bounded_pool *pool);
-uint32_t etherparse_1_bounded_pool_evicted(struct etherparse_bounded_pool *pool, size_t index,
+size_t etherparse_2_bounded_pool_evicted_count(struct etherparse_bounded_pool *pool);
+uint32_t etherparse_2_bounded_pool_evicted(struct etherparse_bounded_pool *pool, size_t index,
                                            struct etherparse_evicted_stream *evicted);
-uint32_t etherparse_1_filter_new(const uint8_t *text, size_t len, struct etherparse_filter **filter,
+uint32_t etherparse_2_filter_new(const uint8_t *text, size_t len, struct etherparse_filter **filter,
                                  struct etherparse_filter_error *error);
-void etherparse_1_filter_free(struct etherparse_filter *filter);
-uint32_t etherparse_1_filter_matches(struct etherparse_filter *filter, uint32_t entry, uint16_t ether_type,
+void etherparse_2_filter_free(struct etherparse_filter *filter);
+uint32_t etherparse_2_filter_matches(struct etherparse_filter *filter, uint32_t entry, uint16_t ether_type,
                                      const uint8_t *bytes, size_t len, uint32_t wire_len, uint8_t *matches);
-uint32_t etherparse_1_filter_matches_many(struct etherparse_filter *filter, uint32_t entry, uint16_t ether_type,
+uint32_t etherparse_2_filter_matches_many(struct etherparse_filter *filter, uint32_t entry, uint16_t ether_type,
                                           const uint8_t *bytes, size_t len, const size_t *ends, size_t ends_len,
                                           const uint32_t *wire_lens, size_t wire_lens_len, uint8_t *matches,
                                           size_t matches_len, size_t *matched);
-uint32_t etherparse_1_filter_text(struct etherparse_filter *filter, uint8_t *buffer, size_t len, size_t *written);
-uint32_t etherparse_1_filter_error_text(uint32_t kind, uint8_t *buffer, size_t len, size_t *written);
+uint32_t etherparse_2_filter_text(struct etherparse_filter *filter, uint8_t *buffer, size_t len, size_t *written);
+uint32_t etherparse_2_filter_error_text(uint32_t kind, uint8_t *buffer, size_t len, size_t *written);
 
 /* The version of the archive that is linked, to be compared with ETHERPARSE_VERSION. */
 ETHERPARSE_MUST_USE static inline uint32_t etherparse_version(void) {
-    return etherparse_1_version();
+    return etherparse_2_version();
 }
 
 /* ---- Slicing frames */
@@ -320,9 +325,8 @@ struct etherparse_refusal {
 
 /* Layers of a frame, or the error if the bytes are not a frame. The headers follow one another in the order of the
  * fields, without gaps, and then comes the payload; trailing bytes, as the padding after a short IPv4 packet, come
- * after the payload. A layer of an unknown protocol is part of the payload. To get a field that is not here, as an
- * address, read it from the frame at the header's offset: the addresses of IPv4 start at net.offset + 12, of IPv6 at
- * + 8. */
+ * after the payload. A layer of an unknown protocol is part of the payload. etherparse_fields reads the fields of the
+ * headers that are not here, as the addresses. */
 struct etherparse_packet {
     struct etherparse_part link;             /* enum etherparse_link_kind */
     struct etherparse_link_ext link_exts[3]; /* from the outermost on, then all 0; a fourth is payload */
@@ -346,7 +350,7 @@ ETHERPARSE_MUST_USE ETHERPARSE_NONNULL((5)) ETHERPARSE_READS(3, 4) static inline
 etherparse_slice(uint32_t entry, uint16_t ether_type, const uint8_t *bytes, size_t len,
                  struct etherparse_packet *packet) {
     const uint8_t none = 0;
-    return ETHERPARSE_AS_STATUS(etherparse_1_slice(entry, ether_type, bytes ? bytes : &none, len, packet));
+    return ETHERPARSE_AS_STATUS(etherparse_2_slice(entry, ether_type, bytes ? bytes : &none, len, packet));
 }
 
 /* Slices a packet that was truncated by the capture, or whose length fields do not match its bytes, up to the first
@@ -363,7 +367,7 @@ ETHERPARSE_MUST_USE ETHERPARSE_NONNULL((5)) ETHERPARSE_READS(3, 4) static inline
 etherparse_slice_lax(uint32_t entry, uint16_t ether_type, const uint8_t *bytes, size_t len,
                      struct etherparse_packet *packet) {
     const uint8_t none = 0;
-    return ETHERPARSE_AS_STATUS(etherparse_1_slice_lax(entry, ether_type, bytes ? bytes : &none, len, packet));
+    return ETHERPARSE_AS_STATUS(etherparse_2_slice_lax(entry, ether_type, bytes ? bytes : &none, len, packet));
 }
 
 /* Slices `count` consecutive frames in `bytes`: frame i ends at ends[i], and starts at ends[i - 1], the first one at 0.
@@ -381,7 +385,7 @@ etherparse_slice_many(uint32_t entry, uint16_t ether_type, const uint8_t *bytes,
     const uint8_t none = 0;
     const size_t no_end = 0;
     struct etherparse_packet no_packet;
-    return ETHERPARSE_AS_STATUS(etherparse_1_slice_many(entry, ether_type, bytes ? bytes : &none, len,
+    return ETHERPARSE_AS_STATUS(etherparse_2_slice_many(entry, ether_type, bytes ? bytes : &none, len,
                                                         ends ? ends : &no_end, count,
                                                         packets ? packets : &no_packet, packets ? count : 0, sliced));
 }
@@ -397,7 +401,7 @@ etherparse_slice_lax_many(uint32_t entry, uint16_t ether_type, const uint8_t *by
     const uint8_t none = 0;
     const size_t no_end = 0;
     struct etherparse_packet no_packet;
-    return ETHERPARSE_AS_STATUS(etherparse_1_slice_lax_many(entry, ether_type, bytes ? bytes : &none, len,
+    return ETHERPARSE_AS_STATUS(etherparse_2_slice_lax_many(entry, ether_type, bytes ? bytes : &none, len,
                                                             ends ? ends : &no_end, count,
                                                             packets ? packets : &no_packet, packets ? count : 0,
                                                             sliced));
@@ -415,8 +419,178 @@ etherparse_slice_lax_many(uint32_t entry, uint16_t ether_type, const uint8_t *by
 ETHERPARSE_MUST_USE ETHERPARSE_NONNULL((1, 4)) ETHERPARSE_WRITES(2, 3) static inline enum etherparse_status
 etherparse_refusal_text(const struct etherparse_refusal *refusal, char *buffer, size_t len, size_t *written) {
     char none;
-    return ETHERPARSE_AS_STATUS(etherparse_1_refusal_text(refusal, (uint8_t *)(buffer ? buffer : &none),
+    return ETHERPARSE_AS_STATUS(etherparse_2_refusal_text(refusal, (uint8_t *)(buffer ? buffer : &none),
                                                           buffer ? len : 0, written));
+}
+
+/* ---- Fields of headers
+ *
+ * Numbers are in the machine's byte order. Addresses are bytes in the order of the packet, which inet_ntop expects. */
+
+/* Bytes of a packet, as the options of a header: their offset in the packet, and their number. */
+struct etherparse_place {
+    size_t offset;
+    size_t len; /* 0 if there are none */
+};
+
+/* Fields of the link header. The fields of the other kind of header are 0, and all without a link header. */
+struct etherparse_link_fields {
+    uint8_t destination[6];  /* Ethernet II: MAC addresses */
+    uint8_t source[6];
+    uint16_t ether_type;     /* Ethernet II: ether type of the payload, which may be that of a tag */
+    uint16_t packet_type;    /* cooked capture: 0 to 7; 0 is sent to this host, 4 is sent by this host */
+    uint16_t hardware_type;  /* cooked capture: ARPHRD number of the device */
+    uint16_t address_len;    /* cooked capture: length of the sender's address; may be greater than 8 */
+    uint8_t address[8];      /* cooked capture: the sender's address, and its padding */
+    uint16_t protocol;       /* cooked capture: an ether type for most hardware types */
+};
+
+/* Flags of a MACsec tag (SecTAG, IEEE 802.1AE), as in its first byte. */
+enum etherparse_macsec_flag {
+    ETHERPARSE_MACSEC_C = 4,    /* the payload's text is changed */
+    ETHERPARSE_MACSEC_E = 8,    /* the payload is encrypted */
+    ETHERPARSE_MACSEC_SCB = 16, /* single copy broadcast */
+    ETHERPARSE_MACSEC_SC = 32,  /* the tag has a secure channel identifier (SCI) */
+    ETHERPARSE_MACSEC_ES = 64   /* end station: the source MAC address identifies the secure channel */
+};
+
+/* Fields of a tag. The fields of the other kind of tag are 0, and all without a tag. */
+struct etherparse_tag_fields {
+    uint32_t kind;              /* enum etherparse_ext_kind, or 0 without a tag */
+    uint16_t vlan_id;           /* VLAN: identifier (VID), 0 to 4095 */
+    uint16_t ether_type;        /* ether type of the payload; 0 if a MACsec payload is modified or encrypted */
+    uint8_t priority;           /* VLAN: priority code point (PCP), 0 to 7 */
+    uint8_t drop_eligible;      /* VLAN: 1 if the drop eligible indicator (DEI) is set */
+    uint8_t macsec_flags;       /* MACsec: sum of enum etherparse_macsec_flag */
+    uint8_t association_number; /* MACsec: association number (AN), 0 to 3 */
+    uint8_t short_len;          /* MACsec: short length (SL), 0 to 63 */
+    uint32_t packet_number;     /* MACsec: packet number (PN) */
+    uint64_t sci;               /* MACsec: secure channel identifier (SCI), or 0 without ETHERPARSE_MACSEC_SC */
+};
+
+/* Fields of the IP header; all 0 if the packet is not IP. */
+struct etherparse_ip_fields {
+    uint8_t version;          /* 4 or 6 */
+    uint8_t number;           /* IP number (protocol) of the payload after the extension headers */
+    uint8_t next_header;      /* IP number of the header or payload directly after the IP header */
+    uint8_t hop_limit;        /* time to live (TTL) of IPv4, hop limit of IPv6 */
+    uint8_t dscp;             /* differentiated services code point, 0 to 63 */
+    uint8_t ecn;              /* explicit congestion notification, 0 to 3 */
+    uint8_t dont_fragment;    /* IPv4: 1 if "don't fragment" (DF) is set */
+    uint8_t more_fragments;   /* 1 if "more fragments" (MF) is set; in IPv6 of the first fragment header */
+    uint16_t fragment_offset; /* offset in the reassembled payload, in bytes; from the same header */
+    uint16_t length;          /* total length of IPv4, payload length of IPv6 */
+    uint16_t checksum;        /* IPv4: header checksum */
+    uint32_t identification;  /* shared by all fragments of a payload; 0 in IPv6 without a fragment header */
+    uint32_t flow_label;      /* IPv6: flow label, 20 bits */
+    uint8_t source[16];       /* IPv4: the address is the first 4 bytes, and the others are 0 */
+    uint8_t destination[16];
+    struct etherparse_place options; /* IPv4: options */
+};
+
+/* Fields of the ARP packet, and the places of its addresses; all 0 if the packet is not ARP. */
+struct etherparse_arp_fields {
+    uint16_t hardware_type; /* 1 is Ethernet */
+    uint16_t protocol_type; /* an ether type */
+    uint8_t hardware_len;   /* length of a hardware address */
+    uint8_t protocol_len;   /* length of a protocol address */
+    uint16_t operation;     /* 1 is a request, 2 a reply */
+    struct etherparse_place sender_hardware;
+    struct etherparse_place sender_protocol;
+    struct etherparse_place target_hardware;
+    struct etherparse_place target_protocol;
+};
+
+/* Fields of the transport header. Fields that it does not have are 0, and all without a transport header, except for
+ * the ports of a truncated or invalid header of TCP or UDP (lax slicing only), if their 4 bytes are present. */
+struct etherparse_transport_fields {
+    uint16_t source_port;           /* UDP, TCP */
+    uint16_t destination_port;      /* UDP, TCP */
+    uint16_t checksum;              /* as in the header */
+    uint16_t udp_length;            /* UDP: length of header and payload; 0 limits nothing */
+    uint32_t sequence_number;       /* TCP */
+    uint32_t acknowledgment_number; /* TCP: with ETHERPARSE_TCP_ACK */
+    uint16_t tcp_flags;             /* TCP: sum of enum etherparse_tcp_flag */
+    uint16_t window_size;           /* TCP */
+    uint16_t urgent_pointer;        /* TCP: with ETHERPARSE_TCP_URG */
+    uint8_t data_offset;            /* TCP: length of the header in units of 4 bytes */
+    uint8_t icmp_type;              /* ICMP, ICMPv6 */
+    uint8_t icmp_code;              /* ICMP, ICMPv6 */
+    uint8_t icmp_rest[4];           /* ICMP, ICMPv6: bytes 4 to 7, whose meaning depends on the type */
+    struct etherparse_place options; /* TCP: options */
+};
+
+/* Verdict on a checksum. A network card may fill in the checksums of outgoing packets after they are captured, and
+ * those of such packets are then invalid. The verdict is unknown
+ * - if the transport layer is a fragment or incomplete;
+ * - if no length field counts it: jumbograms, a total length of 0, a UDP length of 0, or, laxly, a UDP length that
+ *   is not the number of its bytes;
+ * - after a source route or routing header, which may have the address that the checksum covers;
+ * - for ICMPv6 over IPv4. */
+enum etherparse_checksum_verdict {
+    ETHERPARSE_CHECKSUM_NONE = 0,    /* there is no such header, and no fragment */
+    ETHERPARSE_CHECKSUM_VALID = 1,
+    ETHERPARSE_CHECKSUM_INVALID = 2, /* also UDP over IPv6 with checksum 0 */
+    ETHERPARSE_CHECKSUM_ABSENT = 3,  /* UDP over IPv4 with checksum 0 */
+    ETHERPARSE_CHECKSUM_UNKNOWN = 4  /* it cannot be decided */
+};
+
+/* Fields of all headers of a packet. The call has the same name, so that C++ needs the word `struct`, as for stat. */
+struct etherparse_fields {
+    struct etherparse_link_fields link;
+    struct etherparse_tag_fields tags[3]; /* from the outermost on, then all 0 */
+    struct etherparse_ip_fields ip;
+    struct etherparse_arp_fields arp;
+    struct etherparse_transport_fields transport;
+    uint32_t header_checksum;    /* IPv4 header: enum etherparse_checksum_verdict, by etherparse_checksums */
+    uint32_t transport_checksum; /* transport header: its verdict, by the same call */
+};
+
+/* Reads the fields of the headers that `packet` describes from the bytes of the packet, which were passed to
+ * etherparse_slice or etherparse_slice_lax; after etherparse_slice_many, `bytes` starts at this frame. The IP number of
+ * the payload, whether it is a fragment, and in IPv6 the fields of the fragment header are those of `packet`. Both
+ * verdicts are set to 0; etherparse_checksums, called afterwards, sets them. Returns
+ * - ETHERPARSE_OK: `fields` has the fields of the described headers; a rejected packet has none, so that all fields are
+ *   0;
+ * - ETHERPARSE_UNKNOWN_CHOICE: the described headers are not at their places in the bytes, as in a description of other
+ *   bytes, or `packet` is null; all fields are 0.
+ * No byte outside of `bytes` is read, whatever numbers `packet` has. Null bytes have length 0, whatever `len` is. If
+ * `fields` is null, only the status is returned. */
+#if defined(__cplusplus) && defined(__GNUC__)
+#pragma GCC diagnostic push
+#pragma GCC diagnostic ignored "-Wshadow" /* the call and the struct have the same name */
+#endif
+ETHERPARSE_MUST_USE ETHERPARSE_READS(2, 3) static inline enum etherparse_status
+etherparse_fields(const struct etherparse_packet *packet, const uint8_t *bytes, size_t len,
+                  struct etherparse_fields *fields) {
+    const uint8_t none = 0;
+    struct etherparse_fields unused;
+    if (!packet) {
+        uint8_t *const at = (uint8_t *)fields;
+        size_t i;
+        for (i = 0; fields && i < sizeof *fields; i++) at[i] = 0;
+        return ETHERPARSE_UNKNOWN_CHOICE;
+    }
+    return ETHERPARSE_AS_STATUS(
+        etherparse_2_fields(packet, bytes ? bytes : &none, bytes ? len : 0, fields ? fields : &unused));
+}
+#if defined(__cplusplus) && defined(__GNUC__)
+#pragma GCC diagnostic pop
+#endif
+
+/* Verifies the checksums of the IPv4 header and of the transport header of a packet, which is sliced laxly: the
+ * parameters are those of etherparse_slice_lax. It reads the payload, so it takes longer than the other calls. Returns
+ * - ETHERPARSE_OK: `fields->header_checksum` and `fields->transport_checksum` are set, and the other fields unchanged;
+ * - ETHERPARSE_REFUSED: the first header is invalid, and both are ETHERPARSE_CHECKSUM_NONE;
+ * - ETHERPARSE_UNKNOWN_CHOICE: `entry` is another number, and both are ETHERPARSE_CHECKSUM_NONE.
+ * Null bytes have length 0, whatever `len` is. If `fields` is null, only the status is returned. */
+ETHERPARSE_MUST_USE ETHERPARSE_READS(3, 4) static inline enum etherparse_status
+etherparse_checksums(uint32_t entry, uint16_t ether_type, const uint8_t *bytes, size_t len,
+                     struct etherparse_fields *fields) {
+    const uint8_t none = 0;
+    struct etherparse_fields unused;
+    return ETHERPARSE_AS_STATUS(etherparse_2_checksums(entry, ether_type, bytes ? bytes : &none, bytes ? len : 0,
+                                                       fields ? fields : &unused));
 }
 
 /* Returns the Internet checksum (RFC 1071) of the bytes, as a number that is written in big-endian order. An odd last
@@ -424,7 +598,7 @@ etherparse_refusal_text(const struct etherparse_refusal *refusal, char *buffer, 
 ETHERPARSE_MUST_USE ETHERPARSE_READS(1, 2) static inline uint16_t etherparse_checksum(const uint8_t *bytes,
                                                                                      size_t len) {
     const uint8_t none = 0;
-    return etherparse_1_checksum(bytes ? bytes : &none, len);
+    return etherparse_2_checksum(bytes ? bytes : &none, len);
 }
 
 /* ---- Building frames
@@ -464,7 +638,8 @@ enum etherparse_tcp_flag {
     ETHERPARSE_TCP_ACK = 16,
     ETHERPARSE_TCP_URG = 32,
     ETHERPARSE_TCP_ECE = 64,
-    ETHERPARSE_TCP_CWR = 128
+    ETHERPARSE_TCP_CWR = 128,
+    ETHERPARSE_TCP_NS = 256 /* only in the fields of a packet, not in those of a header to build */
 };
 
 /* Fields of a TCP header without options. */
@@ -485,7 +660,7 @@ etherparse_build_udp(const struct etherparse_route *route, uint16_t source_port,
                      const uint8_t *payload, size_t payload_len, uint8_t *buffer, size_t buffer_len, size_t *written) {
     const uint8_t none = 0;
     uint8_t no_room;
-    return ETHERPARSE_AS_STATUS(etherparse_1_build_udp(route, source_port, destination_port, payload ? payload : &none,
+    return ETHERPARSE_AS_STATUS(etherparse_2_build_udp(route, source_port, destination_port, payload ? payload : &none,
                                                        payload_len, buffer ? buffer : &no_room, buffer ? buffer_len : 0,
                                                        written));
 }
@@ -497,7 +672,7 @@ etherparse_build_tcp(const struct etherparse_route *route, const struct etherpar
                      const uint8_t *payload, size_t payload_len, uint8_t *buffer, size_t buffer_len, size_t *written) {
     const uint8_t none = 0;
     uint8_t no_room;
-    return ETHERPARSE_AS_STATUS(etherparse_1_build_tcp(route, fields, payload ? payload : &none, payload_len,
+    return ETHERPARSE_AS_STATUS(etherparse_2_build_tcp(route, fields, payload ? payload : &none, payload_len,
                                                        buffer ? buffer : &no_room, buffer ? buffer_len : 0, written));
 }
 
@@ -509,7 +684,7 @@ etherparse_build_icmp_echo(const struct etherparse_route *route, uint8_t is_repl
                            size_t *written) {
     const uint8_t none = 0;
     uint8_t no_room;
-    return ETHERPARSE_AS_STATUS(etherparse_1_build_icmp_echo(route, is_reply, id, seq, payload ? payload : &none,
+    return ETHERPARSE_AS_STATUS(etherparse_2_build_icmp_echo(route, is_reply, id, seq, payload ? payload : &none,
                                                              payload_len, buffer ? buffer : &no_room,
                                                              buffer ? buffer_len : 0, written));
 }
@@ -530,7 +705,7 @@ etherparse_build_tagged_udp(const struct etherparse_tagged_route *route, uint16_
                             size_t buffer_len, size_t *written) {
     const uint8_t none = 0;
     uint8_t no_room;
-    return ETHERPARSE_AS_STATUS(etherparse_1_build_tagged_udp(route, source_port, destination_port,
+    return ETHERPARSE_AS_STATUS(etherparse_2_build_tagged_udp(route, source_port, destination_port,
                                                               payload ? payload : &none, payload_len,
                                                               buffer ? buffer : &no_room, buffer ? buffer_len : 0,
                                                               written));
@@ -545,7 +720,7 @@ etherparse_build_tagged_tcp(const struct etherparse_tagged_route *route, const s
                             uint8_t *buffer, size_t buffer_len, size_t *written) {
     const uint8_t none = 0, no_option = 0;
     uint8_t no_room;
-    return ETHERPARSE_AS_STATUS(etherparse_1_build_tagged_tcp(route, fields, options ? options : &no_option,
+    return ETHERPARSE_AS_STATUS(etherparse_2_build_tagged_tcp(route, fields, options ? options : &no_option,
                                                               options_len, payload ? payload : &none, payload_len,
                                                               buffer ? buffer : &no_room, buffer ? buffer_len : 0,
                                                               written));
@@ -559,7 +734,7 @@ etherparse_build_tagged_icmp_echo(const struct etherparse_tagged_route *route, u
                                   size_t buffer_len, size_t *written) {
     const uint8_t none = 0;
     uint8_t no_room;
-    return ETHERPARSE_AS_STATUS(etherparse_1_build_tagged_icmp_echo(route, is_reply, id, seq,
+    return ETHERPARSE_AS_STATUS(etherparse_2_build_tagged_icmp_echo(route, is_reply, id, seq,
                                                                     payload ? payload : &none, payload_len,
                                                                     buffer ? buffer : &no_room, buffer ? buffer_len : 0,
                                                                     written));
@@ -582,7 +757,7 @@ etherparse_build_fragment(const struct etherparse_tagged_route *route, const str
                           size_t *written) {
     const uint8_t none = 0;
     uint8_t no_room;
-    return ETHERPARSE_AS_STATUS(etherparse_1_build_fragment(route, fields, payload ? payload : &none, payload_len,
+    return ETHERPARSE_AS_STATUS(etherparse_2_build_fragment(route, fields, payload ? payload : &none, payload_len,
                                                             buffer ? buffer : &no_room, buffer ? buffer_len : 0,
                                                             written));
 }
@@ -613,7 +788,7 @@ etherparse_build_fragment(const struct etherparse_tagged_route *route, const str
  * `*pool` is unchanged. The previous value of `*pool` is neither read nor freed. */
 ETHERPARSE_MUST_USE ETHERPARSE_NONNULL((1)) static inline enum etherparse_status
 etherparse_pool_new(struct etherparse_pool **pool) {
-    return ETHERPARSE_AS_STATUS(etherparse_1_pool_new(pool));
+    return ETHERPARSE_AS_STATUS(etherparse_2_pool_new(pool));
 }
 
 /* Creates an empty pool with payloads of at most `limit` bytes: a fragment that ends after the limit is rejected. The
@@ -621,12 +796,12 @@ etherparse_pool_new(struct etherparse_pool **pool) {
  * below 8 no payload is ever complete. Returns as etherparse_pool_new. */
 ETHERPARSE_MUST_USE ETHERPARSE_NONNULL((2)) static inline enum etherparse_status
 etherparse_pool_with_limit(uint16_t limit, struct etherparse_pool **pool) {
-    return ETHERPARSE_AS_STATUS(etherparse_1_pool_with_limit(limit, pool));
+    return ETHERPARSE_AS_STATUS(etherparse_2_pool_with_limit(limit, pool));
 }
 
 /* Frees a pool that one of these calls created. It must not be used again. Does nothing if `pool` is null. */
 static inline void etherparse_pool_free(struct etherparse_pool *pool) {
-    if (pool) etherparse_1_pool_free(pool);
+    if (pool) etherparse_2_pool_free(pool);
 }
 
 /* Reason why a fragment is rejected. If several apply, TOO_BIG is reported before UNALIGNED, and UNALIGNED before
@@ -665,7 +840,7 @@ etherparse_pool_push(struct etherparse_pool *pool, uint32_t entry, uint16_t ethe
                      struct etherparse_pool_answer *answer) {
     const uint8_t none = 0;
     uint8_t no_room;
-    return ETHERPARSE_AS_STATUS(etherparse_1_pool_push(pool, entry, ether_type, bytes ? bytes : &none, len, timestamp,
+    return ETHERPARSE_AS_STATUS(etherparse_2_pool_push(pool, entry, ether_type, bytes ? bytes : &none, len, timestamp,
                                                        channel, buffer ? buffer : &no_room, buffer ? buffer_len : 0,
                                                        answer));
 }
@@ -678,13 +853,13 @@ ETHERPARSE_MUST_USE ETHERPARSE_NONNULL((1, 4)) ETHERPARSE_WRITES(2, 3) static in
 etherparse_pool_take(struct etherparse_pool *pool, uint8_t *buffer, size_t buffer_len,
                      struct etherparse_pool_answer *answer) {
     uint8_t no_room;
-    return ETHERPARSE_AS_STATUS(etherparse_1_pool_take(pool, buffer ? buffer : &no_room, buffer ? buffer_len : 0,
+    return ETHERPARSE_AS_STATUS(etherparse_2_pool_take(pool, buffer ? buffer : &no_room, buffer ? buffer_len : 0,
                                                        answer));
 }
 
 /* Discards the payload that waits in a pool, if any, and frees its memory. */
 ETHERPARSE_NONNULL((1)) static inline void etherparse_pool_discard(struct etherparse_pool *pool) {
-    etherparse_1_pool_discard(pool);
+    etherparse_2_pool_discard(pool);
 }
 
 /* Drops the streams whose last accepted fragment came before `timestamp`. Their memory is kept for later streams, until
@@ -692,13 +867,13 @@ ETHERPARSE_NONNULL((1)) static inline void etherparse_pool_discard(struct etherp
  * packet. */
 ETHERPARSE_NONNULL((1)) static inline void etherparse_pool_drop_older(struct etherparse_pool *pool,
                                                                       uint64_t timestamp) {
-    etherparse_1_pool_drop_older(pool, timestamp);
+    etherparse_2_pool_drop_older(pool, timestamp);
 }
 
 /* Returns the number of streams in a pool, without iterating over them. */
 ETHERPARSE_MUST_USE ETHERPARSE_NONNULL((1)) static inline size_t
 etherparse_pool_streams(struct etherparse_pool *pool) {
-    return etherparse_1_pool_streams(pool);
+    return etherparse_2_pool_streams(pool);
 }
 
 /* Returns the number of payload bytes in a pool: of each stream up to the greatest end of its fragments, and of the
@@ -706,7 +881,7 @@ etherparse_pool_streams(struct etherparse_pool *pool) {
  * streams. */
 ETHERPARSE_MUST_USE ETHERPARSE_NONNULL((1)) static inline size_t
 etherparse_pool_bytes(struct etherparse_pool *pool) {
-    return etherparse_1_pool_bytes(pool);
+    return etherparse_2_pool_bytes(pool);
 }
 
 /* ---- Reassembling hostile traffic within limits
@@ -736,7 +911,7 @@ struct etherparse_defrag_limits {
 
 /* Stores the default limits. */
 ETHERPARSE_NONNULL((1)) static inline void etherparse_defrag_limits_default(struct etherparse_defrag_limits *limits) {
-    etherparse_1_defrag_limits_default(limits);
+    etherparse_2_defrag_limits_default(limits);
 }
 
 /* Creates an empty bounded pool and stores its address in `pool`. If `limits` is null, the pool has the default limits.
@@ -752,13 +927,13 @@ ETHERPARSE_MUST_USE ETHERPARSE_NONNULL((2, 3)) static inline enum etherparse_sta
 etherparse_bounded_pool_new(const struct etherparse_defrag_limits *limits, const uint8_t seed[16],
                             struct etherparse_bounded_pool **pool) {
     struct etherparse_defrag_limits defaults;
-    if (!limits) etherparse_1_defrag_limits_default(&defaults);
-    return ETHERPARSE_AS_STATUS(etherparse_1_bounded_pool_new(limits ? limits : &defaults, seed, pool));
+    if (!limits) etherparse_2_defrag_limits_default(&defaults);
+    return ETHERPARSE_AS_STATUS(etherparse_2_bounded_pool_new(limits ? limits : &defaults, seed, pool));
 }
 
 /* Frees a bounded pool, which must not be used again. Does nothing if `pool` is null. */
 static inline void etherparse_bounded_pool_free(struct etherparse_bounded_pool *pool) {
-    if (pool) etherparse_1_bounded_pool_free(pool);
+    if (pool) etherparse_2_bounded_pool_free(pool);
 }
 
 /* Passes a frame to a bounded pool. The parameters are those of etherparse_pool_push. If the first accepted fragment of
@@ -782,7 +957,7 @@ etherparse_bounded_pool_push(struct etherparse_bounded_pool *pool, uint32_t entr
                              size_t buffer_len, struct etherparse_pool_answer *answer) {
     const uint8_t none = 0;
     uint8_t no_room;
-    return ETHERPARSE_AS_STATUS(etherparse_1_bounded_pool_push(pool, entry, ether_type, bytes ? bytes : &none, len,
+    return ETHERPARSE_AS_STATUS(etherparse_2_bounded_pool_push(pool, entry, ether_type, bytes ? bytes : &none, len,
                                                                timestamp, channel, buffer ? buffer : &no_room,
                                                                buffer ? buffer_len : 0, answer));
 }
@@ -793,13 +968,13 @@ ETHERPARSE_MUST_USE ETHERPARSE_NONNULL((1, 4)) ETHERPARSE_WRITES(2, 3) static in
 etherparse_bounded_pool_take(struct etherparse_bounded_pool *pool, uint8_t *buffer, size_t buffer_len,
                              struct etherparse_pool_answer *answer) {
     uint8_t no_room;
-    return ETHERPARSE_AS_STATUS(etherparse_1_bounded_pool_take(pool, buffer ? buffer : &no_room,
+    return ETHERPARSE_AS_STATUS(etherparse_2_bounded_pool_take(pool, buffer ? buffer : &no_room,
                                                                buffer ? buffer_len : 0, answer));
 }
 
 /* Discards the payload that waits in a bounded pool, if any, and frees its memory. */
 ETHERPARSE_NONNULL((1)) static inline void etherparse_bounded_pool_discard(struct etherparse_bounded_pool *pool) {
-    etherparse_1_bounded_pool_discard(pool);
+    etherparse_2_bounded_pool_discard(pool);
 }
 
 /* Evicts each stream that is older than the age of the limits, or whose last accepted fragment came more than `idle`
@@ -807,7 +982,7 @@ ETHERPARSE_NONNULL((1)) static inline void etherparse_bounded_pool_discard(struc
  * call it once in a while and not for each packet: without it old streams stay, but within the limits. */
 ETHERPARSE_NONNULL((1)) static inline size_t etherparse_bounded_pool_expire(struct etherparse_bounded_pool *pool,
                                                                             uint64_t now, uint64_t idle) {
-    return etherparse_1_bounded_pool_expire(pool, now, idle);
+    return etherparse_2_bounded_pool_expire(pool, now, idle);
 }
 
 /* Removes the stream with the identifier `id`, open or discarded, from a bounded pool. Identifiers are as
@@ -815,31 +990,31 @@ ETHERPARSE_NONNULL((1)) static inline size_t etherparse_bounded_pool_expire(stru
  * identifier, or if the numbers are not a valid one. A payload that waits stays. */
 ETHERPARSE_NONNULL((1, 2)) static inline size_t
 etherparse_bounded_pool_remove(struct etherparse_bounded_pool *pool, const struct etherparse_stream_id *id) {
-    return etherparse_1_bounded_pool_remove(pool, id);
+    return etherparse_2_bounded_pool_remove(pool, id);
 }
 
 /* Removes all streams from a bounded pool. Its counters stay, and so does a payload that waits. */
 ETHERPARSE_NONNULL((1)) static inline void etherparse_bounded_pool_clear(struct etherparse_bounded_pool *pool) {
-    etherparse_1_bounded_pool_clear(pool);
+    etherparse_2_bounded_pool_clear(pool);
 }
 
 /* Returns the number of open streams in a bounded pool: those that are incomplete, and not discarded. */
 ETHERPARSE_MUST_USE ETHERPARSE_NONNULL((1)) static inline size_t
 etherparse_bounded_pool_streams(struct etherparse_bounded_pool *pool) {
-    return etherparse_1_bounded_pool_streams(pool);
+    return etherparse_2_bounded_pool_streams(pool);
 }
 
 /* Returns the number of discarded streams whose identifiers still count as streams of the limits. */
 ETHERPARSE_MUST_USE ETHERPARSE_NONNULL((1)) static inline size_t
 etherparse_bounded_pool_discarded_streams(struct etherparse_bounded_pool *pool) {
-    return etherparse_1_bounded_pool_discarded_streams(pool);
+    return etherparse_2_bounded_pool_discarded_streams(pool);
 }
 
 /* Returns the memory of all streams in a bounded pool in bytes: the capacities of their buffers, at most limits.bytes.
  * A payload that waits does not count. */
 ETHERPARSE_MUST_USE ETHERPARSE_NONNULL((1)) static inline size_t
 etherparse_bounded_pool_held_bytes(struct etherparse_bounded_pool *pool) {
-    return etherparse_1_bounded_pool_held_bytes(pool);
+    return etherparse_2_bounded_pool_held_bytes(pool);
 }
 
 /* Counters of a bounded pool since it was created. A counter that reached UINT64_MAX stays there. `begun` is the sum
@@ -866,7 +1041,7 @@ struct etherparse_defrag_statistics {
 ETHERPARSE_NONNULL((1, 2)) static inline void
 etherparse_bounded_pool_statistics(struct etherparse_bounded_pool *pool,
                                    struct etherparse_defrag_statistics *statistics) {
-    etherparse_1_bounded_pool_statistics(pool, statistics);
+    etherparse_2_bounded_pool_statistics(pool, statistics);
 }
 
 /* Cause for which a stream was evicted or discarded. */
@@ -903,7 +1078,7 @@ struct etherparse_evicted_stream {
  * 0 after a push that processed no fragment, and after a removal or clearing. */
 ETHERPARSE_MUST_USE ETHERPARSE_NONNULL((1)) static inline size_t
 etherparse_bounded_pool_evicted_count(struct etherparse_bounded_pool *pool) {
-    return etherparse_1_bounded_pool_evicted_count(pool);
+    return etherparse_2_bounded_pool_evicted_count(pool);
 }
 
 /* Stores one of the streams that the last push, expiry, removal or clearing evicted or discarded; `index` counts from
@@ -912,7 +1087,7 @@ etherparse_bounded_pool_evicted_count(struct etherparse_bounded_pool *pool) {
 ETHERPARSE_MUST_USE ETHERPARSE_NONNULL((1, 3)) static inline enum etherparse_status
 etherparse_bounded_pool_evicted(struct etherparse_bounded_pool *pool, size_t index,
                                 struct etherparse_evicted_stream *evicted) {
-    return ETHERPARSE_AS_STATUS(etherparse_1_bounded_pool_evicted(pool, index, evicted));
+    return ETHERPARSE_AS_STATUS(etherparse_2_bounded_pool_evicted(pool, index, evicted));
 }
 
 /* ---- Filtering packets
@@ -972,13 +1147,13 @@ etherparse_filter_new(const char *text, size_t len, struct etherparse_filter **f
                       struct etherparse_filter_error *error) {
     const char none = 0;
     struct etherparse_filter_error no_error;
-    return ETHERPARSE_AS_STATUS(etherparse_1_filter_new((const uint8_t *)(text ? text : &none), len, filter,
+    return ETHERPARSE_AS_STATUS(etherparse_2_filter_new((const uint8_t *)(text ? text : &none), len, filter,
                                                         error ? error : &no_error));
 }
 
 /* Frees a filter, which must not be used again. Does nothing if `filter` is null. */
 static inline void etherparse_filter_free(struct etherparse_filter *filter) {
-    if (filter) etherparse_1_filter_free(filter);
+    if (filter) etherparse_2_filter_free(filter);
 }
 
 /* Stores in `matches` 1 if the filter matches a packet, and 0 if not. The packet is read as by etherparse_slice_lax; if
@@ -989,7 +1164,7 @@ ETHERPARSE_MUST_USE ETHERPARSE_NONNULL((1, 7)) ETHERPARSE_READS(4, 5) static inl
 etherparse_filter_matches(struct etherparse_filter *filter, uint32_t entry, uint16_t ether_type, const uint8_t *bytes,
                           size_t len, uint32_t wire_len, uint8_t *matches) {
     const uint8_t none = 0;
-    return ETHERPARSE_AS_STATUS(etherparse_1_filter_matches(filter, entry, ether_type, bytes ? bytes : &none, len,
+    return ETHERPARSE_AS_STATUS(etherparse_2_filter_matches(filter, entry, ether_type, bytes ? bytes : &none, len,
                                                             wire_len, matches));
 }
 
@@ -1010,7 +1185,7 @@ etherparse_filter_matches_many(struct etherparse_filter *filter, uint32_t entry,
     const size_t no_end = 0;
     const uint32_t no_len = 0;
     uint8_t no_match;
-    return ETHERPARSE_AS_STATUS(etherparse_1_filter_matches_many(
+    return ETHERPARSE_AS_STATUS(etherparse_2_filter_matches_many(
         filter, entry, ether_type, bytes ? bytes : &none, len, ends ? ends : &no_end, count,
         wire_lens ? wire_lens : &no_len, wire_lens ? count : 0, matches ? matches : &no_match, matches ? count : 0,
         matched));
@@ -1025,7 +1200,7 @@ etherparse_filter_matches_many(struct etherparse_filter *filter, uint32_t entry,
 ETHERPARSE_MUST_USE ETHERPARSE_NONNULL((1, 4)) ETHERPARSE_WRITES(2, 3) static inline enum etherparse_status
 etherparse_filter_text(struct etherparse_filter *filter, char *buffer, size_t len, size_t *written) {
     char none;
-    return ETHERPARSE_AS_STATUS(etherparse_1_filter_text(filter, (uint8_t *)(buffer ? buffer : &none),
+    return ETHERPARSE_AS_STATUS(etherparse_2_filter_text(filter, (uint8_t *)(buffer ? buffer : &none),
                                                          buffer ? len : 0, written));
 }
 
@@ -1040,7 +1215,7 @@ etherparse_filter_text(struct etherparse_filter *filter, char *buffer, size_t le
 ETHERPARSE_MUST_USE ETHERPARSE_NONNULL((4)) ETHERPARSE_WRITES(2, 3) static inline enum etherparse_status
 etherparse_filter_error_text(uint32_t kind, char *buffer, size_t len, size_t *written) {
     char none;
-    return ETHERPARSE_AS_STATUS(etherparse_1_filter_error_text(kind, (uint8_t *)(buffer ? buffer : &none),
+    return ETHERPARSE_AS_STATUS(etherparse_2_filter_error_text(kind, (uint8_t *)(buffer ? buffer : &none),
                                                                buffer ? len : 0, written));
 }
 

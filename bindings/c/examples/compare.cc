@@ -2,7 +2,8 @@
  *     compare FILE ROUNDS [COLUMN]
  * FILE is a corpus of crates/slice_bench/corpora.py: frames, each with its length in four bytes (little-endian) before
  * its bytes. The walk by hand is crates/slice_bench/compare/walk.c. If installed, libtins (-DWITH_TINS -ltins) and the
- * filter of libpcap (-DWITH_PCAP -lpcap: "udp", compiled once and run over each frame) are measured too. Prints
+ * filter of libpcap (-DWITH_PCAP -lpcap: "udp", compiled once and run over each frame) are measured too. The column
+ * etherparse_fields slices a frame and then reads all fields. Prints
  * nanoseconds for each frame, of the fastest round, and their ratio to the first column, the walk. With COLUMN, a
  * printed name, only that column runs, so that its instructions can be counted. compare.py builds it and measures
  * both. */
@@ -43,6 +44,18 @@ static uint64_t by_etherparse_laxly(const std::vector<frame> &frames) {
         struct etherparse_packet packet;
         if (etherparse_slice_lax(ETHERPARSE_ENTRY_ETHERNET, 0, f.bytes, f.len, &packet) == ETHERPARSE_OK)
             sum += packet.payload.offset;
+    }
+    return sum;
+}
+
+static uint64_t by_etherparse_with_fields(const std::vector<frame> &frames) {
+    uint64_t sum = 0;
+    for (const frame &f : frames) {
+        struct etherparse_packet packet;
+        struct etherparse_fields fields;
+        if (etherparse_slice(ETHERPARSE_ENTRY_ETHERNET, 0, f.bytes, f.len, &packet) == ETHERPARSE_OK &&
+            etherparse_fields(&packet, f.bytes, f.len, &fields) == ETHERPARSE_OK)
+            sum += fields.ip.hop_limit + fields.transport.source_port;
     }
     return sum;
 }
@@ -109,7 +122,8 @@ int main(int argc, char **argv) {
     }
     std::vector<column> columns = {{"walk", by_walk, 1e300, 0},
                                    {"etherparse_slice", by_etherparse, 1e300, 0},
-                                   {"etherparse_slice_lax", by_etherparse_laxly, 1e300, 0}};
+                                   {"etherparse_slice_lax", by_etherparse_laxly, 1e300, 0},
+                                   {"etherparse_fields", by_etherparse_with_fields, 1e300, 0}};
 #ifdef WITH_TINS
     columns.push_back({"libtins", by_tins, 1e300, 0});
 #endif

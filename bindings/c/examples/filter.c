@@ -40,12 +40,12 @@ int main(int argc, char **argv) {
             continue;
         }
         if (packet.transport.kind != ETHERPARSE_TRANSPORT_UDP || packet.destination_port != port) continue;
+        struct etherparse_fields fields;
+        if (etherparse_fields(&packet, frame, len, &fields) != ETHERPARSE_OK) return 1; /* never, for its own packet */
         found++;
         printf("%lu: ", frames);
-        if (packet.net.kind == ETHERPARSE_NET_IPV4) {
-            const uint8_t *source = frame + packet.net.offset + 12;
-            printf("from %u.%u.%u.%u ", source[0], source[1], source[2], source[3]);
-        }
+        const uint8_t *source = fields.ip.source;
+        if (fields.ip.version == 4) printf("from %u.%u.%u.%u ", source[0], source[1], source[2], source[3]);
         printf("port %u, %zu bytes at %zu:", packet.source_port, packet.payload.len, packet.payload.offset);
         for (size_t i = 0; i < packet.payload.len && i < 8; i++) printf(" %02x", frame[packet.payload.offset + i]);
         for (uint32_t i = 0; i < packet.link_ext_count; i++)

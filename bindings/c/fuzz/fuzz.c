@@ -2,10 +2,13 @@
  *
  * An input is the number of an entry, an ether type in two bytes, and frames, each after its length in two bytes. Each
  * frame is sliced separately, laxly and with its neighbour; errors are formatted; each payload is built into a frame,
- * which is sliced again; its bytes choose the words of a filter expression, which the frame is matched with; and all
- * frames are pushed to one pool, and to one bounded pool, whose limits are numbers of the ether type. Each frame ends
- * before an unreadable page, and the bytes after the end of each buffer are checked. The archive has no coverage
- * counters for libFuzzer, so results are counted instead. */
+ * which is sliced again; the fields of its headers are compared with its bytes, and read by descriptions with random
+ * numbers; its bytes choose the words of a filter expression, which the frame is matched with; and all frames are
+ * pushed to one pool, and to one bounded pool, whose limits are numbers of the ether type. Each frame ends before an
+ * unreadable page, and the bytes after the end of each buffer are checked. The archive has no coverage counters for
+ * libFuzzer, so results are counted instead.
+ *
+ * With ETHERPARSE_FUZZ_ONCE the program has a `main`, which passes files to the calls, without libFuzzer. */
 #include <etherparse.h>
 #include <stdio.h>
 #include <stdlib.h>
@@ -14,22 +17,27 @@
 
 #define WANT(holds) ((holds) ? (void)0 : (fprintf(stderr, "line %d: %s does not hold\n", __LINE__, #holds), abort()))
 
-enum { ROOM = 1 << 17, LIMIT = 256, MARK = 0xa5 };
+enum { ROOM = 1 << 17, PAGE = 4096, LIMIT = 256, MARK = 0xa5 };
 
 __attribute__((used, section("__libfuzzer_extra_counters"))) static uint8_t seen[1 << 14];
 
 static void see(uint32_t what, uint32_t which) { seen[(what * 131 + which) % sizeof seen] = 1; }
 
+/* Returns memory of ROOM bytes between two unreadable pages. */
+static uint8_t *room(void) {
+    static uint8_t *between;
+    if (!between) {
+        uint8_t *all = mmap(NULL, PAGE + ROOM + PAGE, PROT_NONE, MAP_PRIVATE | MAP_ANONYMOUS, -1, 0);
+        WANT(all != MAP_FAILED && mprotect(all + PAGE, ROOM, PROT_READ | PROT_WRITE) == 0);
+        between = all + PAGE;
+    }
+    return between;
+}
+
 /* Returns a copy of the bytes at the end of readable memory. */
 static const uint8_t *guarded(const uint8_t *bytes, size_t len) {
-    static uint8_t *room;
-    if (!room) {
-        room = mmap(NULL, ROOM + 4096, PROT_READ | PROT_WRITE, MAP_PRIVATE | MAP_ANONYMOUS, -1, 0);
-        WANT(room != MAP_FAILED && mprotect(room + ROOM, 4096, PROT_NONE) == 0);
-    }
     WANT(len <= ROOM);
-    memcpy(room + ROOM - len, bytes, len);
-    return room + ROOM - len;
+    return memcpy(room() + ROOM - len, bytes, len);
 }
 
 static void look_at_refusal(const struct etherparse_refusal *refusal) {
@@ -86,6 +94,158 @@ static void look_at_packet(const struct etherparse_packet *packet, uint32_t entr
     see(30 + packet->link.kind, packet->ip.fragmented + 2 * packet->ip.more_fragments);
 }
 
+static size_t word(const uint8_t *at) { return (size_t)(at[0] << 8 | at[1]); }
+static size_t long_word(const uint8_t *at) { return word(at) << 16 | word(at + 2); }
+
+static void look_at_link_fields(const struct etherparse_packet *packet, const uint8_t *frame,
+                                const struct etherparse_fields *fields) {
+    const uint8_t *at = frame + packet->link.offset;
+    int is_ethernet = packet->link.kind == ETHERPARSE_LINK_ETHERNET2;
+    WANT(fields->link.ether_type == (is_ethernet ? word(at + 12) : 0));
+    if (is_ethernet)
+        WANT(memcmp(fields->link.destination, at, 6) == 0 && memcmp(fields->link.source, at + 6, 6) == 0);
+    if (packet->link.kind == ETHERPARSE_LINK_LINUX_SLL) {
+        WANT(fields->link.packet_type == word(at) && fields->link.hardware_type == word(at + 2));
+        WANT(fields->link.address_len == word(at + 4) && memcmp(fields->link.address, at + 6, 8) == 0);
+        WANT(fields->link.protocol == word(at + 14));
+    }
+    for (uint32_t i = 0; i < 3; i++) {
+        const struct etherparse_tag_fields *tag = &fields->tags[i];
+        at = frame + packet->link_exts[i].offset;
+        WANT(tag->kind == packet->link_exts[i].kind);
+        if (tag->kind == ETHERPARSE_EXT_VLAN) {
+            WANT(tag->vlan_id == packet->link_exts[i].vlan_id && tag->ether_type == word(at + 2));
+            WANT(tag->priority == at[0] >> 5 && tag->drop_eligible == (at[0] >> 4 & 1));
+        } else if (tag->kind == ETHERPARSE_EXT_MACSEC) {
+            WANT(tag->macsec_flags == (at[0] & 0x7c) && tag->association_number == (at[0] & 3));
+            WANT(tag->short_len == (at[1] & 63) && tag->packet_number == long_word(at + 2));
+            WANT(tag->sci == (at[0] & ETHERPARSE_MACSEC_SC ? long_word(at + 6) << 32 | long_word(at + 10) : 0));
+        }
+    }
+}
+
+static void look_at_net_fields(const struct etherparse_packet *packet, const uint8_t *frame,
+                               const struct etherparse_fields *fields) {
+    const struct etherparse_ip_fields *ip = &fields->ip;
+    const struct etherparse_arp_fields *arp = &fields->arp;
+    const uint8_t *at = frame + packet->net.offset;
+    WANT(ip->version == packet->ip.version && ip->number == packet->ip.number);
+    WANT(ip->more_fragments == packet->ip.more_fragments && ip->fragment_offset == packet->ip.fragment_offset);
+    WANT(ip->identification == packet->ip.identification);
+    if (ip->version == 4) {
+        WANT(ip->dscp == at[1] >> 2 && ip->ecn == (at[1] & 3) && ip->length == word(at + 2) && ip->hop_limit == at[8]);
+        WANT(ip->dont_fragment == (at[6] >> 6 & 1) && ip->next_header == at[9] && ip->checksum == word(at + 10));
+        WANT(memcmp(ip->source, at + 12, 4) == 0 && memcmp(ip->destination, at + 16, 4) == 0 && ip->source[4] == 0);
+        WANT(ip->options.offset == packet->net.offset + 20 && ip->options.len == packet->ip.header_len - 20);
+    } else if (ip->version == 6) {
+        WANT(ip->dscp == (word(at) >> 6 & 63) && ip->ecn == (at[1] >> 4 & 3) && ip->length == word(at + 4));
+        WANT(ip->flow_label == (long_word(at) & 0xfffff) && ip->next_header == at[6] && ip->hop_limit == at[7]);
+        WANT(memcmp(ip->source, at + 8, 16) == 0 && memcmp(ip->destination, at + 24, 16) == 0);
+    }
+    if (packet->net.kind == ETHERPARSE_NET_ARP) {
+        WANT(arp->hardware_type == word(at) && arp->protocol_type == word(at + 2) && arp->operation == word(at + 6));
+        WANT(arp->hardware_len == at[4] && arp->protocol_len == at[5]);
+        WANT(arp->sender_hardware.offset == packet->net.offset + 8 && arp->sender_hardware.len == at[4]);
+        WANT(arp->target_protocol.offset + at[5] == packet->net.offset + packet->net.len);
+    } else {
+        WANT(arp->hardware_type == 0 && arp->operation == 0 && arp->target_protocol.offset == 0);
+    }
+}
+
+static void look_at_transport_fields(const struct etherparse_packet *packet, const uint8_t *frame,
+                                     const struct etherparse_transport_fields *fields) {
+    const uint8_t *at = frame + packet->transport.offset;
+    uint32_t kind = packet->transport.kind, number = packet->ip.number;
+    int is_tcp = kind == ETHERPARSE_TRANSPORT_TCP, is_udp = kind == ETHERPARSE_TRANSPORT_UDP;
+    int is_icmp = kind == ETHERPARSE_TRANSPORT_ICMPV4 || kind == ETHERPARSE_TRANSPORT_ICMPV6;
+    int is_cut = kind == 0 && (number == 6 || number == 17) && !packet->ip.fragmented && packet->payload.len >= 4;
+    int has_ports = is_tcp || is_udp || is_cut;
+    WANT(fields->source_port == (has_ports ? word(at) : 0));
+    WANT(fields->destination_port == (has_ports ? word(at + 2) : 0));
+    WANT(fields->udp_length == (is_udp ? word(at + 4) : 0));
+    WANT(fields->checksum == (is_tcp ? word(at + 16) : is_udp ? word(at + 6) : is_icmp ? word(at + 2) : 0));
+    WANT(fields->sequence_number == (is_tcp ? long_word(at + 4) : 0));
+    WANT(fields->acknowledgment_number == (is_tcp ? long_word(at + 8) : 0));
+    WANT(fields->tcp_flags == (is_tcp ? word(at + 12) & 0x1ff : 0));
+    WANT(fields->data_offset == (is_tcp ? at[12] >> 4 : 0));
+    WANT(fields->window_size == (is_tcp ? word(at + 14) : 0));
+    WANT(fields->urgent_pointer == (is_tcp ? word(at + 18) : 0));
+    WANT(fields->options.offset == (is_tcp ? packet->transport.offset + 20 : 0));
+    WANT(fields->options.len == (is_tcp ? packet->transport.len - 20 : 0));
+    WANT(fields->icmp_type == (is_icmp ? at[0] : 0) && fields->icmp_code == (is_icmp ? at[1] : 0));
+    WANT(memcmp(fields->icmp_rest, is_icmp ? at + 4 : (const uint8_t *)"\0\0\0", 4) == 0);
+    see(90, 4 * kind + 2 * (uint32_t)is_cut + (fields->options.len != 0));
+}
+
+/* Reads the fields by a description with random numbers, of a frame at the end and at the start of readable memory. */
+static void look_at_description(const struct etherparse_packet *packet, const uint8_t *end, size_t len) {
+    static const struct etherparse_fields nothing;
+    struct etherparse_fields one, two;
+    const uint8_t *start = memcpy(room(), end, len);
+    memset(&one, 0xff, sizeof one), memset(&two, 0, sizeof two);
+    enum etherparse_status status = etherparse_fields(packet, end, len, &one);
+    WANT(etherparse_fields(packet, start, len, &two) == status);
+    WANT(status == ETHERPARSE_OK || status == ETHERPARSE_UNKNOWN_CHOICE);
+    WANT(status == ETHERPARSE_OK || memcmp(&two, &nothing, sizeof two) == 0);
+    size_t first = offsetof(struct etherparse_ip_fields, identification), all = sizeof one.ip; /* padding before it */
+    WANT(memcmp(&one.link, &two.link, sizeof one.link) == 0 && memcmp(&one.arp, &two.arp, sizeof one.arp) == 0);
+    WANT(memcmp(&one.ip, &two.ip, first - 2) == 0);
+    WANT(memcmp(&one.ip.identification, &two.ip.identification, all - first) == 0);
+    const struct etherparse_place places[] = {one.ip.options, one.transport.options, one.arp.sender_hardware,
+                                              one.arp.sender_protocol, one.arp.target_hardware,
+                                              one.arp.target_protocol};
+    for (size_t i = 0; i < sizeof places / sizeof *places; i++)
+        WANT(places[i].offset <= len && places[i].len <= len - places[i].offset);
+    see(91, status);
+}
+
+/* Checks the fields of a packet, and then changes up to four numbers of its description. */
+static void look_at_fields(const struct etherparse_packet *packet, const uint8_t *frame, size_t len) {
+    static const uint64_t numbers[] = {0, 1, 2, 4, 6, 8, 14, 17, 20, 34, 40, 58, 255, 1 << 16, UINT32_MAX, UINT64_MAX,
+                                       UINT64_MAX - 13, UINT64_MAX - 19, 1ull << 63};
+    struct etherparse_fields fields;
+    WANT(etherparse_fields(packet, frame, len, &fields) == ETHERPARSE_OK);
+    look_at_link_fields(packet, frame, &fields);
+    look_at_net_fields(packet, frame, &fields);
+    look_at_transport_fields(packet, frame, &fields.transport);
+    uint64_t random = len;
+    for (size_t i = 0; i < len; i++) random = (random ^ frame[i]) * 0x100000001b3;
+    for (size_t count = 0; count < 4; count++) {
+        struct etherparse_packet changed = *packet;
+        size_t changes = count + 1;
+        while (changes--) {
+            random = random * 6364136223846793005 + 1442695040888963407;
+            uint64_t number = numbers[(random >> 33) % (sizeof numbers / sizeof *numbers)];
+            if (random >> 62 == 0) number = random >> 40; /* or the length, and numbers near it */
+            if (random >> 62 == 1) number = len - (random >> 56) % 32;
+            size_t place = (random >> 44) % (sizeof changed / 4) * 4, width = (random >> 61 & 1) ? 8 : 4;
+            if (place + width > sizeof changed) width = 4;
+            memcpy((uint8_t *)&changed + place, &number, width);
+        }
+        look_at_description(&changed, frame, random >> 61 == 7 ? len / 2 : len);
+    }
+}
+
+/* Checks which verdicts there are, and that of the IPv4 header. */
+static void look_at_checksums(uint32_t entry, uint16_t ether_type, const struct etherparse_packet *packet,
+                              const uint8_t *frame, size_t len) {
+    struct etherparse_fields fields;
+    memset(&fields, 0x77, sizeof fields);
+    WANT(etherparse_checksums(entry, ether_type, frame, len, &fields) == ETHERPARSE_OK);
+    WANT(fields.ip.version == 0x77 && fields.transport.options.len == 0x7777777777777777);
+    WANT(fields.header_checksum <= ETHERPARSE_CHECKSUM_INVALID);
+    WANT((fields.header_checksum != 0) == (packet->net.kind == ETHERPARSE_NET_IPV4));
+    if (fields.header_checksum) {
+        uint16_t sum = etherparse_checksum(frame + packet->net.offset, packet->ip.header_len);
+        WANT(fields.header_checksum == (sum == 0 ? ETHERPARSE_CHECKSUM_VALID : ETHERPARSE_CHECKSUM_INVALID));
+    }
+    WANT(fields.transport_checksum <= ETHERPARSE_CHECKSUM_UNKNOWN);
+    WANT((fields.transport_checksum != 0) == (packet->transport.kind != 0 || packet->ip.fragmented));
+    int is_unknown = packet->ip.fragmented || (packet->payload.incomplete && packet->transport.kind != 0);
+    WANT(!is_unknown || fields.transport_checksum == ETHERPARSE_CHECKSUM_UNKNOWN);
+    see(92, 8 * packet->transport.kind + fields.transport_checksum);
+}
+
 /* Checks lax slicing: a frame has its strict layers, and other bytes have the layers up to the first invalid one. */
 static void look_at_lax(const struct etherparse_packet *strict, enum etherparse_status status, uint32_t entry,
                         uint16_t ether_type, const uint8_t *frame, size_t len) {
@@ -100,6 +260,8 @@ static void look_at_lax(const struct etherparse_packet *strict, enum etherparse_
         return;
     }
     look_at_packet(&packet, entry, len);
+    look_at_fields(&packet, frame, len);
+    look_at_checksums(entry, ether_type, &packet, frame, len);
     if (packet.refusal.kind != ETHERPARSE_REFUSAL_NONE) {
         WANT(status == ETHERPARSE_REFUSED);
         look_at_refusal(&packet.refusal);
@@ -129,7 +291,10 @@ static void look_at_building(const uint8_t *payload, size_t len, uint32_t choice
     WANT(etherparse_slice(entry, 0, buffer, written, &packet) == ETHERPARSE_OK);
     WANT(packet.source_port == 21 && packet.destination_port == 1234 && packet.payload.len == len);
     WANT(len == 0 || memcmp(buffer + packet.payload.offset, payload, len) == 0);
-    if (route.version == 4) WANT(etherparse_checksum(buffer + packet.net.offset, 20) == 0);
+    struct etherparse_fields fields;
+    WANT(etherparse_checksums(entry, 0, buffer, written, &fields) == ETHERPARSE_OK);
+    WANT(fields.transport_checksum == ETHERPARSE_CHECKSUM_VALID);
+    if (route.version == 4) WANT(fields.header_checksum == ETHERPARSE_CHECKSUM_VALID);
     memset(buffer, MARK, room + 1);
     size_t less = written - 1;
     WANT(etherparse_build_udp(&route, 21, 1234, payload, len, buffer, less, &written) == ETHERPARSE_TOO_SMALL);
@@ -405,6 +570,7 @@ int LLVMFuzzerTestOneInput(const uint8_t *input, size_t left) {
         if (status == ETHERPARSE_OK) {
             WANT(packet.refusal.kind == ETHERPARSE_REFUSAL_NONE && packet.payload.incomplete == 0);
             look_at_packet(&packet, entry, len);
+            look_at_fields(&packet, frame, len);
             const uint8_t *payload = frame + packet.payload.offset;
             look_at_building(payload, packet.payload.len, (uint32_t)len);
             look_at_tagged(payload, packet.payload.len, (uint32_t)len + (len != 0 ? frame[len / 2] : 0u));
@@ -425,3 +591,18 @@ int LLVMFuzzerTestOneInput(const uint8_t *input, size_t left) {
     etherparse_pool_free(pool);
     return 0;
 }
+
+#ifdef ETHERPARSE_FUZZ_ONCE
+int main(int argc, char **argv) {
+    static uint8_t input[ROOM];
+    for (int i = 1; i < argc; i++) {
+        FILE *file = fopen(argv[i], "rb");
+        if (!file) return perror(argv[i]), 1;
+        size_t len = fread(input, 1, sizeof input, file);
+        fclose(file);
+        LLVMFuzzerTestOneInput(input, len);
+    }
+    printf("%d inputs\n", argc - 1);
+    return 0;
+}
+#endif

@@ -25,6 +25,10 @@ int mistakes(const uint8_t *frame, size_t len, struct etherparse_packet *packet)
 #elif defined(NULL_FRAME)
     (void)frame, (void)len;
     enum etherparse_status status = etherparse_slice(ETHERPARSE_ENTRY_IP, 0, NULL, 14, packet);
+#elif defined(NULL_BYTES)
+    (void)frame, (void)len;
+    struct etherparse_fields fields;
+    enum etherparse_status status = etherparse_fields(packet, NULL, 14, &fields);
 #else
     enum etherparse_status status = etherparse_slice(ETHERPARSE_ENTRY_IP, 0, frame, len, packet);
 #endif

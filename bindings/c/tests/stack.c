@@ -40,6 +40,12 @@ static void slice_lax_many(void) {
     const size_t ends[4] = {40, frame_len, 2 * frame_len, 2 * frame_len + 40};
     status = etherparse_slice_lax_many(ETHERPARSE_ENTRY_ETHERNET, 0, frame, 3 * frame_len, ends, 4, packets, &sliced);
 }
+static struct etherparse_fields read_fields;
+static const uint8_t *bytes; /* bytes of `packet` */
+static size_t bytes_len;
+static void fields(void) { status = etherparse_fields(&packet, bytes, bytes_len, &read_fields); }
+static uint32_t bytes_entry;
+static void checksums(void) { status = etherparse_checksums(bytes_entry, 0, bytes, bytes_len, &read_fields); }
 static void text(void) {
     status = etherparse_refusal_text(&packet.refusal, (char *)buffer, ETHERPARSE_REFUSAL_TEXT_MAX, &written);
 }
@@ -178,6 +184,34 @@ static void cut(size_t from, size_t to, uint8_t more) {
     if (etherparse_build_fragment(&tagged, &fragment, payload, to - from, frame, sizeof frame, &frame_len)) exit(2);
 }
 
+/* Measures the checksums and fields of a packet, and then the fields of its description with too few bytes. */
+static void fields_of(uint32_t entry, const uint8_t *frame, size_t len) {
+    bytes = frame, bytes_len = len, bytes_entry = entry;
+    NEEDS(checksums, ETHERPARSE_OK);
+    if (etherparse_slice_lax(entry, 0, bytes, bytes_len, &packet)) exit(2);
+    NEEDS(fields, ETHERPARSE_OK);
+    bytes_len = 13;
+    NEEDS(fields, ETHERPARSE_UNKNOWN_CHOICE);
+}
+
+/* Measures the fields of a packet of each kind. */
+static void fields_of_each(void) {
+    static const uint8_t arp[42] = {[12] = 8, 6, 0, 1, 8, 0, 6, 4, 0, 1};
+    static const uint8_t cooked[44] = {[3] = 1, [14] = 8, 6, 0, 1, 8, 0, 6, 4, 0, 1};
+    static const uint8_t macsec[30] = {[12] = 0x88, 0xe5, 0x20, [28] = 0x12, 0x34};
+    static uint8_t built[200];
+    size_t len;
+    fields_of(ETHERPARSE_ENTRY_ETHERNET, frame, frame_len);
+    fields_of(ETHERPARSE_ENTRY_ETHERNET, frame, tagged.route.version == 4 ? 46 : 66); /* with ports alone */
+    fields_of(ETHERPARSE_ENTRY_ETHERNET, arp, sizeof arp);
+    fields_of(ETHERPARSE_ENTRY_LINUX_SLL, cooked, sizeof cooked);
+    fields_of(ETHERPARSE_ENTRY_ETHERNET, macsec, sizeof macsec);
+    if (etherparse_build_tagged_tcp(&tagged, &tcp, payload, 12, payload, 9, built, sizeof built, &len)) exit(2);
+    fields_of(ETHERPARSE_ENTRY_ETHERNET, built, len);
+    if (etherparse_build_tagged_icmp_echo(&tagged, 0, 1, 2, payload, 9, built, sizeof built, &len)) exit(2);
+    fields_of(ETHERPARSE_ENTRY_ETHERNET, built, len);
+}
+
 int main(void) {
     for (uint8_t number = 4; number <= 6; number = (uint8_t)(number + 2)) {
         tagged.route.version = number;
@@ -185,6 +219,7 @@ int main(void) {
             return 2;
         memcpy(frame + frame_len, frame, frame_len), memcpy(frame + 2 * frame_len, frame, frame_len);
         NEEDS(version, ETHERPARSE_VERSION);
+        fields_of_each();
         NEEDS(slice, ETHERPARSE_OK);
         NEEDS(slice_lax, ETHERPARSE_OK);
         NEEDS(slice_lax_cut, ETHERPARSE_OK);

@@ -198,9 +198,9 @@ struct slicing {
                        size_t, size_t *);
 };
 static const struct slicing strict = {"etherparse_slice_many", false, etherparse_slice, etherparse_slice_many,
-                                      etherparse_1_slice_many};
+                                      etherparse_2_slice_many};
 static const struct slicing lax = {"etherparse_slice_lax_many", true, etherparse_slice_lax, etherparse_slice_lax_many,
-                                   etherparse_1_slice_lax_many};
+                                   etherparse_2_slice_lax_many};
 
 /* Many frames in one call: all of them, also truncated ones, up to an invalid end, and none. */
 static void many(const struct slicing *slices) {
@@ -329,6 +329,94 @@ static void slices_laxly(void) {
     WANT(packet.refusal.layer == ETHERPARSE_LAYER_IPV4_HEADER && packet.refusal.required_len == 20);
     WANT(requests == 0);
     printf("etherparse_slice_lax: each cut of a frame shows its front, and says where it stops and what is missing\n");
+}
+
+/* Reads fields over two patterns, and returns whether the status is `wanted` and both runs wrote equal bytes, except
+ * padding: zeros, if `is_nothing`. The struct has 28 bytes of padding on x86-64. */
+static bool reads(const struct etherparse_packet *packet, const uint8_t *bytes, size_t len, uint32_t wanted,
+                  bool is_nothing, struct etherparse_fields *fields) {
+    struct etherparse_fields other;
+    const uint8_t *one = (const uint8_t *)fields, *two = (const uint8_t *)&other;
+    size_t padding = 0;
+    memset(fields, 0xff, sizeof *fields);
+    memset(&other, 0, sizeof other);
+    if (etherparse_fields(packet, bytes, len, fields) != wanted) return false;
+    if (etherparse_fields(packet, bytes, len, &other) != wanted) return false;
+    for (size_t i = 0; i < sizeof other; i++) {
+        if (one[i] != two[i]) padding++;
+        else if (is_nothing && one[i] != 0) return false;
+    }
+    return padding <= 28;
+}
+
+/* Fields of packets, of truncated ones and of refused ones; descriptions of other bytes, and null pointers. */
+static void fields(void) {
+    struct etherparse_packet packet, other;
+    struct etherparse_fields it, *volatile none = NULL;
+    const struct etherparse_packet *volatile no_packet = NULL;
+    const uint8_t *volatile no_bytes = NULL;
+    struct etherparse_route over_ipv6 = {.version = 6, .hop_limit = 9, .ipv6_source = {0xfe, [15] = 1}};
+    WANT(etherparse_build_udp(&route, 21, 1234, payload, 8, buffer, ROOM, &written) == ETHERPARSE_OK && written == 50);
+    requests = 0;
+    WANT(etherparse_slice(ETHERPARSE_ENTRY_ETHERNET, 0, buffer, 50, &packet) == ETHERPARSE_OK);
+    WANT(reads(&packet, buffer, 50, ETHERPARSE_OK, false, &it));
+    WANT(it.link.ether_type == 0x0800 && it.tags[0].kind == 0 && it.arp.operation == 0 && it.ip.version == 4);
+    WANT(memcmp(it.ip.source, route.ipv4_source, 4) == 0 && memcmp(it.ip.destination, route.ipv4_destination, 4) == 0);
+    WANT(it.ip.hop_limit == 20 && it.ip.number == 17 && it.ip.dont_fragment == 1 && it.ip.more_fragments == 0);
+    WANT(it.ip.length == 36 && it.ip.options.offset == 34 && it.ip.options.len == 0);
+    WANT(it.transport.source_port == 21 && it.transport.destination_port == 1234 && it.transport.udp_length == 16);
+    WANT(etherparse_fields(&packet, buffer, 50, none) == ETHERPARSE_OK);
+    /* bytes that do not have the described headers: too few, and with another version of IP */
+    for (size_t len = 0; len < 42; len++) WANT(reads(&packet, buffer, len, ETHERPARSE_UNKNOWN_CHOICE, true, &it));
+    WANT(etherparse_fields(&packet, buffer, 41, none) == ETHERPARSE_UNKNOWN_CHOICE);
+    WANT(reads(&packet, buffer + 1, 49, ETHERPARSE_UNKNOWN_CHOICE, true, &it));
+    /* null pointers; null bytes have no length */
+    WANT(reads(no_packet, buffer, 50, ETHERPARSE_UNKNOWN_CHOICE, true, &it));
+    WANT(etherparse_fields(no_packet, no_bytes, 50, none) == ETHERPARSE_UNKNOWN_CHOICE);
+    for (size_t len = 0; len < 2; len++) {
+        WANT(reads(&packet, no_bytes, 50 * len, ETHERPARSE_UNKNOWN_CHOICE, true, &it));
+        WANT(etherparse_slice(4, 0, buffer, 50, &other) == ETHERPARSE_UNKNOWN_CHOICE);
+        WANT(reads(&other, no_bytes, 50 * len, ETHERPARSE_OK, true, &it));
+    }
+    /* no layer, and the ports of a truncated header */
+    WANT(etherparse_slice(ETHERPARSE_ENTRY_ETHERNET, 0, buffer, 41, &other) == ETHERPARSE_REFUSED);
+    WANT(reads(&other, buffer, 41, ETHERPARSE_OK, true, &it));
+    for (size_t len = 34; len < 42; len++) {
+        WANT(etherparse_slice_lax(ETHERPARSE_ENTRY_ETHERNET, 0, buffer, len, &other) == ETHERPARSE_OK);
+        WANT(reads(&other, buffer, len, ETHERPARSE_OK, false, &it) && other.source_port == 0);
+        WANT(it.transport.source_port == (len < 38 ? 0 : 21) && it.transport.destination_port == (len < 38 ? 0 : 1234));
+        WANT(it.ip.hop_limit == 20 && it.transport.udp_length == 0);
+    }
+    /* a description whose numbers are too great for its bytes, for each of its numbers */
+    for (size_t i = 0; i + 4 <= sizeof packet; i += 4) {
+        other = packet;
+        memset((uint8_t *)&other + i, 0xff, 4);
+        uint32_t status = etherparse_fields(&other, buffer, 50, &it);
+        WANT(status == ETHERPARSE_OK || status == ETHERPARSE_UNKNOWN_CHOICE);
+    }
+    packet.net.kind = 5;
+    WANT(reads(&packet, buffer, 50, ETHERPARSE_UNKNOWN_CHOICE, true, &it));
+    WANT(tcp(&over_ipv6, 8, ROOM) == ETHERPARSE_OK);
+    WANT(etherparse_slice(ETHERPARSE_ENTRY_IP, 0, buffer, written, &packet) == ETHERPARSE_OK);
+    WANT(reads(&packet, buffer, written, ETHERPARSE_OK, false, &it));
+    WANT(it.transport.tcp_flags == ETHERPARSE_TCP_SYN && it.transport.data_offset == 5 && it.ip.hop_limit == 9);
+    WANT(memcmp(it.ip.source, over_ipv6.ipv6_source, 16) == 0 && it.link.ether_type == 0);
+    /* verdicts, which leave the other fields unchanged */
+    WANT(etherparse_checksums(ETHERPARSE_ENTRY_IP, 0, buffer, written, &it) == ETHERPARSE_OK);
+    WANT(it.header_checksum == ETHERPARSE_CHECKSUM_NONE && it.transport_checksum == ETHERPARSE_CHECKSUM_VALID);
+    buffer[written - 1] ^= 1;
+    WANT(etherparse_checksums(ETHERPARSE_ENTRY_IP, 0, buffer, written, &it) == ETHERPARSE_OK);
+    WANT(it.transport_checksum == ETHERPARSE_CHECKSUM_INVALID && it.transport.tcp_flags == ETHERPARSE_TCP_SYN);
+    WANT(etherparse_checksums(ETHERPARSE_ENTRY_IP, 0, buffer, written - 1, &it) == ETHERPARSE_OK);
+    WANT(it.transport_checksum == ETHERPARSE_CHECKSUM_UNKNOWN && it.ip.hop_limit == 9);
+    WANT(etherparse_checksums(4, 0, buffer, written, &it) == ETHERPARSE_UNKNOWN_CHOICE && it.transport_checksum == 0);
+    it.transport_checksum = it.header_checksum = 7;
+    WANT(etherparse_checksums(ETHERPARSE_ENTRY_IP, 0, no_bytes, 50, &it) == ETHERPARSE_REFUSED);
+    WANT(it.transport_checksum == 0 && it.header_checksum == 0);
+    WANT(etherparse_checksums(ETHERPARSE_ENTRY_IP, 0, buffer, written, none) == ETHERPARSE_OK);
+    WANT(requests == 0);
+    printf("etherparse_fields: none of other bytes; of a truncated header its ports; null pointers are answered\n");
+    printf("etherparse_checksums: each status; the other fields stay\n");
 }
 
 static void refusals(void) {
@@ -864,7 +952,7 @@ static void filters(void) {
         WANT(matched == 2 && all[1] == rows[i].cut && all[2] == 7);
         WANT(etherparse_filter_matches_many(filter, 4, 0, frame, total, ends, 3, NULL, all, &matched)
              == ETHERPARSE_UNKNOWN_CHOICE);
-        WANT(matched == 0 && etherparse_1_filter_matches_many(filter, 0, 0, frame, total, ends, 3, wire_lens, 0, all, 2,
+        WANT(matched == 0 && etherparse_2_filter_matches_many(filter, 0, 0, frame, total, ends, 3, wire_lens, 0, all, 2,
                                                               &matched)
                                  == ETHERPARSE_TOO_SMALL);
         target = NULL;
@@ -929,6 +1017,7 @@ int main(void) {
     slices_laxly();
     many(&strict);
     many(&lax);
+    fields();
     nulls();
     pools();
     bounded_pools();

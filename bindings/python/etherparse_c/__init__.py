@@ -9,6 +9,8 @@ Errors are raised. Any call may be made from any thread; calls on one pool or fi
     >>> packet = etherparse_c.slice(datagram, etherparse_c.Entry.IP)
     >>> packet.transport.kind == etherparse_c.TransportKind.UDP, packet.destination_port, packet.payload_bytes
     (True, 1234, b'hello')
+    >>> packet.source, packet.ttl, packet.tcp_flags
+    (IPv4Address('10.0.0.1'), 64, None)
 """
 
 from __future__ import annotations
@@ -22,25 +24,29 @@ import pathlib
 import threading
 from array import array
 from dataclasses import dataclass
+from ipaddress import IPv4Address, IPv6Address
 from typing import Any, Iterable, Iterator, NamedTuple, Optional, Sequence, Tuple, Union, overload
 
 __all__ = [
     "VERSION", "MAX_PAYLOAD", "Status", "Entry", "LinkKind", "ExtKind", "NetKind", "TransportKind", "LenSource",
-    "RefusalKind", "Layer", "TcpFlag", "FragmentRefusal", "OverlapPolicy", "EvictionCause", "FilterErrorKind", "Packet",
-    "Packets", "Part", "LinkExt", "Ip", "Payload", "Refusal", "Route", "TcpFields", "FragmentFields", "EtherparseError",
-    "Refused", "FragmentRefused", "StreamDiscarded", "OverBudget", "TooLong", "UnknownChoice", "FilterError", "Filter",
-    "Pool", "PoolPayload",
-    "BoundedPool", "DefragLimits", "DefragStatistics", "StreamId", "EvictedStream", "slice", "slice_lax", "slice_many",
-    "slice_lax_many", "build_udp", "build_tcp", "build_icmp_echo", "build_fragment", "checksum", "version",
+    "RefusalKind", "Layer", "TcpFlag", "MacsecFlag", "ChecksumVerdict", "FragmentRefusal", "OverlapPolicy",
+    "EvictionCause", "FilterErrorKind", "IpAddress", "Packet", "Packets", "Part", "LinkExt", "Ip", "Payload", "Refusal",
+    "VlanTag", "MacsecTag", "LinuxSll", "Arp", "Checksums", "Fields", "LinkFields", "TagFields", "IpFields",
+    "ArpFields", "TransportFields", "Place", "Route", "TcpFields", "FragmentFields", "EtherparseError", "Refused",
+    "FragmentRefused", "StreamDiscarded", "OverBudget", "TooLong", "UnknownChoice", "FilterError", "Filter", "Pool",
+    "PoolPayload", "BoundedPool", "DefragLimits", "DefragStatistics", "StreamId", "EvictedStream", "slice", "slice_lax",
+    "slice_many", "slice_lax_many", "build_udp", "build_tcp", "build_icmp_echo", "build_fragment", "checksum",
+    "version",
 ]
 
-VERSION = 100
+VERSION = 200
 """Version of this module: 10000 times the major number, plus 100 times the minor one, plus the patch."""
 
 MAX_PAYLOAD = 65535
 """Maximum payload length in a pool without a limit of its own, in bytes."""
 
 Bytes = Union[bytes, bytearray, memoryview]
+IpAddress = Union[IPv4Address, IPv6Address]
 
 
 class Status(enum.IntEnum):
@@ -157,7 +163,7 @@ class Layer(enum.IntEnum):
 
 
 class TcpFlag(enum.IntFlag):
-    """Flags of TCP."""
+    """Flags of TCP. NS is only in the fields of a packet, not in those of a header to build."""
 
     FIN = 1
     SYN = 2
@@ -167,6 +173,35 @@ class TcpFlag(enum.IntFlag):
     URG = 32
     ECE = 64
     CWR = 128
+    NS = 256
+
+
+class MacsecFlag(enum.IntFlag):
+    """Flags of a MACsec tag (SecTAG, IEEE 802.1AE)."""
+
+    C = 4
+    """The payload's text is changed."""
+    E = 8
+    """The payload is encrypted."""
+    SCB = 16
+    """Single copy broadcast."""
+    SC = 32
+    """The tag has a secure channel identifier (SCI)."""
+    ES = 64
+    """End station: the source MAC address identifies the secure channel."""
+
+
+class ChecksumVerdict(enum.IntEnum):
+    """Verdict on a checksum. NONE: the packet has no such header (transport layer: and is no fragment). ABSENT: UDP
+    over IPv4 with checksum 0. UNKNOWN: the payload is a fragment, is incomplete, or is counted by no length field; the
+    UDP length does not count the datagram; a source route or routing header may contain the destination address; or
+    ICMPv6 over IPv4."""
+
+    NONE = 0
+    VALID = 1
+    INVALID = 2
+    ABSENT = 3
+    UNKNOWN = 4
 
 
 class FragmentRefusal(enum.IntEnum):
@@ -304,14 +339,225 @@ class Refusal(_Struct):
     def __str__(self) -> str:
         """Returns the text of the error."""
         buffer, written = (ctypes.c_uint8 * 142)(), ctypes.c_size_t()
-        status = _library.etherparse_1_refusal_text(ctypes.byref(self), buffer, 142, ctypes.byref(written))
+        status = _library.etherparse_2_refusal_text(ctypes.byref(self), buffer, 142, ctypes.byref(written))
         if status == Status.OUT_OF_MEMORY:
             raise MemoryError
         return bytes(buffer[: written.value - 1]).decode("ascii") if status == Status.OK else "no refusal"
 
 
+class Place(_Struct):
+    """Bytes of a packet, as the options of a header: their offset in the packet, and their number."""
+
+    offset: int
+    len: int
+    _fields_ = [("offset", ctypes.c_size_t), ("len", ctypes.c_size_t)]
+
+
+class LinkFields(_Struct):
+    """Fields of the link header. Those of the other kind of header are 0, and all without a link header."""
+
+    destination: Sequence[int]
+    source: Sequence[int]
+    ether_type: int
+    packet_type: int
+    hardware_type: int
+    address_len: int
+    address: Sequence[int]
+    protocol: int
+    _fields_ = [
+        ("destination", ctypes.c_uint8 * 6), ("source", ctypes.c_uint8 * 6), ("ether_type", ctypes.c_uint16),
+        ("packet_type", ctypes.c_uint16), ("hardware_type", ctypes.c_uint16), ("address_len", ctypes.c_uint16),
+        ("address", ctypes.c_uint8 * 8), ("protocol", ctypes.c_uint16),
+    ]
+
+
+class TagFields(_Struct):
+    """Fields of a tag. Those of the other kind of tag are 0, and all without a tag."""
+
+    kind: int
+    vlan_id: int
+    ether_type: int
+    priority: int
+    drop_eligible: int
+    macsec_flags: int
+    association_number: int
+    short_len: int
+    packet_number: int
+    sci: int
+    _fields_ = [
+        ("kind", ctypes.c_uint32), ("vlan_id", ctypes.c_uint16), ("ether_type", ctypes.c_uint16),
+        ("priority", ctypes.c_uint8), ("drop_eligible", ctypes.c_uint8), ("macsec_flags", ctypes.c_uint8),
+        ("association_number", ctypes.c_uint8), ("short_len", ctypes.c_uint8), ("packet_number", ctypes.c_uint32),
+        ("sci", ctypes.c_uint64),
+    ]
+
+
+class IpFields(_Struct):
+    """Fields of the IP header; all 0 if the packet is not IP. An IPv4 address is the first 4 bytes of its array."""
+
+    version: int
+    number: int
+    next_header: int
+    hop_limit: int
+    dscp: int
+    ecn: int
+    dont_fragment: int
+    more_fragments: int
+    fragment_offset: int
+    length: int
+    checksum: int
+    identification: int
+    flow_label: int
+    source: Sequence[int]
+    destination: Sequence[int]
+    options: Place
+    _fields_ = [
+        ("version", ctypes.c_uint8), ("number", ctypes.c_uint8), ("next_header", ctypes.c_uint8),
+        ("hop_limit", ctypes.c_uint8), ("dscp", ctypes.c_uint8), ("ecn", ctypes.c_uint8),
+        ("dont_fragment", ctypes.c_uint8), ("more_fragments", ctypes.c_uint8), ("fragment_offset", ctypes.c_uint16),
+        ("length", ctypes.c_uint16), ("checksum", ctypes.c_uint16), ("identification", ctypes.c_uint32),
+        ("flow_label", ctypes.c_uint32), ("source", ctypes.c_uint8 * 16), ("destination", ctypes.c_uint8 * 16),
+        ("options", Place),
+    ]
+
+
+class ArpFields(_Struct):
+    """Fields of the ARP packet, and the places of its addresses; all 0 if the packet is not ARP."""
+
+    hardware_type: int
+    protocol_type: int
+    hardware_len: int
+    protocol_len: int
+    operation: int
+    sender_hardware: Place
+    sender_protocol: Place
+    target_hardware: Place
+    target_protocol: Place
+    _fields_ = [
+        ("hardware_type", ctypes.c_uint16), ("protocol_type", ctypes.c_uint16), ("hardware_len", ctypes.c_uint8),
+        ("protocol_len", ctypes.c_uint8), ("operation", ctypes.c_uint16), ("sender_hardware", Place),
+        ("sender_protocol", Place), ("target_hardware", Place), ("target_protocol", Place),
+    ]
+
+
+class TransportFields(_Struct):
+    """Fields of the transport header. Those that it does not have are 0, and all without a transport header, except
+    for the ports of a truncated or invalid one."""
+
+    source_port: int
+    destination_port: int
+    checksum: int
+    udp_length: int
+    sequence_number: int
+    acknowledgment_number: int
+    tcp_flags: int
+    window_size: int
+    urgent_pointer: int
+    data_offset: int
+    icmp_type: int
+    icmp_code: int
+    icmp_rest: Sequence[int]
+    options: Place
+    _fields_ = [
+        ("source_port", ctypes.c_uint16), ("destination_port", ctypes.c_uint16), ("checksum", ctypes.c_uint16),
+        ("udp_length", ctypes.c_uint16), ("sequence_number", ctypes.c_uint32),
+        ("acknowledgment_number", ctypes.c_uint32), ("tcp_flags", ctypes.c_uint16), ("window_size", ctypes.c_uint16),
+        ("urgent_pointer", ctypes.c_uint16), ("data_offset", ctypes.c_uint8), ("icmp_type", ctypes.c_uint8),
+        ("icmp_code", ctypes.c_uint8), ("icmp_rest", ctypes.c_uint8 * 4), ("options", Place),
+    ]
+
+
+class Fields(_Struct):
+    """Fields of all headers of a packet, as in the C header. The checksums are fields of `ip` and `transport`; the
+    verdicts `header_checksum` and `transport_checksum` are 0, and Packet.checksums has them."""
+
+    link: LinkFields
+    tags: Sequence[TagFields]
+    ip: IpFields
+    arp: ArpFields
+    transport: TransportFields
+    header_checksum: int
+    transport_checksum: int
+    _fields_ = [
+        ("link", LinkFields), ("tags", TagFields * 3), ("ip", IpFields), ("arp", ArpFields),
+        ("transport", TransportFields), ("header_checksum", ctypes.c_uint32), ("transport_checksum", ctypes.c_uint32),
+    ]
+
+
+class VlanTag(NamedTuple):
+    """VLAN tag (IEEE 802.1Q)."""
+
+    vlan_id: int
+    """VLAN identifier (VID), 0 to 4095."""
+    priority: int
+    """Priority code point (PCP), 0 to 7."""
+    drop_eligible: bool
+    """Drop eligible indicator (DEI): the frame may be dropped first under congestion."""
+    ether_type: int
+    """Ether type of the payload, which may be that of another tag."""
+
+
+class MacsecTag(NamedTuple):
+    """MACsec tag (SecTAG, IEEE 802.1AE)."""
+
+    flags: MacsecFlag
+    association_number: int
+    """Association number of the secure channel (AN), 0 to 3."""
+    short_len: int
+    """Short length (SL), 0 to 63: number of bytes after the SecTAG if it is below 48, else 0."""
+    packet_number: int
+    """Packet number (PN)."""
+    sci: Optional[int]
+    """Secure channel identifier (SCI), or None without the flag SC."""
+    ether_type: Optional[int]
+    """Ether type of the payload, or None if the payload is modified or encrypted."""
+
+
+class LinuxSll(NamedTuple):
+    """Linux cooked capture header (SLL v1)."""
+
+    packet_type: int
+    """Packet type, 0 to 7: 0 is sent to this host, 4 is sent by this host."""
+    hardware_type: int
+    """ARP hardware type of the device (ARPHRD)."""
+    address: bytes
+    """Sender's link-layer address; of a longer one its first 8 bytes."""
+    address_len: int
+    """Length of the sender's address in bytes; may be greater than 8."""
+    protocol: int
+    """Protocol of the payload: an ether type for most hardware types."""
+
+
+class Arp(NamedTuple):
+    """ARP packet (RFC 826). Of an IPv4 address, `ipaddress.ip_address` makes an IPv4Address."""
+
+    hardware_type: int
+    """Hardware type: 1 is Ethernet."""
+    protocol_type: int
+    """Protocol type: an ether type."""
+    operation: int
+    """Operation: 1 is a request, 2 a reply."""
+    sender_hardware: bytes
+    sender_protocol: bytes
+    target_hardware: bytes
+    target_protocol: bytes
+
+
+class Checksums(NamedTuple):
+    """Verdicts on the checksums of a packet."""
+
+    header: ChecksumVerdict
+    """Verdict on the header checksum of IPv4."""
+    transport: ChecksumVerdict
+    """Verdict on the checksum of the transport header."""
+
+
 class Packet(_Struct):
-    """Layers of a frame, or the error if the bytes are not a frame."""
+    """Layers of a frame, or the error if the bytes are not a frame.
+
+    The fields of its headers are attributes too: they are read from the bytes once, when the first of them is needed.
+    An attribute of a header that the packet does not have is None, or empty if it is a tuple or bytes of any length.
+    """
 
     link: Part
     link_exts: Sequence[LinkExt]
@@ -330,6 +576,10 @@ class Packet(_Struct):
         ("source_port", ctypes.c_uint16), ("destination_port", ctypes.c_uint16), ("net", Part), ("ip", Ip),
         ("transport", Part), ("payload", Payload), ("refusal", Refusal),
     ]
+
+    _read: Optional[Fields] = None
+    _verified: Optional[Checksums] = None
+    _entry: Tuple[int, int]
 
     def _bytes(self, part: Any) -> bytes:
         return self.frame[part.offset : part.offset + part.len]
@@ -365,9 +615,226 @@ class Packet(_Struct):
         return self.refusal if self.refusal.kind else None
 
     @property
+    def fields(self) -> Fields:
+        """Fields of all headers as numbers, read from the frame's bytes once; those of absent headers are 0.
+
+        Raises UnknownChoice if the headers are not at their places in the bytes, since one of the two was changed.
+        """
+        read = self._read
+        if read is None:
+            read = Fields()
+            if _library.etherparse_2_fields(self, self.frame, len(self.frame), read) != Status.OK:
+                raise UnknownChoice("the bytes do not have the headers at their places")
+            self._read = read  # another thread may do so too, with equal fields
+        return read
+
+    @property
+    def ethernet_source(self) -> Optional[bytes]:
+        """Source MAC address; its method hex(":") returns a text."""
+        return bytes(self.fields.link.source) if self.link.kind == LinkKind.ETHERNET2 else None
+
+    @property
+    def ethernet_destination(self) -> Optional[bytes]:
+        """Destination MAC address."""
+        return bytes(self.fields.link.destination) if self.link.kind == LinkKind.ETHERNET2 else None
+
+    @property
+    def ether_type(self) -> Optional[int]:
+        """Ether type in the Ethernet II header, which may be that of a tag."""
+        return self.fields.link.ether_type if self.link.kind == LinkKind.ETHERNET2 else None
+
+    @property
+    def linux_sll(self) -> Optional[LinuxSll]:
+        """Linux cooked capture header (SLL v1)."""
+        if self.link.kind != LinkKind.LINUX_SLL:
+            return None
+        link = self.fields.link
+        address = bytes(link.address)[: link.address_len]
+        return LinuxSll(link.packet_type, link.hardware_type, address, link.address_len, link.protocol)
+
+    @property
+    def tags(self) -> Tuple[Union[VlanTag, MacsecTag], ...]:
+        """VLAN and MACsec tags, from the outermost on."""
+        return tuple(_tag(tag) for tag in self.fields.tags if tag.kind) if self.link_ext_count else ()
+
+    @property
     def vlan_ids(self) -> Tuple[int, ...]:
         """Identifiers of the VLAN tags, from the outermost on."""
         return tuple(tag.vlan_id for tag in self.link_exts if tag.kind == ExtKind.VLAN)
+
+    @property
+    def vlan_priorities(self) -> Tuple[int, ...]:
+        """Priorities (PCP) of the VLAN tags, from the outermost on."""
+        return tuple(tag.priority for tag in self.tags if isinstance(tag, VlanTag))
+
+    @property
+    def source_bytes(self) -> bytes:
+        """Source address of IP: 4 or 16 bytes."""
+        ip = self.fields.ip
+        return bytes(ip.source)[: _ADDRESS_LENS[ip.version]]
+
+    @property
+    def destination_bytes(self) -> bytes:
+        """Destination address of IP: 4 or 16 bytes."""
+        ip = self.fields.ip
+        return bytes(ip.destination)[: _ADDRESS_LENS[ip.version]]
+
+    @property
+    def source(self) -> Optional[IpAddress]:
+        """Source address of IP, which each access creates anew."""
+        return _address(self.source_bytes)
+
+    @property
+    def destination(self) -> Optional[IpAddress]:
+        """Destination address of IP, which each access creates anew."""
+        return _address(self.destination_bytes)
+
+    @property
+    def protocol(self) -> Optional[int]:
+        """IP number (protocol) of the payload after the extension headers."""
+        return self.ip.number if self.ip.version else None
+
+    @property
+    def ttl(self) -> Optional[int]:
+        """Time to live (TTL) of IPv4, hop limit of IPv6."""
+        return self.fields.ip.hop_limit if self.ip.version else None
+
+    @property
+    def dscp(self) -> Optional[int]:
+        """Differentiated services code point of IP, 0 to 63."""
+        return self.fields.ip.dscp if self.ip.version else None
+
+    @property
+    def ecn(self) -> Optional[int]:
+        """Explicit congestion notification of IP, 0 to 3."""
+        return self.fields.ip.ecn if self.ip.version else None
+
+    @property
+    def identification(self) -> Optional[int]:
+        """Number that all fragments of an IP payload share; 0 in IPv6 without a fragment header."""
+        return self.ip.identification if self.ip.version else None
+
+    @property
+    def dont_fragment(self) -> Optional[bool]:
+        """Whether "don't fragment" (DF) of IPv4 is set."""
+        return self.fields.ip.dont_fragment != 0 if self.ip.version == 4 else None
+
+    @property
+    def more_fragments(self) -> Optional[bool]:
+        """Whether "more fragments" (MF) of IP is set; in IPv6 of the first fragment header."""
+        return self.ip.more_fragments != 0 if self.ip.version else None
+
+    @property
+    def fragment_offset(self) -> Optional[int]:
+        """Offset in the reassembled IP payload, in bytes; in IPv6 of the first fragment header."""
+        return self.ip.fragment_offset if self.ip.version else None
+
+    @property
+    def flow_label(self) -> Optional[int]:
+        """Flow label of IPv6, 20 bits."""
+        return self.fields.ip.flow_label if self.ip.version == 6 else None
+
+    @property
+    def ip_options(self) -> bytes:
+        """Options of IPv4."""
+        return self._bytes(self.fields.ip.options) if self.ip.version == 4 else b""
+
+    @property
+    def arp(self) -> Optional[Arp]:
+        """ARP packet."""
+        if self.net.kind != NetKind.ARP:
+            return None
+        arp = self.fields.arp
+        places = arp.sender_hardware, arp.sender_protocol, arp.target_hardware, arp.target_protocol
+        return Arp(arp.hardware_type, arp.protocol_type, arp.operation, *map(self._bytes, places))
+
+    @property
+    def ports(self) -> Optional[Tuple[int, int]]:
+        """Source and destination port of UDP or TCP. Lax slicing also has those of a truncated or invalid header, if
+        their 4 bytes are present; in `source_port` and `destination_port` they are 0."""
+        if self.transport.kind in _WITH_PORTS:
+            return self.source_port, self.destination_port
+        if self.ip.number not in _WITH_PORTS or self.ip.fragmented or self.payload.len < 4:
+            return None
+        return self.fields.transport.source_port, self.fields.transport.destination_port
+
+    @property
+    def tcp_flags(self) -> Optional[TcpFlag]:
+        """Flags of TCP."""
+        return TcpFlag(self.fields.transport.tcp_flags) if self.transport.kind == TransportKind.TCP else None
+
+    @property
+    def sequence_number(self) -> Optional[int]:
+        """Sequence number of TCP."""
+        return self.fields.transport.sequence_number if self.transport.kind == TransportKind.TCP else None
+
+    @property
+    def acknowledgment_number(self) -> Optional[int]:
+        """Acknowledgment number of TCP, valid with TcpFlag.ACK."""
+        return self.fields.transport.acknowledgment_number if self.transport.kind == TransportKind.TCP else None
+
+    @property
+    def window_size(self) -> Optional[int]:
+        """Window of TCP, not scaled."""
+        return self.fields.transport.window_size if self.transport.kind == TransportKind.TCP else None
+
+    @property
+    def urgent_pointer(self) -> Optional[int]:
+        """Urgent pointer of TCP, valid with TcpFlag.URG."""
+        return self.fields.transport.urgent_pointer if self.transport.kind == TransportKind.TCP else None
+
+    @property
+    def tcp_options(self) -> bytes:
+        """Options of TCP."""
+        return self._bytes(self.fields.transport.options) if self.transport.kind == TransportKind.TCP else b""
+
+    @property
+    def icmp_type(self) -> Optional[int]:
+        """Type of an ICMP or ICMPv6 message."""
+        return self.fields.transport.icmp_type if self.transport.kind in _ICMP else None
+
+    @property
+    def icmp_code(self) -> Optional[int]:
+        """Code of an ICMP or ICMPv6 message."""
+        return self.fields.transport.icmp_code if self.transport.kind in _ICMP else None
+
+    @property
+    def icmp_rest(self) -> Optional[bytes]:
+        """Bytes 4 to 7 of an ICMP or ICMPv6 message, whose meaning depends on the type."""
+        return bytes(self.fields.transport.icmp_rest) if self.transport.kind in _ICMP else None
+
+    @property
+    def checksums(self) -> Checksums:
+        """Verdicts on the checksums of the IPv4 header and the transport header, which read the payload once."""
+        verified = self._verified
+        if verified is None:
+            fields = Fields()  # of this call alone, since it writes them more than once
+            if self.net.kind:  # a rejected frame has no headers, although lax slicing may find some
+                _library.etherparse_2_checksums(*self._entry, self.frame, len(self.frame), fields)
+            verified = self._verified = Checksums(
+                ChecksumVerdict(fields.header_checksum), ChecksumVerdict(fields.transport_checksum))
+        return verified
+
+
+_ADDRESS_LENS = {0: 0, 4: 4, 6: 16}  # by the version of IP
+_WITH_PORTS = frozenset((6, 17))  # TCP and UDP
+_ICMP = frozenset((1, 58))
+
+
+def _address(packed: bytes) -> Optional[IpAddress]:
+    """Returns the IP address of 4 or 16 bytes, or None."""
+    if not packed:
+        return None
+    return IPv4Address(packed) if len(packed) == 4 else IPv6Address(packed)
+
+
+def _tag(tag: TagFields) -> Union[VlanTag, MacsecTag]:
+    if tag.kind == ExtKind.VLAN:
+        return VlanTag(tag.vlan_id, tag.priority, tag.drop_eligible != 0, tag.ether_type)
+    flags = MacsecFlag(tag.macsec_flags)
+    return MacsecTag(
+        flags, tag.association_number, tag.short_len, tag.packet_number, tag.sci if flags & MacsecFlag.SC else None,
+        None if flags & (MacsecFlag.C | MacsecFlag.E) else tag.ether_type)
 
 
 class EtherparseError(Exception):
@@ -434,7 +901,7 @@ class FilterError(EtherparseError, ValueError):
     def __init__(self, text: str, kind: int, start: int, end: int) -> None:
         self.text, self.kind, self.start, self.end = text, FilterErrorKind(kind), start, end
         buffer, written = (ctypes.c_uint8 * 80)(), ctypes.c_size_t()
-        _library.etherparse_1_filter_error_text(kind, buffer, 80, ctypes.byref(written))
+        _library.etherparse_2_filter_error_text(kind, buffer, 80, ctypes.byref(written))
         self.reason = bytes(buffer[: max(written.value, 1) - 1]).decode("ascii")
         """Text of the reason."""
         if self.kind == FilterErrorKind.LONG:
@@ -642,6 +1109,8 @@ _CALLS: dict[str, tuple[Any, tuple[Any, ...]]] = {
     "slice_lax": (_u32, (_u32, _u16, *_bytes_in, ctypes.POINTER(Packet))),
     "slice_many": (_u32, _many),
     "slice_lax_many": (_u32, _many),
+    "fields": (_u32, (ctypes.POINTER(Packet), *_bytes_in, ctypes.POINTER(Fields))),
+    "checksums": (_u32, (_u32, _u16, *_bytes_in, ctypes.POINTER(Fields))),
     "refusal_text": (_u32, (ctypes.POINTER(Refusal), *_bytes_out, _written)),
     "checksum": (_u16, _bytes_in),
     "build_tagged_udp": (_u32, (ctypes.POINTER(_TaggedRoute), _u16, _u16, *_bytes_in, *_bytes_out, _written)),
@@ -690,14 +1159,14 @@ _CALLS: dict[str, tuple[Any, tuple[Any, ...]]] = {
 def _loaded() -> Any:
     """Loads the shared object: that of ETHERPARSE_C_LIBRARY, or one in the folder of this module or in lib of a
     release, or the installed one."""
-    here, name = pathlib.Path(__file__).resolve().parent, "libetherparse_c.so.1"
+    here, name = pathlib.Path(__file__).resolve().parent, "libetherparse_c.so.2"
     given = os.environ.get("ETHERPARSE_C_LIBRARY")
     near = [path for path in (here / name, here.parent.parent / "lib" / name) if path.exists()]
     path = given or (str(near[0]) if near else name)
     try:
         library = ctypes.CDLL(path)
         for call, (restype, argtypes) in _CALLS.items():
-            function = getattr(library, f"etherparse_1_{call}")
+            function = getattr(library, f"etherparse_2_{call}")
             function.restype, function.argtypes = restype, argtypes
     except (OSError, AttributeError) as error:
         raise ImportError(
@@ -711,7 +1180,7 @@ _library = _loaded()
 
 def version() -> int:
     """Returns the version of the shared object, to be compared with VERSION."""
-    return int(_library.etherparse_1_version())
+    return int(_library.etherparse_2_version())
 
 
 def _as_bytes(given: Bytes) -> bytes:
@@ -725,7 +1194,7 @@ def slice(frame: Bytes, entry: int = 0, ether_type: int = 0) -> Packet:
 
     Raises Refused if the bytes are not a frame, and UnknownChoice if the entry is unknown.
     """
-    return _sliced(_library.etherparse_1_slice, frame, entry, ether_type)
+    return _sliced(_library.etherparse_2_slice, frame, entry, ether_type)
 
 
 def slice_lax(data: Bytes, entry: int = 0, ether_type: int = 0) -> Packet:
@@ -736,7 +1205,7 @@ def slice_lax(data: Bytes, entry: int = 0, ether_type: int = 0) -> Packet:
 
     Raises Refused if the first header is invalid, and UnknownChoice if the entry is unknown.
     """
-    return _sliced(_library.etherparse_1_slice_lax, data, entry, ether_type)
+    return _sliced(_library.etherparse_2_slice_lax, data, entry, ether_type)
 
 
 def _sliced(call: Any, frame: Bytes, entry: int, ether_type: int) -> Packet:
@@ -748,7 +1217,7 @@ def _sliced(call: Any, frame: Bytes, entry: int, ether_type: int) -> Packet:
     packet = Packet()
     status = call(entry, ether_type, frame, len(frame), packet)
     if status == 0:
-        packet.frame = frame
+        packet.frame, packet._entry = frame, (entry, ether_type)
         return packet
     if status == Status.REFUSED:
         raise Refused(packet.refusal)
@@ -759,8 +1228,8 @@ class Packets(Sequence[Packet]):
     """Result of slice_many and slice_lax_many: a packet for each frame. The kind of its refusal is not 0 if slice_many
     rejected the frame, or if slice_lax_many stopped at an error."""
 
-    def __init__(self, packets: Any, frames: Sequence[bytes]) -> None:
-        self._packets, self._frames = packets, frames
+    def __init__(self, packets: Any, frames: Sequence[bytes], entry: Tuple[int, int]) -> None:
+        self._packets, self._frames, self._entry = packets, frames, entry
 
     def __len__(self) -> int:
         return len(self._frames)
@@ -775,7 +1244,7 @@ class Packets(Sequence[Packet]):
         if isinstance(index, builtins.slice):
             return [self[i] for i in range(*index.indices(len(self)))]
         packet = self._packets[range(len(self))[index]]
-        packet.frame = self._frames[index]
+        packet.frame, packet._entry = self._frames[index], self._entry
         return packet
 
     def __iter__(self) -> Iterator[Packet]:
@@ -784,13 +1253,13 @@ class Packets(Sequence[Packet]):
 
 def slice_many(frames: Iterable[Bytes], entry: int = Entry.ETHERNET, ether_type: int = 0) -> Packets:
     """Slices many frames in one call. Errors are not raised: packet.refusal has the error of a rejected frame."""
-    return _sliced_many(_library.etherparse_1_slice_many, frames, entry, ether_type)
+    return _sliced_many(_library.etherparse_2_slice_many, frames, entry, ether_type)
 
 
 def slice_lax_many(frames: Iterable[Bytes], entry: int = Entry.ETHERNET, ether_type: int = 0) -> Packets:
     """Slices many packets in one call, each as slice_lax. Errors are not raised: packet.stop is the error of the first
     invalid layer. If that is the first header, the packet has no layers."""
-    return _sliced_many(_library.etherparse_1_slice_lax_many, frames, entry, ether_type)
+    return _sliced_many(_library.etherparse_2_slice_lax_many, frames, entry, ether_type)
 
 
 def _ends(frames: Sequence[bytes]) -> Any:
@@ -811,13 +1280,13 @@ def _sliced_many(call: Any, frames: Iterable[Bytes], entry: int, ether_type: int
         packets, count, sliced)
     if status != Status.OK:
         raise UnknownChoice(f"entry is {entry}")
-    return Packets(packets, kept)
+    return Packets(packets, kept, (entry, ether_type))
 
 
 def checksum(data: Bytes) -> int:
     """Returns the Internet checksum (RFC 1071) of the bytes."""
     data = _as_bytes(data)
-    return int(_library.etherparse_1_checksum(data, len(data)))
+    return int(_library.etherparse_2_checksum(data, len(data)))
 
 
 def _built(call: Any, arguments: tuple[Any, ...], payload: Bytes) -> bytes:
@@ -838,7 +1307,7 @@ def _built(call: Any, arguments: tuple[Any, ...], payload: Bytes) -> bytes:
 def build_udp(route: Route, source_port: int, destination_port: int, payload: Bytes) -> bytes:
     """Returns the frame of a UDP datagram. Raises TooLong and UnknownChoice."""
     ports = _number("source_port", source_port, 16), _number("destination_port", destination_port, 16)
-    return _built(_library.etherparse_1_build_tagged_udp, (route._to_c(), *ports), payload)
+    return _built(_library.etherparse_2_build_tagged_udp, (route._to_c(), *ports), payload)
 
 
 def build_tcp(route: Route, fields: TcpFields, payload: Bytes, options: Bytes = b"") -> bytes:
@@ -846,19 +1315,19 @@ def build_tcp(route: Route, fields: TcpFields, payload: Bytes, options: Bytes = 
     UnknownChoice."""
     options = _as_bytes(options)
     arguments = (route._to_c(), fields._to_c(), options, len(options))
-    return _built(_library.etherparse_1_build_tagged_tcp, arguments, payload)
+    return _built(_library.etherparse_2_build_tagged_tcp, arguments, payload)
 
 
 def build_icmp_echo(route: Route, is_reply: bool, id: int, seq: int, payload: Bytes) -> bytes:
     """Returns the frame of an ICMP echo message, or ICMPv6 if the version is 6. Raises TooLong and UnknownChoice."""
     arguments = (route._to_c(), bool(is_reply), _number("id", id, 16), _number("seq", seq, 16))
-    return _built(_library.etherparse_1_build_tagged_icmp_echo, arguments, payload)
+    return _built(_library.etherparse_2_build_tagged_icmp_echo, arguments, payload)
 
 
 def build_fragment(route: Route, fields: FragmentFields, payload: Bytes) -> bytes:
     """Returns the frame of a fragment of a longer payload. Needs up to 64 KB of stack, all other calls 2. Raises
     TooLong and UnknownChoice."""
-    return _built(_library.etherparse_1_build_fragment, (route._to_c(), fields._to_c()), payload)
+    return _built(_library.etherparse_2_build_fragment, (route._to_c(), fields._to_c()), payload)
 
 
 class PoolPayload(NamedTuple):
@@ -945,13 +1414,13 @@ class Pool(_AnyPool):
     its memory at the end; later calls raise ValueError.
     """
 
-    _push, _streams = _library.etherparse_1_pool_push, _library.etherparse_1_pool_streams
-    _free = _library.etherparse_1_pool_free
+    _push, _streams = _library.etherparse_2_pool_push, _library.etherparse_2_pool_streams
+    _free = _library.etherparse_2_pool_free
 
     def __init__(self, limit: int = MAX_PAYLOAD) -> None:
         super().__init__(_number("limit", limit, 16))
         pool = _pool()
-        if _library.etherparse_1_pool_with_limit(limit, ctypes.byref(pool)) != Status.OK:
+        if _library.etherparse_2_pool_with_limit(limit, ctypes.byref(pool)) != Status.OK:
             raise MemoryError
         self._pool = pool.value
 
@@ -959,12 +1428,12 @@ class Pool(_AnyPool):
         """Drops the streams whose last accepted fragment came before `timestamp`."""
         _number("timestamp", timestamp, 64)
         with self._lock:
-            _library.etherparse_1_pool_drop_older(self._open(), timestamp)
+            _library.etherparse_2_pool_drop_older(self._open(), timestamp)
 
     def bytes(self) -> int:
         """Returns the number of payload bytes, of each stream up to the greatest end of its fragments."""
         with self._lock:
-            return int(_library.etherparse_1_pool_bytes(self._open()))
+            return int(_library.etherparse_2_pool_bytes(self._open()))
 
     def __enter__(self) -> Pool:
         self._open()
@@ -988,7 +1457,7 @@ class DefragLimits:
 
     def _to_c(self) -> _DefragLimits:
         limits = _DefragLimits()
-        _library.etherparse_1_defrag_limits_default(ctypes.byref(limits))
+        _library.etherparse_2_defrag_limits_default(ctypes.byref(limits))
         for name, bits in (("streams", 64), ("bytes", 64), ("payload", 16), ("age", 64), ("overlap", 32)):
             value = getattr(self, name)
             if value is not None:
@@ -1050,8 +1519,8 @@ class BoundedPool(_AnyPool):
     closes it and frees its memory at the end; later calls raise ValueError.
     """
 
-    _push, _streams = _library.etherparse_1_bounded_pool_push, _library.etherparse_1_bounded_pool_streams
-    _free = _library.etherparse_1_bounded_pool_free
+    _push, _streams = _library.etherparse_2_bounded_pool_push, _library.etherparse_2_bounded_pool_streams
+    _free = _library.etherparse_2_bounded_pool_free
 
     def __init__(self, limits: DefragLimits = DefragLimits(), seed: Optional[Bytes] = None) -> None:
         given = limits._to_c()
@@ -1062,7 +1531,7 @@ class BoundedPool(_AnyPool):
         if len(seed) != 16:
             raise ValueError(f"the seed has {len(seed)} bytes, and not 16")
         pool = _pool()
-        status = _library.etherparse_1_bounded_pool_new(ctypes.byref(given), seed, ctypes.byref(pool))
+        status = _library.etherparse_2_bounded_pool_new(ctypes.byref(given), seed, ctypes.byref(pool))
         if status == Status.UNKNOWN_CHOICE:
             raise UnknownChoice(f"overlap is {given.overlap}")
         if status != Status.OK:
@@ -1074,34 +1543,34 @@ class BoundedPool(_AnyPool):
         `idle` before `now`, and returns their number."""
         _number("now", now, 64), _number("idle", idle, 64)
         with self._lock:
-            return int(_library.etherparse_1_bounded_pool_expire(self._open(), now, idle))
+            return int(_library.etherparse_2_bounded_pool_expire(self._open(), now, idle))
 
     def remove(self, id: StreamId) -> bool:
         """Removes the stream with this identifier, open or discarded, and returns whether there was one."""
         raw = id._to_c()
         with self._lock:
-            return bool(_library.etherparse_1_bounded_pool_remove(self._open(), ctypes.byref(raw)))
+            return bool(_library.etherparse_2_bounded_pool_remove(self._open(), ctypes.byref(raw)))
 
     def clear(self) -> None:
         """Removes all streams. The counters stay."""
         with self._lock:
-            _library.etherparse_1_bounded_pool_clear(self._open())
+            _library.etherparse_2_bounded_pool_clear(self._open())
 
     def discarded_streams(self) -> int:
         """Returns the number of discarded streams whose identifiers still count as streams of the limits."""
         with self._lock:
-            return int(_library.etherparse_1_bounded_pool_discarded_streams(self._open()))
+            return int(_library.etherparse_2_bounded_pool_discarded_streams(self._open()))
 
     def held_bytes(self) -> int:
         """Returns the memory of all streams in bytes: the capacities of their buffers."""
         with self._lock:
-            return int(_library.etherparse_1_bounded_pool_held_bytes(self._open()))
+            return int(_library.etherparse_2_bounded_pool_held_bytes(self._open()))
 
     def statistics(self) -> DefragStatistics:
         """Returns the counters since the pool was created."""
         statistics = DefragStatistics()
         with self._lock:
-            _library.etherparse_1_bounded_pool_statistics(self._open(), statistics)
+            _library.etherparse_2_bounded_pool_statistics(self._open(), statistics)
         return statistics
 
     def evicted(self) -> Tuple[EvictedStream, ...]:
@@ -1111,8 +1580,8 @@ class BoundedPool(_AnyPool):
         with self._lock:
             pool, raw = self._open(), _EvictedStream()
             streams = []
-            for index in range(_library.etherparse_1_bounded_pool_evicted_count(pool)):
-                _library.etherparse_1_bounded_pool_evicted(pool, index, raw)
+            for index in range(_library.etherparse_2_bounded_pool_evicted_count(pool)):
+                _library.etherparse_2_bounded_pool_evicted(pool, index, raw)
                 streams.append(_evicted_stream(raw))
         return tuple(streams)
 
@@ -1139,7 +1608,7 @@ class Filter:
         self._filter: Optional[int] = None
         self._lock = threading.Lock()
         given, made, error = text.encode(), _filter(), _FilterError()
-        status = _library.etherparse_1_filter_new(given, len(given), ctypes.byref(made), ctypes.byref(error))
+        status = _library.etherparse_2_filter_new(given, len(given), ctypes.byref(made), ctypes.byref(error))
         if status == Status.REFUSED:
             start, end = (len(given[:place].decode(errors="ignore")) for place in (error.start, error.end))
             raise FilterError(text, error.kind, start, end)
@@ -1163,7 +1632,7 @@ class Filter:
         length = _number("wire_len", len(frame) if wire_len is None else wire_len, 32)
         arguments = (_number("entry", entry, 32), _number("ether_type", ether_type, 16), frame, len(frame), length)
         with self._lock:
-            status = _library.etherparse_1_filter_matches(self._open(), *arguments, ctypes.byref(matched))
+            status = _library.etherparse_2_filter_matches(self._open(), *arguments, ctypes.byref(matched))
         if status != Status.OK:
             raise UnknownChoice(f"entry is {entry}")
         return matched.value != 0
@@ -1181,7 +1650,7 @@ class Filter:
         arguments = (_number("entry", entry, 32), _number("ether_type", ether_type, 16), joined, len(joined),
                      _ends(kept), count, (_u32 * max(len(lens), 1))(*lens), len(lens), answers, count)
         with self._lock:
-            status = _library.etherparse_1_filter_matches_many(self._open(), *arguments, ctypes.byref(matched))
+            status = _library.etherparse_2_filter_matches_many(self._open(), *arguments, ctypes.byref(matched))
         if status != Status.OK:
             raise UnknownChoice(f"entry is {entry}")
         return [answer != 0 for answer in answers[:count]]
@@ -1191,7 +1660,7 @@ class Filter:
         with self._lock:
             filter, buffer = self._open(), (_u8 * 1)()
             while True:
-                status = _library.etherparse_1_filter_text(filter, buffer, len(buffer), ctypes.byref(written))
+                status = _library.etherparse_2_filter_text(filter, buffer, len(buffer), ctypes.byref(written))
                 if status == Status.OK:
                     return bytes(buffer[: written.value - 1]).decode("ascii")
                 if status != Status.TOO_SMALL:
@@ -1206,7 +1675,7 @@ class Filter:
         with self._lock:
             filter, self._filter = self._filter, None
             if filter is not None:
-                _library.etherparse_1_filter_free(filter)
+                _library.etherparse_2_filter_free(filter)
 
     def __enter__(self) -> Filter:
         self._open()

@@ -142,8 +142,9 @@ class Header(unittest.TestCase):
         named = {name: int(number) for name, number in re.findall(r"ETHERPARSE_(\w+) = (\d+)", self.text)}
         kinds = {"ENTRY_": ep.Entry, "LINK_": ep.LinkKind, "EXT_": ep.ExtKind, "NET_": ep.NetKind,
                  "TRANSPORT_": ep.TransportKind, "END_": ep.LenSource, "REFUSAL_": ep.RefusalKind, "LAYER_": ep.Layer,
-                 "TCP_": ep.TcpFlag, "FRAGMENT_": ep.FragmentRefusal, "OVERLAP_": ep.OverlapPolicy,
-                 "EVICTED_": ep.EvictionCause, "FILTER_": ep.FilterErrorKind}
+                 "TCP_": ep.TcpFlag, "MACSEC_": ep.MacsecFlag, "CHECKSUM_": ep.ChecksumVerdict,
+                 "FRAGMENT_": ep.FragmentRefusal, "OVERLAP_": ep.OverlapPolicy, "EVICTED_": ep.EvictionCause,
+                 "FILTER_": ep.FilterErrorKind}
         here = {first + it.name: it.value for first, kind in kinds.items() for it in kind}
         here.update((it.name, it.value) for it in ep.Status)
         self.assertEqual(here, named)
@@ -158,7 +159,9 @@ class Header(unittest.TestCase):
                 "fragment_fields": ep._FragmentFields, "pool_answer": ep._PoolAnswer,
                 "defrag_limits": ep._DefragLimits, "defrag_statistics": ep.DefragStatistics,
                 "stream_id": ep._StreamId, "evicted_stream": ep._EvictedStream,
-                "filter_error": ep._FilterError}
+                "filter_error": ep._FilterError, "place": ep.Place, "link_fields": ep.LinkFields,
+                "tag_fields": ep.TagFields, "ip_fields": ep.IpFields, "arp_fields": ep.ArpFields,
+                "transport_fields": ep.TransportFields, "fields": ep.Fields}
         for name, struct_here in here.items():
             body = re.search(rf"^struct etherparse_{name} {{\n(.*?)^}};", self.text, re.MULTILINE | re.DOTALL)[1]
             body = re.sub(r"/\*.*?\*/", "", body, flags=re.DOTALL)
@@ -174,7 +177,7 @@ class Header(unittest.TestCase):
     def test_calls(self):
         """Each call is declared with the number of parameters of the header."""
         linked = self.text.split("/* ---- What is linked.")[1].split("/* The version of the archive")[0]
-        declared = dict(re.findall(r"etherparse_1_(\w+)\(([^)]*)\);", linked))
+        declared = dict(re.findall(r"etherparse_2_(\w+)\(([^)]*)\);", linked))
         for name, (_, argtypes) in ep._CALLS.items():
             count = 0 if declared[name] == "void" else declared[name].count(",") + 1
             self.assertEqual(len(argtypes), count, name)

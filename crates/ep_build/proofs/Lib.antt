@@ -10,3 +10,6 @@ pub mod ReadBackLemmas
 pub mod FitLemmas
 pub mod ByteListLemmas
 pub mod FrameBytesLemmas
+pub mod NetFoundLemmas
+pub mod BuiltVerdictLemmas
+pub mod BuiltFrameVerdictLemmas

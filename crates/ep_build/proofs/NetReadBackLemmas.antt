@@ -29,8 +29,9 @@ use Rattle.ep_ip.specs.declared.ipv6_header.Ipv6Header.{Ipv6Header}
 use Rattle.ep_packet.specs.FrameFragments.{FrameFragment, first_fragment, ipv4_fragment, ipv6_fragment, net_fragment}
 use Rattle.ep_packet.specs.Frame.{IsNetLayer, NetKind, any_ip, only_ipv4, only_ipv6}
 use Rattle.ep_packet.specs.IpHeaders.{EndsExtensions, FitIpHeaders, headers_for, headers_fragment}
-use Rattle.ep_packet.specs.IpHeaders.{ip_headers_of, ip_part_payload, payload_of_headers}
-use Rattle.ep_packet.specs.Layers.{NetLayer, ipv4_layer, ipv6_layer, net_payload}
+use Rattle.ep_packet.specs.IpHeaders.{ip_headers_of, ip_part_payload, payload_of_headers, with_checksum}
+use Rattle.ep_packet.specs.Layers.{NetLayer, ipv4 as ipv4_net, ipv6 as ipv6_net, arp as arp_net}
+use Rattle.ep_packet.specs.Layers.{ipv4_layer, ipv6_layer, net_payload}
 use Rattle.ep_packet.specs.declared.ip_headers.IpHeaders.{IpHeaders}
 use Rattle.ep_packet.specs.declared.ip_headers.IpHeaders.TheVariants as version
 use Rattle.ep_packet.proofs.IpHeadersLemmas.{read}
@@ -43,14 +44,25 @@ abbrev pub kind_of : IpHeaders → NetKind
 kind_of (version.Ipv4 header extensions) = only_ipv4
 kind_of (version.Ipv6 header extensions) = only_ipv6
 
--- The bytes are a network layer of the headers' version, with this payload, which carries the fragment that the headers
--- state.
-pub record NetOf (reading : Reading) (headers : IpHeaders) (bytes : List ℕ) (payload : IpPayload) : Type 0 where
+-- The network layer has these headers.
+abbrev pub HasHeaders : IpHeaders → NetLayer → Type 0
+HasHeaders (version.Ipv4 header extensions) (ipv4_net found parts payload) = found ≡ header
+HasHeaders (version.Ipv4 header extensions) (ipv6_net found parts payload) = ⊥
+HasHeaders (version.Ipv6 header extensions) (ipv4_net found parts payload) = ⊥
+HasHeaders (version.Ipv6 header extensions) (ipv6_net found parts payload) =
+    (found ≡ header) × (extensions_of parts ≡ extensions)
+HasHeaders headers (arp_net packet) = ⊥
+
+-- The bytes are a network layer of the headers' version, with this payload and these headers as written, which carries
+-- the fragment that the headers state.
+pub record NetOf (reading : Reading) (headers written : IpHeaders) (bytes : List ℕ) (payload : IpPayload)
+    : Type 0 where
   pub layer : NetLayer
   pub typed : IsNetLayer reading (kind_of headers) bytes layer
   pub any : IsNetLayer reading any_ip bytes layer
   pub has_payload : net_payload layer ≡ Some payload
   pub carries : (vlan_ids : List ℕ) → net_fragment vlan_ids layer ≡ headers_carry vlan_ids headers payload
+  pub has_headers : HasHeaders written layer
 
 -- ---- chains after which no extension header follows are equal in both readings
 
@@ -232,7 +244,7 @@ net_4 : (reading : Reading) (header there : Ipv4Header) (extensions these : Ipv4
     (payload : IpPayload) (part : IpPart) → ((vlan_ids : List ℕ)
     → ipv4_fragment vlan_ids there payload ≡ ipv4_fragment vlan_ids header payload) → IsIp by_value bytes part
     → ip_headers_of part ≡ version.Ipv4 there these → ip_part_payload part ≡ payload
-    → NetOf reading (version.Ipv4 header extensions) bytes payload
+    → NetOf reading (version.Ipv4 header extensions) (version.Ipv4 there these) bytes payload
 net_4 reading header there extensions these bytes payload (ipv4_part packet) same is same_headers same_payload =
     let here = in_reading_4 reading bytes packet is in
     let same_header : packet.header ≡ there = cc in record {
@@ -243,6 +255,7 @@ net_4 reading header there extensions these bytes payload (ipv4_part packet) sam
       carries = λ vlan_ids.
           ap (λ (h : Ipv4Header). ipv4_fragment vlan_ids h packet.payload) same_header
           ∙ ap (ipv4_fragment vlan_ids there) same_payload ∙ same vlan_ids;
+      has_headers = same_header;
     }
 net_4 reading header there extensions these bytes payload (ipv6_part packet) same is same_headers same_payload =
     absurd (cc)
@@ -252,7 +265,7 @@ net_6 : (reading : Reading) (header there : Ipv6Header) (extensions these : Ipv6
     → headers_carry vlan_ids (version.Ipv6 there these) payload
     ≡ headers_carry vlan_ids (version.Ipv6 header extensions) payload) → is_ipv6_extension payload.number ≡ false
     → IsIp by_value bytes part → ip_headers_of part ≡ version.Ipv6 there these → ip_part_payload part ≡ payload
-    → NetOf reading (version.Ipv6 header extensions) bytes payload
+    → NetOf reading (version.Ipv6 header extensions) (version.Ipv6 there these) bytes payload
 net_6 reading header there extensions these bytes payload (ipv4_part packet) same none is same_headers same_payload =
     absurd (cc)
 net_6 reading header there extensions these bytes payload (ipv6_part packet) same none is same_headers same_payload =
@@ -272,12 +285,13 @@ net_6 reading header there extensions these bytes payload (ipv6_part packet) sam
           (version.Ipv6 h (extensions_of packet.extensions)) packet.payload) same_header
           ∙ ap (λ (e : Ipv6Extensions). headers_carry vlan_ids (version.Ipv6 there e) packet.payload) same_extensions
           ∙ ap (headers_carry vlan_ids (version.Ipv6 there these)) same_payload ∙ same vlan_ids;
+      has_headers = (same_header, same_extensions);
     }
 
 -- Headers that are linked to a number of no extension header, with the length of their content, are read back.
 pub net_of : (reading : Reading) (headers : IpHeaders) (last : IpNumber) (content : List ℕ)
     → FitIpHeaders (headers_for headers last (length content)) → EndsExtensions headers last.0
-    → NetOf reading headers (ip_frame headers last content)
+    → NetOf reading headers (with_checksum (headers_for headers last (length content))) (ip_frame headers last content)
     (payload_of_headers (headers_for headers last (length content)) last content)
 net_of reading (version.Ipv4 header extensions) last content fit other =
     let back = read (version.Ipv4 header extensions) last content fit other in

@@ -34,7 +34,7 @@ use Rattle.ep_build.proofs.TransportReadBackLemmas.{transport_of}
 -- ---- IP
 
 -- The protocol number of a transport header is no extension header.
-ends_there : (headers : IpHeaders) (behind : TransportHeader) → EndsExtensions headers (transport_number behind)
+pub ends_there : (headers : IpHeaders) (behind : TransportHeader) → EndsExtensions headers (transport_number behind)
 ends_there (version.Ipv4 header extensions) (transport.Udp datagram) = λ same. absurd (omega arith)
 ends_there (version.Ipv4 header extensions) (transport.Tcp segment) = λ same. absurd (omega arith)
 ends_there (version.Ipv4 header extensions) (transport.Icmpv4 message) = λ same. absurd (omega arith)
@@ -45,11 +45,11 @@ ends_there (version.Ipv6 header extensions) (transport.Icmpv4 message) = refl
 ends_there (version.Ipv6 header extensions) (transport.Icmpv6 message) = refl
 
 -- A network layer of the headers' version, and the transport layer in its payload, are read.
-net_part : (reading : Reading) (headers : IpHeaders) (bytes : List ℕ) (payload : IpPayload)
-    (transport : Option TransportLayer) → (net : NetOf reading headers bytes payload)
+net_part : (reading : Reading) (headers written : IpHeaders) (bytes : List ℕ) (payload : IpPayload)
+    (transport : Option TransportLayer) → (net : NetOf reading headers written bytes payload)
     → IsTransportAfterNet reading (Some payload) transport
     → IsNetPart reading (Some (kind_of headers)) bytes (Some net.layer) transport
-net_part reading headers bytes payload transport net behind = (
+net_part reading headers written bytes payload transport net behind = (
   net.layer,
   net.typed,
   refl,
@@ -57,21 +57,21 @@ net_part reading headers bytes payload transport net behind = (
 )
 
 -- The ether type of IP headers is that of a network layer of their version.
-ip_is_net : (reading : Reading) (headers : IpHeaders) (bytes : List ℕ) (payload : IpPayload)
-    (transport : Option TransportLayer) → (net : NetOf reading headers bytes payload)
+pub ip_is_net : (reading : Reading) (headers written : IpHeaders) (bytes : List ℕ) (payload : IpPayload)
+    (transport : Option TransportLayer) → (net : NetOf reading headers written bytes payload)
     → IsTransportAfterNet reading (Some payload) transport
     → IsNet reading (as_ether_type (ip_headers_type headers)) bytes net.layer transport
-ip_is_net reading (version.Ipv4 header extensions) bytes payload transport net behind = record {
+ip_is_net reading (version.Ipv4 header extensions) written bytes payload transport net behind = record {
   small = omega arith;
   ether_type = omega arith;
   begins_none = λ begins. absurd (omega arith);
-  part = net_part reading (version.Ipv4 header extensions) bytes payload transport net behind;
+  part = net_part reading (version.Ipv4 header extensions) written bytes payload transport net behind;
 }
-ip_is_net reading (version.Ipv6 header extensions) bytes payload transport net behind = record {
+ip_is_net reading (version.Ipv6 header extensions) written bytes payload transport net behind = record {
   small = omega arith;
   ether_type = omega arith;
   begins_none = λ begins. absurd (omega arith);
-  part = net_part reading (version.Ipv6 header extensions) bytes payload transport net behind;
+  part = net_part reading (version.Ipv6 header extensions) written bytes payload transport net behind;
 }
 
 -- The frame of a transport header is read back.
@@ -97,7 +97,7 @@ read_back part headers behind payload fits_link fit fits bytes = λ whole its_le
       subst (λ (p : Option IpPayload). IsTransportAfterNet reading p (Some found.layer)) (sym net.has_payload) there,
     ) in
     let frame = frame_is reading part (transport_packet headers behind) entry (ip_frame headers last message) net.layer
-    (Some found.layer) fits_link of (ip_is_net reading headers _ _ (Some found.layer) net there) (λ is_ip. any) in
+    (Some found.layer) fits_link of (ip_is_net reading headers _ _ _ (Some found.layer) net there) (λ is_ip. any) in
     record {
       layers = frame.layers;
       is = frame.is;
@@ -138,7 +138,7 @@ fragment_read_back part headers last payload fits_link fit = λ found built othe
       subst (λ (p : Option IpPayload). IsTransportAfterNet reading p None) (sym net.has_payload) there,
     ) in
     let frame = frame_is reading part (ip_packet headers last) entry (ip_frame headers last payload) net.layer None
-    fits_link of (ip_is_net reading headers _ _ None net there) (λ is_ip. any) in
+    fits_link of (ip_is_net reading headers _ _ _ None net there) (λ is_ip. any) in
     record {
       layers = frame.layers;
       is = frame.is;

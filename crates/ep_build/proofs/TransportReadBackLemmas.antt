@@ -10,6 +10,7 @@ use Rattle.ep_base.specs.Readings.{Reading, slices, headers as by_value}
 use Rattle.ep_base.specs.Tables.{first_row, parts_of}
 use Rattle.ep_packet.specs.declared.ip_headers.IpHeaders.{IpHeaders}
 use Rattle.ep_packet.specs.declared.ip_headers.IpHeaders.TheVariants as version
+use Rattle.ep_packet.specs.Verdicts.{verdict_ipv4, verdict_ipv6}
 use Rattle.ep_transport.specs.Icmpv4.{icmpv4_parts, icmpv4_rows}
 use Rattle.ep_transport.specs.Icmpv6.{icmpv6_parts, icmpv6_rows}
 use Rattle.ep_transport.specs.PseudoHeaders.{pseudo_header_ipv4, pseudo_header_ipv6, segment_checksum_ipv4}
@@ -19,6 +20,8 @@ use Rattle.ep_transport.specs.Tcp.{FitsTcp, IsTcp, tcp_bytes, tcp_header_len}
 use Rattle.ep_transport.specs.TransportHeaders.{EncodesTransportHeader, transport_bytes}
 use Rattle.ep_transport.specs.TransportParts.{IsTransportPart, IsUdpPart, TransportLayer, transport_layer}
 use Rattle.ep_transport.specs.Udp.{FitsUdp, udp_bytes}
+use Rattle.ep_transport.specs.declared.icmpv4_header.Icmpv4Header.{Icmpv4Header}
+use Rattle.ep_transport.specs.declared.icmpv6_header.Icmpv6Header.{Icmpv6Header}
 use Rattle.ep_transport.specs.declared.tcp_header.TcpHeader.{TcpHeader}
 use Rattle.ep_transport.specs.declared.transport_header.TransportHeader.{TransportHeader}
 use Rattle.ep_transport.specs.declared.transport_header.TransportHeader.TheVariants as transport
@@ -29,14 +32,19 @@ use Rattle.ep_build.specs.BuiltFrames.{transport_between, transport_number}
 use Rattle.ep_build.specs.Fits.{FitsTransport}
 use Rattle.ep_build.specs.ReadBack.{HasItsLength, SumsUp, message_of}
 
--- The transport layer of a message.
-pub record TransportOf (reading : Reading) (number : ℕ) (headers : IpHeaders) (message : List ℕ) : Type 0 where
+-- The transport layer of a message with this header. The verdict about its checksum is that about the header.
+pub record TransportOf (reading : Reading) (number : ℕ) (headers : IpHeaders) (written : TransportHeader)
+    (message : List ℕ) : Type 0 where
   pub layer : TransportLayer
   pub part : IsTransportPart reading number false message (Some layer)
   pub header : List ℕ
   pub encodes : EncodesTransportHeader layer.header header
   pub parts : message ≡ header ++ layer.payload
   pub sums : SumsUp headers layer.header message
+  pub same_ipv4 : (source destination : List ℕ)
+      → verdict_ipv4 source destination layer.header message ≡ verdict_ipv4 source destination written message
+  pub same_ipv6 : (source destination : List ℕ)
+      → verdict_ipv6 source destination layer.header message ≡ verdict_ipv6 source destination written message
 
 -- ---- UDP
 
@@ -57,7 +65,7 @@ is_tcp header payload fits = record {
   whole = refl;
 }
 
-tcp_len : (header : TcpHeader) (payload : List ℕ)
+pub tcp_len : (header : TcpHeader) (payload : List ℕ)
     → length (tcp_bytes header ++ payload) ≡ tcp_header_len header + length payload
 tcp_len header payload = grind (arith, common_steps)
 
@@ -102,9 +110,9 @@ sums_6 : (headers : IpHeaders) (message : List ℕ)
 sums_6 (version.Ipv4 ip extensions) message = tt
 sums_6 (version.Ipv6 ip extensions) message = tt
 
-icmpv4_of : (reading : Reading) (headers : IpHeaders) (message : List ℕ) → AreBytes message
-    → first_row (icmpv4_rows message) ≡ None → TransportOf reading 1 headers message
-icmpv4_of reading headers message bytes none =
+icmpv4_of : (reading : Reading) (headers : IpHeaders) (header : Icmpv4Header) (message : List ℕ) → AreBytes message
+    → first_row (icmpv4_rows message) ≡ None → TransportOf reading 1 headers (transport.Icmpv4 header) message
+icmpv4_of reading headers header message bytes none =
     let is = icmpv4_is_read.reads message bytes none in record {
       layer = transport_layer (transport.Icmpv4 (icmpv4_parts message).header) (icmpv4_parts message).payload;
       part = (refl, (refl, is));
@@ -112,11 +120,13 @@ icmpv4_of reading headers message bytes none =
       encodes = is.encodes;
       parts = is.parts;
       sums = sums_4 headers message;
+      same_ipv4 = λ source destination. refl;
+      same_ipv6 = λ source destination. refl;
     }
 
-icmpv6_of : (reading : Reading) (headers : IpHeaders) (message : List ℕ) → AreBytes message
-    → first_row (icmpv6_rows message) ≡ None → TransportOf reading 58 headers message
-icmpv6_of reading headers message bytes none =
+icmpv6_of : (reading : Reading) (headers : IpHeaders) (header : Icmpv6Header) (message : List ℕ) → AreBytes message
+    → first_row (icmpv6_rows message) ≡ None → TransportOf reading 58 headers (transport.Icmpv6 header) message
+icmpv6_of reading headers header message bytes none =
     let is = icmpv6_is_read.reads message bytes none in record {
       layer = transport_layer (transport.Icmpv6 (icmpv6_parts message).header) (icmpv6_parts message).payload;
       part = (refl, (refl, is));
@@ -124,6 +134,8 @@ icmpv6_of reading headers message bytes none =
       encodes = is.encodes;
       parts = is.parts;
       sums = sums_6 headers message;
+      same_ipv4 = λ source destination. refl;
+      same_ipv6 = λ source destination. refl;
     }
 
 -- ---- all transport headers
@@ -133,7 +145,8 @@ udp_sums (version.Ipv4 ip extensions) header message = tt
 udp_sums (version.Ipv6 ip extensions) header message = tt
 
 udp_of : (reading : Reading) (headers : IpHeaders) (header : UdpHeader) (payload : List ℕ) → FitsUdp header
-    → header.length ≡ 8 + length payload → TransportOf reading 17 headers (udp_bytes header ++ payload)
+    → header.length ≡ 8 + length payload
+    → TransportOf reading 17 headers (transport.Udp header) (udp_bytes header ++ payload)
 udp_of reading headers header payload fits counts = record {
   layer = transport_layer (transport.Udp header) payload;
   part = (refl, (refl, is_udp reading header payload fits counts));
@@ -141,11 +154,13 @@ udp_of reading headers header payload fits counts = record {
   encodes = (fits, refl);
   parts = refl;
   sums = udp_sums headers header (udp_bytes header ++ payload);
+  same_ipv4 = λ source destination. refl;
+  same_ipv6 = λ source destination. refl;
 }
 
 tcp_of : (reading : Reading) (headers : IpHeaders) (header : TcpHeader) (payload : List ℕ) → FitsTcp header
     → SumsUp headers (transport.Tcp header) (tcp_bytes header ++ payload)
-    → TransportOf reading 6 headers (tcp_bytes header ++ payload)
+    → TransportOf reading 6 headers (transport.Tcp header) (tcp_bytes header ++ payload)
 tcp_of reading headers header payload fits sums = record {
   layer = transport_layer (transport.Tcp header) payload;
   part = (refl, (refl, is_tcp header payload fits));
@@ -153,6 +168,8 @@ tcp_of reading headers header payload fits sums = record {
   encodes = record { fits = fits; reserved = 0; three_bits = omega arith; same = refl };
   parts = refl;
   sums = sums;
+  same_ipv4 = λ source destination. refl;
+  same_ipv6 = λ source destination. refl;
 }
 
 -- The UDP header as it is written.
@@ -162,7 +179,8 @@ counted header payload = record header { length = 8 + length payload }
 pub transport_of : (reading : Reading) (headers : IpHeaders) (behind : TransportHeader) (payload : List ℕ)
     → FitsTransport (transport_between headers payload behind) → AreBytes (message_of headers behind payload)
     → HasItsLength behind (message_of headers behind payload)
-    → TransportOf reading (transport_number behind) headers (message_of headers behind payload)
+    → TransportOf reading (transport_number behind) headers (transport_between headers payload behind)
+    (message_of headers behind payload)
 transport_of reading (version.Ipv4 ip extensions) (transport.Udp header) payload fits bytes its_length =
     udp_of reading (version.Ipv4 ip extensions)
     (record (counted header payload) {
@@ -181,17 +199,21 @@ transport_of reading (version.Ipv4 ip extensions) (transport.Tcp header) payload
 transport_of reading (version.Ipv6 ip extensions) (transport.Tcp header) payload fits bytes its_length =
     let there = record header { checksum = tcp_checksum_ipv6 ip.source ip.destination header payload } in
     tcp_of reading (version.Ipv6 ip extensions) there payload fits (sum_6 ip.source ip.destination there payload)
-transport_of reading headers (transport.Icmpv4 header) payload fits bytes its_length =
-    icmpv4_of reading headers (message_of headers (transport.Icmpv4 header) payload) bytes its_length
+transport_of reading (version.Ipv4 ip extensions) (transport.Icmpv4 header) payload fits bytes its_length =
+    icmpv4_of reading (version.Ipv4 ip extensions) _
+    (message_of (version.Ipv4 ip extensions) (transport.Icmpv4 header) payload) bytes its_length
+transport_of reading (version.Ipv6 ip extensions) (transport.Icmpv4 header) payload fits bytes its_length =
+    icmpv4_of reading (version.Ipv6 ip extensions) _
+    (message_of (version.Ipv6 ip extensions) (transport.Icmpv4 header) payload) bytes its_length
 transport_of reading (version.Ipv4 ip extensions) (transport.Icmpv6 header) payload fits bytes its_length =
     let headers = version.Ipv4 ip extensions in
     let message = message_of headers (transport.Icmpv6 header) payload in
     let filled = transport_bytes (transport_between headers payload (transport.Icmpv6 header)) in
-    icmpv6_of reading headers message bytes
+    icmpv6_of reading headers _ message bytes
     (enough message (omega (arith, fits, length-append filled payload)))
 transport_of reading (version.Ipv6 ip extensions) (transport.Icmpv6 header) payload fits bytes its_length =
     let headers = version.Ipv6 ip extensions in
     let message = message_of headers (transport.Icmpv6 header) payload in
     let filled = transport_bytes (transport_between headers payload (transport.Icmpv6 header)) in
-    icmpv6_of reading headers message bytes
+    icmpv6_of reading headers _ message bytes
     (enough message (omega (arith, fits, length-append filled payload)))

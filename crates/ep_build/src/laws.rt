@@ -4,15 +4,26 @@
 ghost use Rattle.std.specs.Prelude.{◌≡◌, ◌↔◌, ℕ, ◌<◌, ◌^◌, List, IsTrue, length};
 ghost use Rattle.ep_base.specs.Bytes.{AreBytes};
 ghost use Rattle.ep_base.specs.declared.ip_number.IpNumber.{IpNumber};
+ghost use Rattle.ep_ip.specs.declared.ipv4_header.Ipv4Header.{Ipv4Header};
+ghost use Rattle.ep_ip.specs.Ipv4.{ipv4_bytes, ipv4_checksum};
 ghost use Rattle.ep_packet.specs.IpHeaders.{FitIpHeaders};
+ghost use Rattle.ep_packet.specs.Frame.{IsFrame};
+ghost use Rattle.ep_packet.specs.Layers.{layers_of};
+ghost use Rattle.ep_packet.specs.ShownBytes.{ShowsBytes};
+ghost use Rattle.ep_packet.specs.Verdicts.{checksums_of, sum_verdict};
 ghost use Rattle.ep_packet.specs.declared.ip_headers.IpHeaders.{IpHeaders};
 ghost use Rattle.ep_build.specs.BuildErrors.{IsBuildable};
 ghost use Rattle.ep_build.specs.BuiltFragments.{IsFragmentReadBack};
-ghost use Rattle.ep_build.specs.BuiltFrames.{built_frame, ip_frame_headers};
-ghost use Rattle.ep_build.specs.Fits.{FitsLink};
+ghost use Rattle.ep_build.specs.BuiltFrames.{built_frame, ip_frame_headers, transport_between, transport_frame_headers};
+ghost use Rattle.ep_build.specs.BuiltFrames.{ip_packet, transport_packet};
+ghost use Rattle.ep_build.specs.BuiltVerdicts.{built_header_verdict, built_verdicts, written_verdict};
+ghost use Rattle.ep_build.specs.ReadBack.{IsEntryOf, message_of};
+ghost use Rattle.ep_build.specs.Fits.{FitsLink, FitsTransport};
 ghost use Rattle.ep_build.specs.declared.link_part.LinkPart.{LinkPart};
+ghost use Rattle.ep_transport.specs.declared.transport_header.TransportHeader.{TransportHeader};
 
 use crate::err::{BuildSliceWriteError, BuildWriteError};
+use ep_packet::{ChecksumVerdict, Entry, SlicedPacket};
 
 /// States that `SlicedPacket` and `PacketHeaders` read a fragment back from the frame built from its IP headers and its
 /// payload. This requires that the header fields fit their widths, that the payload is not too long, that its protocol
@@ -25,6 +36,34 @@ pub fn built_fragments()
     ensures bytes { (part : LinkPart) (headers : IpHeaders) (last : IpNumber) (payload : List ℕ) → FitsLink part
         → FitIpHeaders headers → last.0 < 2 ^ 8 → IsBuildable (ip_frame_headers part headers last) (length payload)
         → AreBytes payload → AreBytes (built_frame (ip_frame_headers part headers last) payload) }
+{}
+
+/// States that the checksums that the builder writes are valid: that of an IPv4 header (`header`), and that of a
+/// transport header and its payload between the addresses of the IP headers (`message`). This requires that the header
+/// fields fit their widths, and that the frame is not rejected. Slicing the frame finds these verdicts, but `Unknown`
+/// for the transport header if the headers that were given state a fragment, or have a source route or a routing header
+/// (`frames`). Slicing a frame of IP headers and a payload finds that the IPv4 header checksum is valid, whatever the
+/// payload and its protocol number are (`ip_frames`).
+pub fn built_checksums()
+    ensures header { (header : Ipv4Header)
+        → sum_verdict (ipv4_bytes (record header { header_checksum = ipv4_checksum header })) ≡ ChecksumVerdict.Valid }
+    ensures message { (part : LinkPart) (headers : IpHeaders) (upper : TransportHeader) (payload : List ℕ)
+        → FitIpHeaders headers → FitsTransport (transport_between headers payload upper)
+        → IsBuildable (transport_frame_headers part headers upper) (length payload)
+        → written_verdict headers upper payload ≡ ChecksumVerdict.Valid }
+    ensures frames { (part : LinkPart) (headers : IpHeaders) (upper : TransportHeader) (payload : List ℕ)
+        → FitsLink part → FitIpHeaders headers → FitsTransport (transport_between headers payload upper)
+        → AreBytes (message_of headers upper payload)
+        → IsBuildable (transport_frame_headers part headers upper) (length payload) → (entry : Entry)
+        → IsEntryOf part (transport_packet headers upper) entry → (packet : SlicedPacket)
+        → let bytes = built_frame (transport_frame_headers part headers upper) payload in
+        IsFrame entry bytes (layers_of packet) → ShowsBytes bytes packet
+        → checksums_of packet ≡ built_verdicts headers }
+    ensures ip_frames { (part : LinkPart) (headers : IpHeaders) (last : IpNumber) (payload : List ℕ) → FitsLink part
+        → FitIpHeaders headers → (entry : Entry) → IsEntryOf part (ip_packet headers last) entry
+        → (packet : SlicedPacket) → let bytes = built_frame (ip_frame_headers part headers last) payload in
+        IsFrame entry bytes (layers_of packet) → ShowsBytes bytes packet
+        → (checksums_of packet).ipv4_header ≡ built_header_verdict headers }
 {}
 
 /// States that two errors of building a frame are equal (`==`) if and only if they are identical.

@@ -1,6 +1,6 @@
 -- Streams of a bounded pool under the policy `Discard`: their state by the fragments that they were given.
 use Rattle.std.proofs.Common.{◌≡◌, ℕ, ◌+◌, Bool, true, false, not, ◌||◌, cond, List, [], ◌∷◌, ◌++◌, length, map}
-use Rattle.std.proofs.Common.{Option, Some, None, is_some, sym, refl, ap, subst, ◌∙◌, ◌⊎◌, inl, inr, arith, nat_lt}
+use Rattle.std.proofs.Common.{Option, Some, None, is_some, sym, refl, ap, subst, ◌∙◌, ◌⊎◌, inl, inr, nat_lt}
 use Rattle.std.specs.Cmp.{IsEquivalence}
 use Rattle.std.specs.List.{All, AllByRecursion, list_any, filter}
 use Rattle.std.specs.Option.{unwrap_or}
@@ -39,6 +39,7 @@ use Rattle.ep_defrag.proofs.BoundedRowLemmas.{state_of, name_cases, is_discarded
 use Rattle.ep_defrag.proofs.BoundedRowLemmas.{all_filtered, AreRows, IsLater, named_alike, AreRows-filter, none_later}
 use Rattle.ep_defrag.proofs.BoundedRowLemmas.{same_named}
 use Rattle.ep_defrag.proofs.BoundedRowLemmas.{not_starved}
+use Rattle.ep_defrag.proofs.BoundedOrderLemmas.{rows_after}
 use Rattle.ep_defrag.proofs.BoundedAloneLemmas.{call_stands, inner_stands}
 
 -- ---- one more fragment
@@ -514,23 +515,15 @@ module _ {C : Type 0} (eq : C → C → Bool) (laws : IsEquivalence eq) where
     -- ---- lists of calls
     run_follows : (rows : List (Row C)) (number : ℕ) (are : AreRows eq laws number rows) (name : IpFragId C)
         (given : List IpFragment) (calls : List (Made C)) → lone_of given ≡ state_of (row_named eq name rows)
-        → (lone_of (given_from limits eq name rows number given calls)
-        ≡ state_of (row_named eq name (rows_from limits eq rows number calls)))
-        × AreRows eq laws (number + length calls) (rows_from limits eq rows number calls)
-    run_follows rows number are name given [] state =
-        let bound : number ≡ number + 0 = omega arith in
-        (state, subst (λ (n : ℕ). AreRows eq laws n rows) bound are)
+        → lone_of (given_from limits eq name rows number given calls)
+        ≡ state_of (row_named eq name (rows_from limits eq rows number calls))
+    run_follows rows number are name given [] state = state
     run_follows rows number are name given (made ∷ later) state =
         let step = call_step limits eq rows made.call number made.granted in
-        let rest =
         run_follows step.rows (number + 1)
         (call_stands eq laws limits rows made.call number made.granted are).are_rows name
         (given_after eq name given made.call step) later
-        (call_follows rows number are made.call made.granted name given state) in
-        let bound : number + 1 + length later ≡ number + length (made ∷ later) = omega arith in (
-          rest.0,
-          subst (λ (n : ℕ). AreRows eq laws n (rows_from limits eq step.rows (number + 1) later)) bound rest.1,
-        )
+        (call_follows rows number are made.call made.granted name given state)
 
     -- A payload agrees with the fragments that its name was given.
     pub payload_agrees : (calls : List (Made C)) (name : IpFragId C) (fragment : IpFragment) (now : ℕ)
@@ -546,10 +539,9 @@ module _ {C : Type 0} (eq : C → C → Bool) (laws : IsEquivalence eq) where
         let given = given_from limits eq name [] 0 [] calls in
         let last = fragment_step limits eq rows name fragment now number granted in
         let before = given_before eq name given last in
-        let run = run_follows [] 0 tt name [] calls refl in
-        let bound : 0 + length calls ≡ length calls = omega arith in
-        let are = subst (λ (n : ℕ). AreRows eq laws n rows) bound run.1 in
-        let completed = (fragment_follows rows number are name fragment now granted given run.0).payload payload done in
+        let state = run_follows [] 0 tt name [] calls refl in
+        let are = rows_after eq laws limits calls in
+        let completed = (fragment_follows rows number are name fragment now granted given state).payload payload done in
         let cuts =
         all_cuts limits.payload before fragment completed.accepted completed.whole completed.begun completed.ended in
         let alike : same_stream eq name name ≡ true = (named_alike eq laws).refl name in

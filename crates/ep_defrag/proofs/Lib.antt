@@ -33,9 +33,11 @@ mod BoundedOverlapLemmas
 mod BoundedAgreeLemmas
 mod BoundedRowLemmas
 mod BoundedAloneLemmas
+mod BoundedOrderLemmas
 mod BoundedGivenLemmas
 mod BoundedSumLemmas
 mod BoundedStayLemmas
+mod BoundedFloodLemmas
 mod BoundedWithinLemmas
 mod BoundedAddingLemmas
 mod BoundedAlikeLemmas

@@ -2,6 +2,7 @@
 use Rattle.std.specs.Prelude.{◌≡◌, ℕ, ◌≤◌, Bool, not, IsTrue}
 use Rattle.std.specs.Prelude.{Option, Some, None, is_some, Result, Ok, List, [], length}
 use Rattle.std.specs.List.{AllZip, filter}
+use Rattle.std.specs.declared.hash.RandomState.{RandomState}
 use Rattle.ep_defrag.specs.declared.ip_frag_id.IpFragId.{IpFragId}
 use Rattle.ep_defrag.specs.declared.ip_defrag_payload_vec.IpDefragPayloadVec.{IpDefragPayloadVec}
 use Rattle.ep_defrag.specs.declared.bounded_limits.DefragLimits.{DefragLimits}
@@ -37,6 +38,10 @@ evicted_in pool = pool.2
 -- its counters
 abbrev pub statistics_in : {C : Type 0} → BoundedDefragPool C → DefragStatistics
 statistics_in pool = pool.3
+
+-- keys of the hash of its names
+abbrev pub keys_in : {C : Type 0} → BoundedDefragPool C → RandomState
+keys_in pool = pool.4
 
 -- memory of all streams of a pool
 abbrev pub room_in : {C : Type 0} → BoundedDefragPool C → ℕ

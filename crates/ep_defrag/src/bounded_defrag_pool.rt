@@ -2,7 +2,7 @@
 
 ghost use Rattle.std.specs.Prelude.{◌≡◌, ℕ, ◌+◌, [], List, length, is_some, None, IfOk};
 ghost use Rattle.ep_defrag.specs.BoundedSteps.{Row, row_named, removes_name, clears_names, expires_names};
-ghost use Rattle.ep_defrag.specs.BoundedPools.{limits_in, names_in, evicted_in, statistics_in, room_in, open_in, IsBounded, HoldsRows, DoesStep, TakesBounded, TakesBoundedFrame};
+ghost use Rattle.ep_defrag.specs.BoundedPools.{limits_in, names_in, evicted_in, statistics_in, keys_in, room_in, open_in, IsBounded, HoldsRows, DoesStep, TakesBounded, TakesBoundedFrame};
 ghost use Rattle.ep_defrag.specs.Pools.{fragment_in};
 ghost use Rattle.ep_defrag.specs.BoundedCounts.{AddUp, no_statistics};
 
@@ -44,15 +44,17 @@ impl<CustomChannelId: Eq + Hash> Model for BoundedDefragPool<CustomChannelId> {
     ghost use Rattle.ep_defrag.specs.declared.evicted_stream.EvictedStream.{EvictedStream};
     ghost use Rattle.ep_defrag.specs.declared.defrag_statistics.DefragStatistics.{DefragStatistics};
     ghost use Rattle.ep_defrag.specs.BoundedNames.{names_of, AreHashed, AreWithinLimits};
+    ghost use Rattle.std.specs.declared.hash.RandomState.{RandomState};
 
     ghost Value = { DefragLimits × List (IpFragId CustomChannelId × HeldStream) × List (EvictedStream CustomChannelId)
-        × DefragStatistics };
+        × DefragStatistics × RandomState };
 
     ghost view = { λ pool. (
       pool.limits,
       names_of pool.holdings.table,
       pool.holdings.evicted.items,
       pool.holdings.statistics,
+      pool.holdings.keys,
     ) };
 
     ghost invariant = { λ pool. AreWithinLimits pool.limits (names_of pool.holdings.table)
@@ -71,6 +73,7 @@ impl<CustomChannelId: Eq + Hash + Drop> BoundedDefragPool<CustomChannelId> {
         ensures limits { IfOk result (λ pool. limits_in pool ≡ limits) }
         ensures evicted { IfOk result (λ pool. evicted_in pool ≡ []) }
         ensures statistics { IfOk result (λ pool. statistics_in pool ≡ no_statistics) }
+        ensures keys { IfOk result (λ pool. keys_in pool ≡ keys) }
     {
         Ok(BoundedDefragPool {
             limits,
@@ -144,6 +147,7 @@ impl<CustomChannelId: Eq + Hash + Drop> BoundedDefragPool<CustomChannelId> {
         ensures takes { TakesBoundedFrame CustomChannelId.eq self.old self.new (fragment_in packet.now) now channel_id
             result }
         ensures bounded { IsBounded self.new }
+        ensures keys { keys_in self.new ≡ keys_in self.old }
     {
         let Some(carried) = carried_fragment(packet) else {
             self.holdings.evicted.clear();
@@ -175,6 +179,7 @@ impl<CustomChannelId: Eq + Hash + Drop> BoundedDefragPool<CustomChannelId> {
     ) -> Result<Option<IpDefragPayloadVec>, BoundedDefragError>
         ensures takes { TakesBounded CustomChannelId.eq self.old self.new id fragment.now now result }
         ensures bounded { IsBounded self.new }
+        ensures keys { keys_in self.new ≡ keys_in self.old }
     {
         // Identifiers are equal if they name the same stream.
         names::<CustomChannelId>();
@@ -209,6 +214,7 @@ impl<CustomChannelId: Eq + Hash + Drop> BoundedDefragPool<CustomChannelId> {
             DoesStep CustomChannelId.eq self.old self.new (expires_names now idle) number None rows }
         ensures count { result ≡ length (evicted_in self.new) }
         ensures bounded { IsBounded self.new }
+        ensures keys { keys_in self.new ≡ keys_in self.old }
     {
         self.holdings.statistics.fit();
         self.holdings.evicted.clear();
@@ -224,6 +230,7 @@ impl<CustomChannelId: Eq + Hash + Drop> BoundedDefragPool<CustomChannelId> {
         ensures present { (rows : List (Row CustomChannelId)) → HoldsRows CustomChannelId.eq self.old rows →
             result ≡ is_some (row_named CustomChannelId.eq id.now rows) }
         ensures bounded { IsBounded self.new }
+        ensures keys { keys_in self.new ≡ keys_in self.old }
     {
         // Identifiers are equal if they name the same stream.
         names::<CustomChannelId>();
@@ -245,6 +252,7 @@ impl<CustomChannelId: Eq + Hash + Drop> BoundedDefragPool<CustomChannelId> {
         ensures step { (rows : List (Row CustomChannelId)) (number : ℕ) → HoldsRows CustomChannelId.eq self.old rows →
             DoesStep CustomChannelId.eq self.old self.new clears_names number None rows }
         ensures bounded { IsBounded self.new }
+        ensures keys { keys_in self.new ≡ keys_in self.old }
     {
         self.holdings.statistics.fit();
         self.holdings.evicted.clear();

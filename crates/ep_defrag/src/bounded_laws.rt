@@ -1,8 +1,8 @@
 //! Laws of bounded reassembly pools: theorems about the definitions in their contracts. Each is the contract of a
 //! function that does nothing.
 
-ghost use Rattle.std.specs.Prelude.{◌≡◌, ◌≢◌, ◌↔◌, ℕ, ◌+◌, ◌/◌, ◌<◌, ◌≤◌, not, Option, Result, Some, List, [], ◌∷◌, ◌++◌, length, IsTrue, IsFalse};
-ghost use Rattle.std.specs.List.{All, AllZip, count_by, filter};
+ghost use Rattle.std.specs.Prelude.{◌≡◌, ◌≢◌, ◌↔◌, ℕ, ◌+◌, ◌/◌, ◌<◌, ◌≤◌, not, Option, Result, Some, List, [], ◌∷◌, ◌++◌, length, IsTrue, IsFalse, IfSome};
+ghost use Rattle.std.specs.List.{All, AllPairs, AllZip, count_by, filter};
 ghost use Rattle.std.specs.List.Sorted.{IsPermutation};
 ghost use Rattle.ep_defrag.specs.declared.bounded_limits.DefragLimits.{DefragLimits};
 ghost use Rattle.ep_defrag.specs.declared.bounded_limits.OverlapPolicy.TheVariants as policy;
@@ -22,7 +22,7 @@ ghost use Rattle.ep_defrag.specs.BoundedLimits.{most_names};
 ghost use Rattle.ep_defrag.specs.BoundedOverlaps.{all_kept, first_byte_at};
 ghost use Rattle.ep_defrag.specs.BoundedAnswers.{plain_bounded, is_memory_error};
 ghost use Rattle.ep_defrag.specs.BoundedPools.{limits_in, evicted_in, AreAlike, ReportAlike, DoesStep, TakesBounded};
-ghost use Rattle.ep_defrag.specs.BoundedSteps.{Row, BoundedCall, is_open, row_named, expires_for, fragment_rejected, nothing_complete, are_within, remaining, gives_fragment, call_step, payload_complete};
+ghost use Rattle.ep_defrag.specs.BoundedSteps.{Row, BoundedCall, is_open, row_named, other_rows, expires_for, fragment_rejected, nothing_complete, are_within, remaining, gives_fragment, call_step, payload_complete};
 ghost use Rattle.ep_defrag.specs.BoundedRuns.{Made, rows_from, drops_number, alone_from, alone_answers_from, AgreesUnlessRejected, lone_open, lone_complete, lone_with, lone_after};
 ghost use Rattle.ep_defrag.specs.BoundedCounts.{AddUp, no_statistics, statistics_from};
 ghost use Rattle.ep_defrag.specs.BoundedGiven.{given_at, given_from};
@@ -58,9 +58,26 @@ pub fn within_limits<CustomChannelId: Eq>()
 
 /// States which streams a bounded pool evicts for its limits, at a call that accepts a fragment and returns no payload:
 /// exactly those that exceed the limits together with all streams whose last fragment was accepted later. The stream of
-/// the fragment itself stays. At other calls with a fragment, all streams with other identifiers stay; if the fragment
-/// is rejected, its own stream stays too, unless it expired.
+/// the fragment itself stays, as the newest. At other calls with a fragment, all streams with other identifiers stay;
+/// if the fragment is rejected, its own stream stays too, unless it expired.
 pub fn evicted_exactly<CustomChannelId: Eq>()
+    // The table is in the order of the last accepted fragments, by the numbers of their calls, and no two of its names
+    // are equal.
+    ensures order { (limits : DefragLimits) (calls : List (Made CustomChannelId)) →
+        let rows = rows_from limits CustomChannelId.eq [] 0 calls in
+        All (λ row. row.number < length calls) rows
+        × AllPairs (λ row later. row.number < later.number) rows
+        × AllPairs (λ row later. IsFalse (same_stream CustomChannelId.eq row.id later.id)) rows }
+    // The stream of the fragment is now the newest, after all others in the table, and has the granted memory. The
+    // limits then decide which of the others stay.
+    ensures accepted { (limits : DefragLimits) (rows : List (Row CustomChannelId)) (name : IpFragId CustomChannelId)
+        (fragment : IpFragment) (now number : ℕ) (granted : Option ℕ) →
+        let call = gives_fragment (Some (name, fragment)) now in
+        let step = call_step limits CustomChannelId.eq rows call number granted in
+        step.answer ≡ nothing_complete → (own : Row CustomChannelId)
+        × IsTrue (same_stream CustomChannelId.eq own.id name) × (own.number ≡ number) × (granted ≡ Some own.room)
+        × (own.room ≤ limits.bytes)
+        × (step.rows ≡ remaining limits (other_rows CustomChannelId.eq name rows ++ own ∷ [])) }
     ensures stays { (limits : DefragLimits) (earlier later : List (Row CustomChannelId))
         (row own : Row CustomChannelId) →
         own.room ≤ limits.bytes →
@@ -78,6 +95,18 @@ pub fn evicted_exactly<CustomChannelId: Eq>()
     ensures survival { (limits : DefragLimits) (rows : List (Row CustomChannelId)) →
         All (λ row. row.room ≤ limits.bytes / most_names limits) rows → length rows ≤ most_names limits →
         IsTrue (are_within limits rows) }
+    // Such a stream stays if the later ones, with the stream of the fragment, are fewer than `streams`.
+    ensures flood { (limits : DefragLimits) (earlier later : List (Row CustomChannelId)) (row : Row CustomChannelId)
+        (name : IpFragId CustomChannelId) (fragment : IpFragment) (now number : ℕ) (granted : Option ℕ) →
+        let call = gives_fragment (Some (name, fragment)) now in
+        let step = call_step limits CustomChannelId.eq (earlier ++ row ∷ later) call number granted in
+        IsFalse (same_stream CustomChannelId.eq row.id name) →
+        length (other_rows CustomChannelId.eq name later) + 1 < most_names limits →
+        All (λ other. other.room ≤ limits.bytes / most_names limits) (row ∷ later) →
+        IfSome granted (λ room. room ≤ limits.bytes / most_names limits) →
+        step.answer ≡ nothing_complete → (kept : List (Row CustomChannelId)) × (own : Row CustomChannelId)
+        × IsTrue (same_stream CustomChannelId.eq own.id name)
+        × (step.rows ≡ kept ++ row ∷ other_rows CustomChannelId.eq name later ++ own ∷ []) }
     ensures others { (limits : DefragLimits) (rows : List (Row CustomChannelId)) (name other : IpFragId CustomChannelId)
         (fragment : IpFragment) (now number : ℕ) (granted : Option ℕ) →
         IsFalse (same_stream CustomChannelId.eq name other) →

@@ -64,6 +64,7 @@ impl<CustomChannelId: Eq + Hash + Drop> Holdings<CustomChannelId> {
         alloc: Global,
         keys: RandomState,
     ) -> Result<Holdings<CustomChannelId>, AllocError>
+        ensures keys { IfOk result (λ holdings. holdings.keys ≡ keys) }
         ensures table { IfOk result (λ holdings. holdings.table ≡ []) }
         ensures evicted { IfOk result (λ holdings. holdings.evicted.items ≡ []) }
         ensures statistics { IfOk result (λ holdings. holdings.statistics ≡ no_statistics) }
@@ -261,6 +262,7 @@ impl<CustomChannelId: Eq + Hash + Drop> Holdings<CustomChannelId> {
         requires silent { vec_len self.old.evicted ≡ 0 }
         ensures takes { TakesFragmentStep CustomChannelId.eq limits.now self.old self.new id fragment.now now result }
         ensures within { AreWithinLimits limits.now (names_of self.new.table) }
+        ensures keys { self.new.keys ≡ self.old.keys }
         ensures hashed { AreHashed CustomChannelId.hash_input self.old.keys self.old.table →
             AreHashed CustomChannelId.hash_input self.new.keys self.new.table }
     {
@@ -351,6 +353,7 @@ impl<CustomChannelId: Eq + Hash + Drop> Holdings<CustomChannelId> {
         requires within { AreWithinLimits limits.now (names_of self.old.table) }
         ensures takes { TakesFragmentStep CustomChannelId.eq limits.now self.old self.new id fragment.now now result }
         ensures within { AreWithinLimits limits.now (names_of self.new.table) }
+        ensures keys { self.new.keys ≡ self.old.keys }
         ensures hashed { AreHashed CustomChannelId.hash_input self.old.keys self.old.table →
             AreHashed CustomChannelId.hash_input self.new.keys self.new.table }
     {

@@ -25,3 +25,5 @@ pub mod TruncationLemmas
 pub mod PayloadBytesLemmas
 pub mod WholeFrameLemmas
 pub mod FrameTestLemmas
+pub mod LaxVerdictLemmas
+pub mod PayloadStartLemmas

@@ -5,6 +5,7 @@ pub mod Lax
 pub mod LaxRefusals
 pub mod LaxViews
 pub mod LaxPackets
+pub mod LaxVerdicts
 pub mod LaxPayloads
 pub mod LaxWalk
 pub mod LaxPayloadParts

@@ -10,14 +10,19 @@ ghost use Rattle.ep_link.specs.LinkExtensions.{vlan};
 ghost use Rattle.ep_packet.specs.Frame.{IsFrame, most_link_exts};
 ghost use Rattle.ep_packet.specs.FrameBytes.{AreInOrder, last_payload};
 ghost use Rattle.ep_packet.specs.FrameRefusals.{RefusesFrame};
-ghost use Rattle.ep_packet.specs.Layers.{Layers};
+ghost use Rattle.ep_packet.specs.FrameVerdicts.{frame_checksums};
+ghost use Rattle.ep_packet.specs.Layers.{Layers, layers_of};
 ghost use Rattle.ep_packet.specs.Offsets.{payload_offset};
+ghost use Rattle.ep_packet.specs.ShownBytes.{ShowsBytes};
+ghost use Rattle.ep_packet.specs.Verdicts.{checksums_of};
 ghost use Rattle.ep_packet.specs.declared.err.slice_error.SliceError.TheVariants.{Len};
 ghost use Rattle.ep_lax.specs.Lax.{IsLax};
 ghost use Rattle.ep_lax.specs.LaxHeaders.{AreFirst, BeginWith, ShowsPrefix, headers_within, shown_headers, frame_headers};
 ghost use Rattle.ep_lax.specs.LaxLayers.{LaxLayers};
 ghost use Rattle.ep_lax.specs.LaxRefusals.{RefusesLax};
 ghost use Rattle.ep_lax.specs.LaxStops.{IsStrictStop, RefusesNextLayer, StopsFor, is_by_length};
+ghost use Rattle.ep_lax.specs.LaxPackets.{ShowsLax, lax_layers_of};
+ghost use Rattle.ep_lax.specs.LaxVerdicts.{lax_checksums_of};
 ghost use Rattle.ep_lax.specs.LaxViews.{lax_extension_of};
 ghost use Rattle.ep_lax.specs.LengthFields.{ArePayloads, IncludeHeaders};
 ghost use Rattle.ep_lax.specs.StrictFrames.{IsWhole, layers_in};
@@ -27,8 +32,8 @@ pub mod comparisons;
 pub mod headers;
 
 use crate::{LaxLinkExtSlice, LaxSlicedPacket};
-use ep_packet::Entry;
 use ep_packet::err::SliceError;
+use ep_packet::{Entry, SlicedPacket};
 
 /// States that lax slicing of any bytes either gives exactly one list of layers, or rejects them with exactly one
 /// error. It rejects them only if their first header is invalid or truncated.
@@ -154,6 +159,17 @@ pub fn stop_position()
         (layer : Layer) → read.net.inside.stop ≡ Some (Len error, layer)
         → (error.layer_start_offset ≡ payload_offset (layers_in read))
         × (error.len ≡ length (last_payload (layers_in read))) }
+{}
+
+/// States that the verdicts about the checksums of a packet follow from its layers and the bytes that it was sliced
+/// from (`shown`), and that they are those of strict slicing, if strict slicing accepts the bytes (`strict`).
+pub fn checksums()
+    ensures shown { (bytes : List ℕ) (packet : LaxSlicedPacket) → ShowsLax bytes packet
+        → let read = lax_layers_of packet in
+        lax_checksums_of packet ≡ frame_checksums bytes (layers_in read) read.net.inside.incomplete }
+    ensures strict { (entry : Entry) (bytes : List ℕ) (strict : SlicedPacket) (lax : LaxSlicedPacket) → AreBytes bytes
+        → IsFrame entry bytes (layers_of strict) → ShowsBytes bytes strict → IsLax entry bytes (lax_layers_of lax)
+        → ShowsLax bytes lax → lax_checksums_of lax ≡ checksums_of strict }
 {}
 
 /// States that `LINK_EXTS_CAP` is 3: lax slicing reads at most three link extensions (VLAN and MACsec tags) of a

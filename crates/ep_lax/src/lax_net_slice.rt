@@ -1,12 +1,13 @@
 //! Network layer (IPv4, IPv6 or ARP) in a slice, as lax slicing reads it.
 
-ghost use Rattle.std.specs.Prelude.{◌≡◌, ◌<◌, ◌+◌, ◌^◌, length};
+ghost use Rattle.std.specs.Prelude.{◌≡◌, ◌<◌, ◌+◌, ◌^◌, ◌==◌, length};
 ghost use Rattle.ep_ext.specs.ExtensionParts.{part_len};
 ghost use Rattle.ep_ext.specs.Ipv6ExtensionSlices.{extension_slice_bytes, extension_slice_part, ipv6_slice_parts};
 ghost use Rattle.ep_ip.specs.Ipv4.{ipv4_header_len};
 ghost use Rattle.ep_link.specs.Arp.{arp_len};
 ghost use Rattle.ep_link.specs.ArpSlices.{arp_slice_packet};
 ghost use Rattle.ep_packet.specs.Offsets.{net_layer_len, parts_len};
+ghost use Rattle.ep_packet.specs.PayloadStarts.{are_first, is_first};
 ghost use Rattle.ep_lax.specs.LaxSlices.{lax_ipv4_slice_extensions, lax_ipv4_slice_header};
 ghost use Rattle.ep_lax.specs.LaxViews.{lax_net_layer_of};
 
@@ -35,6 +36,7 @@ impl<'a> LaxNetSlice<'a> {
     ghost use Rattle.ep_packet.specs.FrameBytes.{EncodesNet};
     ghost use Rattle.ep_packet.specs.Layers.{net_payload};
     ghost use Rattle.ep_packet.specs.Offsets.{net_layer_len};
+    ghost use Rattle.ep_packet.specs.PayloadStarts.{begins_payload};
     ghost use Rattle.ep_base.specs.IpPayload.{lax_ip_payload_of};
     ghost use Rattle.ep_lax.specs.LaxViews.{lax_net_incomplete, lax_net_layer_of};
 
@@ -51,6 +53,19 @@ impl<'a> LaxNetSlice<'a> {
         }
     }
 
+    /// Returns true if an IP packet has the start of its payload: it is no fragment, or the first one (offset 0). False
+    /// for ARP.
+    #[inline]
+    pub fn begins_payload(&self) -> bool
+        ensures { result ≡ begins_payload (lax_net_layer_of self.now) }
+    {
+        match self {
+            LaxNetSlice::Ipv4(packet) => packet.header().fragment_offset().value() == 0,
+            LaxNetSlice::Ipv6(packet) => begin_payload(packet.extensions()),
+            LaxNetSlice::Arp(_) => false,
+        }
+    }
+
     /// Length in bytes of the IP header together with its valid extension headers, or of the whole ARP packet.
     pub fn header_len(&self) -> usize
         ensures value { result ≡ net_layer_len (lax_net_layer_of self.now) }
@@ -58,6 +73,39 @@ impl<'a> LaxNetSlice<'a> {
         ensures bound { result < 2 ^ 63 + 64 }
     {
         headers_len(self)
+    }
+}
+
+/// Returns true if the payload after these extension headers of IPv6 has its start. The headers are read only if the
+/// packet is a fragment.
+#[tactic(auto, using(crate::proofs::PayloadStartLemmas::whole_begins))]
+#[inline]
+fn begin_payload(extensions: Ipv6ExtensionsSlice<'_>) -> bool
+    ensures { result ≡ are_first (ipv6_slice_parts extensions.entry) }
+{
+    !extensions.is_fragmenting_payload() || are_first(extensions)
+}
+
+/// Returns true if the fragment offset of every IPv6 fragment header is 0.
+#[inline(never)]
+fn are_first(extensions: Ipv6ExtensionsSlice<'_>) -> bool
+    ensures { result ≡ are_first (ipv6_slice_parts extensions.entry) }
+{
+    for extension in extensions {
+        if !is_first(&extension) {
+            return false;
+        }
+    }
+    true
+}
+
+/// Returns true if an IPv6 extension header is no fragment header, or one with fragment offset 0.
+fn is_first(extension: &Ipv6ExtensionSlice<'_>) -> bool
+    ensures { result ≡ is_first (extension_slice_part extension.now) }
+{
+    match extension {
+        Ipv6ExtensionSlice::Fragment(header) => header.fragment_offset().value() == 0,
+        _ => true,
     }
 }
 

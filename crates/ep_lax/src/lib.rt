@@ -14,6 +14,7 @@ mod lax_net_slice;
 mod lax_packet_headers;
 mod lax_payload_slice;
 mod lax_sliced_packet;
+mod lax_sliced_packet_checksums;
 mod lax_sliced_packet_frame;
 mod lax_sliced_packet_payload;
 mod lax_sliced_packet_walk;

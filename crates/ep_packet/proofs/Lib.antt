@@ -23,3 +23,5 @@ pub mod HeadersLemmas
 pub mod InsideHeadersLemmas
 pub mod EntryHeadersLemmas
 pub mod NetFillLemmas
+pub mod VerdictLemmas
+pub mod FrameVerdictLemmas

@@ -21,6 +21,9 @@ pub mod PacketHeaders
 pub mod HeadersWalk
 pub mod TwoParsers
 pub mod PacketComparisons
+pub mod Verdicts
+pub mod FrameVerdicts
+pub mod PayloadStarts
 -- Definitions of the crates below that contracts use
 pub use Rattle.ep_base.specs.Bytes
 pub use Rattle.ep_base.specs.IpPayload

@@ -1,7 +1,7 @@
 //! Laws of whole packets, for every list of bytes, and of comparisons and clones. Each law is the contract of a
 //! function without effect.
 
-ghost use Rattle.std.specs.Prelude.{◌≡◌, ◌↔◌, ◌+◌, ◌≤◌, ◌++◌, ℕ, List, Option, IsTrue, length};
+ghost use Rattle.std.specs.Prelude.{◌≡◌, ◌↔◌, ◌+◌, ◌≤◌, ◌++◌, ℕ, List, Option, IsTrue, false, length};
 ghost use Rattle.ep_base.specs.Bytes.{AreBytes};
 ghost use Rattle.ep_base.specs.Readings.{Reading};
 ghost use Rattle.ep_base.specs.Missing.{CountsMissing, HasExactLength, IsOfAvailableBytes, ReportsTruncation, that_row};
@@ -10,7 +10,10 @@ ghost use Rattle.ep_base.specs.declared.err.len_error.LenError.{LenError};
 ghost use Rattle.ep_link.specs.LinkExtensions.{EncodesTag, LinkExtension};
 ghost use Rattle.ep_link.specs.LinkSlices.{LinkLayer};
 ghost use Rattle.ep_packet.specs.FrameCuts.{frame_truncation_limit};
-ghost use Rattle.ep_packet.specs.Layers.{Layers, NetLayer};
+ghost use Rattle.ep_packet.specs.FrameVerdicts.{frame_checksums};
+ghost use Rattle.ep_packet.specs.Layers.{Layers, NetLayer, layers_of};
+ghost use Rattle.ep_packet.specs.ShownBytes.{ShowsBytes};
+ghost use Rattle.ep_packet.specs.Verdicts.{checksums_of};
 ghost use Rattle.ep_packet.specs.Offsets.{link_len, net_len, tag_len, tags_len, transport_len};
 ghost use Rattle.ep_transport.specs.TransportParts.{EncodesTransport, TransportLayer};
 ghost use Rattle.ep_packet.specs.Frame.{IsFrame, IsFrameIn, most_link_exts};
@@ -27,10 +30,10 @@ pub mod parsers;
 
 use crate::err::{HeadersWriteError, NetSetNextHeaderError, SliceError};
 use crate::{
-    ArpPacket, ArpPacketSlice, Entry, IpHeaders, Ipv4Extensions, Ipv4Header, Ipv4Slice,
-    Ipv6Extensions, Ipv6Header, Ipv6Slice, LinkExtHeader, LinkExtSlice, LinkHeader, LinkSlice,
-    NetHeaders, NetSlice, PacketHeaders, PayloadSlice, SlicedPacket, TransportHeader,
-    TransportSlice,
+    ArpPacket, ArpPacketSlice, ChecksumVerdict, ChecksumVerdicts, Entry, IpHeaders, Ipv4Extensions,
+    Ipv4Header, Ipv4Slice, Ipv6Extensions, Ipv6Header, Ipv6Slice, LinkExtHeader, LinkExtSlice,
+    LinkHeader, LinkSlice, NetHeaders, NetSlice, PacketHeaders, PayloadSlice, SlicedPacket,
+    TransportHeader, TransportSlice,
 };
 
 /// States, for both parsers (slicing and decoding into owned headers), that bytes either are a frame with exactly one
@@ -89,6 +92,14 @@ pub fn truncation()
         (frame_truncation_limit entry) }
 {}
 
+/// States that the verdicts about the checksums of a packet follow from its layers and the bytes that it was sliced
+/// from. An IPv4 header is at the start of the payload of the layer around it, up to the length that it states, and
+/// the transport layer is at the start of the IP payload.
+pub fn checksums()
+    ensures { (bytes : List ℕ) (packet : SlicedPacket) → ShowsBytes bytes packet
+        → checksums_of packet ≡ frame_checksums bytes (layers_of packet) false }
+{}
+
 /// States that `SlicedPacket::LINK_EXTS_CAP` is 3, and equals the greatest number of link extensions in the
 /// specification of frames.
 pub fn constants()
@@ -96,9 +107,9 @@ pub fn constants()
     ensures cap { SlicedPacket.LINK_EXTS_CAP ≡ most_link_exts }
 {}
 
-/// States what `==` compares: values of `Entry` and errors are equal only if identical, payloads if their kind (`Udp`,
-/// `Ip` ..) and content are equal, and headers, slices and packets if each of their parts is. Payloads are ordered by
-/// kind, as `PayloadSlice` declares them, and those of one kind by content.
+/// States what `==` compares: values of `Entry`, verdicts and errors are equal only if identical, payloads if their kind
+/// (`Udp`, `Ip` ..) and content are equal, and headers, slices and packets if each of their parts is. Payloads are
+/// ordered by kind, as `PayloadSlice` declares them, and those of one kind by content.
 pub fn comparisons()
     ensures entries { (a b : Entry) → IsTrue (⟦<Entry as PartialEq>⟧.eq a b) ↔ (a ≡ b) }
     ensures slice_errors { (a b : SliceError) → IsTrue (⟦<SliceError as PartialEq>⟧.eq a b) ↔ (a ≡ b) }
@@ -106,6 +117,8 @@ pub fn comparisons()
         IsTrue (⟦<HeadersWriteError as PartialEq>⟧.eq a b) ↔ (a ≡ b) }
     ensures net_errors { (a b : NetSetNextHeaderError) →
         IsTrue (⟦<NetSetNextHeaderError as PartialEq>⟧.eq a b) ↔ (a ≡ b) }
+    ensures verdicts { (a b : ChecksumVerdict) → IsTrue (⟦<ChecksumVerdict as PartialEq>⟧.eq a b) ↔ (a ≡ b) }
+    ensures all_verdicts { (a b : ChecksumVerdicts) → IsTrue (⟦<ChecksumVerdicts as PartialEq>⟧.eq a b) ↔ (a ≡ b) }
     ensures payloads { (a b : PayloadSlice) →
         IsTrue (⟦<PayloadSlice<'static> as PartialEq>⟧.eq a b) ↔ (payload_part_of a ≡ payload_part_of b) }
     ensures payload_order { (a b : PayloadSlice) → ⟦<PayloadSlice<'static> as Ord>⟧.cmp a b ≡ payload_cmp a b }
@@ -135,6 +148,8 @@ pub fn clones()
     ensures slice_errors { (a b : SliceError) → ⟦<SliceError as Clone>⟧.is_clone a b → b ≡ a }
     ensures write_errors { (a b : HeadersWriteError) → ⟦<HeadersWriteError as Clone>⟧.is_clone a b → b ≡ a }
     ensures net_errors { (a b : NetSetNextHeaderError) → ⟦<NetSetNextHeaderError as Clone>⟧.is_clone a b → b ≡ a }
+    ensures verdicts { (a b : ChecksumVerdict) → ⟦<ChecksumVerdict as Clone>⟧.is_clone a b → b ≡ a }
+    ensures all_verdicts { (a b : ChecksumVerdicts) → ⟦<ChecksumVerdicts as Clone>⟧.is_clone a b → b ≡ a }
     ensures payloads { (a b : PayloadSlice) → ⟦<PayloadSlice<'static> as Clone>⟧.is_clone a b → b ≡ a }
     ensures ip_headers { (a b : IpHeaders) → ⟦<IpHeaders as Clone>⟧.is_clone a b → b ≡ a }
     ensures net_headers { (a b : NetHeaders) → ⟦<NetHeaders as Clone>⟧.is_clone a b → b ≡ a }
@@ -149,6 +164,8 @@ pub fn clones_succeed()
     ensures slice_errors { (a : SliceError) → ⟦<SliceError as Clone>⟧.is_infallible a }
     ensures write_errors { (a : HeadersWriteError) → ⟦<HeadersWriteError as Clone>⟧.is_infallible a }
     ensures net_errors { (a : NetSetNextHeaderError) → ⟦<NetSetNextHeaderError as Clone>⟧.is_infallible a }
+    ensures verdicts { (a : ChecksumVerdict) → ⟦<ChecksumVerdict as Clone>⟧.is_infallible a }
+    ensures all_verdicts { (a : ChecksumVerdicts) → ⟦<ChecksumVerdicts as Clone>⟧.is_infallible a }
     ensures payloads { (a : PayloadSlice) → ⟦<PayloadSlice<'static> as Clone>⟧.is_infallible a }
     ensures ip_headers { (a : IpHeaders) → ⟦<IpHeaders as Clone>⟧.is_infallible a }
     ensures net_headers { (a : NetHeaders) → ⟦<NetHeaders as Clone>⟧.is_infallible a }

@@ -1,6 +1,7 @@
 //! Whole packets: slicing them into layers, and decoding their headers.
 #![tactic(auto)]
 
+mod checksum_verdict;
 mod entry;
 pub mod err;
 mod ip_headers;
@@ -15,10 +16,12 @@ mod net_slice;
 mod packet_headers;
 mod payload_slice;
 mod sliced_packet;
+mod sliced_packet_checksums;
 mod sliced_packet_payload;
 mod sliced_packet_walk;
 
 pub use arrayvec::ArrayVec;
+pub use checksum_verdict::{ChecksumVerdict, ChecksumVerdicts};
 pub use entry::Entry;
 pub use ep_base::err::{Layer, LenError, ValueTooBigError, ValueType};
 pub use ep_base::{

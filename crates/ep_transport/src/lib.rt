@@ -11,7 +11,7 @@ mod icmpv6_header;
 mod icmpv6_slice;
 mod icmpv6_type;
 pub mod laws;
-mod pseudo_header;
+pub mod pseudo_header;
 mod tcp_header;
 mod tcp_option_element;
 mod tcp_options;

@@ -33,12 +33,8 @@ pub(crate) fn check_len(
 
 /// Returns the one's complement sum of the IPv4 pseudo header: addresses `source` and `destination`, protocol `number`,
 /// and the length `len` of the transport header and its payload in bytes.
-pub(crate) fn sum_ipv4(
-    source: [u8; 4],
-    destination: [u8; 4],
-    number: IpNumber,
-    len: u16,
-) -> Sum16BitWords
+#[inline]
+pub fn sum_ipv4(source: [u8; 4], destination: [u8; 4], number: IpNumber, len: u16) -> Sum16BitWords
     ensures sum { result ≡ ones_sum (pseudo_header_ipv4 source destination number.0 len) }
     ensures even { length (pseudo_header_ipv4 source destination number.0 len) % 2 ≡ 0 }
 {
@@ -51,7 +47,8 @@ pub(crate) fn sum_ipv4(
 
 /// Returns the one's complement sum of the IPv6 pseudo header: addresses `source` and `destination`, next header
 /// `number`, and the length `len` of the transport header and its payload in bytes.
-pub(crate) fn sum_ipv6(
+#[inline]
+pub fn sum_ipv6(
     source: [u8; 16],
     destination: [u8; 16],
     number: IpNumber,

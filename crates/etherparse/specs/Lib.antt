@@ -78,6 +78,7 @@ pub use Rattle.ep_packet.specs.IpHeaders
 pub use Rattle.ep_packet.specs.LayerErrors
 pub use Rattle.ep_packet.specs.Layers
 pub use Rattle.ep_packet.specs.NetHeaders
+pub use Rattle.ep_packet.specs.PayloadStarts
 pub use Rattle.ep_packet.specs.NetSlices
 pub use Rattle.ep_packet.specs.Offsets
 pub use Rattle.ep_packet.specs.PacketHeaders
@@ -87,6 +88,8 @@ pub use Rattle.ep_packet.specs.FrameRefusals
 pub use Rattle.ep_packet.specs.ShownBytes
 pub use Rattle.ep_packet.specs.TwoParsers
 pub use Rattle.ep_packet.specs.UncutTags
+pub use Rattle.ep_packet.specs.Verdicts
+pub use Rattle.ep_packet.specs.FrameVerdicts
 pub use Rattle.ep_packet.specs.VlanTags
 pub use Rattle.ep_packet.specs.Walk
 -- lax parsing of truncated packets
@@ -101,6 +104,7 @@ pub use Rattle.ep_lax.specs.Lax
 pub use Rattle.ep_lax.specs.LaxRefusals
 pub use Rattle.ep_lax.specs.LaxViews
 pub use Rattle.ep_lax.specs.LaxPackets
+pub use Rattle.ep_lax.specs.LaxVerdicts
 pub use Rattle.ep_lax.specs.LaxPayloads
 pub use Rattle.ep_lax.specs.LaxPayloadParts
 pub use Rattle.ep_lax.specs.LaxPacketHeaders

@@ -117,6 +117,8 @@ pub use Rattle.ep_transport.specs.declared.transport_slice.TransportSlice
 pub use Rattle.ep_transport.specs.declared.udp_header.UdpHeader
 pub use Rattle.ep_transport.specs.declared.udp_slice.UdpSlice
 -- whole packets
+pub use Rattle.ep_packet.specs.declared.checksum_verdict.ChecksumVerdict
+pub use Rattle.ep_packet.specs.declared.checksum_verdict.ChecksumVerdicts
 pub use Rattle.ep_packet.specs.declared.entry.Entry
 pub use Rattle.ep_packet.specs.declared.err.headers_write_error.HeadersWriteError
 pub use Rattle.ep_packet.specs.declared.err.net_set_next_header_error.NetSetNextHeaderError

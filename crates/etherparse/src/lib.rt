@@ -16,8 +16,9 @@
 //!
 //! The length fields of a packet limit its payloads; [`LenSource`] names the field that set a limit. Bytes that are not
 //! a packet are rejected with an [`err::packet::SliceError`]. It states the reason, and if bytes are missing, the
-//! layer, the offset at which that layer starts, and the number of bytes that it needs and has. No checksum is
-//! verified; the `calc_checksum_*` methods, as `calc_checksum_ipv4`, compute the expected value.
+//! layer, the offset at which that layer starts, and the number of bytes that it needs and has. Slicing verifies no
+//! checksum: [`SlicedPacket::checksums`] returns which are valid, and the `calc_checksum_*` methods, as
+//! `calc_checksum_ipv4`, compute the expected value.
 //!
 //! To parse many packets, [`SlicedPacket::slice_into`] reuses an existing packet; [`Entry`] selects the header that the
 //! bytes start with. [`PacketHeaders`] parses the same packets into owned headers ([`LinkHeader`], [`LinkExtHeader`],
@@ -159,6 +160,8 @@ pub use ep_link::SingleVlanHeader;
 pub use ep_link::SingleVlanSlice;
 pub use ep_link::VlanHeader;
 pub use ep_link::VlanSlice;
+pub use ep_packet::ChecksumVerdict;
+pub use ep_packet::ChecksumVerdicts;
 pub use ep_packet::Entry;
 pub use ep_packet::InternetSlice;
 pub use ep_packet::IpHeader;

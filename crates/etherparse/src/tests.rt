@@ -2,6 +2,7 @@
 
 mod build;
 mod checks;
+mod checksums;
 mod defrag;
 mod derives;
 mod hostile;

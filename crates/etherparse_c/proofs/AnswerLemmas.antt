@@ -11,13 +11,13 @@ use Rattle.etherparse_c.specs.Places.{Describes}
 use Rattle.etherparse_c.specs.PoolAnswers.{Changes, ReturnsNumber}
 use Rattle.etherparse_c.specs.SliceAnswers.{IsSliceAnswer}
 
--- A described frame is an answer of `etherparse_1_slice` with status 0.
+-- A described frame is an answer of `etherparse_2_slice` with status 0.
 pub sliced : (first : Option Entry) (entry : Entry) (bytes : List ℕ) (layers : Layers) (packet : Packet)
     → first ≡ Some entry → Describes entry bytes layers packet → IsSliceAnswer first bytes 0 packet
 sliced first entry bytes layers packet is describes =
     subst (λ (e : Option Entry). IsSliceAnswer e bytes 0 packet) (sym is) (inl (refl, (layers, describes)))
 
--- A described lax packet is an answer of `etherparse_1_slice_lax` with status 0.
+-- A described lax packet is an answer of `etherparse_2_slice_lax` with status 0.
 pub read_laxly : (first : Option Entry) (entry : Entry) (bytes : List ℕ) (read : LaxLayers) (packet : Packet)
     → first ≡ Some entry → DescribesLax entry bytes read packet → IsLaxAnswer first bytes 0 packet
 read_laxly first entry bytes read packet is describes =

@@ -14,5 +14,11 @@ pub mod TagLemmas
 pub mod TaggedLemmas
 pub mod TextLemmas
 pub mod TextLengthLemmas
+pub mod UdpHeaderLemmas
+pub mod FieldLemmas
+pub mod FieldTagLemmas
+pub mod AllFieldLemmas
+pub mod DescribedFieldLemmas
+pub mod VerdictLemmas
 pub mod FilterPointerLemmas
 pub mod FilterLemmas

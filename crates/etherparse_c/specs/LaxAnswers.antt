@@ -1,4 +1,4 @@
--- Description of lax packets for C, and the answer of `etherparse_1_slice_lax`.
+-- Description of lax packets for C, and the answer of `etherparse_2_slice_lax`.
 use Rattle.std.specs.Prelude.{◌≡◌, ℕ, ◌+◌, ◌==◌, ◌&&◌, nat_lt, if◌then◌else◌, List, [], ◌∷◌, length, ◌⊎◌, Option, Some, None}
 use Rattle.etherparse.specs.Bytes.{bit}
 use Rattle.etherparse.specs.FrameBytes.{last_payload}

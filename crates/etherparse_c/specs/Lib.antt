@@ -4,6 +4,9 @@ pub mod RefusalNumbers
 pub mod SliceAnswers
 pub mod LaxAnswers
 pub mod ManyAnswers
+pub mod Fields
+pub mod FieldAnswers
+pub mod VerdictAnswers
 pub mod Building
 pub mod TaggedBuilding
 pub mod StateOwnership

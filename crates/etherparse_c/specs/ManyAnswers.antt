@@ -1,4 +1,4 @@
--- Answers of `etherparse_1_slice_many` and `etherparse_1_slice_lax_many`.
+-- Answers of `etherparse_2_slice_many` and `etherparse_2_slice_lax_many`.
 use Rattle.std.specs.Prelude.{◌≡◌, ◌<◌, ◌≤◌, ℕ, List, ◌∷◌, length, drop, ◌⊎◌, Option, Some, None, slice_get, slice_index}
 use Rattle.std.specs.List.{slice_range}
 use Rattle.etherparse.specs.Types.Entry.{Entry}

@@ -40,7 +40,7 @@ use std::mem::replace;
 /// Stores the default limits of a bounded reassembly pool: 4096 streams, 32 MiB, payloads of at most 65535 bytes, an
 /// age of 60000, and streams with contradicting fragments are discarded.
 #[unsafe(no_mangle)]
-pub extern "C" fn etherparse_1_defrag_limits_default(limits: &mut DefragLimits)
+pub extern "C" fn etherparse_2_defrag_limits_default(limits: &mut DefragLimits)
     ensures { limits_of limits.new ≡ Some default_limits }
 {
     *limits = default_limits();
@@ -50,7 +50,7 @@ pub extern "C" fn etherparse_1_defrag_limits_default(limits: &mut DefragLimits)
 /// which the pool finds its streams. Returns status 0, 2 if the limits' rule for overlaps is unknown, or 5 if an
 /// allocation fails; with 2 and 5 `pool` is unchanged.
 #[unsafe(no_mangle)]
-pub extern "C" fn etherparse_1_bounded_pool_new(
+pub extern "C" fn etherparse_2_bounded_pool_new(
     alloc: Global,
     limits: &DefragLimits,
     seed: &[u8; 16],
@@ -66,7 +66,7 @@ pub extern "C" fn etherparse_1_bounded_pool_new(
 
 /// Frees a bounded reassembly pool with all fragments and payloads in it.
 #[unsafe(no_mangle)]
-pub extern "C" fn etherparse_1_bounded_pool_free(pool: OwnedBoundedPool) {
+pub extern "C" fn etherparse_2_bounded_pool_free(pool: OwnedBoundedPool) {
     let OwnedBoundedPool { handle } = pool;
     let BoundedPool { pointer } = Box::into_inner(handle.into_raw_box().into_box());
     let _ = pointer.into_raw_box().into_box();
@@ -85,7 +85,7 @@ pub extern "C" fn etherparse_1_bounded_pool_free(pool: OwnedBoundedPool) {
 /// earlier complete payload; otherwise with 1 if the bytes are not a valid frame. With any status but 6 the buffer is
 /// unchanged.
 #[unsafe(no_mangle)]
-pub extern "C" fn etherparse_1_bounded_pool_push(
+pub extern "C" fn etherparse_2_bounded_pool_push(
     alloc: Global,
     pool: &mut BoundedPool,
     entry: u32,
@@ -114,7 +114,7 @@ pub extern "C" fn etherparse_1_bounded_pool_push(
 /// which an earlier buffer was too small. Returns status 6 if the payload is copied; 3 if it is longer than `buffer`,
 /// and the pool still keeps it; 0 if the pool keeps no complete payload. With any status but 6 the buffer is unchanged.
 #[unsafe(no_mangle)]
-pub extern "C" fn etherparse_1_bounded_pool_take(
+pub extern "C" fn etherparse_2_bounded_pool_take(
     alloc: Global,
     pool: &mut BoundedPool,
     buffer: &mut [u8],
@@ -131,7 +131,7 @@ pub extern "C" fn etherparse_1_bounded_pool_take(
 /// Discards the complete payload that a bounded reassembly pool keeps because the caller's buffer was too small, if
 /// any. The streams are unchanged.
 #[unsafe(no_mangle)]
-pub extern "C" fn etherparse_1_bounded_pool_discard(alloc: Global, pool: &mut BoundedPool)
+pub extern "C" fn etherparse_2_bounded_pool_discard(alloc: Global, pool: &mut BoundedPool)
     ensures { ChangesBounded pool.old pool.new DiscardsWaiting }
 {
     let mut state = take_state(alloc, &mut pool.pointer);
@@ -142,7 +142,7 @@ pub extern "C" fn etherparse_1_bounded_pool_discard(alloc: Global, pool: &mut Bo
 /// Evicts from a bounded reassembly pool each stream that is older than the age of the limits, or whose last accepted
 /// fragment came more than `idle` before `now`. Returns their number. Takes time linear in the number of streams.
 #[unsafe(no_mangle)]
-pub extern "C" fn etherparse_1_bounded_pool_expire(
+pub extern "C" fn etherparse_2_bounded_pool_expire(
     alloc: Global,
     pool: &mut BoundedPool,
     now: u64,
@@ -159,7 +159,7 @@ pub extern "C" fn etherparse_1_bounded_pool_expire(
 /// Removes the stream with this identifier, open or discarded, from a bounded reassembly pool. Returns the number of
 /// removed streams: 1, or 0 if no stream has the identifier.
 #[unsafe(no_mangle)]
-pub extern "C" fn etherparse_1_bounded_pool_remove(
+pub extern "C" fn etherparse_2_bounded_pool_remove(
     alloc: Global,
     pool: &mut BoundedPool,
     id: &StreamId,
@@ -174,7 +174,7 @@ pub extern "C" fn etherparse_1_bounded_pool_remove(
 
 /// Removes all streams from a bounded reassembly pool. The counters and a complete payload that the pool keeps stay.
 #[unsafe(no_mangle)]
-pub extern "C" fn etherparse_1_bounded_pool_clear(alloc: Global, pool: &mut BoundedPool)
+pub extern "C" fn etherparse_2_bounded_pool_clear(alloc: Global, pool: &mut BoundedPool)
     ensures { ChangesBounded pool.old pool.new ClearsBounded }
 {
     let mut state = take_state(alloc, &mut pool.pointer);
@@ -185,7 +185,7 @@ pub extern "C" fn etherparse_1_bounded_pool_clear(alloc: Global, pool: &mut Boun
 /// Returns the number of open streams in a bounded reassembly pool: IP datagrams with accepted fragments that are still
 /// incomplete, and not discarded.
 #[unsafe(no_mangle)]
-pub extern "C" fn etherparse_1_bounded_pool_streams(alloc: Global, pool: &mut BoundedPool) -> usize
+pub extern "C" fn etherparse_2_bounded_pool_streams(alloc: Global, pool: &mut BoundedPool) -> usize
     ensures { ChangesBounded pool.old pool.new (λ old new. ReturnsNumber open_streams result old new
         × IsBounded new.pool) }
 {
@@ -198,7 +198,7 @@ pub extern "C" fn etherparse_1_bounded_pool_streams(alloc: Global, pool: &mut Bo
 /// Returns the number of discarded streams in a bounded reassembly pool whose identifiers still count as streams of the
 /// limits.
 #[unsafe(no_mangle)]
-pub extern "C" fn etherparse_1_bounded_pool_discarded_streams(
+pub extern "C" fn etherparse_2_bounded_pool_discarded_streams(
     alloc: Global,
     pool: &mut BoundedPool,
 ) -> usize
@@ -213,7 +213,7 @@ pub extern "C" fn etherparse_1_bounded_pool_discarded_streams(
 /// Returns the memory of all streams in a bounded reassembly pool in bytes: the capacities of their data and section
 /// lists. A complete payload that is not yet taken does not count.
 #[unsafe(no_mangle)]
-pub extern "C" fn etherparse_1_bounded_pool_held_bytes(
+pub extern "C" fn etherparse_2_bounded_pool_held_bytes(
     alloc: Global,
     pool: &mut BoundedPool,
 ) -> usize
@@ -228,7 +228,7 @@ pub extern "C" fn etherparse_1_bounded_pool_held_bytes(
 
 /// Stores the counters of a bounded reassembly pool since it was created.
 #[unsafe(no_mangle)]
-pub extern "C" fn etherparse_1_bounded_pool_statistics(
+pub extern "C" fn etherparse_2_bounded_pool_statistics(
     alloc: Global,
     pool: &mut BoundedPool,
     statistics: &mut DefragStatistics,
@@ -243,7 +243,7 @@ pub extern "C" fn etherparse_1_bounded_pool_statistics(
 /// Returns the number of streams that the last push, expiry, removal or clearing of a bounded reassembly pool evicted or
 /// discarded.
 #[unsafe(no_mangle)]
-pub extern "C" fn etherparse_1_bounded_pool_evicted_count(
+pub extern "C" fn etherparse_2_bounded_pool_evicted_count(
     alloc: Global,
     pool: &mut BoundedPool,
 ) -> usize
@@ -260,7 +260,7 @@ pub extern "C" fn etherparse_1_bounded_pool_evicted_count(
 /// the one whose last accepted fragment was oldest first. Returns status 0, or 2 if there are fewer; then `evicted` is
 /// unchanged.
 #[unsafe(no_mangle)]
-pub extern "C" fn etherparse_1_bounded_pool_evicted(
+pub extern "C" fn etherparse_2_bounded_pool_evicted(
     alloc: Global,
     pool: &mut BoundedPool,
     index: usize,

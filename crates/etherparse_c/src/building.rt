@@ -24,7 +24,7 @@ use etherparse::{
 /// for the headers' length fields. With any status but 0 the buffer is unchanged. (The contract also allows 5, out of
 /// memory, which is not returned.)
 #[unsafe(no_mangle)]
-pub extern "C" fn etherparse_1_build_udp(
+pub extern "C" fn etherparse_2_build_udp(
     route: &Route,
     source_port: u16,
     destination_port: u16,
@@ -49,7 +49,7 @@ pub extern "C" fn etherparse_1_build_udp(
 /// is neither 4 nor 6; 3 if the buffer is too small, and `written` is the needed length; 4 if the payload is too long
 /// for the headers' length fields. With any status but 0 the buffer is unchanged.
 #[unsafe(no_mangle)]
-pub extern "C" fn etherparse_1_build_tcp(
+pub extern "C" fn etherparse_2_build_tcp(
     route: &Route,
     fields: &TcpFields,
     payload: &[u8],
@@ -70,7 +70,7 @@ pub extern "C" fn etherparse_1_build_tcp(
 /// and `written` is the needed length; 4 if the payload is too long for the headers' length fields. With any status but
 /// 0 the buffer is unchanged.
 #[unsafe(no_mangle)]
-pub extern "C" fn etherparse_1_build_icmp_echo(
+pub extern "C" fn etherparse_2_build_icmp_echo(
     route: &Route,
     is_reply: u8,
     id: u16,

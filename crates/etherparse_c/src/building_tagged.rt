@@ -25,7 +25,7 @@ use etherparse::{
 /// if the buffer is too small, and `written` is the needed length; 4 if the payload is too long for the headers' length
 /// fields. With any status but 0 the buffer is unchanged.
 #[unsafe(no_mangle)]
-pub extern "C" fn etherparse_1_build_tagged_udp(
+pub extern "C" fn etherparse_2_build_tagged_udp(
     route: &TaggedRoute,
     source_port: u16,
     destination_port: u16,
@@ -51,7 +51,7 @@ pub extern "C" fn etherparse_1_build_tagged_udp(
 /// is too small, and `written` is the needed length; 4 if the payload is too long for the headers' length fields. With
 /// any status but 0 the buffer is unchanged.
 #[unsafe(no_mangle)]
-pub extern "C" fn etherparse_1_build_tagged_tcp(
+pub extern "C" fn etherparse_2_build_tagged_tcp(
     route: &TaggedRoute,
     fields: &TcpFields,
     options: &[u8],
@@ -79,7 +79,7 @@ pub extern "C" fn etherparse_1_build_tagged_tcp(
 /// version, tags or VLAN identifiers); 3 if the buffer is too small, and `written` is the needed length; 4 if the
 /// payload is too long for the headers' length fields. With any status but 0 the buffer is unchanged.
 #[unsafe(no_mangle)]
-pub extern "C" fn etherparse_1_build_tagged_icmp_echo(
+pub extern "C" fn etherparse_2_build_tagged_icmp_echo(
     route: &TaggedRoute,
     is_reply: u8,
     id: u16,
@@ -108,7 +108,7 @@ pub extern "C" fn etherparse_1_build_tagged_icmp_echo(
 /// the buffer is too small, and `written` is the needed length; 4 if the payload is too long for the headers' length
 /// fields. With any status but 0 the buffer is unchanged.
 #[unsafe(no_mangle)]
-pub extern "C" fn etherparse_1_build_fragment(
+pub extern "C" fn etherparse_2_build_fragment(
     route: &TaggedRoute,
     fields: &FragmentFields,
     payload: &[u8],

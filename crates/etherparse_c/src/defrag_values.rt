@@ -27,13 +27,13 @@ pub struct DefragStatistics {
     pub completed: u64,
     /// Streams that were discarded because two versions of their payload arrived.
     pub discarded: u64,
-    /// Open streams that were evicted for their age, or by `etherparse_1_bounded_pool_expire`.
+    /// Open streams that were evicted for their age, or by `etherparse_2_bounded_pool_expire`.
     pub expired: u64,
     /// Open streams that were evicted because there were too many streams.
     pub evicted_for_streams: u64,
     /// Open streams that were evicted because all streams, or the stream alone, used too much memory.
     pub evicted_for_bytes: u64,
-    /// Open streams that `etherparse_1_bounded_pool_remove` or `etherparse_1_bounded_pool_clear` removed.
+    /// Open streams that `etherparse_2_bounded_pool_remove` or `etherparse_2_bounded_pool_clear` removed.
     pub removed: u64,
     /// Fragments that were accepted, also those that complete a payload.
     pub accepted: u64,

@@ -30,7 +30,7 @@ use std::str;
 /// Returns the status: 0 if the filter is stored; 1 if the text is not a filter expression, with the error in `error`;
 /// 5 if an allocation fails. With 1 and 5 `filter` is unchanged; with 0 and 5 all fields of `error` are 0.
 #[unsafe(no_mangle)]
-pub extern "C" fn etherparse_1_filter_new(
+pub extern "C" fn etherparse_2_filter_new(
     alloc: Global,
     text: &[u8],
     filter: &mut FilterHandle,
@@ -65,7 +65,7 @@ pub extern "C" fn etherparse_1_filter_new(
 
 /// Frees a filter.
 #[unsafe(no_mangle)]
-pub extern "C" fn etherparse_1_filter_free(filter: OwnedFilter) {
+pub extern "C" fn etherparse_2_filter_free(filter: OwnedFilter) {
     let OwnedFilter { handle } = filter;
     let HeldFilter { pointer } = Box::into_inner(handle.into_raw_box().into_box());
     let _ = pointer.into_raw_box().into_box();
@@ -73,11 +73,11 @@ pub extern "C" fn etherparse_1_filter_free(filter: OwnedFilter) {
 
 /// Stores in `matches` whether a filter matches a packet: 1 or 0. The packet is sliced laxly; a packet whose first
 /// header is rejected has no layers. `entry` is the number of the packet's first header, as in
-/// `etherparse_1_slice_lax`, and `wire_len` the original length of the packet in bytes, which may be truncated.
+/// `etherparse_2_slice_lax`, and `wire_len` the original length of the packet in bytes, which may be truncated.
 ///
 /// Returns status 0, or 2 if `entry` is above 3; `matches` is then 0.
 #[unsafe(no_mangle)]
-pub extern "C" fn etherparse_1_filter_matches(
+pub extern "C" fn etherparse_2_filter_matches(
     alloc: Global,
     filter: &mut HeldFilter,
     entry: u32,
@@ -95,15 +95,15 @@ pub extern "C" fn etherparse_1_filter_matches(
     status
 }
 
-/// Stores for each of consecutive packets in `bytes` whether a filter matches it, as `etherparse_1_filter_matches`
+/// Stores for each of consecutive packets in `bytes` whether a filter matches it, as `etherparse_2_filter_matches`
 /// does: packet 0 is `bytes[..ends[0]]`, and packet i is `bytes[ends[i - 1]..ends[i]]`. The answer for packet i, 1 or 0,
 /// is written to `matches[i]`; `matched` is the number of written elements. The other elements are unchanged. The
 /// original length of packet i is `wire_lens[i]`, or the number of its bytes if `wire_lens` has no such element.
 ///
-/// Returns the status, as `etherparse_1_slice_many`: 0 if all packets are matched; 3 if `matches` is shorter than
+/// Returns the status, as `etherparse_2_slice_many`: 0 if all packets are matched; 3 if `matches` is shorter than
 /// `ends`; 2 if `entry` is above 3, or if a packet's end is less than its start or greater than the length of `bytes`.
 #[unsafe(no_mangle)]
-pub extern "C" fn etherparse_1_filter_matches_many(
+pub extern "C" fn etherparse_2_filter_matches_many(
     alloc: Global,
     filter: &mut HeldFilter,
     entry: u32,
@@ -137,7 +137,7 @@ pub extern "C" fn etherparse_1_filter_matches_many(
 /// Returns the status: 0 if the text is written; 3 if the buffer is too small, and `written` is the needed length; 5 if
 /// an allocation fails. With 3 and 5 the buffer is unchanged.
 #[unsafe(no_mangle)]
-pub extern "C" fn etherparse_1_filter_text(
+pub extern "C" fn etherparse_2_filter_text(
     alloc: Global,
     filter: &mut HeldFilter,
     buffer: &mut [u8],
@@ -163,7 +163,7 @@ pub extern "C" fn etherparse_1_filter_text(
 /// Returns the status: 0 if the text is written; 2 if `kind` is not the number of a reason; 3 if the buffer is too
 /// small, and `written` is the needed length. With 2 and 3 the buffer is unchanged.
 #[unsafe(no_mangle)]
-pub extern "C" fn etherparse_1_filter_error_text(
+pub extern "C" fn etherparse_2_filter_error_text(
     kind: u32,
     buffer: &mut [u8],
     written: &mut usize,

@@ -9,6 +9,8 @@ ghost use Rattle.etherparse.specs.Layers.{Layers};
 ghost use Rattle.etherparse.specs.Pools.{HoldsTable, limit_of};
 ghost use Rattle.etherparse.specs.StrictFrames.{layers_in};
 ghost use Rattle.etherparse_c.specs.Description.{description, payload_offset};
+ghost use Rattle.etherparse_c.specs.FieldAnswers.{IsFieldsAnswer};
+ghost use Rattle.etherparse_c.specs.Fields.{fields_in};
 ghost use Rattle.etherparse_c.specs.LaxAnswers.{DescribesLax, lax_description};
 ghost use Rattle.etherparse_c.specs.Places.{Describes, HeaderLens};
 ghost use Rattle.etherparse_c.specs.PoolAnswers.{IsPushAnswer, Table, pool_of, waiting_in};
@@ -21,6 +23,7 @@ ghost use Rattle.packet_filter.specs.declared.filter_error.FilterErrorKind.{Filt
 
 use crate::bounded_handle::BoundedHandle;
 use crate::bounded_state::BoundedState;
+use crate::fields::Fields;
 use crate::filter_handle::FilterHandle;
 use crate::handle::Handle;
 use crate::owned_bounded_pool::OwnedBoundedPool;
@@ -53,6 +56,20 @@ pub fn lax_offsets()
 {
     etherparse::laws::lax::lax_bytes();
     header_lens();
+}
+
+/// States that C gets the right fields of a described packet. If `etherparse_2_fields` is called with the description
+/// of a valid frame or of a laxly sliced packet, and with its bytes, it returns status 0 and the fields of its layers.
+pub fn described_fields()
+    ensures frames { (entry : Entry) (bytes : List ℕ) (layers : Layers) (packet : Packet) (status : ℕ) (fields : Fields)
+        → Describes entry bytes layers packet → IsFieldsAnswer packet bytes status fields
+        → (status ≡ 0) × (fields ≡ fields_in bytes layers) }
+    ensures lax { (entry : Entry) (bytes : List ℕ) (read : LaxLayers) (packet : Packet) (status : ℕ) (fields : Fields)
+        → DescribesLax entry bytes read packet → IsFieldsAnswer packet bytes status fields
+        → (status ≡ 0) × (fields ≡ fields_in bytes (layers_in read)) }
+{
+    frame_offsets();
+    lax_offsets();
 }
 
 /// States that each header, encoded as bytes, has the length that its description for C states.

@@ -13,13 +13,13 @@ use etherparse::LaxSlicedPacket;
 /// Slices a packet laxly into its layers up to the first invalid layer. The packet may be truncated, and its length
 /// fields may not match its bytes. `entry` is the number of the packet's first header: 0 Ethernet II, 1 Linux cooked
 /// capture, 2 the header that `ether_type` identifies, 3 IP of either version. `ether_type` is used only if `entry` is
-/// 2. Overwrites `packet`. A valid frame is described as by strict slicing (`etherparse_1_slice`).
+/// 2. Overwrites `packet`. A valid frame is described as by strict slicing (`etherparse_2_slice`).
 ///
 /// Returns the status: 0 if `packet` describes the valid layers (with `entry` 2 possibly none), with the error of the
 /// next layer in `packet.refusal` if that layer is invalid; 1 if `entry` is 0, 1 or 3 and the first header is rejected,
 /// with the error in `packet`; 2 if `entry` is above 3.
 #[unsafe(no_mangle)]
-pub extern "C" fn etherparse_1_slice_lax(
+pub extern "C" fn etherparse_2_slice_lax(
     entry: u32,
     ether_type: u16,
     bytes: &[u8],

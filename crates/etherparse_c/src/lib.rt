@@ -17,6 +17,8 @@ mod checksum;
 mod defrag_describing;
 mod defrag_values;
 mod describing;
+mod field_reading;
+mod fields;
 mod filter_handle;
 mod filter_pointer;
 mod filter_values;
@@ -27,6 +29,8 @@ mod held_filter;
 pub mod laws;
 mod lax_describing;
 mod lax_slicing;
+mod link_fields;
+mod net_fields;
 mod net_part;
 mod numbers;
 mod owned_bounded_pool;
@@ -35,6 +39,7 @@ mod owned_pool;
 mod packet;
 mod placing;
 mod plain;
+mod plain_fields;
 mod pool;
 mod pool_answer;
 mod pooling;
@@ -48,37 +53,41 @@ mod state;
 mod state_pointer;
 mod tags;
 mod texts;
+mod transport_fields;
+mod verifying;
 mod version;
 mod vlans;
 
 pub use bounded_handle::BoundedHandle;
 pub use bounded_pool::BoundedPool;
 pub use bounded_pooling::{
-    etherparse_1_bounded_pool_clear, etherparse_1_bounded_pool_discard,
-    etherparse_1_bounded_pool_discarded_streams, etherparse_1_bounded_pool_evicted,
-    etherparse_1_bounded_pool_evicted_count, etherparse_1_bounded_pool_expire,
-    etherparse_1_bounded_pool_free, etherparse_1_bounded_pool_held_bytes,
-    etherparse_1_bounded_pool_new, etherparse_1_bounded_pool_push,
-    etherparse_1_bounded_pool_remove, etherparse_1_bounded_pool_statistics,
-    etherparse_1_bounded_pool_streams, etherparse_1_bounded_pool_take,
-    etherparse_1_defrag_limits_default,
+    etherparse_2_bounded_pool_clear, etherparse_2_bounded_pool_discard,
+    etherparse_2_bounded_pool_discarded_streams, etherparse_2_bounded_pool_evicted,
+    etherparse_2_bounded_pool_evicted_count, etherparse_2_bounded_pool_expire,
+    etherparse_2_bounded_pool_free, etherparse_2_bounded_pool_held_bytes,
+    etherparse_2_bounded_pool_new, etherparse_2_bounded_pool_push,
+    etherparse_2_bounded_pool_remove, etherparse_2_bounded_pool_statistics,
+    etherparse_2_bounded_pool_streams, etherparse_2_bounded_pool_take,
+    etherparse_2_defrag_limits_default,
 };
-pub use building::{etherparse_1_build_icmp_echo, etherparse_1_build_tcp, etherparse_1_build_udp};
+pub use building::{etherparse_2_build_icmp_echo, etherparse_2_build_tcp, etherparse_2_build_udp};
 pub use building_tagged::{
-    etherparse_1_build_fragment, etherparse_1_build_tagged_icmp_echo,
-    etherparse_1_build_tagged_tcp, etherparse_1_build_tagged_udp,
+    etherparse_2_build_fragment, etherparse_2_build_tagged_icmp_echo,
+    etherparse_2_build_tagged_tcp, etherparse_2_build_tagged_udp,
 };
-pub use checksum::etherparse_1_checksum;
+pub use checksum::etherparse_2_checksum;
 pub use defrag_values::{DefragLimits, DefragStatistics, EvictedStream, StreamId};
+pub use field_reading::etherparse_2_fields;
+pub use fields::{ArpFields, Fields, IpFields, LinkFields, Place, TagFields, TransportFields};
 pub use filter_handle::FilterHandle;
 pub use filter_values::FilterError;
 pub use filtering::{
-    etherparse_1_filter_error_text, etherparse_1_filter_free, etherparse_1_filter_matches,
-    etherparse_1_filter_matches_many, etherparse_1_filter_new, etherparse_1_filter_text,
+    etherparse_2_filter_error_text, etherparse_2_filter_free, etherparse_2_filter_matches,
+    etherparse_2_filter_matches_many, etherparse_2_filter_new, etherparse_2_filter_text,
 };
 pub use handle::Handle;
 pub use held_filter::HeldFilter;
-pub use lax_slicing::etherparse_1_slice_lax;
+pub use lax_slicing::etherparse_2_slice_lax;
 pub use owned_bounded_pool::OwnedBoundedPool;
 pub use owned_filter::OwnedFilter;
 pub use owned_pool::OwnedPool;
@@ -86,12 +95,13 @@ pub use packet::{Ip, LinkExt, Packet, Part, Payload, Refusal};
 pub use pool::Pool;
 pub use pool_answer::PoolAnswer;
 pub use pooling::{
-    etherparse_1_pool_bytes, etherparse_1_pool_discard, etherparse_1_pool_drop_older,
-    etherparse_1_pool_free, etherparse_1_pool_new, etherparse_1_pool_push,
-    etherparse_1_pool_streams, etherparse_1_pool_take, etherparse_1_pool_with_limit,
+    etherparse_2_pool_bytes, etherparse_2_pool_discard, etherparse_2_pool_drop_older,
+    etherparse_2_pool_free, etherparse_2_pool_new, etherparse_2_pool_push,
+    etherparse_2_pool_streams, etherparse_2_pool_take, etherparse_2_pool_with_limit,
 };
 pub use route::{FragmentFields, Route, TaggedRoute, TcpFields};
-pub use slicing::etherparse_1_slice;
-pub use slicing_many::{etherparse_1_slice_lax_many, etherparse_1_slice_many};
-pub use texts::etherparse_1_refusal_text;
-pub use version::etherparse_1_version;
+pub use slicing::etherparse_2_slice;
+pub use slicing_many::{etherparse_2_slice_lax_many, etherparse_2_slice_many};
+pub use texts::etherparse_2_refusal_text;
+pub use verifying::etherparse_2_checksums;
+pub use version::etherparse_2_version;

@@ -54,5 +54,16 @@ pub const TRANSPORT_UDP: u32 = 17;
 /// Kind of a transport header in the C interface, equal to its IP protocol number: ICMPv6.
 pub const TRANSPORT_ICMPV6: u32 = 58;
 
+/// Verdict on a checksum in the C interface: there is no such header, and no fragment.
+pub const CHECKSUM_NONE: u32 = 0;
+/// Verdict on a checksum in the C interface: it is valid.
+pub const CHECKSUM_VALID: u32 = 1;
+/// Verdict on a checksum in the C interface: it is invalid.
+pub const CHECKSUM_INVALID: u32 = 2;
+/// Verdict on a checksum in the C interface: the sender computed none, in UDP over IPv4.
+pub const CHECKSUM_ABSENT: u32 = 3;
+/// Verdict on a checksum in the C interface: it cannot be decided.
+pub const CHECKSUM_UNKNOWN: u32 = 4;
+
 /// Reason for an error of a filter expression in the C interface: the text is not UTF-8.
 pub const FILTER_NOT_UTF8: u32 = 25;

@@ -4,7 +4,7 @@ ghost use Rattle.std.specs.Prelude.{◌≡◌, is_some, true};
 
 use crate::bounded_handle::BoundedHandle;
 
-/// Address of a bounded reassembly pool, as C passes it to `etherparse_1_bounded_pool_free`. That call takes ownership
+/// Address of a bounded reassembly pool, as C passes it to `etherparse_2_bounded_pool_free`. That call takes ownership
 /// of the pool.
 #[repr(C)]
 #[derive(Drop)]

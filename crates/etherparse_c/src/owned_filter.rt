@@ -4,7 +4,7 @@ ghost use Rattle.std.specs.Prelude.{◌≡◌, is_some, true};
 
 use crate::filter_handle::FilterHandle;
 
-/// Address of a filter, as C passes it to `etherparse_1_filter_free`. That call takes ownership of the filter.
+/// Address of a filter, as C passes it to `etherparse_2_filter_free`. That call takes ownership of the filter.
 #[repr(C)]
 #[derive(Drop)]
 pub struct OwnedFilter {

@@ -4,7 +4,7 @@ ghost use Rattle.std.specs.Prelude.{◌≡◌, is_some, true};
 
 use crate::handle::Handle;
 
-/// Address of a reassembly pool, as C passes it to `etherparse_1_pool_free`. That call takes ownership of the pool.
+/// Address of a reassembly pool, as C passes it to `etherparse_2_pool_free`. That call takes ownership of the pool.
 #[repr(C)]
 #[derive(Drop)]
 pub struct OwnedPool {

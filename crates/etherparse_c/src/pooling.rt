@@ -27,7 +27,7 @@ use std::mem::replace;
 /// Creates an empty reassembly pool and stores its address in `pool`. Reassembled payloads have at most 65535 bytes.
 /// Returns status 0, or 5 if an allocation fails; then `pool` is unchanged.
 #[unsafe(no_mangle)]
-pub extern "C" fn etherparse_1_pool_new(alloc: Global, pool: &mut Handle) -> u32
+pub extern "C" fn etherparse_2_pool_new(alloc: Global, pool: &mut Handle) -> u32
     ensures { IsNewPool 65535 pool.old pool.new result }
 {
     new_pool(alloc, 65_535, pool)
@@ -36,7 +36,7 @@ pub extern "C" fn etherparse_1_pool_new(alloc: Global, pool: &mut Handle) -> u32
 /// Creates an empty reassembly pool and stores its address in `pool`. Reassembled payloads have at most `limit` bytes.
 /// Returns status 0, or 5 if an allocation fails; then `pool` is unchanged.
 #[unsafe(no_mangle)]
-pub extern "C" fn etherparse_1_pool_with_limit(alloc: Global, limit: u16, pool: &mut Handle) -> u32
+pub extern "C" fn etherparse_2_pool_with_limit(alloc: Global, limit: u16, pool: &mut Handle) -> u32
     ensures { IsNewPool limit pool.old pool.new result }
 {
     new_pool(alloc, limit, pool)
@@ -44,7 +44,7 @@ pub extern "C" fn etherparse_1_pool_with_limit(alloc: Global, limit: u16, pool: 
 
 /// Frees a reassembly pool with all fragments and payloads in it.
 #[unsafe(no_mangle)]
-pub extern "C" fn etherparse_1_pool_free(pool: OwnedPool) {
+pub extern "C" fn etherparse_2_pool_free(pool: OwnedPool) {
     let OwnedPool { handle } = pool;
     let Pool { pointer } = Box::into_inner(handle.into_raw_box().into_box());
     let _ = pointer.into_raw_box().into_box();
@@ -61,7 +61,7 @@ pub extern "C" fn etherparse_1_pool_free(pool: OwnedPool) {
 /// keeps an earlier complete payload; otherwise 1 if the bytes are not a valid frame, 7 if the fragment is rejected, 5
 /// if an allocation fails. With any status but 6 the buffer is unchanged.
 #[unsafe(no_mangle)]
-pub extern "C" fn etherparse_1_pool_push(
+pub extern "C" fn etherparse_2_pool_push(
     alloc: Global,
     pool: &mut Pool,
     entry: u32,
@@ -90,7 +90,7 @@ pub extern "C" fn etherparse_1_pool_push(
 /// earlier buffer was too small. Returns status 6 if the payload is copied; 3 if it is longer than `buffer`, and the
 /// pool still keeps it; 0 if the pool keeps no complete payload. With any status but 6 the buffer is unchanged.
 #[unsafe(no_mangle)]
-pub extern "C" fn etherparse_1_pool_take(
+pub extern "C" fn etherparse_2_pool_take(
     alloc: Global,
     pool: &mut Pool,
     buffer: &mut [u8],
@@ -107,7 +107,7 @@ pub extern "C" fn etherparse_1_pool_take(
 /// Discards the complete payload that a reassembly pool keeps because the caller's buffer was too small, if any.
 /// Incomplete payloads are unchanged.
 #[unsafe(no_mangle)]
-pub extern "C" fn etherparse_1_pool_discard(alloc: Global, pool: &mut Pool)
+pub extern "C" fn etherparse_2_pool_discard(alloc: Global, pool: &mut Pool)
     ensures { Changes pool.old pool.new Discards }
 {
     let mut state = take_state(alloc, &mut pool.pointer);
@@ -118,7 +118,7 @@ pub extern "C" fn etherparse_1_pool_discard(alloc: Global, pool: &mut Pool)
 /// Drops from a reassembly pool each incomplete IP datagram whose last accepted fragment has a timestamp below
 /// `timestamp`.
 #[unsafe(no_mangle)]
-pub extern "C" fn etherparse_1_pool_drop_older(alloc: Global, pool: &mut Pool, timestamp: u64)
+pub extern "C" fn etherparse_2_pool_drop_older(alloc: Global, pool: &mut Pool, timestamp: u64)
     ensures { Changes pool.old pool.new (DropsOlder timestamp) }
 {
     let mut state = take_state(alloc, &mut pool.pointer);
@@ -129,7 +129,7 @@ pub extern "C" fn etherparse_1_pool_drop_older(alloc: Global, pool: &mut Pool, t
 /// Returns the number of streams in a reassembly pool: IP datagrams that are incomplete, since only some of their
 /// fragments were accepted.
 #[unsafe(no_mangle)]
-pub extern "C" fn etherparse_1_pool_streams(alloc: Global, pool: &mut Pool) -> usize
+pub extern "C" fn etherparse_2_pool_streams(alloc: Global, pool: &mut Pool) -> usize
     ensures { Changes pool.old pool.new (ReturnsNumber streams_in result) }
 {
     let state = take_state(alloc, &mut pool.pointer);
@@ -142,7 +142,7 @@ pub extern "C" fn etherparse_1_pool_streams(alloc: Global, pool: &mut Pool) -> u
 /// start of the payload to the greatest end of its fragments, gaps included; a complete payload that is not yet taken
 /// counts in full. Takes time linear in the number of datagrams.
 #[unsafe(no_mangle)]
-pub extern "C" fn etherparse_1_pool_bytes(alloc: Global, pool: &mut Pool) -> usize
+pub extern "C" fn etherparse_2_pool_bytes(alloc: Global, pool: &mut Pool) -> usize
     ensures { Changes pool.old pool.new (ReturnsNumber bytes_in result) }
 {
     let state = take_state(alloc, &mut pool.pointer);

@@ -18,7 +18,7 @@ use etherparse::{Entry, EtherType, SlicedPacket};
 /// Returns the status: 0 if the bytes are a valid frame, which `packet` describes; 1 if they are not, with the error in
 /// `packet`; 2 if `entry` is above 3.
 #[unsafe(no_mangle)]
-pub extern "C" fn etherparse_1_slice(
+pub extern "C" fn etherparse_2_slice(
     entry: u32,
     ether_type: u16,
     bytes: &[u8],

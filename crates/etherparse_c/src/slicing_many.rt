@@ -6,21 +6,21 @@ ghost use Rattle.etherparse_c.specs.LaxAnswers.{IsLaxAnswer};
 ghost use Rattle.etherparse_c.specs.ManyAnswers.{FrameAnswers, IsManyAnswer};
 ghost use Rattle.etherparse_c.specs.SliceAnswers.{IsSliceAnswer, entry_of};
 
-use crate::lax_slicing::etherparse_1_slice_lax;
+use crate::lax_slicing::etherparse_2_slice_lax;
 use crate::numbers;
 use crate::packet::Packet;
-use crate::slicing::{entry_of, etherparse_1_slice};
+use crate::slicing::{entry_of, etherparse_2_slice};
 
 /// Slices consecutive frames in `bytes` strictly: frame 0 is `bytes[..ends[0]]`, and frame i is
 /// `bytes[ends[i - 1]..ends[i]]`. The description of frame i, or its error, is written to `packets[i]`; `sliced` is the
 /// number of written elements of `packets`. The other elements are unchanged.
 ///
 /// Returns the status: 0 if all frames, valid or not, are sliced; 3 if `packets` is shorter than `ends`, which is
-/// checked first; 2 if `entry` (the number of each frame's first header, as in `etherparse_1_slice`) is above 3. No
+/// checked first; 2 if `entry` (the number of each frame's first header, as in `etherparse_2_slice`) is above 3. No
 /// frame is sliced with status 3 or such an `entry`. The status is also 2 if a frame's end is less than its start or
 /// greater than the length of `bytes`; only the frames that precede this frame are then sliced.
 #[unsafe(no_mangle)]
-pub extern "C" fn etherparse_1_slice_many(
+pub extern "C" fn etherparse_2_slice_many(
     entry: u32,
     ether_type: u16,
     bytes: &[u8],
@@ -34,14 +34,14 @@ pub extern "C" fn etherparse_1_slice_many(
     slice_frames::<Strict>(entry, ether_type, bytes, ends, packets, sliced)
 }
 
-/// Slices consecutive packets in `bytes` laxly, each as `etherparse_1_slice_lax` does: packet 0 is `bytes[..ends[0]]`,
+/// Slices consecutive packets in `bytes` laxly, each as `etherparse_2_slice_lax` does: packet 0 is `bytes[..ends[0]]`,
 /// and packet i is `bytes[ends[i - 1]..ends[i]]`. The description of packet i, or the error of its first header, is
 /// written to `packets[i]`; `sliced` is the number of written elements of `packets`. The other elements are unchanged.
 ///
-/// Returns the status, as `etherparse_1_slice_many`: 0 if all packets are sliced; 3 if `packets` is shorter than `ends`;
+/// Returns the status, as `etherparse_2_slice_many`: 0 if all packets are sliced; 3 if `packets` is shorter than `ends`;
 /// 2 if `entry` is above 3, or if a packet's end is less than its start or greater than the length of `bytes`.
 #[unsafe(no_mangle)]
-pub extern "C" fn etherparse_1_slice_lax_many(
+pub extern "C" fn etherparse_2_slice_lax_many(
     entry: u32,
     ether_type: u16,
     bytes: &[u8],
@@ -76,7 +76,7 @@ impl SlicesFrame for Strict {
 
     #[inline(always)]
     fn slice(entry: u32, ether_type: u16, bytes: &[u8], packet: &mut Packet) -> u32 {
-        etherparse_1_slice(entry, ether_type, bytes, packet)
+        etherparse_2_slice(entry, ether_type, bytes, packet)
     }
 }
 
@@ -85,12 +85,12 @@ impl SlicesFrame for Lax {
 
     #[inline(always)]
     fn slice(entry: u32, ether_type: u16, bytes: &[u8], packet: &mut Packet) -> u32 {
-        etherparse_1_slice_lax(entry, ether_type, bytes, packet)
+        etherparse_2_slice_lax(entry, ether_type, bytes, packet)
     }
 }
 
 /// Slices consecutive frames by `Slicing`, and returns the status for C, as documented at
-/// `etherparse_1_slice_many`.
+/// `etherparse_2_slice_many`.
 #[inline(always)]
 pub(crate) fn slice_frames<Slicing: SlicesFrame>(
     entry: u32,

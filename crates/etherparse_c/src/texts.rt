@@ -23,7 +23,7 @@ use std::alloc::{AllocError, Global};
 /// buffer is too small, and `written` is the needed length; 5 if an allocation fails. With any status but 0 the buffer
 /// is unchanged.
 #[unsafe(no_mangle)]
-pub extern "C" fn etherparse_1_refusal_text(
+pub extern "C" fn etherparse_2_refusal_text(
     alloc: Global,
     refusal: &Refusal,
     buffer: &mut [u8],

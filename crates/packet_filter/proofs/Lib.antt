@@ -12,7 +12,6 @@ pub mod DecideValueLemmas
 pub mod DecidedLemmas
 pub mod FilterLemmas
 pub mod FitLemmas
-pub mod FragmentLemmas
 pub mod HostLemmas
 pub mod KeywordTextLemmas
 pub mod KindLemmas

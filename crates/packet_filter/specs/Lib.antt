@@ -1,6 +1,5 @@
 pub mod Networks
 pub mod Trees
-pub mod Starts
 pub mod Packets
 pub mod Shown
 pub mod Meaning

@@ -14,6 +14,7 @@ use Rattle.ep_link.specs.LinkExtensions.{LinkExtension, extension_type}
 use Rattle.ep_link.specs.LinkSlices.{LinkLayer, ethernet2, link_ether_payload}
 use Rattle.ep_packet.specs.Layers.{NetLayer, ipv4, ipv6, arp, net_payload}
 use Rattle.ep_packet.specs.Offsets.{link_len, tags_len}
+use Rattle.ep_packet.specs.PayloadStarts.{begins_payload}
 use Rattle.ep_lax.specs.LaxLayers.{LaxLayers}
 use Rattle.ep_lax.specs.StrictFrames.{extension_in}
 use Rattle.packet_filter.specs.declared.primitive.AddressLayer.{AddressLayer}
@@ -22,7 +23,6 @@ use Rattle.packet_filter.specs.declared.primitive.FieldLayer.{FieldLayer}
 use Rattle.packet_filter.specs.declared.primitive.FieldLayer.TheVariants as field
 use Rattle.packet_filter.specs.declared.primitive.IpVersion.{IpVersion}
 use Rattle.packet_filter.specs.declared.primitive.IpVersion.TheVariants as version
-use Rattle.packet_filter.specs.Starts.{begins_payload}
 
 -- ---- packets
 

@@ -5,12 +5,12 @@ use Rattle.ep_base.specs.IpPayload.{IpPayload, lax_ip_payload_of}
 use Rattle.ep_base.specs.declared.lax_ip_payload_slice.LaxIpPayloadSlice.{LaxIpPayloadSlice}
 use Rattle.ep_lax.specs.LaxPackets.{lax_layers_of}
 use Rattle.ep_packet.specs.Layers.{NetLayer, net_payload}
+use Rattle.ep_packet.specs.PayloadStarts.{begins_payload}
 use Rattle.packet_filter.specs.declared.subject.Subject.{Subject}
 use Rattle.packet_filter.specs.declared.filter_error.FilterErrorKind.TheVariants.{End}
 use Rattle.packet_filter.specs.declared.token.TokenKind.{TokenKind}
 use Rattle.packet_filter.specs.declared.token.TokenKind.TheVariants as kind
 use Rattle.packet_filter.specs.Packets.{Packet, Transport, transport_of}
-use Rattle.packet_filter.specs.Starts.{begins_payload}
 use Rattle.packet_filter.specs.Tokens.{Token, keyword, word, and, or, not, relation, left_parenthesis, right_parenthesis, left_bracket, right_bracket, colon, slash, ampersand, bar, wrong}
 
 -- The payload of IP that a subject shows: the reassembled one, or that of the packet.

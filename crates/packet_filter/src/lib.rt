@@ -35,7 +35,7 @@
 //!   ntp, imap, snmp, snmptrap, bgp, ldap, https, syslog, submission, imaps, sip, mdns). A range of ports is a decimal
 //!   number, or two with `-` between, in either order.
 //! - A protocol (`proto`) is a number up to 255, an ether type (`ether proto`) one from 1536, a VLAN identifier one up to
-//!   4095, and a size 1, 2 or 4. Numbers are decimal without leading zeros, or hexadecimal after `0x`.
+//!   4095, and a size 1, 2 or 4. Numbers are decimal without leading zeros, or hexadecimal after `0x` or `0X`.
 //! - A constant of a byte test is a number or a name: `tcpflags` and `tcp-syn` (-fin, -rst, -push, -ack, -urg, -ece, -cwr),
 //!   `icmptype`, `icmpcode`, `icmp6type`, `icmp6code`, and the types of ICMP messages (`icmp-echo`) as tcpdump names them.
 //! - At most 64 `(` and `not` are open at a time; a `(` around constants does not count. A text has at most 65,536 bytes.

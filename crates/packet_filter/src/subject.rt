@@ -7,7 +7,6 @@ ghost use Rattle.ep_base.specs.IpPayload.{lax_ip_payload_of};
 ghost use Rattle.ep_ext.specs.ExtensionParts.{part_next};
 ghost use Rattle.ep_ext.specs.Ipv4Chains.{ipv4_slice_parts};
 ghost use Rattle.ep_ext.specs.Ipv6ExtensionSlices.{extension_slice_part, ipv6_slice_parts};
-ghost use Rattle.ep_ip.specs.Ipv4Slices.{ipv4_header_slice_header};
 ghost use Rattle.ep_lax.specs.LaxPackets.{lax_layers_of};
 ghost use Rattle.ep_lax.specs.LaxViews.{lax_extension_of, lax_net_layer_of};
 ghost use Rattle.ep_link.specs.LinkSlices.{link_layer_of};
@@ -16,12 +15,10 @@ ghost use Rattle.packet_filter.specs.Packets.{bytes_of, bytes_of_number, bytes_o
 ghost use Rattle.packet_filter.specs.Packets.{ip_numbers, is_type, is_version, link_type, packet_of, reassembled_packet};
 ghost use Rattle.packet_filter.specs.Packets.{tag_type, tags_in, type_after, type_number};
 ghost use Rattle.packet_filter.specs.Shown.{shown_begins, shown_packet, shown_payload};
-ghost use Rattle.packet_filter.specs.Starts.{are_first, begins_payload, is_first};
 
 use crate::primitive::{FieldLayer, IpVersion};
 use ep_base::{EtherType, IpNumber, LaxIpPayloadSlice};
 use ep_ext::{Ipv4ExtensionsSlice, Ipv6ExtensionSlice, Ipv6ExtensionsSlice};
-use ep_ip::Ipv4HeaderSlice;
 use ep_lax::{LaxLinkExtSlice, LaxNetSlice, LaxSlicedPacket};
 use ep_link::LinkSlice;
 
@@ -100,7 +97,7 @@ impl<'s, 'a> Subject<'s, 'a> {
     {
         match (self.reassembled, &self.packet.net) {
             (Some(_), _) => true,
-            (None, Some(net)) => begins_payload(net),
+            (None, Some(net)) => net.begins_payload(),
             (None, None) => false,
         }
     }
@@ -163,57 +160,6 @@ impl<'s, 'a> Subject<'s, 'a> {
             Some(net) if is_version(version, net) => self.bytes_of_number(number),
             _ => None,
         }
-    }
-}
-
-/// Returns true if an IP packet has the start of its payload: it is no fragment, or the first one (offset 0). False for
-/// ARP.
-fn begins_payload(net: &LaxNetSlice<'_>) -> bool
-    ensures { result ≡ begins_payload (lax_net_layer_of net.now) }
-{
-    match net {
-        LaxNetSlice::Ipv4(packet) => is_at_start(&packet.header()),
-        LaxNetSlice::Ipv6(packet) => begin_payload(packet.extensions()),
-        LaxNetSlice::Arp(_) => false,
-    }
-}
-
-/// Returns true if the fragment offset of an IPv4 header is 0.
-fn is_at_start(header: &Ipv4HeaderSlice<'_>) -> bool
-    ensures { result ≡ ((ipv4_header_slice_header header.now).fragment_offset == 0) }
-{
-    header.fragment_offset().value() == 0
-}
-
-/// Returns true if the payload after these extension headers of IPv6 has its start. The headers are read only if the
-/// packet is a fragment.
-#[tactic(auto, using(crate::proofs::FragmentLemmas::whole_begins))]
-fn begin_payload(extensions: Ipv6ExtensionsSlice<'_>) -> bool
-    ensures { result ≡ are_first (ipv6_slice_parts extensions.entry) }
-{
-    !extensions.is_fragmenting_payload() || are_first(extensions)
-}
-
-/// Returns true if the fragment offset of every IPv6 fragment header is 0.
-#[inline(never)]
-fn are_first(extensions: Ipv6ExtensionsSlice<'_>) -> bool
-    ensures { result ≡ are_first (ipv6_slice_parts extensions.entry) }
-{
-    for extension in extensions {
-        if !is_first(&extension) {
-            return false;
-        }
-    }
-    true
-}
-
-/// Returns true if an IPv6 extension header is no fragment header, or one with fragment offset 0.
-fn is_first(extension: &Ipv6ExtensionSlice<'_>) -> bool
-    ensures { result ≡ is_first (extension_slice_part extension.now) }
-{
-    match extension {
-        Ipv6ExtensionSlice::Fragment(header) => header.fragment_offset().value() == 0,
-        _ => true,
     }
 }
 

@@ -7,8 +7,8 @@ use Rattle.etherparse.specs.IpNumbers.{tcp_number}
 use Rattle.etherparse.specs.IpPayload.{IpPayload}
 use Rattle.etherparse.specs.Layers.{Layers, NetLayer, net_payload}
 use Rattle.etherparse.specs.MissingBytes.{missing_bytes, net_missing}
+use Rattle.etherparse.specs.PayloadStarts.{begins_payload}
 use Rattle.etherparse.specs.Tcp.{data_offset_of}
-use Rattle.packet_text.specs.Networks.{begins_payload}
 
 -- the full length of a payload, given the number of captured and of missing bytes, if any are missing
 abbrev pub full_len_text : ℕ → ℕ → List ℕ

@@ -12,12 +12,13 @@ use Rattle.etherparse.specs.LaxLayers.{LaxLayers}
 use Rattle.etherparse.specs.Layers.{Layers, NetLayer, net_payload}
 use Rattle.etherparse.specs.LinkSlices.{LinkLayer, ethernet2, linux_sll, ether_payload, linux_sll_payload}
 use Rattle.etherparse.specs.Payloads.{payload_ether_type_in}
+use Rattle.etherparse.specs.PayloadStarts.{begins_payload}
 use Rattle.etherparse.specs.StrictFrames.{layers_in}
 use Rattle.etherparse.specs.TransportParts.{TransportLayer}
 use Rattle.packet_text.specs.Addresses.{hex_text}
 use Rattle.packet_text.specs.Links.{extensions_text, link_text}
 use Rattle.packet_text.specs.FullLengths.{full_len_if_truncated_text, missing_tcp_payload_text}
-use Rattle.packet_text.specs.Networks.{begins_payload, net_text}
+use Rattle.packet_text.specs.Networks.{net_text}
 use Rattle.packet_text.specs.SliceErrorTexts.{stop_text}
 use Rattle.packet_text.specs.Transports.{header_start_text, len_text, transport_text}
 

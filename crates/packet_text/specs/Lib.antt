@@ -11,5 +11,4 @@ pub mod Rows
 pub mod HeaderDetails
 pub mod TcpDetails
 pub mod ChecksumTexts
-pub mod PacketChecksums
 pub mod PacketDetails

@@ -1,5 +1,5 @@
 -- Text of network layers, each after a space.
-use Rattle.std.specs.Prelude.{ℕ, ◌*◌, ◌==◌, ◌&&◌, Bool, true, false, if◌then◌else◌, List, [], ◌∷◌, ◌++◌, length, Option, Some, None, codes}
+use Rattle.std.specs.Prelude.{ℕ, ◌*◌, ◌==◌, ◌&&◌, Bool, if◌then◌else◌, List, [], ◌∷◌, ◌++◌, length, Option, Some, None, codes}
 use Rattle.std.specs.Fmt.{decimal}
 use Rattle.etherparse.specs.ExtensionParts.{ExtensionPart, hop_by_hop, destination_options, routing, fragment, authentication}
 use Rattle.etherparse.specs.Ipv4.{is_ipv4_fragment}
@@ -37,22 +37,6 @@ part_text (authentication header) = codes " authentication"
 abbrev pub parts_text : List ExtensionPart → List ℕ
 parts_text [] = []
 parts_text (part ∷ others) = part_text part ++ parts_text others
-
--- True if an extension header has no fragment offset other than 0.
-abbrev pub is_first : ExtensionPart → Bool
-is_first (fragment header) = header.fragment_offset == 0
-is_first other = true
-
--- True if no extension header has a fragment offset other than 0.
-abbrev pub are_first : List ExtensionPart → Bool
-are_first [] = true
-are_first (part ∷ others) = is_first part && are_first others
-
--- True if an IP packet is no fragment or a first one (offset 0), so that its payload begins with a transport header.
-abbrev pub begins_payload : NetLayer → Bool
-begins_payload (ipv4 ip extensions payload) = ip.fragment_offset == 0
-begins_payload (ipv6 ip extensions payload) = are_first extensions
-begins_payload (arp packet) = false
 
 -- a protocol address of an ARP packet: as IPv4 if the protocol type and length are those of IPv4, else its bytes
 abbrev pub protocol_address_text : ℕ → List ℕ → List ℕ

@@ -1,29 +1,27 @@
 //! Texts of the fields of a packet besides the addresses, ports and lengths of its layers.
 
 ghost use Rattle.std.specs.Prelude.{◌≡◌, ◌++◌, ℕ, List, OnOk};
-ghost use Rattle.etherparse.specs.Ipv4Slices.{ipv4_header_slice_bytes, ipv4_header_slice_header};
-ghost use Rattle.packet_text.specs.ChecksumTexts.{header_checksum_text};
-ghost use Rattle.packet_text.specs.HeaderDetails.{ipv4_details};
-ghost use Rattle.packet_text.specs.PacketDetails.{AreNetDetails, IsNetDetails, IsPacketDetails, IsTransportDetails};
-ghost use Rattle.packet_text.specs.PacketDetails.{tag_details, tags_details};
+ghost use Rattle.packet_text.specs.PacketDetails.{IsPacketDetails, IsTransportDetails, net_details};
+ghost use Rattle.packet_text.specs.PacketDetails.{net_layer_details, tag_details, tags_details};
 
-use crate::checksums::push_header_checksum;
+use crate::checksums::{push_header_checksum, push_transport_checksum};
 use crate::header_details::{push_ipv4_details, push_ipv6_details, push_vlan_details};
-use crate::packet_checksums::push_checksum;
 use crate::tcp_details::push_tcp_details;
-use etherparse::{Ipv4HeaderSlice, LaxLinkExtSlice, LaxNetSlice, LaxSlicedPacket, TransportSlice};
+use etherparse::{LaxLinkExtSlice, LaxNetSlice, LaxSlicedPacket, TransportSlice};
 use std::alloc::AllocError;
 
 /// Appends the details of each layer of a packet as text (VLAN priority, TTL, TCP options ..), from the outermost in,
-/// and then whether the transport checksum is valid.
+/// with whether the checksums of the IPv4 header and of the transport layer are valid.
 pub fn push_details(output: &mut Vec<u8>, packet: &LaxSlicedPacket<'_>) -> Result<(), AllocError>
     ensures { OnOk result ((text : List ℕ) × IsPacketDetails packet.now text
         × (output.new.items ≡ output.old.items ++ text)) }
 {
+    let verdicts = packet.checksums();
     push_tags_details(output, packet.link_exts.as_slice())?;
     push_net_details(output, &packet.net)?;
+    push_header_checksum(output, verdicts.ipv4_header)?;
     push_transport_details(output, &packet.transport)?;
-    push_checksum(output, packet)
+    push_transport_checksum(output, &packet.transport, verdicts.transport)
 }
 
 /// Appends the details of each link extension as text: the priorities of VLAN tags.
@@ -52,8 +50,7 @@ fn push_tag_details(output: &mut Vec<u8>, extension: &LaxLinkExtSlice<'_>) -> Re
 
 /// Appends the details of the network layer as text (such as the TTL); nothing without a network layer.
 fn push_net_details(output: &mut Vec<u8>, net: &Option<LaxNetSlice<'_>>) -> Result<(), AllocError>
-    ensures { OnOk result ((text : List ℕ) × AreNetDetails net.now text
-        × (output.new.items ≡ output.old.items ++ text)) }
+    ensures { OnOk result (output.new.items ≡ output.old.items ++ net_details net.now) }
 {
     match net {
         Some(layer) => push_net_layer(output, layer),
@@ -63,28 +60,13 @@ fn push_net_details(output: &mut Vec<u8>, net: &Option<LaxNetSlice<'_>>) -> Resu
 
 /// Appends the details of a network layer as text: fields of the IPv4 or IPv6 header, nothing for ARP.
 fn push_net_layer(output: &mut Vec<u8>, layer: &LaxNetSlice<'_>) -> Result<(), AllocError>
-    ensures { OnOk result ((text : List ℕ) × IsNetDetails layer.now text
-        × (output.new.items ≡ output.old.items ++ text)) }
+    ensures { OnOk result (output.new.items ≡ output.old.items ++ net_layer_details layer.now) }
 {
     match layer {
-        LaxNetSlice::Ipv4(packet) => push_ipv4_header_details(output, &packet.header()),
+        LaxNetSlice::Ipv4(packet) => push_ipv4_details(output, &packet.header()),
         LaxNetSlice::Ipv6(packet) => push_ipv6_details(output, &packet.header()),
         LaxNetSlice::Arp(_) => Ok(()),
     }
-}
-
-/// Appends the details of an IPv4 header as text (TTL, identification, "don't fragment"), and whether its checksum is
-/// valid.
-fn push_ipv4_header_details(
-    output: &mut Vec<u8>,
-    header: &Ipv4HeaderSlice<'_>,
-) -> Result<(), AllocError>
-    ensures { OnOk result (output.new.items ≡ output.old.items
-        ++ (ipv4_details (ipv4_header_slice_header header.now)
-        ++ header_checksum_text (ipv4_header_slice_bytes header.now))) }
-{
-    push_ipv4_details(output, header)?;
-    push_header_checksum(output, header)
 }
 
 /// Appends the details of the transport layer as text: window and options of TCP, nothing for other protocols.

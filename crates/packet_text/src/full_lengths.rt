@@ -9,7 +9,6 @@ ghost use Rattle.etherparse.specs.StrictFrames.{layers_in};
 ghost use Rattle.packet_text.specs.FullLengths.{full_len_if_truncated_text, full_len_text, header_len_at};
 ghost use Rattle.packet_text.specs.FullLengths.{knows_header_len, missing_tcp_payload_text, payload_if_tcp_text, tcp_payload_len_text};
 
-use crate::networks::begins_payload;
 use ep_base::bytes::byte_at;
 use etherparse::{LaxIpPayloadSlice, LaxNetSlice, LaxSlicedPacket};
 use line_io::decimals;
@@ -54,7 +53,7 @@ pub fn push_missing_tcp_payload(
     let Some(net) = net else {
         return Ok(());
     };
-    if begins_payload(net) {
+    if net.begins_payload() {
         push_payload_if_tcp(output, net.missing_bytes(), net.ip_payload_ref())
     } else {
         Ok(())

@@ -1,6 +1,6 @@
 //! Formatting of network layers (IPv4, IPv6 and ARP) as text of a packet's line.
 
-ghost use Rattle.std.specs.Prelude.{◌≡◌, ◌++◌, OnOk, Some, ◌==◌};
+ghost use Rattle.std.specs.Prelude.{◌≡◌, ◌++◌, OnOk, Some};
 ghost use Rattle.std.specs.Option.{option_map};
 ghost use Rattle.etherparse.specs.Ipv4Chains.{ipv4_slice_parts};
 ghost use Rattle.etherparse.specs.Ipv6ExtensionSlices.{extension_slice_part, ipv6_slice_parts};
@@ -9,7 +9,7 @@ ghost use Rattle.etherparse.specs.Ipv6Slices.{ipv6_header_slice_header};
 ghost use Rattle.etherparse.specs.ArpSlices.{arp_slice_packet};
 ghost use Rattle.etherparse.specs.LaxViews.{lax_net_layer_of};
 ghost use Rattle.etherparse.specs.Types.LaxNetSlice.TheVariants as slice;
-ghost use Rattle.packet_text.specs.Networks.{are_first, arp_text, begins_payload, fragment_text, is_first, ipv4_fragment_text, ipv4_header_text, ipv6_header_text};
+ghost use Rattle.packet_text.specs.Networks.{arp_text, fragment_text, ipv4_fragment_text, ipv4_header_text, ipv6_header_text};
 ghost use Rattle.packet_text.specs.Networks.{more_text, net_text, part_text, parts_text, protocol_address_text};
 ghost use Rattle.packet_text.specs.Networks.{operation_text, reply_text, who_has_text};
 
@@ -163,47 +163,6 @@ fn push_ipv6_extension(
             output.extend_from_slice(b" destination-options")
         }
         Ipv6ExtensionSlice::Authentication(_) => output.extend_from_slice(b" authentication"),
-    }
-}
-
-/// Returns whether an IP packet has the start of its payload: it is no fragment, or the first one (offset 0). False for
-/// ARP.
-pub fn begins_payload(net: &LaxNetSlice<'_>) -> bool
-    ensures { result ≡ begins_payload (lax_net_layer_of net.now) }
-{
-    match net {
-        LaxNetSlice::Ipv4(packet) => is_at_start(&packet.header()),
-        LaxNetSlice::Ipv6(packet) => are_first(packet.extensions()),
-        LaxNetSlice::Arp(_) => false,
-    }
-}
-
-/// Returns whether the fragment offset of an IPv4 header is 0: the packet is no fragment, or the first one.
-fn is_at_start(header: &Ipv4HeaderSlice<'_>) -> bool
-    ensures { result ≡ ((ipv4_header_slice_header header.now).fragment_offset == 0) }
-{
-    header.fragment_offset().value() == 0
-}
-
-/// Returns whether the fragment offset of every IPv6 fragment header is 0: the packet is no fragment, or the first one.
-fn are_first(extensions: Ipv6ExtensionsSlice<'_>) -> bool
-    ensures { result ≡ are_first (ipv6_slice_parts extensions.entry) }
-{
-    for extension in extensions {
-        if !is_first(&extension) {
-            return false;
-        }
-    }
-    true
-}
-
-/// Returns whether an IPv6 extension header is no fragment header, or one with fragment offset 0.
-fn is_first(extension: &Ipv6ExtensionSlice<'_>) -> bool
-    ensures { result ≡ is_first (extension_slice_part extension.now) }
-{
-    match extension {
-        Ipv6ExtensionSlice::Fragment(header) => header.fragment_offset().value() == 0,
-        _ => true,
     }
 }
 

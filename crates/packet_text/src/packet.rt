@@ -19,7 +19,7 @@ ghost use Rattle.packet_text.specs.SliceErrorTexts.{stop_text};
 use crate::addresses::push_hex;
 use crate::full_lengths::{push_full_len_if_truncated, push_missing_tcp_payload};
 use crate::links::{push_extensions, push_link};
-use crate::networks::{begins_payload, push_net};
+use crate::networks::push_net;
 use crate::refusals::push_stop;
 use crate::transports::{push_header_start, push_len, push_transport};
 use etherparse::err::packet::SliceError;
@@ -139,7 +139,7 @@ fn push_transport_start(
         ≡ output.old.items ++ transport_start_text (option_map lax_net_layer_of net.now)) }
 {
     match net {
-        Some(net) => push_payload_start(output, begins_payload(net), net.ip_payload_ref()),
+        Some(net) => push_payload_start(output, net.begins_payload(), net.ip_payload_ref()),
         None => Ok(()),
     }
 }

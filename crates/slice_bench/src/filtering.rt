@@ -13,7 +13,7 @@ pub struct SlicedFrame<'a> {
     /// Bytes of the frame.
     bytes: &'a [u8],
     /// Layers of the frame.
-    packet: LaxSlicedPacket<'a>,
+    pub packet: LaxSlicedPacket<'a>,
 }
 
 /// Filters that are measured.

@@ -8,6 +8,7 @@ ghost use Rattle.slice_bench.specs.declared.measure.Measurement.TheVariants.{Fil
 ghost use Rattle.slice_bench.specs.declared.measure.Measurement.TheVariants.{FilteringNet, FilteringPort, FilteringTerms};
 ghost use Rattle.slice_bench.specs.declared.measure.Measurement.TheVariants.{ReadingIpHeaders, Reassembly, Rereading};
 ghost use Rattle.slice_bench.specs.declared.measure.Measurement.TheVariants.{Slicing, SlicingNotInlined, SlicingIpv4};
+ghost use Rattle.slice_bench.specs.declared.measure.Measurement.TheVariants.{Summing, Verdicts};
 
 use crate::measure::Measurement;
 
@@ -16,7 +17,8 @@ use crate::measure::Measurement;
 pub fn constants()
     ensures { Measurement.ALL ≡ Slicing ∷ SlicingNotInlined ∷ Filling ∷ LaxFilling ∷ Decoding ∷ Rereading ∷ SlicingIpv4
         ∷ ReadingIpHeaders ∷ Building ∷ BuildingFromAddresses ∷ BuildingWithSize ∷ Reassembly ∷ Bounded ∷ BoundedByDefault
-        ∷ FilteringPort ∷ FilteringHost ∷ FilteringNet ∷ FilteringTerms ∷ FilteringFlags ∷ FilteringHosts ∷ [] }
+        ∷ FilteringPort ∷ FilteringHost ∷ FilteringNet ∷ FilteringTerms ∷ FilteringFlags ∷ FilteringHosts
+        ∷ Verdicts ∷ Summing ∷ [] }
 {}
 
 /// States that `==` of two `Measurement` values is true if and only if they are the same measurement.

@@ -16,6 +16,7 @@ mod filtering;
 pub mod laws;
 mod measure;
 mod reassembly;
+mod verdicts;
 
 use crate::bench_error::BenchError;
 use crate::building::frame_parts_of;

@@ -11,6 +11,7 @@ use crate::columns::{
 };
 use crate::filtering::{Filters, SlicedFrame, matched};
 use crate::reassembly::{bounded_len, reassembled_len, unlimited};
+use crate::verdicts::{summed, valid_checksums};
 use etherparse::defrag::DefragLimits;
 use packet_filter::Filter;
 use std::alloc::Global;
@@ -42,7 +43,7 @@ impl Corpus<'_> {
 
 /// Measurement of the benchmark program. It makes library calls on each frame or IP packet of the input file, builds
 /// frames from the decoded headers of the first 1,000 frames (except frames that the builder does not support), or
-/// matches a filter against the first 1,000 frames.
+/// matches a filter against the first 1,000 frames, or verifies their checksums.
 #[derive(Clone, Copy, Debug, PartialEq, Eq)]
 pub enum Measurement {
     /// Slices each Ethernet frame into a new value.
@@ -87,11 +88,15 @@ pub enum Measurement {
     FilteringFlags,
     /// Matches a filter of 100 hosts that are joined by `or` against each sliced frame.
     FilteringHosts,
+    /// Verifies the checksums of each sliced frame.
+    Verdicts,
+    /// Adds up the bytes of the IPv4 header and of the transport layer of each sliced frame.
+    Summing,
 }
 
 impl Measurement {
     /// All measurements of the benchmark program, in the order in which they are made.
-    pub const ALL: [Measurement; 20] = [
+    pub const ALL: [Measurement; 22] = [
         Measurement::Slicing,
         Measurement::SlicingNotInlined,
         Measurement::Filling,
@@ -112,6 +117,8 @@ impl Measurement {
         Measurement::FilteringTerms,
         Measurement::FilteringFlags,
         Measurement::FilteringHosts,
+        Measurement::Verdicts,
+        Measurement::Summing,
     ];
 
     /// Name of the measurement, as the argument MEASUREMENT and in the printed results.
@@ -139,6 +146,8 @@ impl Measurement {
             Measurement::FilteringTerms => "filtering-terms",
             Measurement::FilteringFlags => "filtering-flags",
             Measurement::FilteringHosts => "filtering-hosts",
+            Measurement::Verdicts => "verdicts",
+            Measurement::Summing => "summing",
         }
     }
 
@@ -164,7 +173,9 @@ impl Measurement {
             | Measurement::FilteringNet
             | Measurement::FilteringTerms
             | Measurement::FilteringFlags
-            | Measurement::FilteringHosts => corpus.sliced_frames.len(),
+            | Measurement::FilteringHosts
+            | Measurement::Verdicts
+            | Measurement::Summing => corpus.sliced_frames.len(),
         }
     }
 
@@ -200,6 +211,8 @@ impl Measurement {
             Measurement::FilteringTerms => Ok(corpus.matched(&corpus.filters.terms)),
             Measurement::FilteringFlags => Ok(corpus.matched(&corpus.filters.flags)),
             Measurement::FilteringHosts => Ok(corpus.matched(&corpus.filters.hosts)),
+            Measurement::Verdicts => Ok(valid_checksums(corpus.sliced_frames.as_slice())),
+            Measurement::Summing => Ok(summed(corpus.sliced_frames.as_slice())),
         }
     }
 }

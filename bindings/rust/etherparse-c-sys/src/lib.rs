@@ -1,13 +1,13 @@
 //! Declarations of the calls of `libetherparse_c.a` and of their numbers, as in the C header `etherparse.h`, which
 //! documents each call, its statuses and the duties of a caller. `etherparse-c` has safe wrappers of all of them.
 //!
-//! The exports are named `etherparse_1_slice` and so on, so that declarations of one layout do not link with an archive
+//! The exports are named `etherparse_2_slice` and so on, so that declarations of one layout do not link with an archive
 //! of another layout. `build.rs` documents where the archive is searched.
 #![no_std]
 #![warn(missing_docs)]
 
 /// Version of these declarations: 10000 times the major number, plus 100 times the minor one, plus the patch.
-pub const VERSION: u32 = 100;
+pub const VERSION: u32 = 200;
 /// Maximum stack that a call needs, in bytes, except calls on pools, on filters and [`etherparse_build_fragment`].
 pub const STACK: u32 = 2048;
 /// Maximum stack that a call on a pool or filter needs, in bytes.
@@ -187,6 +187,33 @@ pub const TCP_URG: u8 = 32;
 pub const TCP_ECE: u8 = 64;
 /// CWR: congestion window reduced (RFC 3168).
 pub const TCP_CWR: u8 = 128;
+/// NS: ECN nonce sum, no longer used (RFC 3540); only in the fields of a packet, not in those of a header to build.
+pub const TCP_NS: u16 = 256;
+
+// Flags of a MACsec tag (SecTAG, IEEE 802.1AE), as in its first byte.
+/// C: the payload's text is changed.
+pub const MACSEC_C: u8 = 4;
+/// E: the payload is encrypted.
+pub const MACSEC_E: u8 = 8;
+/// SCB: single copy broadcast.
+pub const MACSEC_SCB: u8 = 16;
+/// SC: the tag has a secure channel identifier (SCI).
+pub const MACSEC_SC: u8 = 32;
+/// ES: end station; the source MAC address identifies the secure channel.
+pub const MACSEC_ES: u8 = 64;
+
+// Verdicts on a checksum.
+/// There is no such header. For a fragment, the verdict on its transport header is `CHECKSUM_UNKNOWN`.
+pub const CHECKSUM_NONE: u32 = 0;
+/// The checksum is valid.
+pub const CHECKSUM_VALID: u32 = 1;
+/// The checksum is invalid.
+pub const CHECKSUM_INVALID: u32 = 2;
+/// UDP over IPv4 with checksum 0: the sender computed none.
+pub const CHECKSUM_ABSENT: u32 = 3;
+/// The checksum cannot be verified: the payload is a fragment or incomplete, no length field counts it, the IP header
+/// has a source route or a routing header, or it is ICMPv6 over IPv4.
+pub const CHECKSUM_UNKNOWN: u32 = 4;
 
 // Reasons why a fragment is rejected.
 /// Its length is not a multiple of 8, and more fragments follow.
@@ -374,6 +401,183 @@ pub struct Packet {
     pub payload: Payload,
     /// Error, if the bytes are not a frame; all 0 for a frame.
     pub refusal: Refusal,
+}
+
+/// Place of some bytes, such as the options of a header: their offset in the packet and their length.
+#[repr(C)]
+#[derive(Clone, Copy, Debug, Default, PartialEq, Eq, Hash)]
+pub struct Place {
+    /// Offset in the packet, in bytes.
+    pub offset: usize,
+    /// Length in bytes; 0 if there are none.
+    pub len: usize,
+}
+
+/// Fields of a link header. The fields of the other kind of header are 0, and all are 0 without a link header.
+#[repr(C)]
+#[derive(Clone, Copy, Debug, Default, PartialEq, Eq, Hash)]
+pub struct LinkFields {
+    /// Ethernet II: destination MAC address.
+    pub destination: [u8; 6],
+    /// Ethernet II: source MAC address.
+    pub source: [u8; 6],
+    /// Ethernet II: ether type of the payload, which may be that of a tag.
+    pub ether_type: u16,
+    /// Cooked capture: packet type, 0 to 7; 0 is sent to this host, 4 is sent by this host.
+    pub packet_type: u16,
+    /// Cooked capture: ARP hardware type of the device (ARPHRD).
+    pub hardware_type: u16,
+    /// Cooked capture: length of the sender's address in bytes; may be greater than 8.
+    pub address_len: u16,
+    /// Cooked capture: the sender's link-layer address, padded with zeros.
+    pub address: [u8; 8],
+    /// Cooked capture: protocol type of the payload, an ether type for most hardware types.
+    pub protocol: u16,
+}
+
+/// Fields of a tag. The fields of the other kind of tag are 0, and all are 0 without a tag.
+#[repr(C)]
+#[derive(Clone, Copy, Debug, Default, PartialEq, Eq, Hash)]
+pub struct TagFields {
+    /// `EXT_VLAN` or `EXT_MACSEC`; 0 is none.
+    pub kind: u32,
+    /// VLAN: identifier (VID), 0 to 4095.
+    pub vlan_id: u16,
+    /// Ether type of the payload; 0 if a MACsec payload is modified or encrypted.
+    pub ether_type: u16,
+    /// VLAN: priority code point (PCP), 0 to 7.
+    pub priority: u8,
+    /// VLAN: 1 if the drop eligible indicator (DEI) is set.
+    pub drop_eligible: u8,
+    /// MACsec: sum of the constants `MACSEC_`.
+    pub macsec_flags: u8,
+    /// MACsec: association number (AN), 0 to 3.
+    pub association_number: u8,
+    /// MACsec: short length (SL), 0 to 63.
+    pub short_len: u8,
+    /// MACsec: packet number (PN).
+    pub packet_number: u32,
+    /// MACsec: secure channel identifier (SCI), or 0 without `MACSEC_SC`.
+    pub sci: u64,
+}
+
+/// Fields of an IP header; all 0 if the packet is not IP.
+#[repr(C)]
+#[derive(Clone, Copy, Debug, Default, PartialEq, Eq, Hash)]
+pub struct IpFields {
+    /// IP version: 4 or 6.
+    pub version: u8,
+    /// IP number (protocol) of the payload after the extension headers.
+    pub number: u8,
+    /// IP number of the header or payload directly after the IP header.
+    pub next_header: u8,
+    /// Time to live (TTL) of IPv4, hop limit of IPv6.
+    pub hop_limit: u8,
+    /// Differentiated services code point (DSCP), 0 to 63.
+    pub dscp: u8,
+    /// Explicit congestion notification (ECN), 0 to 3.
+    pub ecn: u8,
+    /// IPv4: 1 if "don't fragment" (DF) is set.
+    pub dont_fragment: u8,
+    /// 1 if "more fragments" (MF) is set; in IPv6 of the first fragment header.
+    pub more_fragments: u8,
+    /// Offset of the fragment in the reassembled payload, in bytes; from the header with "more fragments".
+    pub fragment_offset: u16,
+    /// Total length of IPv4, payload length of IPv6, in bytes.
+    pub length: u16,
+    /// IPv4: header checksum.
+    pub checksum: u16,
+    /// Identification that all fragments of a payload share; 0 in IPv6 without a fragment header.
+    pub identification: u32,
+    /// IPv6: flow label, 20 bits.
+    pub flow_label: u32,
+    /// Source address; of IPv4 in the first 4 bytes, and the others are 0.
+    pub source: [u8; 16],
+    /// Destination address; of IPv4 in the first 4 bytes, and the others are 0.
+    pub destination: [u8; 16],
+    /// IPv4: options.
+    pub options: Place,
+}
+
+/// Fields of an ARP packet, and the places of its addresses; all 0 if the packet is not ARP.
+#[repr(C)]
+#[derive(Clone, Copy, Debug, Default, PartialEq, Eq, Hash)]
+pub struct ArpFields {
+    /// Hardware type; 1 is Ethernet.
+    pub hardware_type: u16,
+    /// Protocol type of the protocol addresses, an ether type.
+    pub protocol_type: u16,
+    /// Length of a hardware address in bytes.
+    pub hardware_len: u8,
+    /// Length of a protocol address in bytes.
+    pub protocol_len: u8,
+    /// Operation: 1 is a request, 2 a reply.
+    pub operation: u16,
+    /// Sender hardware address.
+    pub sender_hardware: Place,
+    /// Sender protocol address.
+    pub sender_protocol: Place,
+    /// Target hardware address.
+    pub target_hardware: Place,
+    /// Target protocol address.
+    pub target_protocol: Place,
+}
+
+/// Fields of a transport header. Fields that it does not have are 0, and all are 0 without a transport header, except
+/// for the ports of a truncated or invalid header of TCP or UDP (lax slicing only), if their 4 bytes are present.
+#[repr(C)]
+#[derive(Clone, Copy, Debug, Default, PartialEq, Eq, Hash)]
+pub struct TransportFields {
+    /// UDP, TCP: source port.
+    pub source_port: u16,
+    /// UDP, TCP: destination port.
+    pub destination_port: u16,
+    /// Checksum as in the header.
+    pub checksum: u16,
+    /// UDP: length of header and payload in bytes; 0 limits nothing.
+    pub udp_length: u16,
+    /// TCP: sequence number of the first payload byte, or of SYN if it is set.
+    pub sequence_number: u32,
+    /// TCP: next sequence number that the sender of the segment expects to receive, with `TCP_ACK`.
+    pub acknowledgment_number: u32,
+    /// TCP: sum of the constants `TCP_FIN` and so on.
+    pub tcp_flags: u16,
+    /// TCP: number of bytes that the sender of the segment is willing to receive.
+    pub window_size: u16,
+    /// TCP: end of the urgent data as an offset from the sequence number, with `TCP_URG`.
+    pub urgent_pointer: u16,
+    /// TCP: length of the header in units of 4 bytes.
+    pub data_offset: u8,
+    /// ICMP, ICMPv6: type of the message.
+    pub icmp_type: u8,
+    /// ICMP, ICMPv6: code of the message.
+    pub icmp_code: u8,
+    /// ICMP, ICMPv6: bytes 4 to 7, whose meaning depends on the type.
+    pub icmp_rest: [u8; 4],
+    /// TCP: options.
+    pub options: Place,
+}
+
+/// Fields of all headers of a packet.
+#[repr(C)]
+#[derive(Clone, Copy, Debug, Default, PartialEq, Eq, Hash)]
+pub struct Fields {
+    /// Fields of the link header.
+    pub link: LinkFields,
+    /// Fields of the tags from the outermost on, then all 0.
+    pub tags: [TagFields; 3],
+    /// Fields of the IP header.
+    pub ip: IpFields,
+    /// Fields of the ARP packet.
+    pub arp: ArpFields,
+    /// Fields of the transport header.
+    pub transport: TransportFields,
+    /// Verdict on the checksum of the IPv4 header, a constant `CHECKSUM_`. `etherparse_checksums` sets it;
+    /// `etherparse_fields` sets it to 0.
+    pub header_checksum: u32,
+    /// Verdict on the checksum of the transport header, a constant `CHECKSUM_`. `etherparse_checksums` sets it;
+    /// `etherparse_fields` sets it to 0.
+    pub transport_checksum: u32,
 }
 
 /// Headers before the transport header of a frame to build.
@@ -584,17 +788,17 @@ pub struct FilterError {
 
 extern "C" {
     /// Returns the version of the archive, to be compared with [`VERSION`].
-    #[link_name = "etherparse_1_version"]
+    #[link_name = "etherparse_2_version"]
     pub fn etherparse_version() -> u32;
     /// Slices the frame in `bytes`, and fills every field of `packet`.
-    #[link_name = "etherparse_1_slice"]
+    #[link_name = "etherparse_2_slice"]
     pub fn etherparse_slice(entry: u32, ether_type: u16, bytes: *const u8, len: usize, packet: *mut Packet) -> u32;
     /// Slices a packet that was truncated by the capture, or whose length fields do not match, up to the first invalid
     /// layer.
-    #[link_name = "etherparse_1_slice_lax"]
+    #[link_name = "etherparse_2_slice_lax"]
     pub fn etherparse_slice_lax(entry: u32, ether_type: u16, bytes: *const u8, len: usize, packet: *mut Packet) -> u32;
     /// Slices consecutive frames in `bytes`, which end at `ends`.
-    #[link_name = "etherparse_1_slice_many"]
+    #[link_name = "etherparse_2_slice_many"]
     pub fn etherparse_slice_many(
         entry: u32,
         ether_type: u16,
@@ -607,7 +811,7 @@ extern "C" {
         sliced: *mut usize,
     ) -> u32;
     /// Slices consecutive packets in `bytes`, which end at `ends`, each as `etherparse_slice_lax`.
-    #[link_name = "etherparse_1_slice_lax_many"]
+    #[link_name = "etherparse_2_slice_lax_many"]
     pub fn etherparse_slice_lax_many(
         entry: u32,
         ether_type: u16,
@@ -619,14 +823,25 @@ extern "C" {
         packets_len: usize,
         sliced: *mut usize,
     ) -> u32;
+    /// Reads the fields of the headers that `packet` describes from the bytes of the packet; both verdicts on checksums
+    /// are set to 0. The number of the IP payload and, for IPv6, the fields of the fragment header are copied from
+    /// `packet`. Returns `UNKNOWN_CHOICE`, and all fields are 0, if the described headers are not at their places in
+    /// the bytes. No byte outside of `bytes` is read, whatever numbers `packet` has.
+    #[link_name = "etherparse_2_fields"]
+    pub fn etherparse_fields(packet: *const Packet, bytes: *const u8, len: usize, fields: *mut Fields) -> u32;
+    /// Verifies the checksums of the IPv4 header and of the transport header of a packet, which is sliced laxly, and
+    /// sets both verdicts in `fields`, whose other fields are unchanged. Both are `CHECKSUM_NONE` if the status is not
+    /// `OK`.
+    #[link_name = "etherparse_2_checksums"]
+    pub fn etherparse_checksums(entry: u32, ether_type: u16, bytes: *const u8, len: usize, fields: *mut Fields) -> u32;
     /// Writes the text of an error and a zero byte to the start of `buffer`.
-    #[link_name = "etherparse_1_refusal_text"]
+    #[link_name = "etherparse_2_refusal_text"]
     pub fn etherparse_refusal_text(refusal: *const Refusal, buffer: *mut u8, len: usize, written: *mut usize) -> u32;
     /// Returns the Internet checksum (RFC 1071) of the bytes.
-    #[link_name = "etherparse_1_checksum"]
+    #[link_name = "etherparse_2_checksum"]
     pub fn etherparse_checksum(bytes: *const u8, len: usize) -> u16;
     /// Writes the frame of a UDP datagram to the start of `buffer`.
-    #[link_name = "etherparse_1_build_udp"]
+    #[link_name = "etherparse_2_build_udp"]
     pub fn etherparse_build_udp(
         route: *const Route,
         source_port: u16,
@@ -638,7 +853,7 @@ extern "C" {
         written: *mut usize,
     ) -> u32;
     /// Writes the frame of a TCP segment to the start of `buffer`.
-    #[link_name = "etherparse_1_build_tcp"]
+    #[link_name = "etherparse_2_build_tcp"]
     pub fn etherparse_build_tcp(
         route: *const Route,
         fields: *const TcpFields,
@@ -649,7 +864,7 @@ extern "C" {
         written: *mut usize,
     ) -> u32;
     /// Writes the frame of an ICMP or ICMPv6 echo message to the start of `buffer`.
-    #[link_name = "etherparse_1_build_icmp_echo"]
+    #[link_name = "etherparse_2_build_icmp_echo"]
     pub fn etherparse_build_icmp_echo(
         route: *const Route,
         is_reply: u8,
@@ -662,7 +877,7 @@ extern "C" {
         written: *mut usize,
     ) -> u32;
     /// Writes the frame of a UDP datagram after VLAN tags to the start of `buffer`.
-    #[link_name = "etherparse_1_build_tagged_udp"]
+    #[link_name = "etherparse_2_build_tagged_udp"]
     pub fn etherparse_build_tagged_udp(
         route: *const TaggedRoute,
         source_port: u16,
@@ -674,7 +889,7 @@ extern "C" {
         written: *mut usize,
     ) -> u32;
     /// Writes the frame of a TCP segment with options after VLAN tags to the start of `buffer`.
-    #[link_name = "etherparse_1_build_tagged_tcp"]
+    #[link_name = "etherparse_2_build_tagged_tcp"]
     pub fn etherparse_build_tagged_tcp(
         route: *const TaggedRoute,
         fields: *const TcpFields,
@@ -687,7 +902,7 @@ extern "C" {
         written: *mut usize,
     ) -> u32;
     /// Writes the frame of an echo message after VLAN tags to the start of `buffer`.
-    #[link_name = "etherparse_1_build_tagged_icmp_echo"]
+    #[link_name = "etherparse_2_build_tagged_icmp_echo"]
     pub fn etherparse_build_tagged_icmp_echo(
         route: *const TaggedRoute,
         is_reply: u8,
@@ -700,7 +915,7 @@ extern "C" {
         written: *mut usize,
     ) -> u32;
     /// Writes the frame of a fragment of a longer payload to the start of `buffer`.
-    #[link_name = "etherparse_1_build_fragment"]
+    #[link_name = "etherparse_2_build_fragment"]
     pub fn etherparse_build_fragment(
         route: *const TaggedRoute,
         fields: *const FragmentFields,
@@ -711,16 +926,16 @@ extern "C" {
         written: *mut usize,
     ) -> u32;
     /// Creates an empty pool and stores its address in `pool`.
-    #[link_name = "etherparse_1_pool_new"]
+    #[link_name = "etherparse_2_pool_new"]
     pub fn etherparse_pool_new(pool: *mut *mut Pool) -> u32;
     /// Creates an empty pool with payloads of at most `limit` bytes.
-    #[link_name = "etherparse_1_pool_with_limit"]
+    #[link_name = "etherparse_2_pool_with_limit"]
     pub fn etherparse_pool_with_limit(limit: u16, pool: *mut *mut Pool) -> u32;
     /// Frees a pool, which must not be used again.
-    #[link_name = "etherparse_1_pool_free"]
+    #[link_name = "etherparse_2_pool_free"]
     pub fn etherparse_pool_free(pool: *mut Pool);
     /// Passes a frame to a pool; a payload that it completes is written to the start of `buffer`.
-    #[link_name = "etherparse_1_pool_push"]
+    #[link_name = "etherparse_2_pool_push"]
     pub fn etherparse_pool_push(
         pool: *mut Pool,
         entry: u32,
@@ -734,35 +949,35 @@ extern "C" {
         answer: *mut PoolAnswer,
     ) -> u32;
     /// Copies the payload that waits in a pool to the start of `buffer`.
-    #[link_name = "etherparse_1_pool_take"]
+    #[link_name = "etherparse_2_pool_take"]
     pub fn etherparse_pool_take(pool: *mut Pool, buffer: *mut u8, buffer_len: usize, answer: *mut PoolAnswer) -> u32;
     /// Discards the payload that waits in a pool.
-    #[link_name = "etherparse_1_pool_discard"]
+    #[link_name = "etherparse_2_pool_discard"]
     pub fn etherparse_pool_discard(pool: *mut Pool);
     /// Drops the streams whose last accepted fragment came before `timestamp`.
-    #[link_name = "etherparse_1_pool_drop_older"]
+    #[link_name = "etherparse_2_pool_drop_older"]
     pub fn etherparse_pool_drop_older(pool: *mut Pool, timestamp: u64);
     /// Returns the number of streams in a pool.
-    #[link_name = "etherparse_1_pool_streams"]
+    #[link_name = "etherparse_2_pool_streams"]
     pub fn etherparse_pool_streams(pool: *mut Pool) -> usize;
     /// Returns the number of payload bytes in a pool.
-    #[link_name = "etherparse_1_pool_bytes"]
+    #[link_name = "etherparse_2_pool_bytes"]
     pub fn etherparse_pool_bytes(pool: *mut Pool) -> usize;
     /// Stores the default limits of a bounded pool.
-    #[link_name = "etherparse_1_defrag_limits_default"]
+    #[link_name = "etherparse_2_defrag_limits_default"]
     pub fn etherparse_defrag_limits_default(limits: *mut DefragLimits);
     /// Creates an empty bounded pool and stores its address in `pool`. `seed` points to 16 bytes.
-    #[link_name = "etherparse_1_bounded_pool_new"]
+    #[link_name = "etherparse_2_bounded_pool_new"]
     pub fn etherparse_bounded_pool_new(
         limits: *const DefragLimits,
         seed: *const u8,
         pool: *mut *mut BoundedPool,
     ) -> u32;
     /// Frees a bounded pool, which must not be used again.
-    #[link_name = "etherparse_1_bounded_pool_free"]
+    #[link_name = "etherparse_2_bounded_pool_free"]
     pub fn etherparse_bounded_pool_free(pool: *mut BoundedPool);
     /// Passes a frame to a bounded pool; a payload that it completes is written to the start of `buffer`.
-    #[link_name = "etherparse_1_bounded_pool_push"]
+    #[link_name = "etherparse_2_bounded_pool_push"]
     pub fn etherparse_bounded_pool_push(
         pool: *mut BoundedPool,
         entry: u32,
@@ -776,7 +991,7 @@ extern "C" {
         answer: *mut PoolAnswer,
     ) -> u32;
     /// Copies the payload that waits in a bounded pool to the start of `buffer`.
-    #[link_name = "etherparse_1_bounded_pool_take"]
+    #[link_name = "etherparse_2_bounded_pool_take"]
     pub fn etherparse_bounded_pool_take(
         pool: *mut BoundedPool,
         buffer: *mut u8,
@@ -784,45 +999,45 @@ extern "C" {
         answer: *mut PoolAnswer,
     ) -> u32;
     /// Discards the payload that waits in a bounded pool.
-    #[link_name = "etherparse_1_bounded_pool_discard"]
+    #[link_name = "etherparse_2_bounded_pool_discard"]
     pub fn etherparse_bounded_pool_discard(pool: *mut BoundedPool);
     /// Evicts the streams of a bounded pool that are older than the age of its limits, or that got no fragment for
     /// `idle`, and returns their number.
-    #[link_name = "etherparse_1_bounded_pool_expire"]
+    #[link_name = "etherparse_2_bounded_pool_expire"]
     pub fn etherparse_bounded_pool_expire(pool: *mut BoundedPool, now: u64, idle: u64) -> usize;
     /// Removes the stream with this identifier from a bounded pool, and returns the number of removed streams, 1 or 0.
-    #[link_name = "etherparse_1_bounded_pool_remove"]
+    #[link_name = "etherparse_2_bounded_pool_remove"]
     pub fn etherparse_bounded_pool_remove(pool: *mut BoundedPool, id: *const StreamId) -> usize;
     /// Removes all streams from a bounded pool.
-    #[link_name = "etherparse_1_bounded_pool_clear"]
+    #[link_name = "etherparse_2_bounded_pool_clear"]
     pub fn etherparse_bounded_pool_clear(pool: *mut BoundedPool);
     /// Returns the number of open streams in a bounded pool.
-    #[link_name = "etherparse_1_bounded_pool_streams"]
+    #[link_name = "etherparse_2_bounded_pool_streams"]
     pub fn etherparse_bounded_pool_streams(pool: *mut BoundedPool) -> usize;
     /// Returns the number of discarded streams in a bounded pool.
-    #[link_name = "etherparse_1_bounded_pool_discarded_streams"]
+    #[link_name = "etherparse_2_bounded_pool_discarded_streams"]
     pub fn etherparse_bounded_pool_discarded_streams(pool: *mut BoundedPool) -> usize;
     /// Returns the memory of all streams in a bounded pool, in bytes.
-    #[link_name = "etherparse_1_bounded_pool_held_bytes"]
+    #[link_name = "etherparse_2_bounded_pool_held_bytes"]
     pub fn etherparse_bounded_pool_held_bytes(pool: *mut BoundedPool) -> usize;
     /// Stores the counters of a bounded pool.
-    #[link_name = "etherparse_1_bounded_pool_statistics"]
+    #[link_name = "etherparse_2_bounded_pool_statistics"]
     pub fn etherparse_bounded_pool_statistics(pool: *mut BoundedPool, statistics: *mut DefragStatistics);
     /// Returns the number of streams that the last push, expiry, removal or clearing evicted or discarded.
-    #[link_name = "etherparse_1_bounded_pool_evicted_count"]
+    #[link_name = "etherparse_2_bounded_pool_evicted_count"]
     pub fn etherparse_bounded_pool_evicted_count(pool: *mut BoundedPool) -> usize;
     /// Stores one of the streams that the last push, expiry, removal or clearing evicted or discarded.
-    #[link_name = "etherparse_1_bounded_pool_evicted"]
+    #[link_name = "etherparse_2_bounded_pool_evicted"]
     pub fn etherparse_bounded_pool_evicted(pool: *mut BoundedPool, index: usize, evicted: *mut EvictedStream) -> u32;
     /// Parses a filter expression, and stores the address of the filter in `filter`.
-    #[link_name = "etherparse_1_filter_new"]
+    #[link_name = "etherparse_2_filter_new"]
     pub fn etherparse_filter_new(text: *const u8, len: usize, filter: *mut *mut Filter, error: *mut FilterError)
         -> u32;
     /// Frees a filter, which must not be used again.
-    #[link_name = "etherparse_1_filter_free"]
+    #[link_name = "etherparse_2_filter_free"]
     pub fn etherparse_filter_free(filter: *mut Filter);
     /// Stores in `matches` whether a filter matches a packet, 1 or 0.
-    #[link_name = "etherparse_1_filter_matches"]
+    #[link_name = "etherparse_2_filter_matches"]
     pub fn etherparse_filter_matches(
         filter: *mut Filter,
         entry: u32,
@@ -833,7 +1048,7 @@ extern "C" {
         matches: *mut u8,
     ) -> u32;
     /// Stores in `matches` for each of consecutive packets in `bytes`, which end at `ends`, whether a filter matches it.
-    #[link_name = "etherparse_1_filter_matches_many"]
+    #[link_name = "etherparse_2_filter_matches_many"]
     pub fn etherparse_filter_matches_many(
         filter: *mut Filter,
         entry: u32,
@@ -849,9 +1064,9 @@ extern "C" {
         matched: *mut usize,
     ) -> u32;
     /// Writes the expression of a filter and a zero byte to the start of `buffer`.
-    #[link_name = "etherparse_1_filter_text"]
+    #[link_name = "etherparse_2_filter_text"]
     pub fn etherparse_filter_text(filter: *mut Filter, buffer: *mut u8, len: usize, written: *mut usize) -> u32;
     /// Writes the text of a reason, a constant `FILTER_`, and a zero byte to the start of `buffer`.
-    #[link_name = "etherparse_1_filter_error_text"]
+    #[link_name = "etherparse_2_filter_error_text"]
     pub fn etherparse_filter_error_text(kind: u32, buffer: *mut u8, len: usize, written: *mut usize) -> u32;
 }

@@ -1,4 +1,5 @@
 use crate::{Entry, EtherType, LinkExtHeader, LinkHeader, NetHeaders, Refusal, SlicedPacket, TransportHeader};
+use core::mem::MaybeUninit;
 
 /// Owned headers of a frame, each with its fields.
 ///
@@ -71,11 +72,14 @@ impl<'a> PacketHeaders<'a> {
 
     /// Returns the headers of a packet that is already sliced.
     pub fn of(packet: &SlicedPacket<'a>) -> PacketHeaders<'a> {
+        let mut fields = MaybeUninit::uninit();
+        let fields = packet.read(packet.as_raw(), &mut fields);
+        let tag = |index| packet.link_ext_of(fields, index).map(|tag| tag.to_header());
         PacketHeaders {
-            link: packet.link().map(|link| link.to_header()),
-            link_exts: packet.link_exts().map(|tag| tag.map(|tag| tag.to_header())),
-            net: packet.net().map(|net| net.to_header()),
-            transport: packet.transport().map(|transport| transport.to_header()),
+            link: packet.link_of(fields).map(|link| link.to_header()),
+            link_exts: [tag(0), tag(1), tag(2)],
+            net: packet.net_of(fields).map(|net| net.to_header()),
+            transport: packet.transport_of(fields).map(|transport| transport.to_header()),
             payload: packet.payload(),
         }
     }

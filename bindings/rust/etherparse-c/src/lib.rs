@@ -1,8 +1,10 @@
-//! Slices network frames into their layers, builds and filters them, and reassembles fragmented payloads, by the static
-//! library `libetherparse_c.a`; each of its functions is proved against its contract.
+//! Slices network frames into their layers, verifies their checksums, builds and filters frames, and reassembles
+//! fragmented payloads, by the static library `libetherparse_c.a`; each of its functions is proved against its
+//! contract.
 //!
-//! These wrappers, which turn offsets into slices, are checked only by the compiler and by their tests. Names are those
-//! of the Rust crate `etherparse`, if it has them; fields of a packet there are methods here.
+//! These wrappers, which turn offsets into slices and fields of headers into methods, are checked only by the compiler
+//! and by their tests; they read no byte of a header themselves. Names are those of the Rust crate `etherparse`, if it
+//! has them; fields of a packet there are methods here.
 //!
 //! ```
 //! // Ethernet II, IPv4, UDP from port 21 to 1234, and 2 bytes
@@ -31,8 +33,9 @@ pub use etherparse_c_sys as sys;
 
 mod bounded_pool;
 mod building;
-mod bytes;
+mod checksum_verdict;
 pub mod err;
+mod fields;
 mod filter;
 mod headers;
 mod lax_sliced_packet;
@@ -46,6 +49,7 @@ mod refusal;
 mod sliced_packet;
 mod transport;
 mod types;
+mod views;
 
 pub use bounded_pool::{
     BoundedPool, DefragLimits, DefragStatistics, EvictedStream, EvictionCause, OverlapPolicy, StreamId,
@@ -54,6 +58,8 @@ pub use building::{
     build_fragment, build_icmp_echo, build_tcp, build_udp, tcp_flag, Addresses, BuildError, FragmentFields, Route,
     TcpFields,
 };
+pub use checksum_verdict::{ChecksumVerdict, ChecksumVerdicts};
+pub use fields::PacketFields;
 pub use filter::{Filter, FilterError, FilterErrorKind};
 pub use headers::PacketHeaders;
 pub use lax_sliced_packet::LaxSlicedPacket;

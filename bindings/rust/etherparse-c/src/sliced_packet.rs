@@ -1,9 +1,6 @@
-use crate::bytes::u16_at;
-use crate::link::{Ethernet2Slice, LinkExtSlice, LinkSlice, LinuxSllSlice, MacsecSlice, SingleVlanSlice};
-use crate::net::{ArpPacketSlice, Ipv4Slice, Ipv6Slice, NetSlice};
+use crate::link::{LinkExtSlice, LinkSlice};
 use crate::numbered::numbered;
-use crate::transport::{IcmpSlice, TcpSlice, TransportSlice, UdpSlice};
-use crate::{sys, Entry, EtherType, IpNumber, Refusal};
+use crate::{sys, Entry, EtherType, IpNumber, NetSlice, Refusal, TransportSlice};
 use core::fmt;
 use core::mem::MaybeUninit;
 use core::net::IpAddr;
@@ -46,8 +43,8 @@ pub struct Ip {
     pub header_len: usize,
 }
 
-/// A frame sliced into its layers: the library's description, and the frame. The accessors of layers create slices of
-/// the frame.
+/// A frame sliced into its layers: the library's description, and the frame. The accessors of layers return slices of
+/// the frame with their fields, which the library reads.
 ///
 /// ```
 /// use etherparse_c::{NetSlice, SlicedPacket, TransportSlice};
@@ -141,7 +138,7 @@ impl<'a> SlicedPacket<'a> {
     #[inline]
     pub fn from_entry(entry: Entry, frame: &'a [u8]) -> Result<SlicedPacket<'a>, Refusal> {
         let mut packet = SlicedPacket { description: MaybeUninit::uninit(), frame, entry };
-        packet.fill_in()?;
+        packet.fill_in_by(sys::etherparse_slice)?;
         Ok(packet)
     }
 
@@ -169,7 +166,7 @@ impl<'a> SlicedPacket<'a> {
     #[inline]
     pub fn slice_into(&mut self, entry: Entry, frame: &'a [u8]) -> Result<(), Refusal> {
         (self.frame, self.entry) = (frame, entry);
-        self.fill_in()
+        self.fill_in_by(sys::etherparse_slice)
     }
 
     /// Packet without layers, of no bytes.
@@ -190,12 +187,6 @@ impl<'a> SlicedPacket<'a> {
         Ok(packet)
     }
 
-    /// Fills the description of the frame's layers.
-    #[inline]
-    fn fill_in(&mut self) -> Result<(), Refusal> {
-        self.fill_in_by(sys::etherparse_slice)
-    }
-
     /// Fills the description by one of the slicing calls.
     #[inline]
     fn fill_in_by(
@@ -207,25 +198,10 @@ impl<'a> SlicedPacket<'a> {
         // SAFETY: both pointers point to memory that outlives the call, and they do not overlap.
         let status = unsafe { slice(entry, ether_type, frame.as_ptr(), frame.len(), self.description.as_mut_ptr()) };
         // By its contract the call wrote each field, whatever its status; the previous content is not read.
-        if status == sys::OK {
-            Ok(())
-        } else {
-            Err(Refusal::from(self.as_raw().refusal)) // an entry is always known here
+        match status {
+            sys::OK => Ok(()),
+            _ => Err(Refusal::from(self.as_raw().refusal)), // an entry is always known here
         }
-    }
-
-    /// Bytes of the frame.
-    #[must_use]
-    #[inline]
-    pub fn frame(&self) -> &'a [u8] {
-        self.frame
-    }
-
-    /// First header of the frame.
-    #[must_use]
-    #[inline]
-    pub fn entry(&self) -> Entry {
-        self.entry
     }
 
     /// Description of the frame, as the library's numbers.
@@ -234,52 +210,6 @@ impl<'a> SlicedPacket<'a> {
     pub fn as_raw(&self) -> &sys::Packet {
         // SAFETY: the call that filled it wrote each field.
         unsafe { self.description.assume_init_ref() }
-    }
-
-    /// Returns `len` bytes of the frame at `offset`.
-    #[inline]
-    fn bytes(&self, offset: usize, len: usize) -> &'a [u8] {
-        &self.frame[offset..offset + len]
-    }
-
-    /// Returns the end of the bytes after the tags: limited by the short length of a MACsec tag, or the end of the
-    /// frame.
-    #[inline]
-    fn end_after_tags(&self) -> usize {
-        let mut end = self.frame.len();
-        for tag in self.as_raw().link_exts.iter().filter(|tag| tag.kind == sys::EXT_MACSEC) {
-            let bytes = self.bytes(tag.offset, tag.len);
-            let short_len = usize::from(bytes[1] & 0x3f);
-            // it counts the bytes after the SecTAG, which has 6 bytes, or 14 with an SCI
-            let stated = tag.offset + if bytes[0] & 0x20 == 0 { 6 } else { 14 } + short_len;
-            if short_len != 0 && (tag.offset + tag.len..=end).contains(&stated) {
-                end = stated;
-            }
-        }
-        end
-    }
-
-    /// Link header.
-    #[must_use]
-    #[inline]
-    pub fn link(&self) -> Option<LinkSlice<'a>> {
-        let part = &self.as_raw().link;
-        match part.kind {
-            sys::LINK_ETHERNET2 => Some(LinkSlice::Ethernet2(Ethernet2Slice(self.bytes(part.offset, part.len)))),
-            sys::LINK_LINUX_SLL => Some(LinkSlice::LinuxSll(LinuxSllSlice(self.bytes(part.offset, part.len)))),
-            _ => None,
-        }
-    }
-
-    /// Tags of link extensions from the outermost on; unused entries come last. A fourth tag is payload.
-    #[must_use]
-    #[inline]
-    pub fn link_exts(&self) -> [Option<LinkExtSlice<'a>>; 3] {
-        self.as_raw().link_exts.map(|tag| match tag.kind {
-            sys::EXT_VLAN => Some(LinkExtSlice::Vlan(SingleVlanSlice(self.bytes(tag.offset, tag.len)))),
-            sys::EXT_MACSEC => Some(LinkExtSlice::Macsec(MacsecSlice(self.bytes(tag.offset, tag.len)))),
-            _ => None,
-        })
     }
 
     /// Identifiers of the VLAN tags, from the outermost on.
@@ -299,28 +229,54 @@ impl<'a> SlicedPacket<'a> {
         tags.filter(|tag| tag.kind == sys::EXT_VLAN).map(|tag| tag.vlan_id)
     }
 
+    /// Bytes of the frame.
+    #[must_use]
+    #[inline]
+    pub fn frame(&self) -> &'a [u8] {
+        self.frame
+    }
+
+    /// First header of the frame.
+    #[must_use]
+    #[inline]
+    pub fn entry(&self) -> Entry {
+        self.entry
+    }
+
+    /// Link header.
+    #[must_use]
+    #[inline]
+    pub fn link(&self) -> Option<LinkSlice<'a>> {
+        let link = self.as_raw().link;
+        if link.kind == 0 {
+            return None;
+        }
+        let described = sys::Packet { link, ..Default::default() };
+        self.link_of(self.read(&described, &mut MaybeUninit::uninit()))
+    }
+
+    /// Tags of link extensions from the outermost on; unused entries come last. A fourth tag is payload.
+    #[must_use]
+    #[inline]
+    pub fn link_exts(&self) -> [Option<LinkExtSlice<'a>>; 3] {
+        let link_exts = self.as_raw().link_exts;
+        if link_exts[0].kind == 0 {
+            return [None; 3];
+        }
+        let described = sys::Packet { link_exts, ..Default::default() };
+        self.link_exts_of(self.read(&described, &mut MaybeUninit::uninit()))
+    }
+
     /// Network layer: IP with its extension headers, or ARP.
     #[must_use]
     #[inline]
     pub fn net(&self) -> Option<NetSlice<'a>> {
-        let (part, ip) = (&self.as_raw().net, &self.as_raw().ip);
-        let headers = self.bytes(part.offset, part.len);
-        let (header_len, number, fragmented) = (ip.header_len, IpNumber(ip.number), ip.fragmented != 0);
-        // number of bytes from the header on: available ones, and those that its length field counts
-        let available = self.end_after_tags() - part.offset;
-        let stated = match part.kind {
-            sys::NET_IPV4 => usize::from(u16_at(headers, 2)),
-            sys::NET_IPV6 if u16_at(headers, 4) != 0 => 40 + usize::from(u16_at(headers, 4)),
-            _ => available,
-        };
-        let len = if (header_len..=available).contains(&stated) { stated } else { available };
-        let payload = &self.frame[part.offset..part.offset + len][part.len..];
-        match part.kind {
-            sys::NET_ARP => Some(NetSlice::Arp(ArpPacketSlice(headers))),
-            sys::NET_IPV4 => Some(NetSlice::Ipv4(Ipv4Slice { headers, header_len, payload, number, fragmented })),
-            sys::NET_IPV6 => Some(NetSlice::Ipv6(Ipv6Slice { headers, payload, number, fragmented })),
-            _ => None,
+        let sys::Packet { link_exts, net, ip, .. } = *self.as_raw();
+        if net.kind == 0 {
+            return None;
         }
+        let described = sys::Packet { link_exts, net, ip, ..Default::default() };
+        self.net_of(self.read(&described, &mut MaybeUninit::uninit()))
     }
 
     /// Fields of the IP header and its extension headers.
@@ -353,6 +309,7 @@ impl<'a> SlicedPacket<'a> {
     /// # Ok::<(), etherparse_c::Refusal>(())
     /// ```
     #[must_use]
+    #[inline]
     pub fn ip_addresses(&self) -> Option<(IpAddr, IpAddr)> {
         self.net()?.ip_addresses()
     }
@@ -368,33 +325,28 @@ impl<'a> SlicedPacket<'a> {
     #[must_use]
     #[inline]
     pub fn transport(&self) -> Option<TransportSlice<'a>> {
-        let (part, payload) = (&self.as_raw().transport, &self.as_raw().payload);
-        if part.kind == 0 {
+        let transport = self.as_raw().transport;
+        if transport.kind == 0 {
             return None;
         }
-        let (slice, header_len) = (&self.frame[part.offset..payload.offset + payload.len], part.len);
-        match part.kind {
-            sys::TRANSPORT_UDP => Some(TransportSlice::Udp(UdpSlice(slice))),
-            sys::TRANSPORT_TCP => Some(TransportSlice::Tcp(TcpSlice { slice, header_len })),
-            sys::TRANSPORT_ICMPV4 => Some(TransportSlice::Icmpv4(IcmpSlice { slice, header_len })),
-            sys::TRANSPORT_ICMPV6 => Some(TransportSlice::Icmpv6(IcmpSlice { slice, header_len })),
-            _ => None,
-        }
+        let described = sys::Packet { transport, ..Default::default() };
+        self.transport_of(self.read(&described, &mut MaybeUninit::uninit()))
     }
 
     /// Source and destination port of UDP or TCP.
     #[must_use]
     #[inline]
     pub fn ports(&self) -> Option<(u16, u16)> {
-        matches!(self.as_raw().transport.kind, sys::TRANSPORT_TCP | sys::TRANSPORT_UDP)
-            .then_some((self.as_raw().source_port, self.as_raw().destination_port))
+        let packet = self.as_raw();
+        matches!(packet.transport.kind, sys::TRANSPORT_TCP | sys::TRANSPORT_UDP)
+            .then_some((packet.source_port, packet.destination_port))
     }
 
     /// Payload of the last layer; empty after an ARP packet.
     #[must_use]
     #[inline]
     pub fn payload(&self) -> &'a [u8] {
-        self.bytes(self.as_raw().payload.offset, self.as_raw().payload.len)
+        &self.frame[self.payload_offset()..self.payload_offset() + self.as_raw().payload.len]
     }
 
     /// Offset of the payload in the frame, in bytes.
@@ -430,8 +382,9 @@ impl core::hash::Hash for SlicedPacket<'_> {
 impl fmt::Debug for SlicedPacket<'_> {
     /// Formats the layers.
     fn fmt(&self, f: &mut fmt::Formatter<'_>) -> fmt::Result {
-        let mut fields = f.debug_struct("SlicedPacket");
-        fields.field("link", &self.link()).field("link_exts", &self.link_exts()).field("net", &self.net());
-        fields.field("transport", &self.transport()).field("payload", &self.payload()).finish()
+        let fields = self.fields();
+        let mut shown = f.debug_struct("SlicedPacket");
+        shown.field("link", &fields.link()).field("link_exts", &fields.link_exts()).field("net", &fields.net());
+        shown.field("transport", &fields.transport()).field("payload", &self.payload()).finish()
     }
 }

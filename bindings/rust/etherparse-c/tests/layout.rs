@@ -2,8 +2,9 @@
 //! compares the numbers), and tests the results of the calls.
 
 use etherparse_c::sys::{
-    self, DefragLimits, DefragStatistics, EvictedStream, FilterError, FragmentFields, Ip, LinkExt, Packet, Part,
-    Payload, PoolAnswer, Refusal, Route, StreamId, TaggedRoute, TcpFields,
+    self, ArpFields, DefragLimits, DefragStatistics, EvictedStream, Fields, FilterError, FragmentFields, Ip, IpFields,
+    LinkExt, LinkFields, Packet, Part, Payload, Place, PoolAnswer, Refusal, Route, StreamId, TagFields, TaggedRoute,
+    TcpFields, TransportFields,
 };
 use etherparse_c::{Entry, EtherType, IpNumber, SlicedPacket};
 use std::collections::{BTreeMap, HashMap};
@@ -103,7 +104,7 @@ macro_rules! declared {
 fn layouts_are_the_same() {
     let top = concat!(env!("CARGO_MANIFEST_DIR"), "/../../..");
     let read = |path: &str| std::fs::read_to_string(format!("{top}/{path}")).unwrap();
-    let files = ["packet", "route", "pool_answer", "defrag_values", "filter_values"]
+    let files = ["packet", "fields", "route", "pool_answer", "defrag_values", "filter_values"]
         .map(|name| read(&format!("crates/etherparse_c/src/{name}.rt")));
     let rattle = of_rattle(&files.concat());
     let c = of_c(&read("bindings/c/etherparse.h"));
@@ -138,6 +139,27 @@ fn layouts_are_the_same() {
         Packet {
             link, link_exts, link_ext_count, source_port, destination_port, net, ip, transport, payload, refusal
         }
+        Place { offset, len }
+        LinkFields {
+            destination, source, ether_type, packet_type, hardware_type, address_len, address, protocol
+        }
+        TagFields {
+            kind, vlan_id, ether_type, priority, drop_eligible, macsec_flags, association_number, short_len,
+            packet_number, sci
+        }
+        IpFields {
+            version, number, next_header, hop_limit, dscp, ecn, dont_fragment, more_fragments, fragment_offset, length,
+            checksum, identification, flow_label, source, destination, options
+        }
+        ArpFields {
+            hardware_type, protocol_type, hardware_len, protocol_len, operation, sender_hardware, sender_protocol,
+            target_hardware, target_protocol
+        }
+        TransportFields {
+            source_port, destination_port, checksum, udp_length, sequence_number, acknowledgment_number, tcp_flags,
+            window_size, urgent_pointer, data_offset, icmp_type, icmp_code, icmp_rest, options
+        }
+        Fields { link, tags, ip, arp, transport, header_checksum, transport_checksum }
     };
     assert_eq!(rattle.len(), here.len());
     for (name, layout) in &here {
@@ -220,7 +242,7 @@ fn calls_of_rust(text: &str) -> Calls {
     let calls = calls_of(text, "    pub fn ");
     let linked: Vec<_> = text.split("#[link_name = \"").skip(1).map(|part| part.split('"').next().unwrap()).collect();
     assert_eq!(linked.len(), calls.len());
-    let named = calls.into_iter().map(|(name, call)| (name.replacen("etherparse_", "etherparse_1_", 1), call));
+    let named = calls.into_iter().map(|(name, call)| (name.replacen("etherparse_", "etherparse_2_", 1), call));
     let calls: Calls = named.collect();
     assert!(linked.iter().all(|name| calls.contains_key(*name)));
     calls
@@ -235,7 +257,7 @@ fn calls_are_the_same() {
     let sources = std::fs::read_dir(format!("{top}/crates/etherparse_c/src")).unwrap();
     let sources = sources.map(|file| std::fs::read_to_string(file.unwrap().path()).unwrap_or_default());
     let rattle = calls_of(&sources.collect::<String>(), "pub extern \"C\" fn ");
-    assert!(c.len() >= 12 && c.keys().all(|name| name.starts_with("etherparse_1_")), "{:?}", c.keys());
+    assert!(c.len() >= 12 && c.keys().all(|name| name.starts_with("etherparse_2_")), "{:?}", c.keys());
     let rust = calls_of_rust(&read("bindings/rust/etherparse-c-sys/src/lib.rs"));
     for name in rattle.keys().chain(rust.keys()).chain(c.keys()) {
         assert_eq!(rattle.get(name), c.get(name), "{name} in Rattle, and in C");

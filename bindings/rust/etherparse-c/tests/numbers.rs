@@ -62,7 +62,7 @@ struct Named {
     places: &'static [(&'static str, &'static str, &'static str)],
 }
 
-const NAMED: [Named; 12] = [
+const NAMED: [Named; 13] = [
     Named {
         first: "LAYER_",
         count: 21,
@@ -133,6 +133,15 @@ const NAMED: [Named; 12] = [
         ],
     },
     Named {
+        first: "CHECKSUM_",
+        count: 4,
+        may_say_more: false,
+        places: &[
+            ("verifying.rt", "ChecksumVerdict::", " => "),
+            ("VerdictAnswers.antt", "verdict_number (Some verdict.", " = "),
+        ],
+    },
+    Named {
         first: "LINK_",
         count: 2,
         may_say_more: false,
@@ -165,6 +174,17 @@ const REFUSALS: [(&str, &str, &str); 13] = [
     ("TCP_DATA_OFFSET", "Tcp", "DataOffsetTooSmall"),
 ];
 
+/// Each flag that only the fields of a packet have: its first and second word in the C header, and its bit in the
+/// definitions.
+const FLAGS: [(&str, &str, &str); 6] = [
+    ("MACSEC_", "ES", "bit tag.endstation_id"),
+    ("MACSEC_", "SC", "sci_bit tag.sci"),
+    ("MACSEC_", "SCB", "bit tag.scb"),
+    ("MACSEC_", "E", "encryption_bit tag.ptype"),
+    ("MACSEC_", "C", "changed_text_bit tag.ptype"),
+    ("TCP_", "NS", "bit header.ns"),
+];
+
 /// Returns the variants and the number of each error in a text. `before` is the text before the outer variant, `inner`
 /// before the variant of its inner error, and `before_number` before the number.
 fn refusals(text: &str, before: &str, inner: &str, before_number: &str) -> BTreeMap<(String, String), u32> {
@@ -193,21 +213,25 @@ fn rattle_has_the_numbers_of_the_c_header() {
     let c = of_c();
     let (mut in_sources, mut in_definitions) = (BTreeSet::new(), BTreeSet::new());
     let text = read_rattle("numbers.rt");
-    let known: Vec<_> = pairs(&text, "pub const ", ": u32 = ").collect();
-    assert_eq!(known.len(), 23);
-    for (name, it) in known {
+    let constants: BTreeMap<_, _> = pairs(&text, "pub const ", ": u32 = ").collect();
+    assert!(constants.len() >= 23 && constants.len() == text.matches("pub const ").count());
+    for (name, it) in &constants {
         same(&c, &mut in_sources, name.to_string(), number(it).unwrap(), "numbers.rt");
     }
+    // returns a number, or the number of a constant
+    let number_of = |it: &str| number(constants.get(it).copied().unwrap_or(it));
     for named in NAMED {
         let names: Vec<_> = c.iter().filter_map(|(name, it)| Some((name.strip_prefix(named.first)?, *it))).collect();
-        // the name of a status starts as those of rejected fragments; not each kind of a filter's error is the library's
-        let names: Vec<_> = names.into_iter().filter(|(name, _)| !["REFUSED", "NOT_UTF8"].contains(name)).collect();
+        // the name of a status starts as those of rejected fragments; not each kind of a filter's error is the library's;
+        // NS is among FLAGS; NONE is no verdict of the library
+        let others = ["REFUSED", "NOT_UTF8", "NS", "NONE"];
+        let names: Vec<_> = names.into_iter().filter(|(name, _)| !others.contains(name)).collect();
         assert_eq!(names.len(), named.count, "{}", named.first);
         for (file, before, between) in named.places {
-            let text = read_rattle(file);
+            let text = read_rattle(file).replace("numbers::", "");
             let rows = pairs(&text, before, between).filter_map(|(first, second)| match number(first) {
                 Some(it) => Some((second, it)),
-                None => Some((first, number(second)?)),
+                None => Some((first, number_of(second)?)),
             });
             // 0 is none, if it has no name
             let rows: Vec<_> = rows.filter(|(_, it)| *it != 0 || names.iter().any(|(_, other)| *other == 0)).collect();
@@ -257,11 +281,28 @@ fn rattle_has_the_numbers_of_the_c_header() {
     let text = read_rattle("FilterAnswers.antt");
     let it = number(text.split_once("\nnot_utf8 = ").unwrap().1).unwrap();
     same(&c, &mut in_definitions, "FILTER_NOT_UTF8".to_string(), it, "FilterAnswers.antt");
+    let none =
+        [("verifying.rt", "None => ", &mut in_sources), ("VerdictAnswers.antt", " None = ", &mut in_definitions)];
+    for (file, before, compared) in none {
+        let text = read_rattle(file).replace("numbers::", "");
+        let it = number_of(word(text.split_once(before).unwrap().1)).unwrap();
+        same(&c, compared, "CHECKSUM_NONE".to_string(), it, file);
+    }
     let text = read_rattle("laws.rt");
     for (law, most) in [("text_lengths", "REFUSAL_TEXT_MAX"), ("reason_lengths", "REASON_TEXT_MAX")] {
         let (_, law) = text.split_once(&format!("pub fn {law}()")).unwrap();
         let longest = c[most] - 1; // without its zero byte
         assert!(law.split("pub fn ").next().unwrap().contains(&format!("≤ {longest} ")), "the greatest text");
+    }
+    let [source, definition] = ["fields.rt", "Fields.antt"].map(read_rattle);
+    for (first, flag, bit) in FLAGS {
+        let name = format!("{first}{flag}");
+        let documented = [format!(" {flag} is {},", c[&name]), format!(" {flag} {}", c[&name])];
+        assert!(documented.iter().any(|text| source.contains(text)), "{name} in fields.rt");
+        let defined = format!("2 ^ {} * {bit}", c[&name].trailing_zeros());
+        assert!(c[&name].is_power_of_two() && definition.contains(&defined), "{name} in Fields.antt");
+        same(&c, &mut in_sources, name.clone(), c[&name], "fields.rt");
+        same(&c, &mut in_definitions, name.clone(), c[&name], "Fields.antt");
     }
     // defined elsewhere in the sources of the crate, or measured by tests
     let elsewhere = ["REASON_TEXT_MAX", "REFUSAL_TEXT_MAX", "STACK", "STACK_OF_FRAGMENTS", "STACK_OF_POOLS", "VERSION"];
@@ -286,8 +327,9 @@ fn rust_has_the_numbers_of_the_c_header() {
 /// Each kind here has the name of its number.
 #[test]
 fn rust_kinds_have_the_names_of_their_numbers() {
-    let files = ["bounded_pool", "building", "err", "filter", "lib", "refusal", "sliced_packet"]
-        .map(|name| read(&format!("bindings/rust/etherparse-c/src/{name}.rs")));
+    let files =
+        ["bounded_pool", "building", "checksum_verdict", "err", "fields", "filter", "lib", "refusal", "sliced_packet"]
+            .map(|name| read(&format!("bindings/rust/etherparse-c/src/{name}.rs")));
     let text = files.concat();
     // the first word of the header's names, their count, and the text before a kind and before its number
     let named = [
@@ -302,6 +344,7 @@ fn rust_kinds_have_the_names_of_their_numbers() {
         ("TCP_", 8, "pub const ", "sys::TCP_"),
         ("OVERLAP_", 3, "", " = OVERLAP_"),
         ("EVICTED_", 4, "", " = EVICTED_"),
+        ("CHECKSUM_", 4, "", " = CHECKSUM_"),
         ("FILTER_", 25, "", " = FILTER_"),
     ];
     for (first, count, before, between) in named {

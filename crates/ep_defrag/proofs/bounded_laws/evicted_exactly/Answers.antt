@@ -1,7 +1,20 @@
 use Rattle.std.proofs.Common.{[], ◌∷◌, ◌++◌, append_assoc}
 use Rattle.ep_defrag.proofs.BoundedLimitLemmas.{remaining-end, remaining-beyond, are_within-one, are_within-shares}
 use Rattle.ep_defrag.proofs.BoundedStayLemmas.{others_stay, rejected_stays}
+use Rattle.ep_defrag.proofs.BoundedFloodLemmas.{own_accepted, outlasts}
+use Rattle.ep_defrag.proofs.BoundedOrderLemmas.{in_order}
 use Rattle.ep_defrag.proofs.bounded_laws.evicted_exactly.Goals as goal
+
+pub returns-clause-order : goal.returns-clause-order
+returns-clause-order g c limits calls =
+    in_order g.CustomChannelId.PartialEq.eq g.met.CustomChannelId.Eq.laws limits calls
+
+pub returns-clause-accepted : goal.returns-clause-accepted
+returns-clause-accepted g c limits rows name fragment now number granted answer =
+    let found =
+    own_accepted g.CustomChannelId.PartialEq.eq g.met.CustomChannelId.Eq.laws limits rows name fragment now number
+    granted answer in
+    (found.0, found.1.0, found.1.1, found.1.2, found.1.3, found.1.4)
 
 pub returns-clause-stays : goal.returns-clause-stays
 returns-clause-stays g c limits earlier later row own room fits =
@@ -20,6 +33,11 @@ returns-clause-own g c limits others own room =
 
 pub returns-clause-survival : goal.returns-clause-survival
 returns-clause-survival g c limits rows shares few = are_within-shares limits rows shares few
+
+pub returns-clause-flood : goal.returns-clause-flood
+returns-clause-flood g c limits earlier later row name fragment now number granted differs few shares share answer =
+    outlasts g.CustomChannelId.PartialEq.eq g.met.CustomChannelId.Eq.laws limits earlier later row name fragment now
+    number granted differs few shares share answer
 
 pub returns-clause-others : goal.returns-clause-others
 returns-clause-others g c limits rows name other fragment now number granted differs answer =
