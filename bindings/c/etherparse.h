@@ -15,8 +15,8 @@
  * - A call that allocates, or that uses a pool or filter, must not be used in a signal handler, nor in the forked child
  *   of a process with threads.
  * - size_t has 64 bits.
- * - A call needs at most ETHERPARSE_STACK bytes of stack (slicing and verifying about 1,700, building 1,100, a text or
- *   fields 500, the others 300; measured on x86-64), except the calls on pools and filters, which need at most
+ * - A call needs at most ETHERPARSE_STACK bytes of stack (slicing about 1,700, verifying 2,000, building 1,100, a
+ *   text or fields 500, the others 300; measured on x86-64), except the calls on pools and filters, which need at most
  *   ETHERPARSE_STACK_OF_POOLS (pushing 1,800, or 5,600 if the fragment connects three or more parts of its payload; to
  *   a bounded pool 4,200 or 6,900; filters 3,200), and etherparse_build_fragment, whose headers are large values: it
  *   needs at most ETHERPARSE_STACK_OF_FRAGMENTS. If functions of the C library are bound at their first call, that

@@ -1,4 +1,4 @@
--- What an accepted fragment leaves in the table of a bounded pool, if it returns no payload.
+-- The table of a bounded pool after a fragment that is accepted and returns no payload.
 use Rattle.std.proofs.Common.{◌≡◌, ℕ, ◌+◌, ◌/◌, ◌<◌, ◌≤◌, Bool, true, false, not, cond, nat_lt, length, List, [], ◌∷◌, ◌++◌}
 use Rattle.std.proofs.Common.{Option, Some, None, IfSome, refl, sym, ap, subst, ◌∙◌, inl, inr, arith, append_assoc}
 use Rattle.std.specs.Cmp.{IsEquivalence}
@@ -11,7 +11,7 @@ use Rattle.ep_defrag.specs.declared.bounded_limits.DefragLimits.{DefragLimits}
 use Rattle.ep_defrag.specs.IpFragments.{IpFragment, is_complete}
 use Rattle.ep_defrag.specs.Streams.{same_stream}
 use Rattle.ep_defrag.specs.BoundedLimits.{most_names}
-use Rattle.ep_defrag.specs.BoundedSteps.{Row, row_named, other_rows, are_within, remaining, expires_for, is_expired}
+use Rattle.ep_defrag.specs.BoundedSteps.{Row, row_named, other_rows, remaining, expires_for, is_expired}
 use Rattle.ep_defrag.specs.BoundedSteps.{nothing_complete, Step, Fate, is_rejected, discards, is_accepted, fate_at}
 use Rattle.ep_defrag.specs.BoundedSteps.{accepted_before, row_with, fated_step, fragment_step}
 use Rattle.ep_defrag.proofs.BoundedRowLemmas.{named_alike, found_alike}
