@@ -5,6 +5,7 @@ ghost use Rattle.ep_base.specs.IpPayload.{ip_payload_of, lax_ip_payload_of};
 
 use crate::lax_net_slice::LaxNetSlice;
 use crate::lax_sliced_packet::LaxSlicedPacket;
+use crate::lax_sliced_packet_payload::transport_incomplete;
 use ep_base::{IpPayloadSlice, LaxIpPayloadSlice};
 use ep_packet::ChecksumVerdicts;
 
@@ -17,19 +18,26 @@ impl<'a> LaxSlicedPacket<'a> {
     pub fn checksums(&self) -> ChecksumVerdicts
         ensures { result ≡ lax_checksums_of self.now }
     {
-        let incomplete = self.is_incomplete();
         match &self.net {
             Some(LaxNetSlice::Ipv4(packet)) => {
-                let payload = available(packet.payload());
-                ChecksumVerdicts::of_ipv4(&packet.header(), &payload, incomplete, &self.transport)
+                let payload = packet.payload();
+                ChecksumVerdicts::of_ipv4(
+                    &packet.header(),
+                    &available(payload),
+                    transport_incomplete(payload.incomplete, &self.transport),
+                    &self.transport,
+                )
             }
-            Some(LaxNetSlice::Ipv6(packet)) => ChecksumVerdicts::of_ipv6(
-                &packet.header(),
-                packet.extensions(),
-                &available(packet.payload()),
-                incomplete,
-                &self.transport,
-            ),
+            Some(LaxNetSlice::Ipv6(packet)) => {
+                let payload = packet.payload();
+                ChecksumVerdicts::of_ipv6(
+                    &packet.header(),
+                    packet.extensions(),
+                    &available(payload),
+                    transport_incomplete(payload.incomplete, &self.transport),
+                    &self.transport,
+                )
+            }
             Some(LaxNetSlice::Arp(_)) | None => ChecksumVerdicts::without_ip(&self.transport),
         }
     }

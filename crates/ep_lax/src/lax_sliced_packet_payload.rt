@@ -11,7 +11,7 @@ ghost use Rattle.ep_packet.specs.Layers.{carries_fragment, ip_payload_in};
 ghost use Rattle.ep_packet.specs.Offsets.{link_len, net_len, payload_offset, tag_len, tags_len, transport_len};
 ghost use Rattle.ep_packet.specs.ShownBytes.{BeginsWith};
 ghost use Rattle.ep_packet.specs.VlanTags.{outer_tags, vlan_ids_in};
-ghost use Rattle.ep_lax.specs.LaxPackets.{extensions_incomplete, lax_layers_of};
+ghost use Rattle.ep_lax.specs.LaxPackets.{extensions_incomplete, lax_layers_of, transport_incomplete};
 ghost use Rattle.ep_lax.specs.LaxPayloads.{lax_ether_payload_in, lax_ether_payload_of, lax_vlan_slices, source_after};
 ghost use Rattle.ep_base.specs.IpPayload.{lax_ip_payload_of};
 ghost use Rattle.ep_lax.specs.LaxViews.{lax_extension_of, lax_net_layer_of};
@@ -183,13 +183,7 @@ impl<'a> LaxSlicedPacket<'a> {
             Some(LaxNetSlice::Arp(_)) => false,
             None => self.extensions_incomplete(),
         };
-        match &self.transport {
-            Some(TransportSlice::Udp(datagram)) => {
-                let available = datagram.header_len() + datagram.payload().len();
-                is_missing(datagram.length() as usize, available, outer)
-            }
-            _ => outer,
-        }
+        transport_incomplete(outer, &self.transport)
     }
 
     /// Returns the payload after the last VLAN or MACsec tag. If there are no tags, it is the payload after the link
@@ -260,6 +254,22 @@ fn transport_len(transport: &Option<TransportSlice<'_>>) -> usize
     match transport {
         Some(layer) => layer.header_len(),
         None => 0,
+    }
+}
+
+/// Returns true if bytes of the transport layer's payload are missing. `outer` is true if bytes of the IP payload are
+/// missing.
+#[inline]
+pub(crate) fn transport_incomplete(outer: bool, transport: &Option<TransportSlice<'_>>) -> bool
+    ensures { result ≡ transport_incomplete outer (option_map transport_layer_of transport.now) }
+{
+    match transport {
+        Some(TransportSlice::Udp(datagram)) => {
+            let stated = datagram.length() as usize;
+            let available = datagram.header_len() + datagram.payload().len();
+            stated != available && is_missing(stated, available, outer)
+        }
+        _ => outer,
     }
 }
 

@@ -23,5 +23,6 @@ pub mod HeadersLemmas
 pub mod InsideHeadersLemmas
 pub mod EntryHeadersLemmas
 pub mod NetFillLemmas
+pub mod LittleEndianLemmas
 pub mod VerdictLemmas
 pub mod FrameVerdictLemmas

@@ -6,13 +6,14 @@ use Rattle.std.proofs.lemmas.Grind.{common_steps}
 use Rattle.ep_base.specs.Checksum.{ones_sum}
 use Rattle.ep_base.specs.IpPayload.{IpPayload}
 use Rattle.ep_ext.specs.ExtensionParts.{ExtensionPart}
+use Rattle.ep_ext.specs.ShownChains.{shown_parts, shown_parts_in}
 use Rattle.ep_ip.specs.declared.ipv4_header.Ipv4Header.{Ipv4Header}
 use Rattle.ep_ip.specs.declared.ipv4_header_slice.Ipv4HeaderSlice.{Ipv4HeaderSlice}
 use Rattle.ep_ip.specs.Ipv4.{ipv4_header_len}
 use Rattle.ep_ip.specs.Ipv4Slices.{ipv4_header_slice_bytes, ipv4_header_slice_header}
 use Rattle.ep_transport.specs.declared.transport_header.TransportHeader.{TransportHeader}
 use Rattle.ep_packet.specs.Layers.{ipv4}
-use Rattle.ep_packet.specs.Verdicts.{has_source_route, has_source_route_after, is_source_route, sum_verdict}
+use Rattle.ep_packet.specs.Verdicts.{has_routing, has_source_route, has_source_route_after, is_source_route, sum_verdict}
 use Rattle.ep_packet.specs.Verdicts.{transport_verdict}
 use Rattle.ep_packet.specs.declared.checksum_verdict.ChecksumVerdicts.{ChecksumVerdicts}
 use Rattle.ep_packet.specs.declared.checksum_verdict.ChecksumVerdict.{ChecksumVerdict}
@@ -94,3 +95,11 @@ after_option (kind ∷ len ∷ rest) n some is not_end not_single long fits none
     let next : n ≡ suc (len - 1) = omega arith in
     ap (λ (k : ℕ). has_source_route (drop k (kind ∷ len ∷ rest))) next
     ∙ sym (all ∙ skipped_source_route (len - 1) (len ∷ rest))
+
+-- ---- routing headers
+
+-- No routing header is among no bytes.
+pub no_routing : (number : ℕ) (bytes : List ℕ) → length bytes ≡ 0 → false ≡ has_routing (shown_parts number bytes)
+unfolding shown_parts shown_parts_in
+no_routing number [] empty = refl
+no_routing number (byte ∷ bytes) empty = absurd (omega arith)

@@ -1,6 +1,7 @@
 //! Verdicts about the checksums of a packet.
 
-ghost use Rattle.std.specs.Prelude.{◌≡◌, ◌≤◌, ◌==◌, if◌then◌else◌, length};
+ghost use Rattle.std.specs.Prelude.{◌≡◌, ◌≤◌, ◌<◌, ◌*◌, ◌^◌, ◌==◌, if◌then◌else◌, length};
+ghost use Rattle.ep_base.specs.Checksum.{residue};
 ghost use Rattle.ep_ext.specs.Ipv6ExtensionSlices.{extension_slice_part, ipv6_slice_parts};
 ghost use Rattle.ep_base.specs.IpPayload.{ip_payload_of};
 ghost use Rattle.ep_transport.specs.UdpSlices.{udp_slice_bytes, udp_slice_header};
@@ -8,12 +9,17 @@ ghost use Rattle.ep_packet.specs.Verdicts.{has_routing, has_source_route, is_par
 ghost use Rattle.ep_packet.specs.Verdicts.{message_verdict_ipv4, message_verdict_ipv6, sum_verdict};
 ghost use Rattle.ep_packet.specs.declared.checksum_verdict.ChecksumVerdict.TheVariants as verdict;
 
+use crate::little_endian_sum::{add_little_endian, is_all_ones};
 use ep_base::checksum::Sum16BitWords;
 use ep_base::{IpNumber, IpPayloadSlice, LenSource};
 use ep_ext::{Ipv6ExtensionSlice, Ipv6ExtensionsSlice};
 use ep_ip::{Ipv4HeaderSlice, Ipv6HeaderSlice};
 use ep_transport::pseudo_header::{sum_ipv4, sum_ipv6};
 use ep_transport::{TransportSlice, UdpSlice};
+
+/// Minimum length in bytes of a message that is summed by `Sum16BitWords`, in blocks. For shorter messages it is faster
+/// to add little-endian words.
+const LONG: usize = 128;
 
 /// Verdict about a checksum: that of an IPv4 header, or that of a UDP datagram, TCP segment, ICMPv4 or ICMPv6 message.
 #[derive(Clone, Copy, Debug, PartialEq, Eq)]
@@ -108,18 +114,21 @@ impl ChecksumVerdict {
         ensures { let message = message_of transport.now in
             result ≡ verdict_ipv4 source destination message.0 message.1 }
     {
-        match transport {
-            TransportSlice::Udp(datagram) if datagram.checksum() == 0 => ChecksumVerdict::Absent,
-            TransportSlice::Udp(datagram) if !counts_message(datagram) => ChecksumVerdict::Unknown,
+        let (number, message) = match transport {
             TransportSlice::Udp(datagram) => {
-                message_ipv4(source, destination, IpNumber::UDP, datagram.slice())
+                if datagram.checksum() == 0 {
+                    return ChecksumVerdict::Absent;
+                }
+                if !counts_message(datagram) {
+                    return ChecksumVerdict::Unknown;
+                }
+                (IpNumber::UDP, datagram.slice())
             }
-            TransportSlice::Tcp(segment) => {
-                message_ipv4(source, destination, IpNumber::TCP, segment.slice())
-            }
-            TransportSlice::Icmpv4(message) => sum_verdict(message.slice()),
-            TransportSlice::Icmpv6(_) => ChecksumVerdict::Unknown,
-        }
+            TransportSlice::Tcp(segment) => (IpNumber::TCP, segment.slice()),
+            TransportSlice::Icmpv4(message) => return sum_verdict(message.slice()),
+            TransportSlice::Icmpv6(_) => return ChecksumVerdict::Unknown,
+        };
+        message_ipv4(source, destination, number, message)
     }
 
     /// Returns whether the checksum of a complete transport layer between two IPv6 addresses is valid. It is `Unknown`
@@ -134,20 +143,21 @@ impl ChecksumVerdict {
         ensures { let message = message_of transport.now in
             result ≡ verdict_ipv6 source destination message.0 message.1 }
     {
-        match transport {
-            TransportSlice::Udp(datagram) if datagram.checksum() == 0 => ChecksumVerdict::Invalid,
-            TransportSlice::Udp(datagram) if !counts_message(datagram) => ChecksumVerdict::Unknown,
+        let (number, message) = match transport {
             TransportSlice::Udp(datagram) => {
-                message_ipv6(source, destination, IpNumber::UDP, datagram.slice())
+                if datagram.checksum() == 0 {
+                    return ChecksumVerdict::Invalid;
+                }
+                if !counts_message(datagram) {
+                    return ChecksumVerdict::Unknown;
+                }
+                (IpNumber::UDP, datagram.slice())
             }
-            TransportSlice::Tcp(segment) => {
-                message_ipv6(source, destination, IpNumber::TCP, segment.slice())
-            }
-            TransportSlice::Icmpv4(message) => sum_verdict(message.slice()),
-            TransportSlice::Icmpv6(message) => {
-                message_ipv6(source, destination, IpNumber::IPV6_ICMP, message.slice())
-            }
-        }
+            TransportSlice::Tcp(segment) => (IpNumber::TCP, segment.slice()),
+            TransportSlice::Icmpv6(message) => (IpNumber::IPV6_ICMP, message.slice()),
+            TransportSlice::Icmpv4(message) => return sum_verdict(message.slice()),
+        };
+        message_ipv6(source, destination, number, message)
     }
 }
 
@@ -251,7 +261,15 @@ fn message_ipv4(
     if len > 65535 {
         return ChecksumVerdict::Unknown;
     }
-    verdict_of_sum(&sum_ipv4(source, destination, number, len as u16).add_slice(message))
+    if len >= LONG {
+        let pseudo = sum_ipv4(source, destination, number, len as u16);
+        return verdict_of_sum(&pseudo.add_slice(message));
+    }
+    let sum = add_little_endian(0, &source);
+    let sum = add_little_endian(sum, &destination);
+    let sum = add_little_endian(sum, &[0, number.0]);
+    let sum = add_little_endian(sum, &(len as u16).to_be_bytes());
+    verdict_of_words(add_little_endian(sum, message))
 }
 
 /// Returns whether the checksum of a message between two IPv6 addresses is valid; `Unknown` if its length exceeds 32
@@ -269,7 +287,15 @@ fn message_ipv6(
     if len > 4294967295 {
         return ChecksumVerdict::Unknown;
     }
-    verdict_of_sum(&sum_ipv6(source, destination, number, len as u32).add_slice(message))
+    if len >= LONG {
+        let pseudo = sum_ipv6(source, destination, number, len as u32);
+        return verdict_of_sum(&pseudo.add_slice(message));
+    }
+    let sum = add_little_endian(0, &source);
+    let sum = add_little_endian(sum, &destination);
+    let sum = add_little_endian(sum, &(len as u32).to_be_bytes());
+    let sum = add_little_endian(sum, &[0, 0, 0, number.0]);
+    verdict_of_words(add_little_endian(sum, message))
 }
 
 /// Returns whether the checksum in the bytes is valid, if it covers no pseudo header.
@@ -277,7 +303,10 @@ fn message_ipv6(
 fn sum_verdict(bytes: &[u8]) -> ChecksumVerdict
     ensures { result ≡ sum_verdict bytes.now }
 {
-    verdict_of_sum(&Sum16BitWords::new().add_slice(bytes))
+    if bytes.len() >= LONG {
+        return verdict_of_sum(&Sum16BitWords::new().add_slice(bytes));
+    }
+    verdict_of_words(add_little_endian(0, bytes))
 }
 
 /// Returns `Valid` if the one's complement sum is 65535, otherwise `Invalid`.
@@ -287,6 +316,19 @@ fn verdict_of_sum(sum: &Sum16BitWords) -> ChecksumVerdict
     ensures { result ≡ (if sum.now == 65535 then verdict.Valid else verdict.Invalid) }
 {
     if sum.ones_complement() == 0 {
+        ChecksumVerdict::Valid
+    } else {
+        ChecksumVerdict::Invalid
+    }
+}
+
+/// Returns `Valid` if the one's complement sum is 65535, by the sum of little-endian words, otherwise `Invalid`.
+#[inline]
+fn verdict_of_words(sum: u128) -> ChecksumVerdict
+    requires { sum < 2 ^ 80 }
+    ensures { result ≡ (if residue (256 * sum) == 65535 then verdict.Valid else verdict.Invalid) }
+{
+    if is_all_ones(sum) {
         ChecksumVerdict::Valid
     } else {
         ChecksumVerdict::Invalid
@@ -331,6 +373,9 @@ fn is_source_route(kind: u8) -> bool
 fn has_routing(extensions: Ipv6ExtensionsSlice<'_>) -> bool
     ensures { result ≡ has_routing (ipv6_slice_parts extensions.entry) }
 {
+    if extensions.slice().is_empty() {
+        return false;
+    }
     for extension in extensions {
         if is_routing(&extension) {
             return true;

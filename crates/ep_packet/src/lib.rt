@@ -9,6 +9,7 @@ mod ip_headers_read;
 mod ip_headers_read_lax;
 pub mod laws;
 mod link_part;
+mod little_endian_sum;
 mod net_headers;
 mod net_headers_fill;
 mod net_headers_fill_lax;

@@ -21,9 +21,17 @@ static HEX_PAIRS: [u8; 512] = *b"\
     e0e1e2e3e4e5e6e7e8e9eaebecedeeeff0f1f2f3f4f5f6f7f8f9fafbfcfdfeff";
 
 /// Appends a MAC address as text: two hexadecimal digits for each byte, separated by colons.
-#[tactic(auto, unfolding(crate::specs::Addresses::mac_text))]
 pub fn push_mac(output: &mut Vec<u8>, address: [u8; 6]) -> Result<(), AllocError>
     ensures { OnOk result (output.new.items ≡ output.old.items ++ mac_text address) }
+{
+    output.extend_from_slice(&mac_text(address))
+}
+
+/// Returns the text of a MAC address: two hexadecimal digits for each byte, separated by colons.
+#[inline]
+#[tactic(auto, unfolding(crate::specs::Addresses::mac_text))]
+pub fn mac_text(address: [u8; 6]) -> [u8; 17]
+    ensures { result ≡ mac_text address }
 {
     let [a, b, c, d, e, f] = address;
     let [a0, a1] = hex_pair(a);
@@ -32,9 +40,9 @@ pub fn push_mac(output: &mut Vec<u8>, address: [u8; 6]) -> Result<(), AllocError
     let [d0, d1] = hex_pair(d);
     let [e0, e1] = hex_pair(e);
     let [f0, f1] = hex_pair(f);
-    output.extend_from_slice(&[
+    [
         a0, a1, b':', b0, b1, b':', c0, c1, b':', d0, d1, b':', e0, e1, b':', f0, f1,
-    ])
+    ]
 }
 
 /// Appends a hardware or protocol address of any length as text: two hexadecimal digits for each byte, separated by
