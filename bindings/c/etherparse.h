@@ -180,6 +180,7 @@ void etherparse_2_bounded_pool_clear(struct etherparse_bounded_pool *pool);
 size_t etherparse_2_bounded_pool_streams(struct etherparse_bounded_pool *pool);
 size_t etherparse_2_bounded_pool_discarded_streams(struct etherparse_bounded_pool *pool);
 size_t etherparse_2_bounded_pool_held_bytes(struct etherparse_bounded_pool *pool);
+void etherparse_2_bounded_pool_limits(struct etherparse_bounded_pool *pool, struct etherparse_defrag_limits *limits);
 void etherparse_2_bounded_pool_statistics(struct etherparse_bounded_pool *pool,
                                           struct etherparse_defrag_statistics *statistics);
 size_t etherparse_2_bounded_pool_evicted_count(struct etherparse_bounded_pool *pool);
@@ -1015,6 +1016,12 @@ etherparse_bounded_pool_discarded_streams(struct etherparse_bounded_pool *pool) 
 ETHERPARSE_MUST_USE ETHERPARSE_NONNULL((1)) static inline size_t
 etherparse_bounded_pool_held_bytes(struct etherparse_bounded_pool *pool) {
     return etherparse_2_bounded_pool_held_bytes(pool);
+}
+
+/* Stores the limits of a bounded pool, as they were passed to etherparse_bounded_pool_new. */
+ETHERPARSE_NONNULL((1, 2)) static inline void
+etherparse_bounded_pool_limits(struct etherparse_bounded_pool *pool, struct etherparse_defrag_limits *limits) {
+    etherparse_2_bounded_pool_limits(pool, limits);
 }
 
 /* Counters of a bounded pool since it was created. A counter that reached UINT64_MAX stays there. `begun` is the sum

@@ -195,7 +195,7 @@ def write(folder, name, frames):
 
 
 def main(arguments):
-    if not 1 <= len(arguments) <= 3:
+    if not 1 <= len(arguments) <= 3 or arguments[0].startswith("-"):
         sys.exit(__doc__.splitlines()[0])
     folder = arguments[0]
     seed = int(arguments[1]) if len(arguments) > 1 else 1

@@ -104,6 +104,7 @@ static void bounded_pool_clear(void) { etherparse_bounded_pool_clear(bounded); }
 static void bounded_pool_streams(void) { written = etherparse_bounded_pool_streams(bounded); }
 static void bounded_pool_discarded_streams(void) { written = etherparse_bounded_pool_discarded_streams(bounded); }
 static void bounded_pool_held_bytes(void) { written = etherparse_bounded_pool_held_bytes(bounded); }
+static void bounded_pool_limits(void) { etherparse_bounded_pool_limits(bounded, &limits); }
 static void bounded_pool_statistics(void) { etherparse_bounded_pool_statistics(bounded, &statistics); }
 static void bounded_pool_evicted_count(void) { written = etherparse_bounded_pool_evicted_count(bounded); }
 static void bounded_pool_evicted(void) { status = etherparse_bounded_pool_evicted(bounded, 0, &evicted); }
@@ -300,6 +301,7 @@ int main(void) {
         HELD_NEEDS(bounded_pool_streams, ETHERPARSE_OK);
         HELD_NEEDS(bounded_pool_discarded_streams, ETHERPARSE_OK);
         HELD_NEEDS(bounded_pool_held_bytes, ETHERPARSE_OK);
+        HELD_NEEDS(bounded_pool_limits, ETHERPARSE_OK);
         HELD_NEEDS(bounded_pool_statistics, ETHERPARSE_OK);
         HELD_NEEDS(bounded_pool_remove, ETHERPARSE_OK); /* the discarded one, and then none */
         HELD_NEEDS(bounded_pool_remove, ETHERPARSE_OK);

@@ -587,6 +587,15 @@ static uint32_t bounded_pushed(struct etherparse_bounded_pool *pool, uint8_t str
     }
 }
 
+/* Returns whether a pool has these limits. */
+static bool has_limits(struct etherparse_bounded_pool *pool, const struct etherparse_defrag_limits *limits) {
+    struct etherparse_defrag_limits it;
+    memset(&it, 0xff, sizeof it);
+    etherparse_bounded_pool_limits(pool, &it);
+    return it.streams == limits->streams && it.bytes == limits->bytes && it.age == limits->age
+           && it.overlap == limits->overlap && it.payload == limits->payload;
+}
+
 /* Limits, and pools that cannot be created. */
 static void bounded_limits(void) {
     struct etherparse_bounded_pool *pool, *before = (struct etherparse_bounded_pool *)buffer;
@@ -613,6 +622,17 @@ static void bounded_limits(void) {
     etherparse_bounded_pool_free(pool);
     etherparse_bounded_pool_free(NULL);
     WANT(blocks == 0);
+    const struct etherparse_defrag_limits each[] = {{.overlap = ETHERPARSE_OVERLAP_LAST_WINS},
+                                                    {1, 2, 3, ETHERPARSE_OVERLAP_FIRST_WINS, 4},
+                                                    {SIZE_MAX, SIZE_MAX, UINT64_MAX, ETHERPARSE_OVERLAP_DISCARD, 65535}};
+    for (size_t i = 0; i < sizeof each / sizeof each[0]; i++) {
+        WANT(etherparse_bounded_pool_new(&each[i], seed, &pool) == ETHERPARSE_OK && has_limits(pool, &each[i]));
+        etherparse_bounded_pool_free(pool);
+    }
+    etherparse_defrag_limits_default(&limits);
+    WANT(etherparse_bounded_pool_new(NULL, seed, &pool) == ETHERPARSE_OK && has_limits(pool, &limits));
+    etherparse_bounded_pool_free(pool);
+    WANT(blocks == 0);
 }
 
 /* Fragments that overlap, by each rule. */
@@ -627,6 +647,7 @@ static void bounded_overlaps(void) {
         memcpy(buffer, untouched, ROOM);
         WANT(bounded_pushed(pool, 1, 8, 16, true, 1, &told) == ETHERPARSE_OK);
         WANT(bounded_pushed(pool, 1, 8, 16, true, 2, &told) == ETHERPARSE_OK); /* a repeat */
+        WANT(has_limits(pool, &limits));
         uint8_t frame[ROOM];
         size_t len = fragment(frame, 1, 8, 16, true);
         frame[20] = 99; /* another byte at position 8 */

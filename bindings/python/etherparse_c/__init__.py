@@ -1140,6 +1140,7 @@ _CALLS: dict[str, tuple[Any, tuple[Any, ...]]] = {
     "bounded_pool_streams": (_size, (_pool,)),
     "bounded_pool_discarded_streams": (_size, (_pool,)),
     "bounded_pool_held_bytes": (_size, (_pool,)),
+    "bounded_pool_limits": (None, (_pool, ctypes.POINTER(_DefragLimits))),
     "bounded_pool_statistics": (None, (_pool, ctypes.POINTER(DefragStatistics))),
     "bounded_pool_evicted_count": (_size, (_pool,)),
     "bounded_pool_evicted": (_u32, (_pool, _size, ctypes.POINTER(_EvictedStream))),
@@ -1525,8 +1526,6 @@ class BoundedPool(_AnyPool):
     def __init__(self, limits: DefragLimits = DefragLimits(), seed: Optional[Bytes] = None) -> None:
         given = limits._to_c()
         super().__init__(given.payload)
-        self.limits = DefragLimits(given.streams, given.bytes, given.payload, given.age, given.overlap)
-        """Limits of the pool."""
         seed = os.urandom(16) if seed is None else _as_bytes(seed)
         if len(seed) != 16:
             raise ValueError(f"the seed has {len(seed)} bytes, and not 16")
@@ -1537,6 +1536,14 @@ class BoundedPool(_AnyPool):
         if status != Status.OK:
             raise MemoryError
         self._pool = pool.value
+
+    @property
+    def limits(self) -> DefragLimits:
+        """Limits of the pool."""
+        limits = _DefragLimits()
+        with self._lock:
+            _library.etherparse_2_bounded_pool_limits(self._open(), ctypes.byref(limits))
+        return DefragLimits(limits.streams, limits.bytes, limits.payload, limits.age, limits.overlap)
 
     def expire(self, now: int, idle: int = (1 << 64) - 1) -> int:
         """Evicts each stream that is older than the age of the limits, or whose last accepted fragment came more than

@@ -27,7 +27,7 @@ first_words sum added more = more ∙ ap residue (omega arith)
 -- The word sum of a pseudo header of four parts, and of a message.
 pub pseudo_words : (source destination third fourth message : List ℕ) → length source % 2 ≡ 0
     → length destination % 2 ≡ 0 → length third % 2 ≡ 0 → length fourth % 2 ≡ 0
-    → word_sum source + word_sum destination + word_sum third + word_sum fourth + word_sum message
+    → word_sum third + word_sum fourth + word_sum source + word_sum destination + word_sum message
     ≡ word_sum ((source ++ (destination ++ (third ++ fourth))) ++ message)
 pseudo_words source destination third fourth message p q r s =
     let inner = third ++ fourth in
@@ -41,21 +41,22 @@ pseudo_words source destination third fourth message p q r s =
     let with_message = word_sum-append (source ++ outer) message (omega (arith, inner_long, outer_long, all_long)) in
     omega (arith, inner_words, outer_words, all_words, with_message)
 
--- The sum of a pseudo header of four parts and of a message, if each is added to the sum of those before it.
+-- The sum of a pseudo header of four parts and of a message, if each is added to the sum, first the two parts after the
+-- addresses.
 pub message_words : (source destination third fourth message : List ℕ) (a b c d e : ℕ) → length source % 2 ≡ 0
     → length destination % 2 ≡ 0 → length third % 2 ≡ 0 → length fourth % 2 ≡ 0
-    → residue (256 * a) ≡ residue (256 * 0 + word_sum source)
-    → residue (256 * b) ≡ residue (256 * a + word_sum destination)
-    → residue (256 * c) ≡ residue (256 * b + word_sum third)
-    → residue (256 * d) ≡ residue (256 * c + word_sum fourth)
+    → residue (256 * a) ≡ residue (256 * 0 + word_sum third)
+    → residue (256 * b) ≡ residue (256 * a + word_sum fourth)
+    → residue (256 * c) ≡ residue (256 * b + word_sum source)
+    → residue (256 * d) ≡ residue (256 * c + word_sum destination)
     → residue (256 * e) ≡ residue (256 * d + word_sum message)
     → residue (256 * e) ≡ ones_sum ((source ++ (destination ++ (third ++ fourth))) ++ message)
 unfolding ones_sum
 message_words source destination third fourth message a b c d e p q r s first second next last whole =
-    let one = first_words a (word_sum source) first in
-    let two = more_words a b _ (word_sum destination) one second in
-    let three = more_words b c _ (word_sum third) two next in
-    let four = more_words c d _ (word_sum fourth) three last in
+    let one = first_words a (word_sum third) first in
+    let two = more_words a b _ (word_sum fourth) one second in
+    let three = more_words b c _ (word_sum source) two next in
+    let four = more_words c d _ (word_sum destination) three last in
     more_words d e _ (word_sum message) four whole
     ∙ ap residue (pseudo_words source destination third fourth message p q r s)
 

@@ -114,19 +114,21 @@ impl ChecksumVerdict {
         ensures { let message = message_of transport.now in
             result ≡ verdict_ipv4 source destination message.0 message.1 }
     {
-        let (number, message) = match transport {
-            TransportSlice::Udp(datagram) => {
-                if datagram.checksum() == 0 {
-                    return ChecksumVerdict::Absent;
-                }
-                if !counts_message(datagram) {
-                    return ChecksumVerdict::Unknown;
-                }
-                (IpNumber::UDP, datagram.slice())
+        // (comparisons, since a jump table is slower where the kinds of packets alternate)
+        let (number, message) = if let TransportSlice::Udp(datagram) = transport {
+            if datagram.checksum() == 0 {
+                return ChecksumVerdict::Absent;
             }
-            TransportSlice::Tcp(segment) => (IpNumber::TCP, segment.slice()),
-            TransportSlice::Icmpv4(message) => return sum_verdict(message.slice()),
-            TransportSlice::Icmpv6(_) => return ChecksumVerdict::Unknown,
+            if !counts_message(datagram) {
+                return ChecksumVerdict::Unknown;
+            }
+            (IpNumber::UDP, datagram.slice())
+        } else if let TransportSlice::Tcp(segment) = transport {
+            (IpNumber::TCP, segment.slice())
+        } else if let TransportSlice::Icmpv4(message) = transport {
+            return sum_verdict(message.slice());
+        } else {
+            return ChecksumVerdict::Unknown;
         };
         message_ipv4(source, destination, number, message)
     }
@@ -143,19 +145,23 @@ impl ChecksumVerdict {
         ensures { let message = message_of transport.now in
             result ≡ verdict_ipv6 source destination message.0 message.1 }
     {
-        let (number, message) = match transport {
-            TransportSlice::Udp(datagram) => {
-                if datagram.checksum() == 0 {
-                    return ChecksumVerdict::Invalid;
-                }
-                if !counts_message(datagram) {
-                    return ChecksumVerdict::Unknown;
-                }
-                (IpNumber::UDP, datagram.slice())
+        // (comparisons, since a jump table is slower where the kinds of packets alternate)
+        let (number, message) = if let TransportSlice::Udp(datagram) = transport {
+            if datagram.checksum() == 0 {
+                return ChecksumVerdict::Invalid;
             }
-            TransportSlice::Tcp(segment) => (IpNumber::TCP, segment.slice()),
-            TransportSlice::Icmpv6(message) => (IpNumber::IPV6_ICMP, message.slice()),
-            TransportSlice::Icmpv4(message) => return sum_verdict(message.slice()),
+            if !counts_message(datagram) {
+                return ChecksumVerdict::Unknown;
+            }
+            (IpNumber::UDP, datagram.slice())
+        } else if let TransportSlice::Tcp(segment) = transport {
+            (IpNumber::TCP, segment.slice())
+        } else if let TransportSlice::Icmpv6(message) = transport {
+            (IpNumber::IPV6_ICMP, message.slice())
+        } else if let TransportSlice::Icmpv4(message) = transport {
+            return sum_verdict(message.slice());
+        } else {
+            return ChecksumVerdict::Unknown;
         };
         message_ipv6(source, destination, number, message)
     }
@@ -265,10 +271,10 @@ fn message_ipv4(
         let pseudo = sum_ipv4(source, destination, number, len as u16);
         return verdict_of_sum(&pseudo.add_slice(message));
     }
-    let sum = add_little_endian(0, &source);
-    let sum = add_little_endian(sum, &destination);
-    let sum = add_little_endian(sum, &[0, number.0]);
+    let sum = add_little_endian(0, &[0, number.0]);
     let sum = add_little_endian(sum, &(len as u16).to_be_bytes());
+    let sum = add_little_endian(sum, &source);
+    let sum = add_little_endian(sum, &destination);
     verdict_of_words(add_little_endian(sum, message))
 }
 
@@ -291,10 +297,10 @@ fn message_ipv6(
         let pseudo = sum_ipv6(source, destination, number, len as u32);
         return verdict_of_sum(&pseudo.add_slice(message));
     }
-    let sum = add_little_endian(0, &source);
-    let sum = add_little_endian(sum, &destination);
-    let sum = add_little_endian(sum, &(len as u32).to_be_bytes());
+    let sum = add_little_endian(0, &(len as u32).to_be_bytes());
     let sum = add_little_endian(sum, &[0, 0, 0, number.0]);
+    let sum = add_little_endian(sum, &source);
+    let sum = add_little_endian(sum, &destination);
     verdict_of_words(add_little_endian(sum, message))
 }
 

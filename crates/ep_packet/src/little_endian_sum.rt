@@ -21,6 +21,9 @@ pub(crate) fn add_little_endian(sum: u128, bytes: &[u8]) -> u128
         sum += u64::from_le_bytes(*piece) as u128;
         rest = after;
     }
+    if rest.is_empty() {
+        return sum;
+    }
     sum + last_word(rest) as u128
 }
 
@@ -69,7 +72,8 @@ pub(crate) fn is_all_ones(sum: u128) -> bool
     requires { sum < 2 ^ 80 }
     ensures { result ≡ (residue (256 * sum) == 65535) }
 {
-    let low = sum & 0xffff_ffff_ffff_ffff;
-    let sum = (sum >> 64) as u64 + (low >> 32) as u64 + (low & 0xffff_ffff) as u64;
+    // 2^64 is 1 modulo 65535, so the upper 64 bits can be added to the lower ones, and then the carry.
+    let folded = (sum >> 64) + (sum & 0xffff_ffff_ffff_ffff);
+    let sum = (folded >> 64) as u64 + (folded & 0xffff_ffff_ffff_ffff) as u64;
     sum > 0 && sum % 65535 == 0
 }

@@ -57,6 +57,22 @@ limits_of given = option_map (λ overlap. record {
   overlap = overlap;
 }) (overlap_of given.overlap)
 
+-- C's number of a rule for overlapping fragments
+abbrev pub overlap_number : OverlapPolicy → ℕ
+overlap_number LastWins = 0
+overlap_number FirstWins = 1
+overlap_number Discard = 2
+
+-- the limits as C's numbers; an age has 64 bits, since C passes no greater one
+abbrev pub limits_part : Limits → DefragLimits
+limits_part limits = record {
+  streams = limits.streams;
+  bytes = limits.bytes;
+  age = min limits.age (2 ^ 64 - 1);
+  overlap = overlap_number limits.overlap;
+  payload = limits.payload;
+}
+
 -- ---- counters and evicted streams
 
 -- the counters as C's numbers
@@ -313,7 +329,12 @@ bounded_bytes state = room_in state.pool
 abbrev pub evicted_count : BoundedState → ℕ
 evicted_count state = length (evicted_in state.pool)
 
--- ---- counters and evicted streams
+-- ---- limits, counters and evicted streams
+
+-- The limits are returned; the pool is unchanged.
+pub record ReturnsLimits (limits : DefragLimits) (old new : BoundedState) : Type 0 where
+  pub same : new ≡ old
+  pub returned : limits ≡ limits_part (limits_in old.pool)
 
 -- The counters are returned, and add up; the pool is unchanged.
 pub record ReturnsStatistics (statistics : DefragStatistics) (old new : BoundedState) : Type 0 where

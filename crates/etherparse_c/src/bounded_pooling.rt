@@ -2,22 +2,25 @@
 
 ghost use Rattle.std.specs.Prelude.{◌≡◌, IfSome, None, Some, is_some, nat_eq, slice_get, true};
 ghost use Rattle.etherparse.specs.BoundedLimits.{default_limits};
-ghost use Rattle.etherparse.specs.BoundedPools.{IsBounded, TakesBoundedFrame, evicted_in, open_in, statistics_in};
+ghost use Rattle.etherparse.specs.BoundedPools.{IsBounded, TakesBoundedFrame, evicted_in, limits_in, open_in, statistics_in};
 ghost use Rattle.etherparse.specs.Pools.{fragment_in};
 ghost use Rattle.etherparse.specs.BoundedCounts.{AddUp};
 ghost use Rattle.etherparse_c.specs.SliceAnswers.{entry_of};
 ghost use Rattle.etherparse_c.specs.PoolAnswers.{ReturnsNumber, empty_answer};
 ghost use Rattle.etherparse_c.specs.BoundedPoolAnswers.{ChangesBounded, ClearsBounded, DiscardsWaiting, ExpiresBounded, IsBoundedPush};
 ghost use Rattle.etherparse_c.specs.BoundedPoolAnswers.{IsBoundedPushed, IsBoundedTake, IsEmptyBounded, IsNewBounded, IsStoredBounded, ProcessesNoFrame};
-ghost use Rattle.etherparse_c.specs.BoundedPoolAnswers.{RemovesBounded, ReturnsEvicted, ReturnsStatistics, bounded_bytes, bounded_error_answer, bounded_status};
-ghost use Rattle.etherparse_c.specs.BoundedPoolAnswers.{IsEvictedStored, discarded_streams, evicted_count, limits_of, open_streams, statistics_part};
+ghost use Rattle.etherparse_c.specs.BoundedPoolAnswers.{RemovesBounded, ReturnsEvicted, ReturnsLimits, ReturnsStatistics};
+ghost use Rattle.etherparse_c.specs.BoundedPoolAnswers.{IsEvictedStored, bounded_bytes, bounded_error_answer, bounded_status};
+ghost use Rattle.etherparse_c.specs.BoundedPoolAnswers.{discarded_streams, evicted_count, limits_of, limits_part};
+ghost use Rattle.etherparse_c.specs.BoundedPoolAnswers.{open_streams, statistics_part};
 
 use crate::bounded_handle::BoundedHandle;
 use crate::bounded_pool::BoundedPool;
 use crate::bounded_state::BoundedState;
 use crate::bounded_state_pointer::BoundedStatePointer;
 use crate::defrag_describing::{
-    counters_fit, default_limits, evicted_part, limits_of, statistics_part, stream_id_of,
+    counters_fit, default_limits, evicted_part, limits_of, limits_part, statistics_part,
+    stream_id_of,
 };
 use crate::defrag_values::{DefragLimits, DefragStatistics, EvictedStream, StreamId};
 use crate::hash_seed::HashSeed;
@@ -224,6 +227,20 @@ pub extern "C" fn etherparse_2_bounded_pool_held_bytes(
     let count = held_bytes(&state);
     pool.pointer = pointer_to(state);
     count
+}
+
+/// Stores the limits of a bounded reassembly pool, as they were passed to `etherparse_2_bounded_pool_new`.
+#[unsafe(no_mangle)]
+pub extern "C" fn etherparse_2_bounded_pool_limits(
+    alloc: Global,
+    pool: &mut BoundedPool,
+    limits: &mut DefragLimits,
+)
+    ensures { ChangesBounded pool.old pool.new (ReturnsLimits limits.new) }
+{
+    let state = take_state(alloc, &mut pool.pointer);
+    *limits = limits_in(&state);
+    pool.pointer = pointer_to(state);
 }
 
 /// Stores the counters of a bounded reassembly pool since it was created.
@@ -506,6 +523,13 @@ fn evicted_count(state: &BoundedState) -> usize
     ensures { result ≡ evicted_count state.now }
 {
     state.pool.evicted().len()
+}
+
+/// Returns the limits of a bounded reassembly pool.
+fn limits_in(state: &BoundedState) -> DefragLimits
+    ensures { result ≡ limits_part (limits_in state.now.pool) }
+{
+    limits_part(&state.pool.limits())
 }
 
 /// Returns the counters of a bounded reassembly pool.

@@ -5,7 +5,8 @@ ghost use Rattle.etherparse.specs.BoundedCounts.{FitCounters};
 ghost use Rattle.etherparse.specs.BoundedLimits.{default_limits};
 ghost use Rattle.etherparse.specs.Types.IpFragId.{IpFragId};
 ghost use Rattle.etherparse_c.specs.BoundedPoolAnswers.{IsIdentified, IsStreamId};
-ghost use Rattle.etherparse_c.specs.BoundedPoolAnswers.{cause_number, evicted_part, limits_of, overlap_of, statistics_part, stream_part};
+ghost use Rattle.etherparse_c.specs.BoundedPoolAnswers.{cause_number, evicted_part, limits_of, limits_part};
+ghost use Rattle.etherparse_c.specs.BoundedPoolAnswers.{overlap_number, overlap_of, statistics_part, stream_part};
 
 use crate::defrag_values::{DefragLimits, DefragStatistics, EvictedStream, StreamId};
 use etherparse::defrag::{self, EvictionCause, IpFragId, IpFragVersionSpecId, OverlapPolicy};
@@ -41,13 +42,30 @@ fn overlap_of(number: u32) -> Option<OverlapPolicy>
 pub(crate) fn default_limits() -> DefragLimits
     ensures { limits_of result ≡ Some default_limits }
 {
-    let limits = defrag::DefragLimits::default();
+    limits_part(&defrag::DefragLimits::default())
+}
+
+/// Converts the limits of a bounded reassembly pool for C.
+pub(crate) fn limits_part(limits: &defrag::DefragLimits) -> DefragLimits
+    ensures { result ≡ limits_part limits.now }
+{
     DefragLimits {
         streams: limits.streams,
         bytes: limits.bytes,
         age: low_number(limits.age),
-        overlap: 2,
+        overlap: overlap_number(limits.overlap),
         payload: limits.payload,
+    }
+}
+
+/// Returns C's number (0 to 2) of a rule for overlapping fragments.
+fn overlap_number(overlap: OverlapPolicy) -> u32
+    ensures { result ≡ overlap_number overlap }
+{
+    match overlap {
+        OverlapPolicy::LastWins => 0,
+        OverlapPolicy::FirstWins => 1,
+        OverlapPolicy::Discard => 2,
     }
 }
 

@@ -65,10 +65,10 @@ pub use bounded_pooling::{
     etherparse_2_bounded_pool_discarded_streams, etherparse_2_bounded_pool_evicted,
     etherparse_2_bounded_pool_evicted_count, etherparse_2_bounded_pool_expire,
     etherparse_2_bounded_pool_free, etherparse_2_bounded_pool_held_bytes,
-    etherparse_2_bounded_pool_new, etherparse_2_bounded_pool_push,
-    etherparse_2_bounded_pool_remove, etherparse_2_bounded_pool_statistics,
-    etherparse_2_bounded_pool_streams, etherparse_2_bounded_pool_take,
-    etherparse_2_defrag_limits_default,
+    etherparse_2_bounded_pool_limits, etherparse_2_bounded_pool_new,
+    etherparse_2_bounded_pool_push, etherparse_2_bounded_pool_remove,
+    etherparse_2_bounded_pool_statistics, etherparse_2_bounded_pool_streams,
+    etherparse_2_bounded_pool_take, etherparse_2_defrag_limits_default,
 };
 pub use building::{etherparse_2_build_icmp_echo, etherparse_2_build_tcp, etherparse_2_build_udp};
 pub use building_tagged::{

@@ -1,5 +1,5 @@
 -- Lines of streams that the pool evicts or discards.
-use Rattle.std.specs.Prelude.{◌≡◌, ℕ, ◌&&◌, nat_eq, if◌then◌else◌, Bool, false, not, IsFalse, List, [], ◌∷◌, ◌++◌}
+use Rattle.std.specs.Prelude.{◌≡◌, ℕ, ◌&&◌, nat_eq, if◌then◌else◌, Bool, false, IsFalse, List, [], ◌∷◌, ◌++◌}
 use Rattle.std.specs.Prelude.{Some, codes, is_some}
 use Rattle.std.specs.List.{list_any}
 use Rattle.std.specs.Fmt.{decimal}
@@ -50,10 +50,11 @@ cause_text Overlap = codes " discarded: overlap\n"
 cause_text Streams = codes " evicted: too many streams\n"
 cause_text Bytes = codes " evicted: too many bytes\n"
 
--- True if evictions are shown: they are printed, lines of rejected fragments are, and there is no filter.
+-- True if evictions are shown: they are reported, and lines of rejected fragments are shown. A filter does not matter,
+-- since the bytes of a stream that is not reassembled cannot be matched.
 abbrev pub shows_evictions : DumpOptions → Bool
 shows_evictions options =
-    reports_evictions options && shows_line options (Some Refused) && not (is_some options.filter)
+    reports_evictions options && shows_line options (Some Refused)
 
 -- the line of a stream that is evicted or discarded, if it is shown
 abbrev pub eviction_line : DumpOptions → List ℕ → IpFragId ℕ → EvictionCause → List ℕ

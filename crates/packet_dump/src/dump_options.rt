@@ -266,11 +266,12 @@ impl DumpOptions {
     }
 
     /// Returns whether the line of a payload that expires, is evicted or discarded is printed: if evictions are
-    /// reported, without `--quiet` and a filter, and unless `--only` selects another kind than `refused`.
+    /// reported, without `--quiet`, and unless `--only` selects another kind than `refused`. A filter does not matter,
+    /// since a payload that is not reassembled cannot be matched.
     pub fn shows_evictions(&self) -> bool
         ensures { result ≡ shows_evictions self.now }
     {
-        self.reports_evictions() && self.shows(Some(Kind::Refused)) && self.filter.is_none()
+        self.reports_evictions() && self.shows(Some(Kind::Refused))
     }
 }
 

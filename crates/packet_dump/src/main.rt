@@ -122,7 +122,7 @@ a length field counts 1448 bytes, of which 22 were captured.
                      (first), or discard the payload if they contradict each
                      other (discard); with one of these three options, a line
                      reports each payload that expires, is evicted or discarded
-                     (not with --quiet, a filter or another kind of --only)
+                     (not with --quiet or another kind of --only)
   --write FILE       write the packets that are shown to a new file (pcap, with
                      nanoseconds), up to the first packet that has no time or
                      another link type

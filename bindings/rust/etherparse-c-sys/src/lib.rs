@@ -1020,6 +1020,9 @@ extern "C" {
     /// Returns the memory of all streams in a bounded pool, in bytes.
     #[link_name = "etherparse_2_bounded_pool_held_bytes"]
     pub fn etherparse_bounded_pool_held_bytes(pool: *mut BoundedPool) -> usize;
+    /// Stores the limits of a bounded pool, as they were passed to `etherparse_bounded_pool_new`.
+    #[link_name = "etherparse_2_bounded_pool_limits"]
+    pub fn etherparse_bounded_pool_limits(pool: *mut BoundedPool, limits: *mut DefragLimits);
     /// Stores the counters of a bounded pool.
     #[link_name = "etherparse_2_bounded_pool_statistics"]
     pub fn etherparse_bounded_pool_statistics(pool: *mut BoundedPool, statistics: *mut DefragStatistics);

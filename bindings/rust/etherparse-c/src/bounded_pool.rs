@@ -73,6 +73,12 @@ impl Default for DefragLimits {
         let mut limits = sys::DefragLimits::default();
         // SAFETY: the pointer comes from a reference that outlives the call.
         unsafe { sys::etherparse_defrag_limits_default(&mut limits) };
+        DefragLimits::from(&limits)
+    }
+}
+
+impl From<&sys::DefragLimits> for DefragLimits {
+    fn from(limits: &sys::DefragLimits) -> DefragLimits {
         DefragLimits {
             streams: limits.streams,
             bytes: limits.bytes,
@@ -255,7 +261,6 @@ pub struct EvictedStream {
 #[must_use]
 pub struct BoundedPool {
     pool: ptr::NonNull<sys::BoundedPool>,
-    limits: DefragLimits,
     /// Buffer for returned payloads, as long as the longest payload can be, so that none ever waits in the pool.
     buffer: Vec<u8>,
     /// Whether the last call was passed to the pool, so that its list of evicted streams is that of the call.
@@ -286,13 +291,16 @@ impl BoundedPool {
         // SAFETY: the pointers come from references that outlive the call, and the seed has 16 bytes.
         let status = unsafe { sys::etherparse_bounded_pool_new(&raw, seed.as_ptr(), &mut pool) };
         let pool = ptr::NonNull::new(pool).filter(|_| status == sys::OK).ok_or(OutOfMemory)?;
-        Ok(BoundedPool { pool, limits, buffer, is_reported: true })
+        Ok(BoundedPool { pool, buffer, is_reported: true })
     }
 
     /// Returns the limits of the pool.
     #[must_use]
     pub fn limits(&self) -> DefragLimits {
-        self.limits
+        let mut limits = sys::DefragLimits::default();
+        // SAFETY: the pool was created and not freed; the other pointer comes from a reference that outlives the call.
+        unsafe { sys::etherparse_bounded_pool_limits(self.pool.as_ptr(), &mut limits) };
+        DefragLimits::from(&limits)
     }
 
     /// Passes a frame, which may carry a fragment, to the pool, and returns the payload that it completes, if any.
