@@ -5,8 +5,9 @@
  * written grammar of the protocols alone (see docs/PROVED.md).
  *
  * For all calls:
- * - A pointer may be null only if the documentation of the call allows it, mostly if its length is 0; the pointers of
- *   a call do not overlap. A pointer with a length `len` points to `len` bytes, at most PTRDIFF_MAX.
+ * - Null bytes, ends or buffers (also a null payload, options or text) have length 0, whatever their length parameter
+ *   is. Another pointer may be null only if the documentation of the call allows it. The pointers of a call do not
+ *   overlap. A pointer with a length `len` points to `len` bytes, at most PTRDIFF_MAX.
  * - Except for pools and filters, no call keeps a pointer or has state, and any call may run in many threads at once.
  *   None prints. The calls that write the text of a refusal or a filter allocate, and free the memory before they
  *   return; a pool or filter holds memory until it is freed; no other call allocates. See "Memory" below.
@@ -346,12 +347,12 @@ struct etherparse_packet {
  * - ETHERPARSE_OK: the bytes are a frame, and `packet` describes its layers;
  * - ETHERPARSE_REFUSED: the bytes are not a frame; `packet->refusal` has the error, and `packet` has no layers;
  * - ETHERPARSE_UNKNOWN_CHOICE: `entry` is another number; `packet` has no layers.
- * The previous content of `packet` is never read. Checksums are not verified. `bytes` may be null if `len` is 0. */
+ * The previous content of `packet` is never read. Checksums are not verified. */
 ETHERPARSE_MUST_USE ETHERPARSE_NONNULL((5)) ETHERPARSE_READS(3, 4) static inline enum etherparse_status
 etherparse_slice(uint32_t entry, uint16_t ether_type, const uint8_t *bytes, size_t len,
                  struct etherparse_packet *packet) {
     const uint8_t none = 0;
-    return ETHERPARSE_AS_STATUS(etherparse_2_slice(entry, ether_type, bytes ? bytes : &none, len, packet));
+    return ETHERPARSE_AS_STATUS(etherparse_2_slice(entry, ether_type, bytes ? bytes : &none, bytes ? len : 0, packet));
 }
 
 /* Slices a packet that was truncated by the capture, or whose length fields do not match its bytes, up to the first
@@ -368,17 +369,19 @@ ETHERPARSE_MUST_USE ETHERPARSE_NONNULL((5)) ETHERPARSE_READS(3, 4) static inline
 etherparse_slice_lax(uint32_t entry, uint16_t ether_type, const uint8_t *bytes, size_t len,
                      struct etherparse_packet *packet) {
     const uint8_t none = 0;
-    return ETHERPARSE_AS_STATUS(etherparse_2_slice_lax(entry, ether_type, bytes ? bytes : &none, len, packet));
+    return ETHERPARSE_AS_STATUS(
+        etherparse_2_slice_lax(entry, ether_type, bytes ? bytes : &none, bytes ? len : 0, packet));
 }
 
 /* Slices `count` consecutive frames in `bytes`: frame i ends at ends[i], and starts at ends[i - 1], the first one at 0.
  * packets[i] is filled as by etherparse_slice with frame i: the kind of its refusal is 0 if that returns ETHERPARSE_OK.
  * `packets` has `count` elements; `sliced` is the number of filled ones. Returns
  * - ETHERPARSE_OK: all frames are sliced;
- * - ETHERPARSE_TOO_SMALL: `packets` is null and `count` is not 0; no frame is sliced, whatever `entry` is;
+ * - ETHERPARSE_TOO_SMALL: `packets` is null, and `ends` is not, with a `count` above 0; no frame is sliced, whatever
+ *   `entry` is;
  * - ETHERPARSE_UNKNOWN_CHOICE: `entry` is another number, and no frame is sliced; or ends[*sliced] is less than the end
  *   before it or greater than `len`, and the frames before it are sliced.
- * The other packets are unchanged. `bytes` may be null if `len` is 0, and `ends` if `count` is 0. */
+ * The other packets are unchanged. */
 ETHERPARSE_MUST_USE ETHERPARSE_NONNULL((8)) ETHERPARSE_READS(3, 4) ETHERPARSE_READS(5, 6)
 static inline enum etherparse_status
 etherparse_slice_many(uint32_t entry, uint16_t ether_type, const uint8_t *bytes, size_t len, const size_t *ends,
@@ -386,8 +389,8 @@ etherparse_slice_many(uint32_t entry, uint16_t ether_type, const uint8_t *bytes,
     const uint8_t none = 0;
     const size_t no_end = 0;
     struct etherparse_packet no_packet;
-    return ETHERPARSE_AS_STATUS(etherparse_2_slice_many(entry, ether_type, bytes ? bytes : &none, len,
-                                                        ends ? ends : &no_end, count,
+    return ETHERPARSE_AS_STATUS(etherparse_2_slice_many(entry, ether_type, bytes ? bytes : &none, bytes ? len : 0,
+                                                        ends ? ends : &no_end, ends ? count : 0,
                                                         packets ? packets : &no_packet, packets ? count : 0, sliced));
 }
 
@@ -402,8 +405,8 @@ etherparse_slice_lax_many(uint32_t entry, uint16_t ether_type, const uint8_t *by
     const uint8_t none = 0;
     const size_t no_end = 0;
     struct etherparse_packet no_packet;
-    return ETHERPARSE_AS_STATUS(etherparse_2_slice_lax_many(entry, ether_type, bytes ? bytes : &none, len,
-                                                            ends ? ends : &no_end, count,
+    return ETHERPARSE_AS_STATUS(etherparse_2_slice_lax_many(entry, ether_type, bytes ? bytes : &none, bytes ? len : 0,
+                                                            ends ? ends : &no_end, ends ? count : 0,
                                                             packets ? packets : &no_packet, packets ? count : 0,
                                                             sliced));
 }
@@ -416,7 +419,7 @@ etherparse_slice_lax_many(uint32_t entry, uint16_t ether_type, const uint8_t *by
  * - ETHERPARSE_UNKNOWN_CHOICE: the numbers are not those of an error, as for a valid frame; `written` is 0;
  * - ETHERPARSE_TOO_SMALL: the buffer is too small, and `written` is the needed length;
  * - ETHERPARSE_OUT_OF_MEMORY: an allocation failed; `written` is 0.
- * Except for ETHERPARSE_OK the buffer is unchanged. A null buffer has length 0, whatever `len` is. */
+ * Except for ETHERPARSE_OK the buffer is unchanged. */
 ETHERPARSE_MUST_USE ETHERPARSE_NONNULL((1, 4)) ETHERPARSE_WRITES(2, 3) static inline enum etherparse_status
 etherparse_refusal_text(const struct etherparse_refusal *refusal, char *buffer, size_t len, size_t *written) {
     char none;
@@ -524,8 +527,8 @@ struct etherparse_transport_fields {
 /* Verdict on a checksum. A network card may fill in the checksums of outgoing packets after they are captured, and
  * those of such packets are then invalid. The verdict is unknown
  * - if the transport layer is a fragment or incomplete;
- * - if no length field counts it: jumbograms, a total length of 0, a UDP length of 0, or, laxly, a UDP length that
- *   is not the number of its bytes;
+ * - if no length field counts it: jumbograms, a total length of 0, and, unless the checksum is 0, a UDP length of 0 or,
+ *   laxly, one that is not the number of its bytes;
  * - after a source route or routing header, which may have the address that the checksum covers;
  * - for ICMPv6 over IPv4. */
 enum etherparse_checksum_verdict {
@@ -555,8 +558,8 @@ struct etherparse_fields {
  *   0;
  * - ETHERPARSE_UNKNOWN_CHOICE: the described headers are not at their places in the bytes, as in a description of other
  *   bytes, or `packet` is null; all fields are 0.
- * No byte outside of `bytes` is read, whatever numbers `packet` has. Null bytes have length 0, whatever `len` is. If
- * `fields` is null, only the status is returned. */
+ * No byte outside of `bytes` is read, whatever numbers `packet` has. If `fields` is null, only the status is
+ * returned. */
 #if defined(__cplusplus) && defined(__GNUC__)
 #pragma GCC diagnostic push
 #pragma GCC diagnostic ignored "-Wshadow" /* the call and the struct have the same name */
@@ -584,7 +587,7 @@ etherparse_fields(const struct etherparse_packet *packet, const uint8_t *bytes, 
  * - ETHERPARSE_OK: `fields->header_checksum` and `fields->transport_checksum` are set, and the other fields unchanged;
  * - ETHERPARSE_REFUSED: the first header is invalid, and both are ETHERPARSE_CHECKSUM_NONE;
  * - ETHERPARSE_UNKNOWN_CHOICE: `entry` is another number, and both are ETHERPARSE_CHECKSUM_NONE.
- * Null bytes have length 0, whatever `len` is. If `fields` is null, only the status is returned. */
+ * If `fields` is null, only the status is returned. */
 ETHERPARSE_MUST_USE ETHERPARSE_READS(3, 4) static inline enum etherparse_status
 etherparse_checksums(uint32_t entry, uint16_t ether_type, const uint8_t *bytes, size_t len,
                      struct etherparse_fields *fields) {
@@ -595,11 +598,11 @@ etherparse_checksums(uint32_t entry, uint16_t ether_type, const uint8_t *bytes, 
 }
 
 /* Returns the Internet checksum (RFC 1071) of the bytes, as a number that is written in big-endian order. An odd last
- * byte is the upper half of a word. `bytes` may be null if `len` is 0. */
+ * byte is the upper half of a word. */
 ETHERPARSE_MUST_USE ETHERPARSE_READS(1, 2) static inline uint16_t etherparse_checksum(const uint8_t *bytes,
                                                                                      size_t len) {
     const uint8_t none = 0;
-    return etherparse_2_checksum(bytes ? bytes : &none, len);
+    return etherparse_2_checksum(bytes ? bytes : &none, bytes ? len : 0);
 }
 
 /* ---- Building frames
@@ -613,8 +616,7 @@ ETHERPARSE_MUST_USE ETHERPARSE_READS(1, 2) static inline uint16_t etherparse_che
  * Except for ETHERPARSE_OK the buffer is unchanged, and except for ETHERPARSE_TOO_SMALL `written` is then 0.
  *
  * Fields without a parameter are 0, except that IPv4 has "don't fragment" set. A frame is not padded to the minimum
- * length of Ethernet. The payload and the options may be null if their length is 0. A null buffer has length 0,
- * whatever `buffer_len` is. */
+ * length of Ethernet. */
 
 /* Headers before the transport header. The addresses of the other IP version are ignored, and those of Ethernet if
  * with_ethernet is 0. */
@@ -662,8 +664,8 @@ etherparse_build_udp(const struct etherparse_route *route, uint16_t source_port,
     const uint8_t none = 0;
     uint8_t no_room;
     return ETHERPARSE_AS_STATUS(etherparse_2_build_udp(route, source_port, destination_port, payload ? payload : &none,
-                                                       payload_len, buffer ? buffer : &no_room, buffer ? buffer_len : 0,
-                                                       written));
+                                                       payload ? payload_len : 0, buffer ? buffer : &no_room,
+                                                       buffer ? buffer_len : 0, written));
 }
 
 /* Builds a TCP segment. */
@@ -673,8 +675,9 @@ etherparse_build_tcp(const struct etherparse_route *route, const struct etherpar
                      const uint8_t *payload, size_t payload_len, uint8_t *buffer, size_t buffer_len, size_t *written) {
     const uint8_t none = 0;
     uint8_t no_room;
-    return ETHERPARSE_AS_STATUS(etherparse_2_build_tcp(route, fields, payload ? payload : &none, payload_len,
-                                                       buffer ? buffer : &no_room, buffer ? buffer_len : 0, written));
+    return ETHERPARSE_AS_STATUS(etherparse_2_build_tcp(route, fields, payload ? payload : &none,
+                                                       payload ? payload_len : 0, buffer ? buffer : &no_room,
+                                                       buffer ? buffer_len : 0, written));
 }
 
 /* Builds an echo message of ICMP, or of ICMPv6 if the version is 6: a request if is_reply is 0, else a reply. */
@@ -686,7 +689,7 @@ etherparse_build_icmp_echo(const struct etherparse_route *route, uint8_t is_repl
     const uint8_t none = 0;
     uint8_t no_room;
     return ETHERPARSE_AS_STATUS(etherparse_2_build_icmp_echo(route, is_reply, id, seq, payload ? payload : &none,
-                                                             payload_len, buffer ? buffer : &no_room,
+                                                             payload ? payload_len : 0, buffer ? buffer : &no_room,
                                                              buffer ? buffer_len : 0, written));
 }
 
@@ -707,7 +710,7 @@ etherparse_build_tagged_udp(const struct etherparse_tagged_route *route, uint16_
     const uint8_t none = 0;
     uint8_t no_room;
     return ETHERPARSE_AS_STATUS(etherparse_2_build_tagged_udp(route, source_port, destination_port,
-                                                              payload ? payload : &none, payload_len,
+                                                              payload ? payload : &none, payload ? payload_len : 0,
                                                               buffer ? buffer : &no_room, buffer ? buffer_len : 0,
                                                               written));
 }
@@ -722,9 +725,9 @@ etherparse_build_tagged_tcp(const struct etherparse_tagged_route *route, const s
     const uint8_t none = 0, no_option = 0;
     uint8_t no_room;
     return ETHERPARSE_AS_STATUS(etherparse_2_build_tagged_tcp(route, fields, options ? options : &no_option,
-                                                              options_len, payload ? payload : &none, payload_len,
-                                                              buffer ? buffer : &no_room, buffer ? buffer_len : 0,
-                                                              written));
+                                                              options ? options_len : 0, payload ? payload : &none,
+                                                              payload ? payload_len : 0, buffer ? buffer : &no_room,
+                                                              buffer ? buffer_len : 0, written));
 }
 
 /* Builds an echo message after VLAN tags. */
@@ -735,10 +738,9 @@ etherparse_build_tagged_icmp_echo(const struct etherparse_tagged_route *route, u
                                   size_t buffer_len, size_t *written) {
     const uint8_t none = 0;
     uint8_t no_room;
-    return ETHERPARSE_AS_STATUS(etherparse_2_build_tagged_icmp_echo(route, is_reply, id, seq,
-                                                                    payload ? payload : &none, payload_len,
-                                                                    buffer ? buffer : &no_room, buffer ? buffer_len : 0,
-                                                                    written));
+    return ETHERPARSE_AS_STATUS(etherparse_2_build_tagged_icmp_echo(
+        route, is_reply, id, seq, payload ? payload : &none, payload ? payload_len : 0, buffer ? buffer : &no_room,
+        buffer ? buffer_len : 0, written));
 }
 
 /* Fields of a fragment: of the IPv4 header (RFC 791, 3.1), or of the IPv6 fragment header (RFC 8200, 4.5). */
@@ -758,9 +760,9 @@ etherparse_build_fragment(const struct etherparse_tagged_route *route, const str
                           size_t *written) {
     const uint8_t none = 0;
     uint8_t no_room;
-    return ETHERPARSE_AS_STATUS(etherparse_2_build_fragment(route, fields, payload ? payload : &none, payload_len,
-                                                            buffer ? buffer : &no_room, buffer ? buffer_len : 0,
-                                                            written));
+    return ETHERPARSE_AS_STATUS(etherparse_2_build_fragment(route, fields, payload ? payload : &none,
+                                                            payload ? payload_len : 0, buffer ? buffer : &no_room,
+                                                            buffer ? buffer_len : 0, written));
 }
 
 /* ---- Reassembling fragmented payloads
@@ -832,8 +834,7 @@ struct etherparse_pool_answer {
  * - ETHERPARSE_REFUSED, ETHERPARSE_FRAGMENT_REFUSED, ETHERPARSE_OUT_OF_MEMORY (for the fragment),
  *   ETHERPARSE_UNKNOWN_CHOICE (of the entry, also if a payload waits): the streams are unchanged;
  * - ETHERPARSE_PAYLOAD_WAITS: the frame was ignored, since a payload of `answer->len` bytes waits.
- * Except for ETHERPARSE_COMPLETE the buffer is unchanged. `bytes` may be null if `len` is 0. A null `buffer` has length
- * 0, whatever `buffer_len` is. */
+ * Except for ETHERPARSE_COMPLETE the buffer is unchanged. */
 ETHERPARSE_MUST_USE ETHERPARSE_NONNULL((1, 10)) ETHERPARSE_READS(4, 5) ETHERPARSE_WRITES(8, 9)
 static inline enum etherparse_status
 etherparse_pool_push(struct etherparse_pool *pool, uint32_t entry, uint16_t ether_type, const uint8_t *bytes,
@@ -841,15 +842,15 @@ etherparse_pool_push(struct etherparse_pool *pool, uint32_t entry, uint16_t ethe
                      struct etherparse_pool_answer *answer) {
     const uint8_t none = 0;
     uint8_t no_room;
-    return ETHERPARSE_AS_STATUS(etherparse_2_pool_push(pool, entry, ether_type, bytes ? bytes : &none, len, timestamp,
-                                                       channel, buffer ? buffer : &no_room, buffer ? buffer_len : 0,
-                                                       answer));
+    return ETHERPARSE_AS_STATUS(etherparse_2_pool_push(pool, entry, ether_type, bytes ? bytes : &none, bytes ? len : 0,
+                                                       timestamp, channel, buffer ? buffer : &no_room,
+                                                       buffer ? buffer_len : 0, answer));
 }
 
 /* Copies the payload that waits in a pool to the start of `buffer`. Returns ETHERPARSE_COMPLETE; ETHERPARSE_TOO_SMALL,
  * and it still waits; or ETHERPARSE_OK if none waits. With the last two the buffer is unchanged. The memory of a
  * payload that is taken is freed; a waiting payload is freed with its pool, and etherparse_pool_drop_older does not
- * drop it. A null `buffer` has length 0, whatever `buffer_len` is. */
+ * drop it. */
 ETHERPARSE_MUST_USE ETHERPARSE_NONNULL((1, 4)) ETHERPARSE_WRITES(2, 3) static inline enum etherparse_status
 etherparse_pool_take(struct etherparse_pool *pool, uint8_t *buffer, size_t buffer_len,
                      struct etherparse_pool_answer *answer) {
@@ -949,8 +950,7 @@ static inline void etherparse_bounded_pool_free(struct etherparse_bounded_pool *
  *   fragment's own had expired;
  * - ETHERPARSE_REFUSED, ETHERPARSE_UNKNOWN_CHOICE, ETHERPARSE_PAYLOAD_WAITS: as etherparse_pool_push, and the streams
  *   are unchanged.
- * Except for ETHERPARSE_COMPLETE the buffer is unchanged. `bytes` may be null if `len` is 0. A null `buffer` has length
- * 0, whatever `buffer_len` is. */
+ * Except for ETHERPARSE_COMPLETE the buffer is unchanged. */
 ETHERPARSE_MUST_USE ETHERPARSE_NONNULL((1, 10)) ETHERPARSE_READS(4, 5) ETHERPARSE_WRITES(8, 9)
 static inline enum etherparse_status
 etherparse_bounded_pool_push(struct etherparse_bounded_pool *pool, uint32_t entry, uint16_t ether_type,
@@ -958,13 +958,14 @@ etherparse_bounded_pool_push(struct etherparse_bounded_pool *pool, uint32_t entr
                              size_t buffer_len, struct etherparse_pool_answer *answer) {
     const uint8_t none = 0;
     uint8_t no_room;
-    return ETHERPARSE_AS_STATUS(etherparse_2_bounded_pool_push(pool, entry, ether_type, bytes ? bytes : &none, len,
-                                                               timestamp, channel, buffer ? buffer : &no_room,
-                                                               buffer ? buffer_len : 0, answer));
+    return ETHERPARSE_AS_STATUS(etherparse_2_bounded_pool_push(pool, entry, ether_type, bytes ? bytes : &none,
+                                                               bytes ? len : 0, timestamp, channel,
+                                                               buffer ? buffer : &no_room, buffer ? buffer_len : 0,
+                                                               answer));
 }
 
-/* Copies the payload that waits in a bounded pool to the start of `buffer`. Returns as etherparse_pool_take. A null
- * `buffer` has length 0, whatever `buffer_len` is. */
+/* Copies the payload that waits in a bounded pool to the start of `buffer`. Returns as
+ * etherparse_pool_take. */
 ETHERPARSE_MUST_USE ETHERPARSE_NONNULL((1, 4)) ETHERPARSE_WRITES(2, 3) static inline enum etherparse_status
 etherparse_bounded_pool_take(struct etherparse_bounded_pool *pool, uint8_t *buffer, size_t buffer_len,
                              struct etherparse_pool_answer *answer) {
@@ -1148,13 +1149,13 @@ struct etherparse_filter_error {
  * - ETHERPARSE_REFUSED: the text is not a filter expression; `error` has the reason and the place;
  * - ETHERPARSE_OUT_OF_MEMORY.
  * Except for ETHERPARSE_OK `*filter` is unchanged; except for ETHERPARSE_REFUSED all fields of `error` are 0. The
- * previous value of `*filter` is neither read nor freed. `text` may be null if `len` is 0, and `error` may be null. */
+ * previous value of `*filter` is neither read nor freed. `error` may be null. */
 ETHERPARSE_MUST_USE ETHERPARSE_NONNULL((3)) ETHERPARSE_READS(1, 2) static inline enum etherparse_status
 etherparse_filter_new(const char *text, size_t len, struct etherparse_filter **filter,
                       struct etherparse_filter_error *error) {
     const char none = 0;
     struct etherparse_filter_error no_error;
-    return ETHERPARSE_AS_STATUS(etherparse_2_filter_new((const uint8_t *)(text ? text : &none), len, filter,
+    return ETHERPARSE_AS_STATUS(etherparse_2_filter_new((const uint8_t *)(text ? text : &none), text ? len : 0, filter,
                                                         error ? error : &no_error));
 }
 
@@ -1166,23 +1167,24 @@ static inline void etherparse_filter_free(struct etherparse_filter *filter) {
 /* Stores in `matches` 1 if the filter matches a packet, and 0 if not. The packet is read as by etherparse_slice_lax; if
  * its first header is invalid, it has no layers, so that `not tcp` matches it. `wire_len` is its original length, which
  * may be greater than `len`. Returns ETHERPARSE_OK; or ETHERPARSE_UNKNOWN_CHOICE if `entry` is another number, and
- * `*matches` is 0. `bytes` may be null if `len` is 0. */
+ * `*matches` is 0. */
 ETHERPARSE_MUST_USE ETHERPARSE_NONNULL((1, 7)) ETHERPARSE_READS(4, 5) static inline enum etherparse_status
 etherparse_filter_matches(struct etherparse_filter *filter, uint32_t entry, uint16_t ether_type, const uint8_t *bytes,
                           size_t len, uint32_t wire_len, uint8_t *matches) {
     const uint8_t none = 0;
-    return ETHERPARSE_AS_STATUS(etherparse_2_filter_matches(filter, entry, ether_type, bytes ? bytes : &none, len,
-                                                            wire_len, matches));
+    return ETHERPARSE_AS_STATUS(etherparse_2_filter_matches(filter, entry, ether_type, bytes ? bytes : &none,
+                                                            bytes ? len : 0, wire_len, matches));
 }
 
 /* Matches `count` consecutive packets in `bytes`, whose ends are as in etherparse_slice_many: matches[i] is 1 if the
  * filter matches packet i, and 0 if not. wire_lens[i] is the original length of packet i; if `wire_lens` is null, that
  * is the number of its bytes. `matched` is the number of written elements of `matches`, which has `count`. Returns
  * - ETHERPARSE_OK: all packets are matched;
- * - ETHERPARSE_TOO_SMALL: `matches` is null and `count` is not 0; no packet is matched, whatever `entry` is;
+ * - ETHERPARSE_TOO_SMALL: `matches` is null, and `ends` is not, with a `count` above 0; no packet is matched, whatever
+ *   `entry` is;
  * - ETHERPARSE_UNKNOWN_CHOICE: `entry` is another number, and no packet is matched; or ends[*matched] is less than the
  *   end before it or greater than `len`, and the packets before it are matched.
- * The other elements are unchanged. `bytes` may be null if `len` is 0, and `ends` if `count` is 0. */
+ * The other elements are unchanged. */
 ETHERPARSE_MUST_USE ETHERPARSE_NONNULL((1, 10)) ETHERPARSE_READS(4, 5) ETHERPARSE_READS(6, 7) ETHERPARSE_WRITES(9, 7)
 static inline enum etherparse_status
 etherparse_filter_matches_many(struct etherparse_filter *filter, uint32_t entry, uint16_t ether_type,
@@ -1193,7 +1195,7 @@ etherparse_filter_matches_many(struct etherparse_filter *filter, uint32_t entry,
     const uint32_t no_len = 0;
     uint8_t no_match;
     return ETHERPARSE_AS_STATUS(etherparse_2_filter_matches_many(
-        filter, entry, ether_type, bytes ? bytes : &none, len, ends ? ends : &no_end, count,
+        filter, entry, ether_type, bytes ? bytes : &none, bytes ? len : 0, ends ? ends : &no_end, ends ? count : 0,
         wire_lens ? wire_lens : &no_len, wire_lens ? count : 0, matches ? matches : &no_match, matches ? count : 0,
         matched));
 }
@@ -1203,7 +1205,7 @@ etherparse_filter_matches_many(struct etherparse_filter *filter, uint32_t entry,
  * - ETHERPARSE_OK: `written` is the number of bytes, including the zero byte;
  * - ETHERPARSE_TOO_SMALL: the buffer is too small, and `written` is the needed length;
  * - ETHERPARSE_OUT_OF_MEMORY: an allocation failed; `written` is 0.
- * Except for ETHERPARSE_OK the buffer is unchanged. A null buffer has length 0, whatever `len` is. */
+ * Except for ETHERPARSE_OK the buffer is unchanged. */
 ETHERPARSE_MUST_USE ETHERPARSE_NONNULL((1, 4)) ETHERPARSE_WRITES(2, 3) static inline enum etherparse_status
 etherparse_filter_text(struct etherparse_filter *filter, char *buffer, size_t len, size_t *written) {
     char none;
@@ -1218,7 +1220,7 @@ etherparse_filter_text(struct etherparse_filter *filter, char *buffer, size_t le
  * - ETHERPARSE_OK: `written` is the number of bytes, including the zero byte, at most ETHERPARSE_REASON_TEXT_MAX;
  * - ETHERPARSE_UNKNOWN_CHOICE: `kind` is another number; `written` is 0;
  * - ETHERPARSE_TOO_SMALL: the buffer is too small, and `written` is the needed length.
- * Except for ETHERPARSE_OK the buffer is unchanged. A null buffer has length 0, whatever `len` is. */
+ * Except for ETHERPARSE_OK the buffer is unchanged. */
 ETHERPARSE_MUST_USE ETHERPARSE_NONNULL((4)) ETHERPARSE_WRITES(2, 3) static inline enum etherparse_status
 etherparse_filter_error_text(uint32_t kind, char *buffer, size_t len, size_t *written) {
     char none;

@@ -248,12 +248,64 @@ static void many(const struct slicing *slices) {
     printf("%s: as one call for each, up to a bad end\n", slices->name);
 }
 
+/* Null pointers whose length is above 0: they have no bytes. */
+static void nulls_with_lengths(void) {
+    const uint8_t *volatile none = NULL;
+    const size_t *volatile no_ends = NULL;
+    const char *volatile no_text = NULL;
+    const struct etherparse_tagged_route tagged = {.route = route};
+    const struct etherparse_tcp_fields tcp = {.window_size = 1};
+    const struct etherparse_fragment_fields part = {.ip_number = 17};
+    const size_t ends[] = {0, 60};
+    const uint8_t seed[16] = {0};
+    struct etherparse_packet packets[2];
+    struct etherparse_pool *pool;
+    struct etherparse_bounded_pool *bounded;
+    struct etherparse_pool_answer told;
+    struct etherparse_filter *filter;
+    uint8_t matches[2] = {7, 7};
+    size_t count;
+    WANT(etherparse_slice(ETHERPARSE_ENTRY_ETHERNET, 0, none, 60, packets) == ETHERPARSE_REFUSED);
+    WANT(etherparse_slice_lax(ETHERPARSE_ENTRY_IP, 0, none, 60, packets) == ETHERPARSE_REFUSED);
+    for (size_t i = 0; i < 2; i++) {
+        const struct slicing *const slices = i == 0 ? &strict : &lax;
+        WANT(slices->many(0, 0, none, 60, ends, 2, packets, &count) == ETHERPARSE_UNKNOWN_CHOICE && count == 1);
+        WANT(slices->many(0, 0, buffer, 60, no_ends, 2, packets, &count) == ETHERPARSE_OK && count == 0);
+    }
+    WANT(etherparse_checksum(none, 3) == 0xffff);
+    WANT(etherparse_build_udp(&route, 21, 1234, none, 9, buffer, ROOM, &written) == ETHERPARSE_OK && written == 42);
+    WANT(etherparse_build_tcp(&route, &tcp, none, 9, buffer, ROOM, &written) == ETHERPARSE_OK && written == 54);
+    WANT(etherparse_build_icmp_echo(&route, 0, 1, 2, none, 9, buffer, ROOM, &written) == ETHERPARSE_OK);
+    WANT(written == 42);
+    WANT(etherparse_build_tagged_udp(&tagged, 1, 2, none, 9, buffer, ROOM, &written) == ETHERPARSE_OK && written == 42);
+    WANT(etherparse_build_tagged_tcp(&tagged, &tcp, none, 8, none, 9, buffer, ROOM, &written) == ETHERPARSE_OK);
+    WANT(written == 54);
+    WANT(etherparse_build_tagged_icmp_echo(&tagged, 0, 1, 2, none, 9, buffer, ROOM, &written) == ETHERPARSE_OK);
+    WANT(written == 42);
+    WANT(etherparse_build_fragment(&tagged, &part, none, 9, buffer, ROOM, &written) == ETHERPARSE_OK && written == 34);
+    WANT(etherparse_pool_new(&pool) == ETHERPARSE_OK);
+    WANT(etherparse_pool_push(pool, ETHERPARSE_ENTRY_IP, 0, none, 60, 0, 0, NULL, 0, &told) == ETHERPARSE_REFUSED);
+    etherparse_pool_free(pool);
+    WANT(etherparse_bounded_pool_new(NULL, seed, &bounded) == ETHERPARSE_OK);
+    WANT(etherparse_bounded_pool_push(bounded, ETHERPARSE_ENTRY_IP, 0, none, 60, 0, 0, NULL, 0, &told)
+         == ETHERPARSE_REFUSED);
+    etherparse_bounded_pool_free(bounded);
+    WANT(etherparse_filter_new(no_text, 9, &filter, NULL) == ETHERPARSE_OK);
+    WANT(etherparse_filter_matches(filter, ETHERPARSE_ENTRY_IP, 0, none, 60, 60, matches) == ETHERPARSE_OK);
+    WANT(matches[0] == 1);
+    WANT(etherparse_filter_matches_many(filter, 0, 0, buffer, 60, no_ends, 2, NULL, matches, &count) == ETHERPARSE_OK);
+    WANT(count == 0 && matches[1] == 7);
+    etherparse_filter_free(filter);
+    WANT(blocks == 0);
+}
+
 /* Null pointers with length 0. */
 static void nulls(void) {
     struct etherparse_packet packet;
     struct etherparse_pool *pool;
     struct etherparse_pool_answer told;
     struct etherparse_refusal it = {.kind = ETHERPARSE_REFUSAL_MACSEC_VERSION};
+    nulls_with_lengths();
     WANT(etherparse_slice(ETHERPARSE_ENTRY_ETHERNET, 0, NULL, 0, &packet) == ETHERPARSE_REFUSED);
     WANT(etherparse_checksum(NULL, 0) == 0xffff);
     WANT(etherparse_refusal_text(&it, NULL, 0, &written) == ETHERPARSE_TOO_SMALL && written == 18);
@@ -265,7 +317,7 @@ static void nulls(void) {
     etherparse_pool_free(pool);
     etherparse_pool_free(NULL);
     WANT(blocks == 0 && etherparse_version() == ETHERPARSE_VERSION);
-    printf("null, where there are no bytes: taken\n");
+    printf("null, with length 0 or above: no bytes\n");
 }
 
 static void slices(void) {

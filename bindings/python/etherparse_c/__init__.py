@@ -194,8 +194,8 @@ class MacsecFlag(enum.IntFlag):
 class ChecksumVerdict(enum.IntEnum):
     """Verdict on a checksum. NONE: the packet has no such header (transport layer: and is no fragment). ABSENT: UDP
     over IPv4 with checksum 0. UNKNOWN: the payload is a fragment, is incomplete, or is counted by no length field; the
-    UDP length does not count the datagram; a source route or routing header may contain the destination address; or
-    ICMPv6 over IPv4."""
+    UDP length does not count the datagram, and its checksum is not 0; a source route or routing header may contain the
+    destination address; or ICMPv6 over IPv4."""
 
     NONE = 0
     VALID = 1
@@ -354,7 +354,7 @@ class Place(_Struct):
 
 
 class LinkFields(_Struct):
-    """Fields of the link header. Those of the other kind of header are 0, and all without a link header."""
+    """Fields of the link header. The fields of the other kind of header are 0, and all without a link header."""
 
     destination: Sequence[int]
     source: Sequence[int]
@@ -372,7 +372,7 @@ class LinkFields(_Struct):
 
 
 class TagFields(_Struct):
-    """Fields of a tag. Those of the other kind of tag are 0, and all without a tag."""
+    """Fields of a tag. The fields of the other kind of tag are 0, and all without a tag."""
 
     kind: int
     vlan_id: int

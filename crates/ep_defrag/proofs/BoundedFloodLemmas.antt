@@ -30,7 +30,7 @@ module _ {C : Type 0} (eq : C → C → Bool) (laws : IsEquivalence eq) where
     accepted : step.answer ≡ nothing_complete
         → (own : Row C) × IsNewest limits rows name number granted step.rows own
 
-  own_name : (old : Option (Row C)) (name : IpFragId C) (fragment : IpFragment) (now number room : ℕ)
+  pub own_name : (old : Option (Row C)) (name : IpFragId C) (fragment : IpFragment) (now number room : ℕ)
       → ((row : Row C) → old ≡ Some row → same_stream eq row.id name ≡ true)
       → same_stream eq (row_with old name fragment now number room).id name ≡ true
   own_name None name fragment now number room alike = (named_alike eq laws).refl name
@@ -71,7 +71,7 @@ module _ {C : Type 0} (eq : C → C → Bool) (laws : IsEquivalence eq) where
       choose false false first second third = third refl
 
   -- Whether the own name expired makes no difference for the others.
-  others_unexpired : (limits : DefragLimits) (now : ℕ) (name : IpFragId C) (rows : List (Row C))
+  pub others_unexpired : (limits : DefragLimits) (now : ℕ) (name : IpFragId C) (rows : List (Row C))
       → other_rows eq name (filter (λ row. not (expires_for limits eq now name row)) rows) ≡ other_rows eq name rows
   others_unexpired limits now name [] = refl
   others_unexpired limits now name (row ∷ rows) =

@@ -213,7 +213,7 @@ module _ {C : Type 0} (eq : C → C → Bool) (laws : IsEquivalence eq) where
     abbrev lone_of : List IpFragment → Lone
     lone_of given = lone_after limits.payload (lone_open []) given
 
-    test_is : (accepted : List IpFragment) (fragment : IpFragment) (error : Option IpDefragError)
+    pub test_is : (accepted : List IpFragment) (fragment : IpFragment) (error : Option IpDefragError)
         → discards_stream limits.overlap error (contradicts (all_kept limits.overlap accepted) fragment)
         ≡ discards_stream Discard error (contradicts accepted fragment)
     test_is accepted fragment error =

@@ -39,7 +39,7 @@ use Rattle.ep_defrag.proofs.OpenLemmas.{drop_keeps, StaysAfter, stays_here, stay
 
 -- ---- the returned payload has the protocol number and the length source of the identifier
 
-same_source : (a b : IpFragVersionSpecId) → same_version a b ≡ true → source_of a ≡ source_of b
+pub same_source : (a b : IpFragVersionSpecId) → same_version a b ≡ true → source_of a ≡ source_of b
 same_source (Ipv4 source destination number) (Ipv4 source' destination' number') same = refl
 same_source (Ipv6 source destination number) (Ipv6 source' destination' number') same = refl
 same_source (Ipv4 source destination number) (Ipv6 source' destination' number') same = absurd (false≢true same)

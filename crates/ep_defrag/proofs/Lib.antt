@@ -38,6 +38,7 @@ mod BoundedGivenLemmas
 mod BoundedSumLemmas
 mod BoundedStayLemmas
 mod BoundedFloodLemmas
+mod BoundedAnswerLemmas
 mod BoundedWithinLemmas
 mod BoundedAddingLemmas
 mod BoundedAlikeLemmas

@@ -14,6 +14,7 @@ pub mod Streams
 pub mod Calls
 pub mod Pools
 pub mod BoundedSteps
+pub mod BoundedDiscards
 pub mod BoundedRuns
 pub mod BoundedCounts
 pub mod BoundedGiven

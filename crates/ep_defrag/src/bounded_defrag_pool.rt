@@ -74,6 +74,7 @@ impl<CustomChannelId: Eq + Hash + Drop> BoundedDefragPool<CustomChannelId> {
         ensures evicted { IfOk result (λ pool. evicted_in pool ≡ []) }
         ensures statistics { IfOk result (λ pool. statistics_in pool ≡ no_statistics) }
         ensures keys { IfOk result (λ pool. keys_in pool ≡ keys) }
+        ensures bounded { IfOk result (λ pool. IsBounded pool) }
     {
         Ok(BoundedDefragPool {
             limits,
@@ -84,7 +85,8 @@ impl<CustomChannelId: Eq + Hash + Drop> BoundedDefragPool<CustomChannelId> {
     /// Limits of the pool, as they were passed to `new`.
     #[inline]
     pub fn limits(&self) -> DefragLimits
-        ensures { result ≡ limits_in self.now }
+        ensures shown { result ≡ limits_in self.now }
+        ensures bounded { IsBounded self.now }
     {
         self.limits
     }
@@ -101,7 +103,8 @@ impl<CustomChannelId: Eq + Hash + Drop> BoundedDefragPool<CustomChannelId> {
     /// Number of discarded names that are still in the table.
     #[inline]
     pub fn discarded_count(&self) -> usize
-        ensures { open_in self.now + result ≡ length (names_in self.now) }
+        ensures count { open_in self.now + result ≡ length (names_in self.now) }
+        ensures bounded { IsBounded self.now }
     {
         self.holdings.discarded
     }
@@ -122,6 +125,7 @@ impl<CustomChannelId: Eq + Hash + Drop> BoundedDefragPool<CustomChannelId> {
     pub fn statistics(&self) -> DefragStatistics
         ensures shown { result ≡ statistics_in self.now }
         ensures sums { AddUp result (open_in self.now) }
+        ensures bounded { IsBounded self.now }
     {
         self.holdings.statistics
     }
@@ -130,7 +134,8 @@ impl<CustomChannelId: Eq + Hash + Drop> BoundedDefragPool<CustomChannelId> {
     /// for the limits, the one whose last accepted fragment was oldest first.
     #[inline]
     pub fn evicted(&self) -> &[EvictedStream<CustomChannelId>]
-        ensures { result.now ≡ evicted_in self.now }
+        ensures shown { result.now ≡ evicted_in self.now }
+        ensures bounded { IsBounded self.now }
     {
         self.holdings.evicted.as_slice()
     }

@@ -1,7 +1,7 @@
 //! Laws of bounded reassembly pools: theorems about the definitions in their contracts. Each is the contract of a
 //! function that does nothing.
 
-ghost use Rattle.std.specs.Prelude.{◌≡◌, ◌≢◌, ◌↔◌, ℕ, ◌+◌, ◌/◌, ◌<◌, ◌≤◌, not, Option, Result, Some, List, [], ◌∷◌, ◌++◌, length, IsTrue, IsFalse, IfSome};
+ghost use Rattle.std.specs.Prelude.{◌≡◌, ◌≢◌, ◌↔◌, ℕ, ◌+◌, ◌/◌, ◌<◌, ◌≤◌, not, Option, Result, Some, None, List, [], ◌∷◌, ◌++◌, length, IsTrue, IsFalse, IfSome};
 ghost use Rattle.std.specs.List.{All, AllPairs, AllZip, count_by, filter};
 ghost use Rattle.std.specs.List.Sorted.{IsPermutation};
 ghost use Rattle.ep_defrag.specs.declared.bounded_limits.DefragLimits.{DefragLimits};
@@ -11,18 +11,19 @@ ghost use Rattle.ep_defrag.specs.declared.bounded_limits.OverlapPolicy.{OverlapP
 ghost use Rattle.ep_defrag.specs.declared.bounded_limits.TheConstants as constant;
 ghost use Rattle.ep_defrag.specs.declared.defrag_statistics.DefragStatistics.{DefragStatistics};
 ghost use Rattle.ep_defrag.specs.declared.bounded_defrag_error.BoundedDefragError.{BoundedDefragError};
-ghost use Rattle.ep_defrag.specs.IpFragments.{IpFragment, assembled, byte_at};
+ghost use Rattle.ep_defrag.specs.IpFragments.{IpFragment, assembled, byte_at, is_complete, IsComplete};
 ghost use Rattle.ep_defrag.specs.declared.ip_frag_id.IpFragId.{IpFragId};
 ghost use Rattle.ep_defrag.specs.declared.ip_defrag_error.IpDefragError.{IpDefragError};
 ghost use Rattle.ep_defrag.specs.declared.ip_defrag_payload_vec.IpDefragPayloadVec.{IpDefragPayloadVec};
 ghost use Rattle.ep_defrag.specs.declared.bounded_defrag_pool.BoundedDefragPool.{BoundedDefragPool};
 ghost use Rattle.ep_defrag.specs.Streams.{same_stream};
-ghost use Rattle.ep_defrag.specs.Calls.{answers_to, Payload};
+ghost use Rattle.ep_defrag.specs.Calls.{answers_to, Payload, payload_of};
 ghost use Rattle.ep_defrag.specs.BoundedLimits.{most_names};
 ghost use Rattle.ep_defrag.specs.BoundedOverlaps.{all_kept, first_byte_at};
 ghost use Rattle.ep_defrag.specs.BoundedAnswers.{plain_bounded, is_memory_error};
 ghost use Rattle.ep_defrag.specs.BoundedPools.{limits_in, evicted_in, AreAlike, ReportAlike, DoesStep, TakesBounded};
-ghost use Rattle.ep_defrag.specs.BoundedSteps.{Row, BoundedCall, is_open, row_named, other_rows, expires_for, fragment_rejected, nothing_complete, are_within, remaining, gives_fragment, call_step, payload_complete};
+ghost use Rattle.ep_defrag.specs.BoundedSteps.{Row, BoundedCall, is_open, row_named, other_rows, expires_for, fragment_rejected, nothing_complete, are_within, remaining, gives_fragment, call_step, payload_complete, accepted_before, rows_discarding};
+ghost use Rattle.ep_defrag.specs.BoundedDiscards.{DiscardsStream, IsDiscarding};
 ghost use Rattle.ep_defrag.specs.BoundedRuns.{Made, rows_from, drops_number, alone_from, alone_answers_from, AgreesUnlessRejected, lone_open, lone_complete, lone_with, lone_after};
 ghost use Rattle.ep_defrag.specs.BoundedCounts.{AddUp, no_statistics, statistics_from};
 ghost use Rattle.ep_defrag.specs.BoundedGiven.{given_at, given_from};
@@ -34,11 +35,13 @@ use crate::evicted_stream::EvictionCause;
 
 /// States that each stream of a bounded pool is answered as if it were alone, until it is discarded, evicted or
 /// removed. For every list of calls there is a list of calls on an unbounded pool that returns equal results. It leaves
-/// out the fragments that are answered `Discarded`, `OverBudget` or with a failed allocation, and has a drop of one
-/// timestamp for each identifier that left the table. Timestamps are the numbers of the calls.
+/// out packets without a fragment, and the fragments that are answered `Discarded`, `OverBudget` or with a failed
+/// allocation, and has a drop of one timestamp for each identifier that left the table. Timestamps are the numbers of
+/// the calls.
 ///
 /// A payload has the byte of the last accepted fragment at each position, as in the unbounded pool; under `FirstWins`
-/// that of the first one.
+/// that of the first one. It is reassembled from the accepted fragments of the unexpired stream of its identifier, none
+/// if the identifier has no such stream, and then the fragment of the call, which completes them.
 pub fn alone_until_evicted<CustomChannelId: Eq>()
     ensures answers { (limits : DefragLimits) (calls : List (Made CustomChannelId)) →
         answers_to limits.payload CustomChannelId.eq drops_number (alone_from limits CustomChannelId.eq [] 0 calls)
@@ -47,6 +50,18 @@ pub fn alone_until_evicted<CustomChannelId: Eq>()
     ensures undisputed { (accepted : List IpFragment) → all_kept policy.Discard accepted ≡ accepted }
     ensures first { (accepted : List IpFragment) (position : ℕ) →
         byte_at (all_kept policy.FirstWins accepted) position ≡ first_byte_at accepted position }
+    // The payload has the bytes that the policy keeps of the accepted fragments: the fragments of the unexpired stream,
+    // then the fragment of the call.
+    ensures payload { (limits : DefragLimits) (rows : List (Row CustomChannelId)) (name : IpFragId CustomChannelId)
+        (fragment : IpFragment) (now number : ℕ) (granted : Option ℕ) (payload : Payload) →
+        let call = gives_fragment (Some (name, fragment)) now in
+        let step = call_step limits CustomChannelId.eq rows call number granted in
+        let left = filter (λ row. not (expires_for limits CustomChannelId.eq now name row)) rows in
+        step.answer ≡ payload_complete payload →
+        (payload
+        ≡ record (payload_of name step.completed) { bytes = assembled (all_kept limits.overlap step.completed) })
+        × (step.completed ≡ accepted_before (row_named CustomChannelId.eq name left) ++ fragment ∷ [])
+        × IsComplete step.completed }
 {}
 
 /// States that a bounded pool is within its limits after any list of calls, in the number of its streams, open and
@@ -60,6 +75,12 @@ pub fn within_limits<CustomChannelId: Eq>()
 /// exactly those that exceed the limits together with all streams whose last fragment was accepted later. The stream of
 /// the fragment itself stays, as the newest. At other calls with a fragment, all streams with other identifiers stay;
 /// if the fragment is rejected, its own stream stays too, unless it expired.
+///
+/// `OverBudget` is answered only if the payload is still incomplete and the granted memory of the stream alone exceeds
+/// the limit in bytes; the stream then leaves the table. `Discarded` is answered exactly if the identifier has an
+/// unexpired stream that is discarded already, or that the fragment discards: under `Discard`, by a conflict with the
+/// accepted fragments in end or bytes. So the first fragment of a stream is never answered `Discarded`. A discarded
+/// stream keeps its place in the table, without its fragments.
 pub fn evicted_exactly<CustomChannelId: Eq>()
     // The table is in the order of the last accepted fragments, by the numbers of their calls, and no two of its names
     // are equal.
@@ -120,6 +141,38 @@ pub fn evicted_exactly<CustomChannelId: Eq>()
         let step = call_step limits CustomChannelId.eq rows call number granted in
         step.answer ≡ fragment_rejected (BoundedDefragError.Rejected error) →
         step.rows ≡ filter (λ row. not (expires_for limits CustomChannelId.eq now name row)) rows }
+    // The granted memory of the stream alone exceeds the limit in bytes. The stream leaves the table, and all other
+    // streams stay.
+    ensures over_budget { (limits : DefragLimits) (rows : List (Row CustomChannelId)) (name : IpFragId CustomChannelId)
+        (fragment : IpFragment) (now number : ℕ) (granted : Option ℕ) →
+        let call = gives_fragment (Some (name, fragment)) now in
+        let step = call_step limits CustomChannelId.eq rows call number granted in
+        let left = filter (λ row. not (expires_for limits CustomChannelId.eq now name row)) rows in
+        step.answer ≡ fragment_rejected BoundedDefragError.OverBudget → (room : ℕ)
+        × (granted ≡ Some room) × (limits.bytes < room)
+        × IsFalse (is_complete (accepted_before (row_named CustomChannelId.eq name left) ++ fragment ∷ []))
+        × (step.rows ≡ other_rows CustomChannelId.eq name rows) }
+    // A fragment is answered `Discarded` exactly if the unexpired stream of its identifier is discarded already, or if
+    // the fragment discards it.
+    ensures discarded { (limits : DefragLimits) (rows : List (Row CustomChannelId)) (name : IpFragId CustomChannelId)
+        (fragment : IpFragment) (now number : ℕ) (granted : Option ℕ) →
+        let call = gives_fragment (Some (name, fragment)) now in
+        let step = call_step limits CustomChannelId.eq rows call number granted in
+        let left = filter (λ row. not (expires_for limits CustomChannelId.eq now name row)) rows in
+        (step.answer ≡ fragment_rejected BoundedDefragError.Discarded)
+        ↔ IsDiscarding limits (row_named CustomChannelId.eq name left) fragment }
+    // A stream that is discarded already stays as it is. A stream that the fragment discards keeps its place in the
+    // table, without fragments and memory.
+    ensures discards { (limits : DefragLimits) (rows : List (Row CustomChannelId)) (name : IpFragId CustomChannelId)
+        (fragment : IpFragment) (now number : ℕ) (granted : Option ℕ) (row : Row CustomChannelId) →
+        let call = gives_fragment (Some (name, fragment)) now in
+        let step = call_step limits CustomChannelId.eq rows call number granted in
+        let left = filter (λ row. not (expires_for limits CustomChannelId.eq now name row)) rows in
+        row_named CustomChannelId.eq name left ≡ Some row →
+        (row.accepted ≡ None → step.rows ≡ left)
+        × (DiscardsStream limits row fragment →
+        (step.rows ≡ rows_discarding CustomChannelId.eq name left)
+        × (row_named CustomChannelId.eq name step.rows ≡ Some (record row { accepted = None; room = 0 }))) }
 {}
 
 /// States that a payload is unambiguous under `Discard`. Each fragment that its stream was given agrees with it in

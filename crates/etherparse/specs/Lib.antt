@@ -149,6 +149,7 @@ pub use Rattle.ep_defrag.specs.BoundedLimits
 pub use Rattle.ep_defrag.specs.BoundedErrorTexts
 pub use Rattle.ep_defrag.specs.BoundedOverlaps
 pub use Rattle.ep_defrag.specs.BoundedSteps
+pub use Rattle.ep_defrag.specs.BoundedDiscards
 pub use Rattle.ep_defrag.specs.BoundedRuns
 pub use Rattle.ep_defrag.specs.BoundedCounts
 pub use Rattle.ep_defrag.specs.BoundedGiven

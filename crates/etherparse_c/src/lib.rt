@@ -1,9 +1,9 @@
 //! The library for C and for languages that call C: each exported function calls `etherparse` and returns the result as
 //! numbers.
 //!
-//! Only reassembly pools keep a pointer or state between calls. An exported function can be misused only by passing a
-//! pointer that does not point to what its type states. `bindings/c/etherparse.h` declares all exported functions, and
-//! documents the numbers.
+//! Only reassembly pools and filters keep a pointer or state between calls. An exported function can be misused only by
+//! passing a pointer that does not point to what its type states. `bindings/c/etherparse.h` declares all exported
+//! functions, and documents the numbers.
 #![tactic(auto)]
 
 mod bounded_handle;

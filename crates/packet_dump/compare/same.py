@@ -4,7 +4,8 @@
 OLD and NEW are built programs, such as out/packet_dump before and after a change that keeps every output. Both read
 each CAPTURE (a file, or a folder with files) with each set of options: one of each row of CHOICES, and one of TURNS,
 another one for the next capture. The script prints each difference of standard output, standard error, the exit status
-or the file that --write makes, at the end how many there are, and ends with status 1 if there is one.
+or the file that --write makes, at the end how many there are, and ends with status 1 if there is one. A program that
+lacks an option rejects it, which is a difference.
 
 Without CAPTURE the script makes captures of 14 kinds, equal ones at each run: frames of all kinds (corpora.py of
 slice_bench); the same truncated at 20, 40, 64 and 96 bytes; pcapng (captures.py, texts.py); cooked captures of both
@@ -26,12 +27,13 @@ WRITTEN = "written"
 CHOICES = (
     ("", "--strict"),
     ("", "--reassemble", "--reassemble --timeout 1 --streams 3 --limit 2000",
-     "--reassemble --overlap discard --fragment-age 2 --fragment-bytes 20000"),
+     "--reassemble --overlap discard --fragment-age 2 --fragment-bytes 20000", "--reassemble --overlap first",
+     "--reassemble --overlap last --fragment-bytes 9000"),
     ("", "--verbose"),
     ("", "--summary", "--summary --quiet"),
     ("", f"--write {WRITTEN}"),
     ("", "--only udp", "--only stopped", "--only refused --count 40", "--port 53", "--only tcp --net 128.0.0.0/1",
-     "--host 192.168.1.2 --vlan 5", "not tcp and len > 60"),
+     "--host 192.168.1.2 --vlan 5", "not tcp and len > 60", "--only arp", "--only icmp --count 200"),
 )
 TURNS = list(map(" ".join, itertools.product(("", "--hex", "--hex=frame"), ("", "--time epoch", "--time utc"))))
 HERE = os.path.dirname(os.path.dirname(os.path.abspath(__file__)))

@@ -94,6 +94,9 @@ fn push_own_eviction(
         output.new.items ≡ output.old.items
         ++ eviction_line options.now (moment_of options.now (packet_of packet.now)) name cause.Streams) }
 {
+    if !options.shows_evictions() {
+        return Ok(());
+    }
     match carried_fragment(&packet.read) {
         Some(carried) => {
             push_eviction(

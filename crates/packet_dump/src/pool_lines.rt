@@ -147,8 +147,7 @@ fn shows_payload(
 fn shows_rejected(options: &DumpOptions, packet: &Decoded<'_>) -> bool
     ensures { result ≡ shows_payload options.now (Some Kind.Refused) (filtered_in packet.now) }
 {
-    let bytes = read_bytes(&packet.captured.shown);
-    options.shows(Some(Kind::Refused)) && options.meets(packet, bytes)
+    options.shows(Some(Kind::Refused)) && options.meets(packet, read_bytes(&packet.captured.shown))
 }
 
 /// Appends ` reassembled` and the transport layer of a reassembled payload, or the payload's protocol and length if it

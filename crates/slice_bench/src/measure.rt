@@ -90,7 +90,7 @@ pub enum Measurement {
     FilteringHosts,
     /// Verifies the checksums of each sliced frame.
     Verdicts,
-    /// Adds up the bytes of the IPv4 header and of the transport layer of each sliced frame.
+    /// Adds up the bytes of the IPv4 header, of the addresses and of the transport layer of each sliced frame.
     Summing,
 }
 

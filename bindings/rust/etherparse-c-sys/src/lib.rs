@@ -211,8 +211,8 @@ pub const CHECKSUM_VALID: u32 = 1;
 pub const CHECKSUM_INVALID: u32 = 2;
 /// UDP over IPv4 with checksum 0: the sender computed none.
 pub const CHECKSUM_ABSENT: u32 = 3;
-/// The checksum cannot be verified: the payload is a fragment or incomplete, no length field counts it, the IP header
-/// has a source route or a routing header, or it is ICMPv6 over IPv4.
+/// The checksum cannot be verified: the payload is a fragment or incomplete; no length field counts it, as a UDP length
+/// of 0, unless the checksum is 0; the IP header has a source route or a routing header; or it is ICMPv6 over IPv4.
 pub const CHECKSUM_UNKNOWN: u32 = 4;
 
 // Reasons why a fragment is rejected.

@@ -11,8 +11,9 @@ numbered! {
         Invalid = CHECKSUM_INVALID,
         /// UDP datagram over IPv4 with checksum 0: the sender computed no checksum (RFC 768).
         Absent = CHECKSUM_ABSENT,
-        /// The checksum cannot be verified: the payload is a fragment or incomplete, no length field counts it, the IP
-        /// header has a source route or a routing header, or it is ICMPv6 over IPv4.
+        /// The checksum cannot be verified: the payload is a fragment or incomplete; no length field counts it, as a
+        /// UDP length of 0, unless the checksum is 0; the IP header has a source route or a routing header; or it is
+        /// ICMPv6 over IPv4.
         Unknown = CHECKSUM_UNKNOWN,
     }
 }

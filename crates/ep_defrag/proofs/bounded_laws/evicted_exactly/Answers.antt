@@ -3,6 +3,8 @@ use Rattle.ep_defrag.proofs.BoundedLimitLemmas.{remaining-end, remaining-beyond,
 use Rattle.ep_defrag.proofs.BoundedStayLemmas.{others_stay, rejected_stays}
 use Rattle.ep_defrag.proofs.BoundedFloodLemmas.{own_accepted, outlasts}
 use Rattle.ep_defrag.proofs.BoundedOrderLemmas.{in_order}
+use Rattle.ep_defrag.proofs.BoundedAnswerLemmas.{over_budget, discarded_why, discarded_if, discarded_stays}
+use Rattle.ep_defrag.proofs.BoundedAnswerLemmas.{discarding_leaves}
 use Rattle.ep_defrag.proofs.bounded_laws.evicted_exactly.Goals as goal
 
 pub returns-clause-order : goal.returns-clause-order
@@ -47,3 +49,24 @@ returns-clause-others g c limits rows name other fragment now number granted dif
 pub returns-clause-rejected : goal.returns-clause-rejected
 returns-clause-rejected g c limits rows name fragment now number granted error answer =
     rejected_stays limits g.CustomChannelId.PartialEq.eq rows name fragment now number granted error answer
+
+pub returns-clause-over_budget : goal.returns-clause-over_budget
+returns-clause-over_budget g c limits rows name fragment now number granted answer =
+    over_budget g.CustomChannelId.PartialEq.eq g.met.CustomChannelId.Eq.laws limits rows name fragment now number
+    granted answer
+
+pub returns-clause-discarded : goal.returns-clause-discarded
+returns-clause-discarded g c limits rows name fragment now number granted =
+    let eq = g.CustomChannelId.PartialEq.eq in
+    let laws = g.met.CustomChannelId.Eq.laws in (
+      λ answer. discarded_why eq laws limits rows name fragment now number granted answer,
+      λ found. discarded_if eq laws limits rows name fragment now number granted found,
+    )
+
+pub returns-clause-discards : goal.returns-clause-discards
+returns-clause-discards g c limits rows name fragment now number granted row named =
+    let eq = g.CustomChannelId.PartialEq.eq in
+    let laws = g.met.CustomChannelId.Eq.laws in (
+      λ none. discarded_stays eq laws limits rows name fragment now number granted row named none,
+      λ discarding. discarding_leaves eq laws limits rows name fragment now number granted row named discarding,
+    )

@@ -11,7 +11,7 @@ returns-then-self-second c =
     (λ lines.
     expires c.args.options.now c.args.packet.now old new c.args.output.now.items _
     (rw c.seconds_of-second.ensures at (lt-ltb old.swept c.seconds_of-second.result c.if-self-second.true))
-    c.seconds_of-second.ensures (rw c.idle.ensures at c.expire.ensures.step) (rw c.evicted.ensures at lines))
+    c.seconds_of-second.ensures (rw c.idle.ensures at c.expire.ensures.step) (rw c.evicted.ensures.shown at lines))
     c.push_evictions.ensures
 
 pub returns : goal.returns

@@ -17,8 +17,8 @@ returns-then-options-eq0 c =
     processes_fragment c.args.options.now c.args.packet.now old between new c.args.carried.name c.args.carried.fragment
     c.process_fragment-answer.result c.args.output.now.items _ _ _ c.requires
     c.process_fragment-answer.ensures.takes c.in_ok-push_answer.ensures.memory refl
-    (rw c.evicted.ensures at c.in_ok-check_memory.ensures)
-    (rw c.evicted-2.ensures at c.in_ok-push_evictions.ensures) c.in_ok-push_answer.ensures.text
+    (rw c.evicted.ensures.shown at c.in_ok-check_memory.ensures)
+    (rw c.evicted-2.ensures.shown at c.in_ok-push_evictions.ensures) c.in_ok-push_answer.ensures.text
     (λ history holds.
     rw zero (holds_step between new history clears_names number history.swept None holds
     (c.clear.ensures.step history.rows number holds.rows) holds.swept))
@@ -32,7 +32,7 @@ returns c =
     processes_fragment c.args.options.now c.args.packet.now old between between c.args.carried.name
     c.args.carried.fragment c.process_fragment-answer.result c.args.output.now.items _ _ _ c.requires
     c.process_fragment-answer.ensures.takes c.in_ok-push_answer.ensures.memory refl
-    (rw c.evicted.ensures at c.in_ok-check_memory.ensures)
-    (rw c.evicted-2.ensures at c.in_ok-push_evictions.ensures) c.in_ok-push_answer.ensures.text
+    (rw c.evicted.ensures.shown at c.in_ok-check_memory.ensures)
+    (rw c.evicted-2.ensures.shown at c.in_ok-push_evictions.ensures) c.in_ok-push_answer.ensures.text
     (λ history holds. rw some holds)
     (rw some (sym (append-nil _)))
