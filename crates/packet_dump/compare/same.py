@@ -1,11 +1,12 @@
 #!/usr/bin/env python3
-"""Compares two builds of packet_dump: python3 compare/same.py OLD NEW [CAPTURE..]
+"""Compares two builds of packet_dump: python3 compare/same.py [--all] OLD NEW [CAPTURE..]
 
 OLD and NEW are built programs, such as out/packet_dump before and after a change that keeps every output. Both read
 each CAPTURE (a file, or a folder with files) with each set of options: one of each row of CHOICES, and one of TURNS,
-another one for the next capture. The script prints each difference of standard output, standard error, the exit status
-or the file that --write makes, at the end how many there are, and ends with status 1 if there is one. A program that
-lacks an option rejects it, which is a difference.
+another one for the next capture; with --all each of TURNS for each capture, which takes nine times as long. The script
+prints each difference of standard output, standard error, the exit status or the file that --write makes, at the end
+how many there are, and ends with status 1 if there is one. A program that lacks an option rejects it, which is a
+difference.
 
 Without CAPTURE the script makes captures of 14 kinds, equal ones at each run: frames of all kinds (corpora.py of
 slice_bench); the same truncated at 20, 40, 64 and 96 bytes; pcapng (captures.py, texts.py); cooked captures of both
@@ -177,7 +178,7 @@ def differences(programs, words, capture):
             yield f"{os.path.basename(capture)} {' '.join(words)}: {name}: old {one!r}, new {other!r}"
 
 
-def main(old, new, *captures):
+def main(turns, old, new, *captures):
     programs, runs, count = (os.path.abspath(old), os.path.abspath(new)), [], 0
     with tempfile.TemporaryDirectory() as folder:
         if not captures:
@@ -185,7 +186,8 @@ def main(old, new, *captures):
         paths = [os.path.abspath(path) for given in captures or (folder,) for path in (
             sorted(entry.path for entry in os.scandir(given)) if os.path.isdir(given) else (given,))]
         for (shift, path), (at, chosen) in itertools.product(enumerate(paths), enumerate(itertools.product(*CHOICES))):
-            runs.append((programs, " ".join((*chosen, TURNS[(at + shift) % len(TURNS)])).split(), path))
+            for turn in range(at + shift, at + shift + turns):
+                runs.append((programs, " ".join((*chosen, TURNS[turn % len(TURNS)])).split(), path))
         with ThreadPoolExecutor(os.cpu_count()) as pool:
             for found in pool.map(lambda run: list(differences(*run)), runs):
                 count += len(found)
@@ -195,6 +197,7 @@ def main(old, new, *captures):
 
 
 if __name__ == "__main__":
-    if len(sys.argv) < 3:
+    words = [word for word in sys.argv[1:] if word != "--all"]
+    if len(words) < 2:
         sys.exit(__doc__)
-    sys.exit(main(*sys.argv[1:]))
+    sys.exit(main(len(TURNS) if "--all" in sys.argv else 1, *words))
