@@ -1,47 +1,29 @@
-mod ListLemmas
+pub mod ListLemmas
 mod SectionLemmas
-mod ApartLemmas
+pub mod ApartLemmas
 mod JoiningLemmas
-mod DataLemmas
+pub mod DataLemmas
 mod WritingLemmas
-mod CompleteLemmas
-mod HeldLemmas
-mod CompletingLemmas
-mod CarryingLemmas
+pub mod CompleteLemmas
+pub mod HeldLemmas
 mod EqualLemmas
-mod CutLemmas
+pub mod CutLemmas
 mod RunLemmas
 mod LookupLemmas
-mod StreamLemmas
+pub mod StreamLemmas
 mod EntryLemmas
-mod OneFragmentLemmas
+pub mod OneFragmentLemmas
 mod HeldStreamLemmas
 mod TakingLemmas
-mod CallLemmas
-mod OpenLemmas
-mod AloneLemmas
-mod BuiltCutLemmas
-mod FrameLemmas
+pub mod CallLemmas
+pub mod OpenLemmas
+pub mod AloneLemmas
+pub mod FrameLemmas
 mod LoopLemmas
-mod FramesCompleteLemmas
-mod SectionCountLemmas
-mod NameHashLemmas
-mod BoundedLimitLemmas
-mod BoundedKeptLemmas
 mod BoundedWritingLemmas
-mod BoundedOverlapLemmas
-mod BoundedAgreeLemmas
-mod BoundedRowLemmas
-mod BoundedAloneLemmas
-mod BoundedOrderLemmas
-mod BoundedGivenLemmas
-mod BoundedSumLemmas
-mod BoundedStayLemmas
-mod BoundedFloodLemmas
-mod BoundedAnswerLemmas
-mod BoundedWithinLemmas
+pub mod BoundedOverlapLemmas
+pub mod BoundedRowLemmas
 mod BoundedAddingLemmas
-mod BoundedAlikeLemmas
 mod KeyedHashLemmas
 mod HeldNameLemmas
 mod DepartureLemmas

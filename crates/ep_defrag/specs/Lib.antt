@@ -14,10 +14,8 @@ pub mod Streams
 pub mod Calls
 pub mod Pools
 pub mod BoundedSteps
-pub mod BoundedDiscards
 pub mod BoundedRuns
 pub mod BoundedCounts
-pub mod BoundedGiven
 pub mod KeyedHashes
 pub mod BoundedNames
 pub mod BoundedAnswers
@@ -25,9 +23,7 @@ pub mod BoundedAdding
 pub mod BoundedHoldings
 pub mod BoundedPools
 pub mod Isolation
-pub mod BuiltCuts
 pub mod FrameCalls
-pub mod Completing
 pub mod NameHashes
 -- definitions of lower crates that the contracts use
 pub use Rattle.ep_base.specs.Bytes

@@ -65,7 +65,7 @@ pub enum FrameAnswer {
 /// `value` and the timestamp of the stream, returns false.
 ///
 /// The results for a stream don't depend on other streams. Every open stream can still be completed
-/// ([`two_frames_complete`](crate::laws::two_frames_complete)).
+/// (law `two_frames_complete`).
 ///
 /// # Errors
 ///

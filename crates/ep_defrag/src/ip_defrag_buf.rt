@@ -136,7 +136,7 @@ impl IpDefragBuf {
     /// Adds a fragment, given by its offset, its more-fragments flag and its bytes. Where fragments overlap, the bytes
     /// of the one added last are kept. A final fragment (`more_fragments` is false) sets the end of the payload. This
     /// end is never below the end of an accepted fragment, so no byte is discarded. Whatever fragments were accepted,
-    /// one more can complete the payload ([`one_fragment_completes`](crate::laws::one_fragment_completes)).
+    /// one more can complete the payload (law `one_fragment_completes`).
     ///
     /// # Errors
     ///

@@ -40,10 +40,9 @@ struct OpenStream<Timestamp> {
 /// returned, or when [`retain`](IpDefragPool::retain) or [`remove`](IpDefragPool::remove) drops it.
 ///
 /// A pool has a limit in bytes for the payload of each stream. A fragment that ends above the limit is rejected, so no
-/// stream holds more bytes ([`data_within_limit`](crate::laws::data_within_limit)), and no stream has more than limit /
-/// 8 + 1 separate ranges of received bytes ([`sections_within_limit`](crate::laws::sections_within_limit)). The limit
-/// bounds the cost of a stream of hostile traffic. The number of streams is bounded only by calls of
-/// [`retain`](IpDefragPool::retain) and [`remove`](IpDefragPool::remove).
+/// stream holds more bytes (law `data_within_limit`), and no stream has more than limit / 8 + 1 separate ranges of
+/// received bytes (law `sections_within_limit`). The limit bounds the cost of a stream of hostile traffic. The number
+/// of streams is bounded only by calls of [`retain`](IpDefragPool::retain) and [`remove`](IpDefragPool::remove).
 ///
 /// Streams are found by their identifiers in a hash map. Its hash has a fixed seed, so a sender who chooses identifiers
 /// can choose keys that collide, and a look-up takes time in proportion to their number.
@@ -88,7 +87,7 @@ impl<Timestamp: Drop, CustomChannelId: Eq + Hash + Drop> IpDefragPool<Timestamp,
 
     /// Returns an empty reassembly pool that allocates from `alloc` and rejects each fragment that ends above `max`
     /// bytes, so no payload gets longer. If `max` is below 8, fragments that packets carry never complete a payload
-    /// ([`small_limits_complete_nothing`](crate::laws::small_limits_complete_nothing)).
+    /// (law `small_limits_complete_nothing`).
     pub fn with_limit(alloc: Global, max: u16) -> IpDefragPool<Timestamp, CustomChannelId>
         ensures holds { HoldsTable CustomChannelId.eq result (λ name. None) }
         ensures streams { streams_of result ≡ [] }
@@ -141,8 +140,7 @@ impl<Timestamp: Drop, CustomChannelId: Eq + Hash + Drop> IpDefragPool<Timestamp,
     /// this fragment completes it. It returns `Ok(None)` if the payload is still incomplete, or if the packet carries
     /// no fragment, which changes nothing.
     ///
-    /// Every open stream can still be completed, if the limit of the pool is at least 8
-    /// ([`two_frames_complete`](crate::laws::two_frames_complete)).
+    /// Every open stream can still be completed, if the limit of the pool is at least 8 (law `two_frames_complete`).
     pub fn process_sliced_packet(
         &mut self,
         packet: &SlicedPacket<'_>,

@@ -29,8 +29,8 @@ const NUMBER_FOLLOWS: u64 = 1 << 63;
 ///
 /// The pending bytes are the lowest bytes of a 64-bit word. The word starts as 1, or as 0x200 plus a number below 256,
 /// and is shifted up by each write. A further bit is set if one call wrote two bytes, and the highest bit if a number
-/// of eight bytes follows unchanged. So different writes become different writes to std's hasher
-/// ([`name_hashes`](crate::laws::name_hashes)). Numbers of eight bytes from 256 on take two multiplications each.
+/// of eight bytes follows unchanged. So different writes become different writes to std's hasher (law `name_hashes`).
+/// Numbers of eight bytes from 256 on take two multiplications each.
 ///
 /// One factor of each multiplication is a constant, and the other holds at most three bytes after a length. A change of
 /// these bytes changes the product by at least 2^39, and the next three bytes can undo only 2^24; four bytes could be

@@ -55,7 +55,7 @@ pub enum PoolAnswer {
 /// one IP datagram.
 ///
 /// The results for a stream don't depend on other streams. Every open stream can still be completed
-/// ([`two_frames_complete`](crate::laws::two_frames_complete)).
+/// (law `two_frames_complete`).
 ///
 /// # Errors
 ///

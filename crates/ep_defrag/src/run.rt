@@ -28,8 +28,7 @@ pub struct RunStop {
 /// up to 65535 bytes.
 ///
 /// Whatever fragments were accepted, the payload can still be completed: by one more fragment
-/// ([`one_fragment_completes`](crate::laws::one_fragment_completes)), or by two more fragments that frames can carry
-/// ([`two_fragments_complete`](crate::laws::two_fragments_complete)).
+/// (law `one_fragment_completes`), or by two more fragments that frames can carry (law `two_fragments_complete`).
 ///
 /// # Errors
 ///

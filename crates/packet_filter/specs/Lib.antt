@@ -15,5 +15,4 @@ pub mod Refusals
 pub mod States
 pub mod Parsing
 pub mod Printing
-pub mod Laws
 pub mod KindTexts

@@ -70,7 +70,6 @@ pub mod head;
 mod host_set;
 mod host_sets;
 pub mod keyword;
-pub mod laws;
 mod matching;
 mod mode;
 mod names;

@@ -8,7 +8,7 @@ use crate::primitive::{
 use std::net::IpAddr;
 
 /// Values that a side such as `src` qualifies.
-#[derive(Clone, Copy, Debug, PartialEq, Eq)]
+#[derive(Clone, Copy)]
 pub enum Sided {
     /// Addresses of a network layer; without `ip`, `ip6` or `arp` before the side also ports.
     Addresses(AddressLayer),
@@ -19,7 +19,7 @@ pub enum Sided {
 }
 
 /// Comparison of a byte test, as far as it was read.
-#[derive(Clone, Copy, Debug, PartialEq, Eq)]
+#[derive(Clone, Copy)]
 pub struct Comparison {
     /// Operand of the byte test.
     pub operand: Operand,
@@ -32,7 +32,7 @@ pub struct Comparison {
 }
 
 /// Part of an operand that was read, which decides the tokens that are allowed next.
-#[derive(Clone, Copy, Debug, PartialEq, Eq)]
+#[derive(Clone, Copy)]
 pub enum Mode {
     /// Nothing of an operand was read; only values are allowed, if true.
     Operand(bool),

@@ -25,7 +25,7 @@ pub(crate) struct Token {
 }
 
 /// Kind of a token of a filter expression.
-#[derive(Clone, Copy, PartialEq, Eq)]
+#[derive(Clone, Copy)]
 pub(crate) enum TokenKind {
     /// A keyword.
     Keyword(Keyword),

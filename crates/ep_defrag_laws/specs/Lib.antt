@@ -1,0 +1,4 @@
+pub mod Completing
+pub mod BuiltCuts
+pub mod BoundedDiscards
+pub mod BoundedGiven

@@ -1,0 +1,5 @@
+use Rattle.packet_filter.proofs.TreeLemmas.{reads_back}
+use Rattle.packet_filter_laws.proofs.steps.Goals as goal
+
+pub returns : goal.returns
+returns c = λ tree. reads_back tree
