@@ -1,5 +1,5 @@
 -- One fragment of a stream, in terms of the stream's entry.
-use Rattle.std.proofs.Common.{◌≡◌, ℕ, Bool, true, false, ◌↔◌, List, [], ◌∷◌, ◌++◌, Option, Some, None, sym, refl, ap}
+use Rattle.std.proofs.Common.{◌≡◌, ℕ, true, false, List, [], ◌∷◌, ◌++◌, Option, Some, None, sym, refl, ap}
 use Rattle.std.proofs.Common.{◌∙◌, ◌⊎◌, inl, inr, arith}
 use Rattle.std.proofs.lemmas.Bool.{false≢true}
 use Rattle.std.proofs.lemmas.List.{length_push}
@@ -16,11 +16,6 @@ use Rattle.ep_defrag.specs.Calls.{payload_returned, no_payload}
 use Rattle.ep_defrag.specs.Pools.{Stream, HoldsEntry, BufferTakes, IsWhetherComplete}
 use Rattle.ep_defrag.proofs.DataLemmas.{FitAfter-push}
 use Rattle.ep_defrag.proofs.RunLemmas.{no_memory}
-
--- Of two equivalent tests the second is false if the first is.
-pub false_from : (r b : Bool) → ((r ≡ true) ↔ (b ≡ true)) → r ≡ false → b ≡ false
-false_from r true exact fails = absurd (false≢true (sym fails ∙ exact.1 refl))
-false_from r false exact fails = refl
 
 -- ---- an error of the refusal table is no allocation failure
 module _ (limit : ℕ) (accepted : List IpFragment) (fragment : IpFragment) (error : IpDefragError) where

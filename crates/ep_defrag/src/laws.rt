@@ -1,5 +1,5 @@
-//! Laws of the types of reassembly: how they are compared, cloned and hashed, and the values of the constants. Each is
-//! the contract of a function that does nothing. The laws of pools are in `ep_defrag_laws`.
+//! Laws of the types of reassembly: how they are compared and cloned, and the values of the constants. Each is the
+//! contract of a function that does nothing. The other laws of reassembly are in `ep_defrag_laws`.
 
 ghost use Rattle.std.specs.Prelude.{◌≡◌, ◌↔◌, ◌<◌, List, length, IsTrue};
 ghost use Rattle.std.specs.List.{All};

@@ -1,8 +1,8 @@
 //! Laws of reassembly: theorems about the definitions in the contracts of [`ep_defrag`]. Each is the contract of a
 //! function that does nothing.
 //!
-//! No code depends on these laws, and no must-fail edit is refused by them. So they are a crate of their own: the edits
-//! of `ep_defrag` are tried without proving them again.
+//! No code of `ep_defrag` calls them, and none of its must-fail edits is refused by them. So they are a crate of their
+//! own: the edits of `ep_defrag` are tried without proving them again.
 #![tactic(auto)]
 
 mod bounded_pools;

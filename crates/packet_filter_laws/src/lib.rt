@@ -1,8 +1,8 @@
-//! Laws of filter expressions: theorems about the definitions in the contracts of [`packet_filter`]. Each is the contract
-//! of a function that does nothing.
+//! Laws of filter expressions: theorems about the definitions in the contracts of [`packet_filter`]. Each is the
+//! contract of a function that does nothing.
 //!
-//! No code depends on these laws, and no must-fail edit is refused by them. So they are a crate of their own: the edits
-//! of `packet_filter` are tried without proving them again.
+//! No code calls these laws, and no must-fail edit is refused by them. So they are a crate of their own: the edits of
+//! `packet_filter` are tried without proving them again.
 #![tactic(auto)]
 
 ghost use Rattle.std.specs.Prelude.{◌≡◌, ℕ, List, Option};
