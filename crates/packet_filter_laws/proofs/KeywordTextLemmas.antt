@@ -12,7 +12,7 @@ use Rattle.packet_filter.specs.declared.keyword.Keyword.TheVariants as name
 use Rattle.packet_filter.specs.Grammar.{src, dst}
 use Rattle.packet_filter.specs.Printing.{layer_text, ports_text, side_text, version_text}
 use Rattle.packet_filter.specs.Tokens
-use Rattle.packet_filter.specs.Tokens.{Token, first_token, is_alphanumeric, is_digit, is_run_byte, word_of, word_token, keyword, word, and, or, relation, left_parenthesis, right_parenthesis, left_bracket, right_bracket, colon, slash, ampersand}
+use Rattle.packet_filter.specs.Tokens.{Token, is_alphanumeric, word_of, word_token, keyword, and, or, left_parenthesis, right_parenthesis, left_bracket, right_bracket, slash}
 use Rattle.packet_filter_laws.proofs.LexingLemmas
 use Rattle.packet_filter_laws.proofs.LexingLemmas.{IsLexed}
 use Rattle.packet_filter_laws.proofs.PrintedTokens.{layer_tokens, ports_tokens, side_tokens, version_tokens}

@@ -1,22 +1,22 @@
-pub mod AddressTextLemmas
-pub mod DecideAddressLemmas
-pub mod DecideLemmas
-pub mod DecideNumberLemmas
-pub mod DecideValueLemmas
-pub mod DecidedLemmas
-pub mod FitLemmas
-pub mod KeywordTextLemmas
-pub mod LawLemmas
-pub mod LexingLemmas
-pub mod MoreBytesLemmas
-pub mod MoreChainLemmas
-pub mod MoreLayers
-pub mod MoreNetLemmas
-pub mod MorePrimitiveLemmas
-pub mod MoreTagLemmas
-pub mod PrintedLemmas
-pub mod PrintedTextLemmas
-pub mod PrintedTokens
-pub mod ReadBackLemmas
-pub mod TextLemmas
-pub mod WordTextLemmas
+mod AddressTextLemmas
+mod DecideAddressLemmas
+mod DecideLemmas
+mod DecideNumberLemmas
+mod DecideValueLemmas
+mod DecidedLemmas
+mod FitLemmas
+mod KeywordTextLemmas
+mod LawLemmas
+mod LexingLemmas
+mod MoreBytesLemmas
+mod MoreChainLemmas
+mod MoreLayers
+mod MoreNetLemmas
+mod MorePrimitiveLemmas
+mod MoreTagLemmas
+mod PrintedLemmas
+mod PrintedTextLemmas
+mod PrintedTokens
+mod ReadBackLemmas
+mod TextLemmas
+mod WordTextLemmas

@@ -27,12 +27,12 @@ use Rattle.packet_filter.specs.declared.primitive.Side.TheVariants.{Source, Dest
 use Rattle.packet_filter.specs.declared.primitive.Width.{Width}
 use Rattle.packet_filter.specs.declared.primitive.Width.TheVariants.{One, Two, Four}
 use Rattle.packet_filter.specs.Grammar
-use Rattle.packet_filter.specs.Grammar.{IsAccess, IsAddressLayer, IsBare, IsExpression, IsField, IsFilter, IsGroup, IsHead, IsIpVersion, IsJoinedValues, IsLeft, IsOperand, IsOperator, IsPortProtocol, IsRight, IsSide, IsUnion, IsValue, IsValues, IsWordValue, dst, src}
+use Rattle.packet_filter.specs.Grammar.{IsAccess, IsAddressLayer, IsExpression, IsField, IsHead, IsIpVersion, IsLeft, IsOperand, IsOperator, IsPortProtocol, IsSide, IsValue}
 use Rattle.packet_filter.specs.Networks.{address_width}
 use Rattle.packet_filter.specs.Names.{constant_names, port_names}
 use Rattle.packet_filter.specs.Printing.{hex_digit, hex_pair, station_text}
 use Rattle.packet_filter.specs.Tokens
-use Rattle.packet_filter.specs.Tokens.{Token, keyword, word, and, or, relation, left_parenthesis, right_parenthesis, left_bracket, right_bracket, colon, slash, ampersand}
+use Rattle.packet_filter.specs.Tokens.{Token, keyword, word, and, or, relation, left_parenthesis, right_parenthesis, slash, ampersand}
 use Rattle.packet_filter.specs.Trees.{Expr, test, negated, both, either}
 use Rattle.packet_filter.specs.Values.{IsConstant, IsNumberText, IsOctet, IsOctets, IsPortText, IsSizeText, most_number}
 use Rattle.packet_filter_laws.proofs.AddressTextLemmas.{Below, ip_text_is}

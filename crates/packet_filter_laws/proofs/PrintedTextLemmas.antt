@@ -28,7 +28,7 @@ use Rattle.packet_filter_laws.proofs.LexingLemmas.{IsLexed}
 use Rattle.packet_filter_laws.proofs.FitLemmas.{Fits, FitsOperand}
 use Rattle.packet_filter_laws.proofs.PrintedTokens.{FitsAll, field_token, grouped_tokens, layer_tokens, mask_tokens, network_tokens, operand_tokens, ports_tokens, primitive_tokens, printed_tokens, range_tokens, side_tokens, type_word, version_tokens, width_word}
 use Rattle.packet_filter_laws.proofs.WordTextLemmas
-use Rattle.packet_filter_laws.proofs.WordTextLemmas.{Each, IsWord, alphanumeric_of_digit, begins_word, colons, colons_append, each_append, each_weaker, if_false, if_true, plain_is_run, plain_run, plain_of_alphanumeric, start_of_alphanumeric, decimal_begins, decimal_each, decimal_word, is_plain_byte, lexed_before_colon, lexed_start, lexed_word, range_word, stops}
+use Rattle.packet_filter_laws.proofs.WordTextLemmas.{Each, IsWord, alphanumeric_of_digit, begins_word, colons, colons_append, each_append, if_false, if_true, plain_run, plain_of_alphanumeric, start_of_alphanumeric, decimal_begins, decimal_each, decimal_word, is_plain_byte, lexed_before_colon, lexed_start, lexed_word, range_word}
 use Rattle.packet_filter_laws.proofs.KeywordTextLemmas
 use Rattle.packet_filter_laws.proofs.KeywordTextLemmas.{IsApart, IsFrontOf, IsTextOf, and_then, apart_stops, blank_then, close_then, ether_then, host_then, left_bracket_then, lexed_layer, lexed_ports, lexed_side, lexed_version, net_then, not_then, open_then, or_then, port_then, portrange_then, proto_then, right_bracket_then, same_text, same_tokens, slash_then, three_lists, three_texts, vlan_then}
 

@@ -21,7 +21,7 @@ use Rattle.packet_filter.specs.declared.primitive.Side.TheVariants.{Source, Dest
 use Rattle.packet_filter.specs.declared.primitive.Width.{Width}
 use Rattle.packet_filter.specs.declared.primitive.Width.TheVariants.{One, Two, Four}
 use Rattle.packet_filter.specs.Grammar
-use Rattle.packet_filter.specs.Grammar.{IsAccess, IsAddressLayer, IsBare, IsExpression, IsField, IsFilter, IsGroup, IsHead, IsIpVersion, IsJoinedValues, IsLeft, IsOperand, IsOperator, IsPortProtocol, IsRight, IsSide, IsUnion, IsValue, IsValues, IsWordValue, dst, src}
+use Rattle.packet_filter.specs.Grammar.{IsExpression, IsJoinedValues, IsOperand, IsOperator, IsValues, dst, src}
 use Rattle.packet_filter.specs.Networks.{address_width}
 use Rattle.packet_filter.specs.Printing.{hex_pair, station_text}
 use Rattle.packet_filter.specs.Tokens

@@ -4,7 +4,7 @@ use Rattle.std.proofs.lemmas.List.{append-nil}
 use Rattle.std.proofs.lemmas.List.Elements.{All-nil}
 use Rattle.std.specs.Prelude.{IsTrue}
 use Rattle.packet_filter.specs.Grammar
-use Rattle.packet_filter.specs.Grammar.{IsExpression, IsFilter, most_bytes, most_levels}
+use Rattle.packet_filter.specs.Grammar.{IsFilter, most_bytes, most_levels}
 use Rattle.packet_filter.specs.Printing.{expression_text, printed}
 use Rattle.packet_filter.specs.Refusals.{IsFilterText}
 use Rattle.packet_filter.specs.Tokens.{Token, is_blank, tokens_of}

@@ -11,7 +11,7 @@ use Rattle.std.proofs.lemmas.Str.Parse.{digit_from_value}
 use Rattle.packet_filter.specs.Names.{is_text, keyword_names, lookup_name, not_taken_words}
 use Rattle.packet_filter.specs.declared.filter_error.FilterErrorKind.TheVariants as kind
 use Rattle.packet_filter.specs.Tokens
-use Rattle.packet_filter.specs.Tokens.{Token, word, and, or, wrong, escaped_token, symbol_of, symbols, first_token, has_two_colons, is_alphanumeric, is_blank, is_colon, is_digit, is_run_byte, keyword_or_word, run_of, word_of, word_token}
+use Rattle.packet_filter.specs.Tokens.{Token, word, and, or, wrong, escaped_token, symbol_of, symbols, has_two_colons, is_alphanumeric, is_blank, is_colon, is_digit, is_run_byte, keyword_or_word, run_of, word_of, word_token}
 use Rattle.packet_filter_laws.proofs.LexingLemmas
 use Rattle.packet_filter_laws.proofs.LexingLemmas.{IsLexed}
 
