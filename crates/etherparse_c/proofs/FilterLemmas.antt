@@ -15,8 +15,8 @@ use Rattle.etherparse.specs.LaxRefusals.{RefusesLax}
 use Rattle.etherparse.specs.Types.Entry.{Entry}
 use Rattle.etherparse.specs.Types.SliceError.{SliceError}
 use Rattle.packet_filter.specs.Refusals.{RefusesText}
-use Rattle.packet_filter.specs.declared.filter_error.FilterError.{FilterError as WrongFilter}
-use Rattle.packet_filter.specs.declared.filter_error.FilterErrorKind.TheVariants as kind
+use Rattle.packet_filter.specs.FilterError.{FilterError as WrongFilter}
+use Rattle.packet_filter.specs.FilterErrorKind.TheVariants as kind
 use Rattle.packet_filter.specs.declared.step.Step.{Step}
 use Rattle.etherparse_c.specs.FilterAnswers.{AreMatched, HasLayers, IsMatchedAt, IsMatchWith, IsNewFilter, filter_error_part, kind_number}
 use Rattle.etherparse_c.specs.declared.filter_handle.FilterHandle.{FilterHandle}

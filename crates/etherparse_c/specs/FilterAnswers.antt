@@ -14,9 +14,9 @@ use Rattle.packet_filter.specs.Meaning.{meaning}
 use Rattle.packet_filter.specs.Packets.{packet_of}
 use Rattle.packet_filter.specs.Refusals.{IsFilterText, RefusesText}
 use Rattle.packet_filter.specs.Trees.{tree_of}
-use Rattle.packet_filter.specs.declared.filter_error.FilterError.{FilterError as WrongFilter}
-use Rattle.packet_filter.specs.declared.filter_error.FilterErrorKind.{FilterErrorKind}
-use Rattle.packet_filter.specs.declared.filter_error.FilterErrorKind.TheVariants as kind
+use Rattle.packet_filter.specs.FilterError.{FilterError as WrongFilter}
+use Rattle.packet_filter.specs.FilterErrorKind.{FilterErrorKind}
+use Rattle.packet_filter.specs.FilterErrorKind.TheVariants as kind
 use Rattle.packet_filter.specs.declared.step.Step.{Step}
 use Rattle.etherparse_c.specs.declared.filter_handle.FilterHandle.{FilterHandle}
 use Rattle.etherparse_c.specs.declared.filter_values.FilterError.{FilterError}

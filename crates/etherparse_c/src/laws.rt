@@ -19,7 +19,7 @@ ghost use Rattle.etherparse.specs.BoundedSteps.{Row};
 ghost use Rattle.etherparse_c.specs.BoundedPoolAnswers.{IsBoundedPush, bounded_pool_of, bounded_waiting};
 ghost use Rattle.etherparse_c.specs.RefusalTexts.{AreTextsOfRefusals, text_of_number};
 ghost use Rattle.packet_filter.specs.KindTexts.{kind_text};
-ghost use Rattle.packet_filter.specs.declared.filter_error.FilterErrorKind.{FilterErrorKind};
+ghost use Rattle.packet_filter.specs.FilterErrorKind.{FilterErrorKind};
 
 use crate::bounded_handle::BoundedHandle;
 use crate::bounded_state::BoundedState;

@@ -7,9 +7,9 @@ use Rattle.capture_reader.specs.declared.refusal.Refusal.TheVariants.{UnknownMag
 use Rattle.line_io.specs.declared.run_error.RunError.{RunError}
 use Rattle.line_io.specs.declared.run_error.RunError.TheVariants.{Read, Write, OutOfMemory}
 use Rattle.packet_filter.specs.KindTexts.{kind_text}
-use Rattle.packet_filter.specs.declared.filter_error.FilterError.{FilterError}
-use Rattle.packet_filter.specs.declared.filter_error.FilterErrorKind.{FilterErrorKind}
-use Rattle.packet_filter.specs.declared.filter_error.FilterErrorKind.TheVariants.{Long}
+use Rattle.packet_filter.specs.FilterError.{FilterError}
+use Rattle.packet_filter.specs.FilterErrorKind.{FilterErrorKind}
+use Rattle.packet_filter.specs.FilterErrorKind.TheVariants.{Long}
 use Rattle.packet_dump.specs.declared.ending.Ending.{Ending}
 use Rattle.packet_dump.specs.declared.ending.Ending.TheVariants.{Complete, Enough, Broken}
 use Rattle.packet_dump.specs.declared.filters.FilterFault.{FilterFault}

@@ -1,16 +1,16 @@
 -- Lemmas about places where an operand is expected: the parser is in a state that expects one.
 use Rattle.std.proofs.Common.{◌≡◌, ℕ, suc, ◌+◌, ◌≤◌, ◌<◌, inl, inr, Bool, true, false, List, [], ◌∷◌, ◌++◌, Option, Some, Ok, refl, ap, sym, ◌∙◌, subst, arith}
+use Rattle.filter_tokens.specs.declared.primitive.Side.{Side}
+use Rattle.filter_tokens.specs.declared.primitive.Side.TheVariants.{Source, Destination, Either, Both}
+use Rattle.filter_tokens.specs.Tokens.{Token, not, left_parenthesis}
 use Rattle.packet_filter.specs.declared.head.Head.{Head}
 use Rattle.packet_filter.specs.declared.mode.Mode.{Mode}
 use Rattle.packet_filter.specs.declared.mode.Mode.TheVariants as mode
 use Rattle.packet_filter.specs.declared.mode.Sided.{Sided}
-use Rattle.packet_filter.specs.declared.primitive.Side.{Side}
-use Rattle.packet_filter.specs.declared.primitive.Side.TheVariants.{Source, Destination, Either, Both}
 use Rattle.packet_filter.specs.Grammar.{IsExpression, IsHead, IsJoinedValues, IsOperator}
 use Rattle.packet_filter.specs.Refusals
 use Rattle.packet_filter.specs.Refusals.{Awaits, AwaitsDirectly}
 use Rattle.packet_filter.specs.States.{State, Frame, Reading, Reads, Runs, IsAwaiting, first_state, levels_in, more_tokens, negating, no_tokens, opened, qualified, read_in, read_side, read_side_values, side_head}
-use Rattle.packet_filter.specs.Tokens.{Token, not, left_parenthesis}
 use Rattle.packet_filter.specs.Trees.{Expr}
 use Rattle.packet_filter.proofs.OperandLemmas.{head_runs, operand_state, opens, operator_reads, same_state}
 use Rattle.packet_filter.proofs.RunLemmas.{expression_goes_on, joined_goes_on, runs_joined, runs_more, runs_once}

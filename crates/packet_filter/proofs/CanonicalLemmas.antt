@@ -3,7 +3,8 @@ use Rattle.std.proofs.Common.{◌≡◌, ℕ, zero, suc, ◌-◌, Bool, true, fa
 use Rattle.std.proofs.lemmas.List.{append-nil, take_all, take_at}
 use Rattle.packet_filter.specs.declared.step.Step.{Step}
 use Rattle.packet_filter.specs.declared.step.Step.TheVariants as step
-use Rattle.packet_filter.specs.Printing.{primitive_text, canonical, canonical_text, nots_in, start_text, starts_text, right_text}
+use Rattle.filter_tokens.specs.PrimitiveTexts.{primitive_text}
+use Rattle.packet_filter.specs.Printing.{canonical, canonical_text, nots_in, start_text, starts_text, right_text}
 use Rattle.packet_filter.specs.Trees.{Expr, test, negated, both, either, steps_of, steps_of_text}
 
 -- ---- the parentheses before the first primitive

@@ -2,27 +2,27 @@
 use Rattle.std.proofs.Common.{◌≡◌, ℕ, List, Option, Some, Bool, Result, Ok, Err, refl, ap, sym, subst}
 use Rattle.std.specs.Prelude.{IfOk, IfErr, true}
 use Rattle.std.specs.declared.net.ip_addr.IpAddr.{IpAddr}
-use Rattle.packet_filter.specs.declared.filter_error.FilterErrorKind.{FilterErrorKind}
+use Rattle.filter_tokens.specs.declared.filter_error.FilterErrorKind.{FilterErrorKind}
+use Rattle.filter_tokens.specs.declared.keyword.Keyword.{Keyword}
+use Rattle.filter_tokens.specs.declared.keyword.Keyword.TheVariants as name
+use Rattle.filter_tokens.specs.declared.primitive.AddressLayer.{AddressLayer}
+use Rattle.filter_tokens.specs.declared.primitive.AddressLayer.TheVariants as of
+use Rattle.filter_tokens.specs.declared.primitive.Primitive.TheVariants as primitive
+use Rattle.filter_tokens.specs.declared.primitive.Side.{Side}
+use Rattle.filter_tokens.specs.declared.token.TokenKind.{TokenKind}
+use Rattle.filter_tokens.specs.declared.token.TokenKind.TheVariants as kind
+use Rattle.filter_tokens.specs.Networks.{has_no_host_bits}
+use Rattle.filter_tokens.specs.ShownTokens.{shown_token}
+use Rattle.filter_tokens.specs.Values.{IsLength, IsMask}
 use Rattle.packet_filter.specs.declared.head.Head.{Head}
-use Rattle.packet_filter.specs.declared.keyword.Keyword.{Keyword}
-use Rattle.packet_filter.specs.declared.keyword.Keyword.TheVariants as name
 use Rattle.packet_filter.specs.declared.mode.Mode.{Mode}
 use Rattle.packet_filter.specs.declared.mode.Mode.TheVariants as mode
 use Rattle.packet_filter.specs.declared.mode.Sided.{Sided}
 use Rattle.packet_filter.specs.declared.parser.change.Change.{Change}
 use Rattle.packet_filter.specs.declared.parser.change.Change.TheVariants as change
 use Rattle.packet_filter.specs.declared.parser.change.Completion.TheVariants as completion
-use Rattle.packet_filter.specs.declared.primitive.AddressLayer.{AddressLayer}
-use Rattle.packet_filter.specs.declared.primitive.AddressLayer.TheVariants as of
-use Rattle.packet_filter.specs.declared.primitive.Primitive.TheVariants as primitive
-use Rattle.packet_filter.specs.declared.primitive.Side.{Side}
-use Rattle.packet_filter.specs.declared.token.TokenKind.{TokenKind}
-use Rattle.packet_filter.specs.declared.token.TokenKind.TheVariants as kind
-use Rattle.packet_filter.specs.Networks.{has_no_host_bits}
 use Rattle.packet_filter.specs.Parsing.{IsModeChange, IsValueChange, IsWordChange, StopsMode, StopsWordIn, changed, state_in}
-use Rattle.packet_filter.specs.Shown.{shown_token}
 use Rattle.packet_filter.specs.States.{State, StopsSide, StopsValue, read_address_word, read_layer_word, read_side_values, read_sided, side_head}
-use Rattle.packet_filter.specs.Values.{IsLength, IsMask}
 
 -- After `ip` and `ip6`, other keywords than `proto` and `multicast` are qualifiers of addresses.
 pub address_of_ip : (state : State) (following : Keyword) → (following ≡ name.Proto → ⊥)

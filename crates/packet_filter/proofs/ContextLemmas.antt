@@ -1,11 +1,11 @@
 -- Contexts of operands: the tokens before an operand, with the frames around it, and what they are with the operand.
 use Rattle.std.proofs.Common.{◌≡◌, ℕ, zero, suc, ◌+◌, ◌≤◌, Bool, true, false, List, [], ◌∷◌, ◌++◌, length, Option, Some, None, refl, ap, sym, ◌∙◌, subst, append_assoc, arith}
 use Rattle.std.proofs.lemmas.List.{append-nil}
+use Rattle.filter_tokens.specs.Tokens.{Token, and, or, not, left_parenthesis, right_parenthesis}
 use Rattle.packet_filter.specs.declared.head.Head.{Head}
 use Rattle.packet_filter.specs.Grammar.{IsExpression, IsFilter, IsHead, IsJoinedValues, IsOperand, IsOperator, IsValues, conjunction, disjunction, first_operand, first_values, more_operands, more_values, negation, not_values, parentheses, qualified, values_in_parentheses, expression as whole}
 use Rattle.packet_filter.specs.Refusals.{Awaits, AwaitsDirectly, directly, at_start as begins_at_start, after_open as begins_after_open, after_operator, after_value_operator, after_not as awaits_after_not, after_head as awaits_after_head}
 use Rattle.packet_filter.specs.States.{Frame, expression, left_of_and, left_of_or, negating, opened, completed, expression_in, levels_in}
-use Rattle.packet_filter.specs.Tokens.{Token, and, or, not, left_parenthesis, right_parenthesis}
 use Rattle.packet_filter.specs.Trees.{Expr, both, either, negated}
 
 -- An operand, or values if only values are allowed, with the qualifiers in force before and after them.

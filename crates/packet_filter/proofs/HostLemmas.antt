@@ -12,22 +12,22 @@ use Rattle.std.proofs.lemmas.List.Folds.{list_any_at, list_any_none}
 use Rattle.std.proofs.lemmas.List.Sorted.{IsNonDecreasingBy-from_sort, list_any-IsPermutation, searched}
 use Rattle.ep_base.specs.Bytes.{AreBytes}
 use Rattle.ep_packet.specs.Layers.{NetLayer}
+use Rattle.filter_tokens.specs.declared.network.Network.{Network}
+use Rattle.filter_tokens.specs.declared.primitive.AddressLayer.{AddressLayer}
+use Rattle.filter_tokens.specs.declared.primitive.Primitive.{Primitive}
+use Rattle.filter_tokens.specs.declared.primitive.Primitive.TheVariants as primitive
+use Rattle.filter_tokens.specs.declared.primitive.Side.{Side}
+use Rattle.filter_tokens.specs.declared.primitive.Side.TheVariants.{Source, Destination, Either, Both}
+use Rattle.filter_tokens.specs.Networks.{address_bytes, big_endian, bytes_of, is_within}
+use Rattle.filter_tokens.proofs.NumberLemmas.{bytes_length, host_address, not_true, number_of_address, other_length, sides}
 use Rattle.packet_filter.specs.declared.host_set.HostSet.{HostSet}
-use Rattle.packet_filter.specs.declared.network.Network.{Network}
-use Rattle.packet_filter.specs.declared.primitive.AddressLayer.{AddressLayer}
-use Rattle.packet_filter.specs.declared.primitive.Primitive.{Primitive}
-use Rattle.packet_filter.specs.declared.primitive.Primitive.TheVariants as primitive
-use Rattle.packet_filter.specs.declared.primitive.Side.{Side}
-use Rattle.packet_filter.specs.declared.primitive.Side.TheVariants.{Source, Destination, Either, Both}
 use Rattle.packet_filter.specs.declared.step.Step.{Step}
 use Rattle.packet_filter.specs.declared.step.Step.TheVariants as step
 use Rattle.packet_filter.specs.HostRuns.{BeginsHost, IsHost, host_number, or_hosts}
 use Rattle.packet_filter.specs.HostSets.{BeginsHostSet, is_one_of, matches_set}
 use Rattle.packet_filter.specs.Meaning.{at_side_of, matches_primitive}
-use Rattle.packet_filter.specs.Networks.{address_bytes, big_endian, bytes_of, is_within}
 use Rattle.packet_filter.specs.Packets.{Packet, addresses_of}
 use Rattle.packet_filter.specs.Running.{value_after}
-use Rattle.packet_filter.proofs.NumberLemmas.{bytes_length, host_address, not_true, number_of_address, other_length, sides}
 
 -- ---- running
 

@@ -2,23 +2,23 @@
 use Rattle.std.proofs.Common.{◌≡◌, ℕ, suc, ◌⊎◌, inl, inr, Bool, true, false, IsTrue, List, take, Option, Some, None, Ok, Err, refl, ap, sym, ◌∙◌, subst, arith}
 use Rattle.std.specs.List.{list_any}
 use Rattle.std.specs.declared.net.ip_addr.IpAddr.{IpAddr}
-use Rattle.packet_filter.specs.declared.filter_error.FilterErrorKind.{FilterErrorKind}
-use Rattle.packet_filter.specs.declared.filter_error.FilterErrorKind.TheVariants as kind
+use Rattle.filter_tokens.specs.declared.filter_error.FilterErrorKind.{FilterErrorKind}
+use Rattle.filter_tokens.specs.declared.filter_error.FilterErrorKind.TheVariants as kind
+use Rattle.filter_tokens.specs.declared.keyword.Keyword.TheVariants as name
+use Rattle.filter_tokens.specs.declared.primitive.AddressLayer.{AddressLayer}
+use Rattle.filter_tokens.specs.declared.primitive.Primitive.{Primitive}
+use Rattle.filter_tokens.specs.declared.primitive.Side.{Side}
+use Rattle.filter_tokens.specs.Networks.{has_no_host_bits}
+use Rattle.filter_tokens.specs.Tokens.{Token, keyword, word, not, left_parenthesis, colon, wrong, is_digit}
+use Rattle.filter_tokens.specs.Values.{IsLength, IsMask}
 use Rattle.packet_filter.specs.declared.head.Head.{Head}
 use Rattle.packet_filter.specs.declared.head.Head.TheVariants as head
-use Rattle.packet_filter.specs.declared.keyword.Keyword.TheVariants as name
 use Rattle.packet_filter.specs.declared.mode.Mode.{Mode}
 use Rattle.packet_filter.specs.declared.mode.Mode.TheVariants as mode
 use Rattle.packet_filter.specs.declared.mode.Sided.{Sided}
-use Rattle.packet_filter.specs.declared.primitive.AddressLayer.{AddressLayer}
-use Rattle.packet_filter.specs.declared.primitive.Primitive.{Primitive}
-use Rattle.packet_filter.specs.declared.primitive.Side.{Side}
 use Rattle.packet_filter.specs.Grammar.{most_levels}
-use Rattle.packet_filter.specs.Networks.{has_no_host_bits}
 use Rattle.packet_filter.specs.Refusals.{IsAfterHost, IsAllowed, IsArithmetic, IsDeep, IsKind, IsOperandKind, IsOtherKind, IsValueKind, IsWordKind, value_kind}
 use Rattle.packet_filter.specs.States.{State, Reading, ReadsPrefix, ReadsValue, ReadsWord, Runs, Stops, StopsPrefix, StopsSide, StopsValue, StopsWord, IsAwaiting, first_state, read_in, side_head}
-use Rattle.packet_filter.specs.Tokens.{Token, keyword, word, not, left_parenthesis, colon, wrong, is_digit}
-use Rattle.packet_filter.specs.Values.{IsLength, IsMask}
 use Rattle.packet_filter.proofs.AwaitLemmas.{awaits_state}
 use Rattle.packet_filter.proofs.PlaceLemmas.{constant_mode, ends_mask, ends_slash, fits_after, host_ends, last_leads, last_step, length_ends, mask_ends, mode_constant, mode_test, reads_allowed, size_ends, slash_ends, test_mode, vlan_ends}
 use Rattle.packet_filter.proofs.ReadingLemmas.{AfterHostIn, ArithmeticIn, InConstant, InHost, IsKindIn, after_host_in, arithmetic_in, deep_in, kind_in}

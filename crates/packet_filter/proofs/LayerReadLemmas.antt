@@ -1,25 +1,25 @@
 -- The grammar holds of a token after the tokens of a state: names of layers, sides and values.
 use Rattle.std.proofs.Common.{◌≡◌, ℕ, false, List, [], ◌∷◌, ◌++◌, Option, Some, None, Ok, refl, subst}
+use Rattle.filter_tokens.specs.declared.keyword.Keyword.{Keyword}
+use Rattle.filter_tokens.specs.declared.keyword.Keyword.TheVariants as name
+use Rattle.filter_tokens.specs.declared.primitive.AddressLayer.{AddressLayer}
+use Rattle.filter_tokens.specs.declared.primitive.AddressLayer.TheVariants as of
+use Rattle.filter_tokens.specs.declared.primitive.FieldLayer.{FieldLayer}
+use Rattle.filter_tokens.specs.declared.primitive.IpVersion.TheVariants as version
+use Rattle.filter_tokens.specs.declared.primitive.PortProtocol.{PortProtocol}
+use Rattle.filter_tokens.specs.declared.primitive.PortProtocol.TheVariants as protocol
+use Rattle.filter_tokens.specs.declared.primitive.Primitive.{Primitive}
+use Rattle.filter_tokens.specs.declared.primitive.Side.{Side}
+use Rattle.filter_tokens.specs.declared.primitive.Side.TheVariants.{Source, Destination, Either}
+use Rattle.filter_tokens.specs.Tokens.{Token, keyword, left_bracket}
 use Rattle.packet_filter.specs.declared.head.Head.{Head}
 use Rattle.packet_filter.specs.declared.head.Head.TheVariants as head
-use Rattle.packet_filter.specs.declared.keyword.Keyword.{Keyword}
-use Rattle.packet_filter.specs.declared.keyword.Keyword.TheVariants as name
 use Rattle.packet_filter.specs.declared.mode.Mode.TheVariants as mode
 use Rattle.packet_filter.specs.declared.mode.Sided.{Sided}
 use Rattle.packet_filter.specs.declared.mode.Sided.TheVariants.{Addresses, Stations, Ports}
-use Rattle.packet_filter.specs.declared.primitive.AddressLayer.{AddressLayer}
-use Rattle.packet_filter.specs.declared.primitive.AddressLayer.TheVariants as of
-use Rattle.packet_filter.specs.declared.primitive.FieldLayer.{FieldLayer}
-use Rattle.packet_filter.specs.declared.primitive.IpVersion.TheVariants as version
-use Rattle.packet_filter.specs.declared.primitive.PortProtocol.{PortProtocol}
-use Rattle.packet_filter.specs.declared.primitive.PortProtocol.TheVariants as protocol
-use Rattle.packet_filter.specs.declared.primitive.Primitive.{Primitive}
-use Rattle.packet_filter.specs.declared.primitive.Side.{Side}
-use Rattle.packet_filter.specs.declared.primitive.Side.TheVariants.{Source, Destination, Either}
 use Rattle.packet_filter.specs.Grammar.{IsAddressLayer, IsBare, IsField, IsHead, IsPortProtocol, IsSide, address_of_arp, address_of_ip, address_of_ip6, bare_ether_broadcast, bare_ether_multicast, bare_ip6_multicast, bare_ip_multicast, destination, field_arp, field_ether, field_icmp, field_icmp6, field_ip, field_ip6, field_sctp, field_tcp, field_udp, head_ether_proto, head_host, head_net, head_port, head_port_range, head_proto, head_station, no_side, port_of_sctp, port_of_tcp, port_of_udp, source, version_v4, version_v6}
 use Rattle.packet_filter.specs.Primitives.{ethernet_broadcast, ethernet_multicast}
 use Rattle.packet_filter.specs.States.{State, Reading, field_of, finish_bare, in_mode, layer_primitive, multicast_v4, multicast_v6, qualified, read_address_word, read_layer, read_layer_word, read_offset, read_port_word, settled_layer}
-use Rattle.packet_filter.specs.Tokens.{Token, keyword, left_bracket}
 use Rattle.packet_filter.proofs.Standing.{IsPart, IsSided, Stands, StandsIn, bare_fills, extend, head_context, part_layer, part_offset, part_side, sided_addresses, sided_ports, sided_stations}
 use Rattle.packet_filter.proofs.ReadLemmas.{after_reads, read_ok, refused, settle}
 

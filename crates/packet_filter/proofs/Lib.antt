@@ -8,10 +8,7 @@ pub mod FilterLemmas
 pub mod HostLemmas
 pub mod KindLemmas
 pub mod LayerReadLemmas
-pub mod LeadingLemmas
-pub mod MaskLemmas
-pub mod NumberLemmas
-pub mod OnceLemmas
+pub mod OneValueLemmas
 pub mod OperandLemmas
 pub mod ParseLemmas
 pub mod ParserLemmas
@@ -29,9 +26,6 @@ pub mod StandReadLemmas
 pub mod Standing
 pub mod StepLemmas
 pub mod TagLemmas
-pub mod TokenLemmas
-pub mod TokenListLemmas
 pub mod TreeLemmas
-pub mod ValueLemmas
 pub mod WitnessLemmas
 pub mod WordValueLemmas

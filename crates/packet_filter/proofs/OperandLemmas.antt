@@ -2,35 +2,35 @@
 use Rattle.std.proofs.Common.{◌≡◌, ℕ, suc, ◌+◌, ◌≤◌, ◌<◌, inl, inr, lt-ltb, Bool, true, false, List, [], ◌∷◌, ◌++◌, Option, Some, None, Ok, refl, ap, sym, ◌∙◌, arith}
 use Rattle.std.specs.declared.net.ip_addr.IpAddr.{IpAddr}
 use Rattle.std.specs.declared.net.ip_addr.IpAddr.TheVariants.{V4, V6}
+use Rattle.filter_tokens.specs.declared.keyword.Keyword.{Keyword}
+use Rattle.filter_tokens.specs.declared.keyword.Keyword.TheVariants as name
+use Rattle.filter_tokens.specs.declared.network.Network.{Network}
+use Rattle.filter_tokens.specs.declared.primitive.AddressLayer.{AddressLayer}
+use Rattle.filter_tokens.specs.declared.primitive.AddressLayer.TheVariants as of
+use Rattle.filter_tokens.specs.declared.primitive.FieldLayer.{FieldLayer}
+use Rattle.filter_tokens.specs.declared.primitive.Operand.{Operand}
+use Rattle.filter_tokens.specs.declared.primitive.PortProtocol.{PortProtocol}
+use Rattle.filter_tokens.specs.declared.primitive.PortProtocol.TheVariants as protocol
+use Rattle.filter_tokens.specs.declared.primitive.Primitive.{Primitive}
+use Rattle.filter_tokens.specs.declared.primitive.Primitive.TheVariants as primitive
+use Rattle.filter_tokens.specs.declared.primitive.Relation.{Relation}
+use Rattle.filter_tokens.specs.declared.primitive.Relation.TheVariants as is
+use Rattle.filter_tokens.specs.declared.primitive.Side.{Side}
+use Rattle.filter_tokens.specs.declared.primitive.Side.TheVariants.{Source, Destination, Either, Both}
+use Rattle.filter_tokens.specs.Tokens.{Token, keyword, word, and, or, relation, left_parenthesis, right_parenthesis, left_bracket, right_bracket, colon, slash, ampersand, bar}
+use Rattle.filter_tokens.specs.Values.{IsMask}
 use Rattle.packet_filter.specs.declared.head.Head.{Head}
 use Rattle.packet_filter.specs.declared.head.Head.TheVariants as head
-use Rattle.packet_filter.specs.declared.keyword.Keyword.{Keyword}
-use Rattle.packet_filter.specs.declared.keyword.Keyword.TheVariants as name
 use Rattle.packet_filter.specs.declared.mode.Comparison.{Comparison}
 use Rattle.packet_filter.specs.declared.mode.Mode.{Mode}
 use Rattle.packet_filter.specs.declared.mode.Mode.TheVariants as mode
 use Rattle.packet_filter.specs.declared.mode.Sided.{Sided}
 use Rattle.packet_filter.specs.declared.mode.Sided.TheVariants.{Addresses, Stations, Ports}
-use Rattle.packet_filter.specs.declared.network.Network.{Network}
-use Rattle.packet_filter.specs.declared.primitive.AddressLayer.{AddressLayer}
-use Rattle.packet_filter.specs.declared.primitive.AddressLayer.TheVariants as of
-use Rattle.packet_filter.specs.declared.primitive.FieldLayer.{FieldLayer}
-use Rattle.packet_filter.specs.declared.primitive.Operand.{Operand}
-use Rattle.packet_filter.specs.declared.primitive.PortProtocol.{PortProtocol}
-use Rattle.packet_filter.specs.declared.primitive.PortProtocol.TheVariants as protocol
-use Rattle.packet_filter.specs.declared.primitive.Primitive.{Primitive}
-use Rattle.packet_filter.specs.declared.primitive.Primitive.TheVariants as primitive
-use Rattle.packet_filter.specs.declared.primitive.Relation.{Relation}
-use Rattle.packet_filter.specs.declared.primitive.Relation.TheVariants as is
-use Rattle.packet_filter.specs.declared.primitive.Side.{Side}
-use Rattle.packet_filter.specs.declared.primitive.Side.TheVariants.{Source, Destination, Either, Both}
 use Rattle.packet_filter.specs.Grammar
 use Rattle.packet_filter.specs.Grammar.{IsAccess, IsAddressLayer, IsBare, IsField, IsGroup, IsHead, IsLeft, IsOperator, IsPortProtocol, IsRight, IsSide, IsSideIfAny, IsUnion, IsValue, IsWordValue, dst, src}
 use Rattle.packet_filter.specs.Primitives.{length_test, number_test}
 use Rattle.packet_filter.specs.States.{State, Frame, Reads, Runs, IsAwaiting, after_value, close_left, comparing, completed, expression, finish_bare, finish_value, group_mode, in_mode, left_of_and, left_of_or, levels_in, masking, more_tokens, multicast_v4, multicast_v6, no_tokens, open_level, opened, qualified, read_after, read_in, read_left, read_mask_word, read_side, read_sided_word, settled, settled_in, side_head}
-use Rattle.packet_filter.specs.Tokens.{Token, keyword, word, and, or, relation, left_parenthesis, right_parenthesis, left_bracket, right_bracket, colon, slash, ampersand, bar}
 use Rattle.packet_filter.specs.Trees.{Expr, test}
-use Rattle.packet_filter.specs.Values.{IsMask}
 use Rattle.packet_filter.proofs.RunOnceLemmas.{runs_apart, runs_joined}
 
 -- ---- states

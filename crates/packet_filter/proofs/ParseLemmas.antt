@@ -1,27 +1,27 @@
 -- The parser has read the tokens of a text up to an offset: what follows from its next token.
 use Rattle.std.proofs.Common.{◌≡◌, ◌≢◌, ℕ, ◌+◌, ◌-◌, ◌<◌, ◌≤◌, ◌⊎◌, inl, inr, List, [], ◌∷◌, ◌++◌, append_assoc, length, take, take_while, drop, Option, Some, None, refl, ap, sym, ◌∙◌, subst, arith}
-use Rattle.packet_filter.specs.declared.filter_error.FilterError.{FilterError}
-use Rattle.packet_filter.specs.declared.filter_error.FilterErrorKind.{FilterErrorKind}
-use Rattle.packet_filter.specs.declared.filter_error.FilterErrorKind.TheVariants as kind
+use Rattle.filter_tokens.specs.declared.filter_error.FilterError.{FilterError}
+use Rattle.filter_tokens.specs.declared.filter_error.FilterErrorKind.{FilterErrorKind}
+use Rattle.filter_tokens.specs.declared.filter_error.FilterErrorKind.TheVariants as kind
+use Rattle.filter_tokens.specs.declared.token.Token.{Token}
+use Rattle.filter_tokens.specs.declared.token.TokenKind.{TokenKind}
+use Rattle.filter_tokens.specs.declared.token.TokenKind.TheVariants as token_kind
+use Rattle.filter_tokens.specs.ShownTokens.{shown_first, shown_token}
+use Rattle.filter_tokens.specs.Tokens.{IsTokens, Placed, first_token, is_blank, tokens_of}
+use Rattle.filter_tokens.specs.Tokens as Tokens
+use Rattle.filter_tokens.proofs.TokenListLemmas.{IsFront, all_read, front_more, no_front, tokens_exist}
 use Rattle.packet_filter.specs.declared.parser.Parser.{Parser}
 use Rattle.packet_filter.specs.declared.step.Step.{Step}
-use Rattle.packet_filter.specs.declared.token.Token.{Token}
-use Rattle.packet_filter.specs.declared.token.TokenKind.{TokenKind}
-use Rattle.packet_filter.specs.declared.token.TokenKind.TheVariants as token_kind
 use Rattle.packet_filter.specs.Grammar as Grammar
 use Rattle.packet_filter.specs.Grammar.{IsFilter, most_bytes, most_levels}
 use Rattle.packet_filter.specs.Parsing.{IsShown, state_of}
 use Rattle.packet_filter.specs.Refusals.{IsAllowed, IsFilterText, RefusesText}
-use Rattle.packet_filter.specs.Shown.{shown_first, shown_token}
 use Rattle.packet_filter.specs.States.{Frame, Reads, Runs, State, Stops, expression_of, first_state, more_tokens, no_tokens, settled}
-use Rattle.packet_filter.specs.Tokens.{IsTokens, Placed, first_token, is_blank, tokens_of}
-use Rattle.packet_filter.specs.Tokens as Tokens
 use Rattle.packet_filter.specs.Trees.{Expr, steps_of, steps_of_text}
 use Rattle.packet_filter.proofs.KindLemmas.{stops_kind}
 use Rattle.packet_filter.proofs.RunLemmas.{allowed_reads, filter_runs}
 use Rattle.packet_filter.proofs.RunOnceLemmas.{runs_joined, runs_once, stops_apart}
 use Rattle.packet_filter.proofs.StandLemmas.{runs_begin, runs_filter}
-use Rattle.packet_filter.proofs.TokenListLemmas.{IsFront, all_read, front_more, no_front, tokens_exist}
 
 -- ---- the next token
 

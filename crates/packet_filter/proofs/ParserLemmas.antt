@@ -2,18 +2,18 @@
 use Rattle.std.proofs.Common.{◌≡◌, ℕ, ◌<◌, Bool, List, [], ◌∷◌, Option, Result, Ok, Err, subst, sym, ◌∙◌, arith}
 use Rattle.std.proofs.lemmas.Grind.{common_steps}
 use Rattle.std.specs.Prelude.{IfOk}
-use Rattle.packet_filter.specs.declared.filter_error.FilterErrorKind.{FilterErrorKind}
+use Rattle.filter_tokens.specs.declared.filter_error.FilterErrorKind.{FilterErrorKind}
+use Rattle.filter_tokens.specs.declared.token.TokenKind.{TokenKind}
+use Rattle.filter_tokens.specs.declared.token.TokenKind.TheVariants as token_kind
+use Rattle.filter_tokens.specs.ShownTokens.{shown_token}
+use Rattle.filter_tokens.specs.Tokens.{word}
 use Rattle.packet_filter.specs.declared.head.Head.{Head}
 use Rattle.packet_filter.specs.declared.mode.Mode.{Mode}
 use Rattle.packet_filter.specs.declared.mode.Mode.TheVariants as mode
 use Rattle.packet_filter.specs.declared.parser.change.Change.{Change}
-use Rattle.packet_filter.specs.declared.token.TokenKind.{TokenKind}
-use Rattle.packet_filter.specs.declared.token.TokenKind.TheVariants as token_kind
 use Rattle.packet_filter.specs.Grammar.{most_levels}
 use Rattle.packet_filter.specs.Parsing.{HasNoExpression, IsChange, IsFrames, IsWithin, IsWordChange, state_in}
-use Rattle.packet_filter.specs.Shown.{shown_token}
 use Rattle.packet_filter.specs.States.{Frame, ReadsWord, State, completed, expression, left_of_and, left_of_or, levels_in, negating, open_level, opened}
-use Rattle.packet_filter.specs.Tokens.{word}
 use Rattle.packet_filter.specs.Trees.{Expr, negated}
 
 -- While an operand goes on, no frame is a complete expression.

@@ -6,37 +6,37 @@ use Rattle.std.specs.Str.Parse.{IsNumeral}
 use Rattle.std.proofs.lemmas.Fmt.{decimal_is_IsNumeral}
 use Rattle.std.specs.declared.net.ip_addr.IpAddr.{IpAddr}
 use Rattle.std.specs.declared.net.ip_addr.IpAddr.TheVariants.{V4, V6}
+use Rattle.filter_tokens.specs.declared.keyword.Keyword.TheVariants as name
+use Rattle.filter_tokens.specs.declared.network.Network.{Network}
+use Rattle.filter_tokens.specs.declared.primitive.FieldLayer.{FieldLayer}
+use Rattle.filter_tokens.specs.declared.primitive.Operand.{Operand}
+use Rattle.filter_tokens.specs.declared.primitive.AddressLayer.{AddressLayer}
+use Rattle.filter_tokens.specs.declared.primitive.Primitive.{Primitive}
+use Rattle.filter_tokens.specs.declared.primitive.Primitive.TheVariants as primitive
+use Rattle.filter_tokens.specs.declared.primitive.Relation.{Relation}
+use Rattle.filter_tokens.specs.declared.primitive.Relation.TheVariants as is
+use Rattle.filter_tokens.specs.declared.primitive.Side.{Side}
+use Rattle.filter_tokens.specs.declared.primitive.Width.{Width}
+use Rattle.filter_tokens.specs.declared.primitive.Width.TheVariants.{One, Two, Four}
+use Rattle.filter_tokens.specs.Tokens.{Token, keyword, word, relation, right_bracket, colon, slash, bar, wrong}
+use Rattle.filter_tokens.specs.Values.{IsDecimal, IsLeadingNumbers, IsLength, IsMask, IsNetworkText, IsNumberText, IsOctets, IsPortText, IsRangeText, IsSizeText, most_number}
+use Rattle.filter_tokens.proofs.OnceLemmas.{one_network}
+use Rattle.filter_tokens.proofs.ValueLemmas.{none_is_some}
 use Rattle.packet_filter.specs.declared.head.Head.{Head}
 use Rattle.packet_filter.specs.declared.head.Head.TheVariants as head
-use Rattle.packet_filter.specs.declared.keyword.Keyword.TheVariants as name
 use Rattle.packet_filter.specs.declared.mode.Comparison.{Comparison}
 use Rattle.packet_filter.specs.declared.mode.Mode.{Mode}
 use Rattle.packet_filter.specs.declared.mode.Mode.TheVariants as mode
 use Rattle.packet_filter.specs.declared.mode.Sided.{Sided}
-use Rattle.packet_filter.specs.declared.network.Network.{Network}
-use Rattle.packet_filter.specs.declared.primitive.FieldLayer.{FieldLayer}
-use Rattle.packet_filter.specs.declared.primitive.Operand.{Operand}
-use Rattle.packet_filter.specs.declared.primitive.AddressLayer.{AddressLayer}
-use Rattle.packet_filter.specs.declared.primitive.Primitive.{Primitive}
-use Rattle.packet_filter.specs.declared.primitive.Primitive.TheVariants as primitive
-use Rattle.packet_filter.specs.declared.primitive.Relation.{Relation}
-use Rattle.packet_filter.specs.declared.primitive.Relation.TheVariants as is
-use Rattle.packet_filter.specs.declared.primitive.Side.{Side}
-use Rattle.packet_filter.specs.declared.primitive.Width.{Width}
-use Rattle.packet_filter.specs.declared.primitive.Width.TheVariants.{One, Two, Four}
 use Rattle.packet_filter.specs.Grammar.{IsWordValue, most_levels}
 use Rattle.packet_filter.specs.Primitives.{length_test}
 use Rattle.packet_filter.specs.Refusals.{AwaitsConstant, EndsWith, IsAllowed, IsInTest}
 use Rattle.packet_filter.specs.States.{State, Reads, ReadsConstant, ReadsPrefix, ReadsValue, ReadsWord, Runs, IsAwaiting, after_value, first_state, group_mode, levels_in, more_tokens, no_tokens, qualified, read_in, read_left, side_head, union}
-use Rattle.packet_filter.specs.Tokens.{Token, keyword, word, relation, right_bracket, colon, slash, bar, wrong}
 use Rattle.packet_filter.specs.Trees.{test}
-use Rattle.packet_filter.specs.Values.{IsDecimal, IsLeadingNumbers, IsLength, IsMask, IsNetworkText, IsNumberText, IsOctets, IsPortText, IsRangeText, IsSizeText, most_number}
-use Rattle.packet_filter.proofs.OnceLemmas.{one_network}
 use Rattle.packet_filter.proofs.ReadingLemmas.{InConstant, InTest, IsEntered, Leads, completed_fits, reached}
 use Rattle.packet_filter.proofs.RunLemmas.{allowed_reads, runs_apart, runs_joined}
 use Rattle.packet_filter.proofs.RunOnceLemmas.{runs_first, stays}
 use Rattle.packet_filter.proofs.StandLemmas.{runs_begin}
-use Rattle.packet_filter.proofs.ValueLemmas.{none_is_some}
 
 -- ---- words
 

@@ -1,28 +1,12 @@
 -- Lemmas about the text of an expression, appended step by step.
-use Rattle.std.proofs.Common.{◌≡◌, ℕ, zero, suc, ◌≤◌, ◌<◌, ◌-◌, Bool, true, false, List, [], ◌∷◌, ◌++◌, length, take, drop, slice_index, codes, Option, Some, None, refl, ap, sym, ◌∙◌, append_assoc, arith, Result, Ok, Err}
+use Rattle.std.proofs.Common.{◌≡◌, ℕ, zero, suc, ◌≤◌, ◌<◌, ◌-◌, Bool, true, false, List, [], ◌∷◌, ◌++◌, length, take, drop, codes, Option, Some, None, refl, ap, sym, ◌∙◌, append_assoc, arith, Result, Ok, Err}
 use Rattle.std.specs.Prelude.{OnOk}
 use Rattle.std.proofs.lemmas.List.{append-nil, length-append, take_at}
+use Rattle.filter_tokens.specs.PrimitiveTexts.{primitive_text}
 use Rattle.packet_filter.specs.declared.step.Step.{Step}
 use Rattle.packet_filter.specs.declared.step.Step.TheVariants as step
-use Rattle.packet_filter.specs.Printing.{hex_pair, station_text, primitive_text, grouped, expression_text, ends_with_operator, opening, closing, openings, IsOpened, printed}
+use Rattle.packet_filter.specs.Printing.{grouped, expression_text, ends_with_operator, opening, closing, openings, IsOpened, printed}
 use Rattle.packet_filter.specs.Trees.{Expr, test, negated, both, either, steps_of, steps_of_text}
-
--- ---- MAC addresses
-
--- The text of six bytes.
-pub station_of_six : (station : List ℕ) → length station ≡ 6
-    → station_text station
-    ≡ (hex_pair (slice_index station 0) ++ codes ":") ++ ((hex_pair (slice_index station 1) ++ codes ":")
-    ++ ((hex_pair (slice_index station 2) ++ codes ":") ++ ((hex_pair (slice_index station 3) ++ codes ":")
-    ++ ((hex_pair (slice_index station 4) ++ codes ":") ++ hex_pair (slice_index station 5)))))
-station_of_six [] long = absurd (omega (arith, long))
-station_of_six (a ∷ []) long = absurd (omega (arith, long))
-station_of_six (a ∷ b ∷ []) long = absurd (omega (arith, long))
-station_of_six (a ∷ b ∷ c ∷ []) long = absurd (omega (arith, long))
-station_of_six (a ∷ b ∷ c ∷ d ∷ []) long = absurd (omega (arith, long))
-station_of_six (a ∷ b ∷ c ∷ d ∷ e ∷ []) long = absurd (omega (arith, long))
-station_of_six (a ∷ b ∷ c ∷ d ∷ e ∷ f ∷ []) long = refl
-station_of_six (a ∷ b ∷ c ∷ d ∷ e ∷ f ∷ g ∷ more) long = absurd (omega (arith, long))
 
 -- ---- the steps of an expression
 

@@ -1,32 +1,32 @@
 -- The grammar holds of a token after the tokens of a state: operands that end, and operands that begin.
 use Rattle.std.proofs.Common.{◌≡◌, ℕ, zero, suc, Bool, true, false, cond, ltb, List, [], ◌∷◌, ◌++◌, Option, Some, None, Ok, Err, refl, subst, arith}
 use Rattle.std.proofs.lemmas.Bool.{ltb-true}
-use Rattle.packet_filter.specs.declared.filter_error.FilterErrorKind.{FilterErrorKind}
+use Rattle.filter_tokens.specs.declared.filter_error.FilterErrorKind.{FilterErrorKind}
+use Rattle.filter_tokens.specs.declared.keyword.Keyword.{Keyword}
+use Rattle.filter_tokens.specs.declared.keyword.Keyword.TheVariants as name
+use Rattle.filter_tokens.specs.declared.network.Network.{Network}
+use Rattle.filter_tokens.specs.declared.primitive.AddressLayer.{AddressLayer}
+use Rattle.filter_tokens.specs.declared.primitive.AddressLayer.TheVariants as of
+use Rattle.filter_tokens.specs.declared.primitive.FieldLayer.TheVariants as field
+use Rattle.filter_tokens.specs.declared.primitive.IpVersion.TheVariants as version
+use Rattle.filter_tokens.specs.declared.primitive.Operand.{Operand}
+use Rattle.filter_tokens.specs.declared.primitive.Operand.TheVariants.{Length}
+use Rattle.filter_tokens.specs.declared.primitive.PortProtocol.TheVariants as protocol
+use Rattle.filter_tokens.specs.declared.primitive.Primitive.{Primitive}
+use Rattle.filter_tokens.specs.declared.primitive.Primitive.TheVariants as primitive
+use Rattle.filter_tokens.specs.declared.primitive.Relation.{Relation}
+use Rattle.filter_tokens.specs.declared.primitive.Relation.TheVariants as comparison
+use Rattle.filter_tokens.specs.declared.primitive.Side.{Side}
+use Rattle.filter_tokens.specs.declared.primitive.Side.TheVariants.{Source, Destination, Either}
+use Rattle.filter_tokens.specs.Tokens.{Token, keyword, and, or, not, left_parenthesis, right_parenthesis}
 use Rattle.packet_filter.specs.declared.head.Head.{Head}
 use Rattle.packet_filter.specs.declared.head.Head.TheVariants as head
-use Rattle.packet_filter.specs.declared.keyword.Keyword.{Keyword}
-use Rattle.packet_filter.specs.declared.keyword.Keyword.TheVariants as name
 use Rattle.packet_filter.specs.declared.mode.Mode.{Mode}
 use Rattle.packet_filter.specs.declared.mode.Mode.TheVariants as mode
 use Rattle.packet_filter.specs.declared.mode.Sided.TheVariants.{Addresses}
-use Rattle.packet_filter.specs.declared.network.Network.{Network}
-use Rattle.packet_filter.specs.declared.primitive.AddressLayer.{AddressLayer}
-use Rattle.packet_filter.specs.declared.primitive.AddressLayer.TheVariants as of
-use Rattle.packet_filter.specs.declared.primitive.FieldLayer.TheVariants as field
-use Rattle.packet_filter.specs.declared.primitive.IpVersion.TheVariants as version
-use Rattle.packet_filter.specs.declared.primitive.Operand.{Operand}
-use Rattle.packet_filter.specs.declared.primitive.Operand.TheVariants.{Length}
-use Rattle.packet_filter.specs.declared.primitive.PortProtocol.TheVariants as protocol
-use Rattle.packet_filter.specs.declared.primitive.Primitive.{Primitive}
-use Rattle.packet_filter.specs.declared.primitive.Primitive.TheVariants as primitive
-use Rattle.packet_filter.specs.declared.primitive.Relation.{Relation}
-use Rattle.packet_filter.specs.declared.primitive.Relation.TheVariants as comparison
-use Rattle.packet_filter.specs.declared.primitive.Side.{Side}
-use Rattle.packet_filter.specs.declared.primitive.Side.TheVariants.{Source, Destination, Either}
 use Rattle.packet_filter.specs.Grammar.{IsBare, IsHead, IsValue, access, any_layer, any_protocol, any_version, bare_ah, bare_arp, bare_broadcast, bare_comparison, bare_esp, bare_icmp, bare_icmp6, bare_igmp, bare_ip, bare_ip6, bare_multicast, bare_sctp, bare_tcp, bare_udp, bare_vlan, destination, head_host, head_net, head_port, head_port_range, head_proto, len, no_side, one_word, source}
 use Rattle.packet_filter.specs.Primitives.{ethernet_broadcast, ethernet_multicast, number_test, protocol_test}
 use Rattle.packet_filter.specs.States.{Frame, State, Reading, expression, left_of_and, left_of_or, negating, opened, close_frames, finish_bare, join_frames, layer_primitive, levels_in, open_level, qualified, read_after, read_keyword, read_operand, settled_in, settled_layer}
-use Rattle.packet_filter.specs.Tokens.{Token, keyword, and, or, not, left_parenthesis, right_parenthesis}
 use Rattle.packet_filter.proofs.ContextLemmas.{Context, Filled, after_and, after_not, after_open, after_or, at_once, close, context_levels, filled}
 use Rattle.packet_filter.proofs.Standing.{After, IsPart, IsValuePart, Stands, StandsIn, bare_fills, begin, head_context, part_greater, part_host, part_layer, part_left, part_less, part_net, part_side, part_test, part_vlan, sided_addresses, value_fills}
 

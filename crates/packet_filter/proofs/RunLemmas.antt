@@ -1,16 +1,16 @@
 -- Lemmas about filter expressions: the parser reads what the grammar says.
 use Rattle.std.proofs.Common.{◌≡◌, ℕ, ◌+◌, ◌≤◌, inl, inr, Bool, true, false, List, [], ◌∷◌, ◌++◌, Option, Some, None, refl, ap, sym, subst, ◌∙◌, arith}
+use Rattle.filter_tokens.specs.declared.primitive.Primitive.{Primitive}
+use Rattle.filter_tokens.specs.declared.primitive.Side.{Side}
+use Rattle.filter_tokens.specs.declared.primitive.Side.TheVariants.{Source, Destination, Either, Both}
+use Rattle.filter_tokens.specs.Tokens.{Token, word, not, left_parenthesis, right_parenthesis}
 use Rattle.packet_filter.specs.declared.head.Head.{Head}
 use Rattle.packet_filter.specs.declared.mode.Mode.TheVariants as mode
 use Rattle.packet_filter.specs.declared.mode.Sided.{Sided}
-use Rattle.packet_filter.specs.declared.primitive.Primitive.{Primitive}
-use Rattle.packet_filter.specs.declared.primitive.Side.{Side}
-use Rattle.packet_filter.specs.declared.primitive.Side.TheVariants.{Source, Destination, Either, Both}
 use Rattle.packet_filter.specs.Grammar
 use Rattle.packet_filter.specs.Grammar.{IsExpression, IsFilter, IsJoinedValues, IsOperand, IsValue, IsValues}
 use Rattle.packet_filter.specs.Refusals.{BeginsFilter, IsAllowed}
 use Rattle.packet_filter.specs.States.{State, Frame, Reads, ReadsValue, Runs, completed, expression, expression_of, first_state, left_of_and, left_of_or, levels_in, more_tokens, negating, no_tokens, opened, read_side, read_side_values, settled, side_head}
-use Rattle.packet_filter.specs.Tokens.{Token, word, not, left_parenthesis, right_parenthesis}
 use Rattle.packet_filter.specs.Trees.{Expr, negated, both, either}
 use Rattle.packet_filter.proofs.OperandLemmas.{IsReady, Settles, bare_settles, close_reads, complete_state, head_runs, opens, operand_state, operator_reads, same_state, value_settles}
 use Rattle.packet_filter.proofs.RunOnceLemmas.{runs_apart, runs_first, runs_joined, runs_once}

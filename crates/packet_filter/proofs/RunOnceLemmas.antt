@@ -5,24 +5,25 @@ use Rattle.std.specs.List.{list_any}
 use Rattle.std.specs.Str.Parse.{IsNumeral}
 use Rattle.std.proofs.lemmas.Str.Parse.{digit_from_value}
 use Rattle.std.specs.declared.net.ip_addr.IpAddr.{IpAddr}
-use Rattle.packet_filter.specs.declared.filter_error.FilterErrorKind.{FilterErrorKind}
-use Rattle.packet_filter.specs.declared.filter_error.FilterErrorKind.TheVariants as kind
+use Rattle.filter_tokens.specs.declared.filter_error.FilterErrorKind.{FilterErrorKind}
+use Rattle.filter_tokens.specs.declared.filter_error.FilterErrorKind.TheVariants as kind
+use Rattle.filter_tokens.specs.declared.primitive.AddressLayer.{AddressLayer}
+use Rattle.filter_tokens.specs.declared.primitive.Primitive.TheVariants as primitive
+use Rattle.filter_tokens.specs.declared.primitive.Side.{Side}
+use Rattle.filter_tokens.specs.declared.primitive.Side.TheVariants.{Source, Destination}
+use Rattle.filter_tokens.specs.declared.primitive.Width.{Width}
+use Rattle.filter_tokens.specs.Networks.{has_no_host_bits}
+use Rattle.filter_tokens.specs.Tokens.{Token, keyword, word, and, or, not, left_parenthesis, wrong, is_digit}
+use Rattle.filter_tokens.specs.Values.{IsLength, IsMask, IsNumberText, most_number}
+use Rattle.filter_tokens.proofs.OnceLemmas.{one_constant, one_length, one_mask, one_number, one_size}
+use Rattle.filter_tokens.proofs.ValueLemmas.{decimal_digits}
 use Rattle.packet_filter.specs.declared.head.Head.{Head}
 use Rattle.packet_filter.specs.declared.mode.Mode.{Mode}
 use Rattle.packet_filter.specs.declared.mode.Mode.TheVariants as mode
 use Rattle.packet_filter.specs.declared.mode.Sided.{Sided}
-use Rattle.packet_filter.specs.declared.primitive.AddressLayer.{AddressLayer}
-use Rattle.packet_filter.specs.declared.primitive.Primitive.TheVariants as primitive
-use Rattle.packet_filter.specs.declared.primitive.Side.{Side}
-use Rattle.packet_filter.specs.declared.primitive.Side.TheVariants.{Source, Destination}
-use Rattle.packet_filter.specs.declared.primitive.Width.{Width}
-use Rattle.packet_filter.specs.Networks.{has_no_host_bits}
 use Rattle.packet_filter.specs.Primitives.{length_test}
 use Rattle.packet_filter.specs.States.{State, Frame, Reading, Reads, ReadsConstant, ReadsPrefix, ReadsValue, ReadsWord, Runs, Stops, StopsConstant, StopsPrefix, StopsSide, StopsValue, StopsWord, after_value, finish_bare, finish_value, group_mode, in_mode, levels_in, more_tokens, negating, no_tokens, open_level, opened, qualified, read_in, read_operand, read_side, read_side_values, read_sided, side_head, union}
-use Rattle.packet_filter.specs.Tokens.{Token, keyword, word, and, or, not, left_parenthesis, wrong, is_digit}
-use Rattle.packet_filter.specs.Values.{IsLength, IsMask, IsNumberText, most_number}
-use Rattle.packet_filter.proofs.OnceLemmas.{one_constant, one_length, one_mask, one_number, one_size, one_value}
-use Rattle.packet_filter.proofs.ValueLemmas.{decimal_digits}
+use Rattle.packet_filter.proofs.OneValueLemmas.{one_value}
 
 -- ---- words
 

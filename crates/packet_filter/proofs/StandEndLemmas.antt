@@ -2,35 +2,35 @@
 use Rattle.std.proofs.Common.{◌≡◌, ℕ, Bool, true, false, List, [], ◌∷◌, ◌++◌, Option, Some, None, refl, ap, sym, ◌∙◌, subst, append_assoc, codes, decimal, ◌⊎◌, inl, inr, ⊎_elim}
 use Rattle.std.specs.declared.net.ip_addr.IpAddr.{IpAddr}
 use Rattle.std.specs.declared.net.ip_addr.IpAddr.TheVariants.{V4}
+use Rattle.filter_tokens.specs.declared.keyword.Keyword.{Keyword}
+use Rattle.filter_tokens.specs.declared.keyword.Keyword.TheVariants as name
+use Rattle.filter_tokens.specs.declared.primitive.AddressLayer.{AddressLayer}
+use Rattle.filter_tokens.specs.declared.primitive.FieldLayer.{FieldLayer}
+use Rattle.filter_tokens.specs.declared.primitive.IpVersion.TheVariants as version
+use Rattle.filter_tokens.specs.declared.primitive.Operand.{Operand}
+use Rattle.filter_tokens.specs.declared.primitive.Operand.TheVariants.{Bytes}
+use Rattle.filter_tokens.specs.declared.primitive.Primitive.{Primitive}
+use Rattle.filter_tokens.specs.declared.primitive.Primitive.TheVariants as primitive
+use Rattle.filter_tokens.specs.declared.primitive.Relation.{Relation}
+use Rattle.filter_tokens.specs.declared.primitive.Relation.TheVariants as comparison
+use Rattle.filter_tokens.specs.declared.primitive.Side.{Side}
+use Rattle.filter_tokens.specs.declared.primitive.Side.TheVariants.{Source, Destination, Either, Both}
+use Rattle.filter_tokens.specs.declared.primitive.Width.{Width}
+use Rattle.filter_tokens.specs.declared.primitive.Width.TheVariants.{One}
 use Rattle.packet_filter.specs.declared.head.Head.{Head}
 use Rattle.packet_filter.specs.declared.head.Head.TheVariants as head
-use Rattle.packet_filter.specs.declared.keyword.Keyword.{Keyword}
-use Rattle.packet_filter.specs.declared.keyword.Keyword.TheVariants as name
 use Rattle.packet_filter.specs.declared.mode.Comparison.{Comparison}
 use Rattle.packet_filter.specs.declared.mode.Mode.{Mode}
 use Rattle.packet_filter.specs.declared.mode.Mode.TheVariants as mode
 use Rattle.packet_filter.specs.declared.mode.Sided.{Sided}
 use Rattle.packet_filter.specs.declared.mode.Sided.TheVariants.{Addresses, Stations, Ports}
-use Rattle.packet_filter.specs.declared.primitive.AddressLayer.{AddressLayer}
-use Rattle.packet_filter.specs.declared.primitive.FieldLayer.{FieldLayer}
-use Rattle.packet_filter.specs.declared.primitive.IpVersion.TheVariants as version
-use Rattle.packet_filter.specs.declared.primitive.Operand.{Operand}
-use Rattle.packet_filter.specs.declared.primitive.Operand.TheVariants.{Bytes}
-use Rattle.packet_filter.specs.declared.primitive.Primitive.{Primitive}
-use Rattle.packet_filter.specs.declared.primitive.Primitive.TheVariants as primitive
-use Rattle.packet_filter.specs.declared.primitive.Relation.{Relation}
-use Rattle.packet_filter.specs.declared.primitive.Relation.TheVariants as comparison
-use Rattle.packet_filter.specs.declared.primitive.Side.{Side}
-use Rattle.packet_filter.specs.declared.primitive.Side.TheVariants.{Source, Destination, Either, Both}
-use Rattle.packet_filter.specs.declared.primitive.Width.{Width}
-use Rattle.packet_filter.specs.declared.primitive.Width.TheVariants.{One}
 use Rattle.std.proofs.lemmas.List.{append-nil}
+use Rattle.filter_tokens.specs.Tokens.{Token, keyword, word, relation, left_bracket, right_bracket, right_parenthesis}
+use Rattle.filter_tokens.specs.Networks.{address_width}
 use Rattle.packet_filter.specs.Grammar.{IsBare, IsHead, IsValue, bare_comparison, bare_tcp, bare_vlan, constant, one_group, one_word, with_length, with_mask, src, dst}
 use Rattle.packet_filter.specs.Primitives.{number_test, protocol_test}
 use Rattle.packet_filter.specs.States.{Frame, State, completed, finish_value, group_mode, union}
-use Rattle.packet_filter.specs.Tokens.{Token, keyword, word, relation, left_bracket, right_bracket, right_parenthesis}
 use Rattle.packet_filter.specs.Trees.{test}
-use Rattle.packet_filter.specs.Networks.{address_width}
 use Rattle.packet_filter.proofs.ContextLemmas.{Context, Filled, context_head}
 use Rattle.packet_filter.proofs.Standing.{After, IsFirstSide, IsPart, IsValuePart, StandsIn, bare_fills, begin, destination_and_next, destination_or_next, head_context, part_first_side, source_and_next, source_or_next, part_layer, part_length, part_mask, part_vlan, value_fills}
 use Rattle.packet_filter.proofs.ReadLemmas.{settle, test_bare}

@@ -1,10 +1,10 @@
 -- The grammar of filter expressions holds of what the parser reads.
 use Rattle.std.proofs.Common.{◌≡◌, ℕ, ◌≤◌, inl, inr, Bool, true, List, ◌++◌, length, Option, Some, None, refl, sym, subst, subst₂, append_assoc, arith}
+use Rattle.filter_tokens.specs.Tokens.{Token}
 use Rattle.packet_filter.specs.declared.head.Head.{Head}
 use Rattle.packet_filter.specs.Grammar.{IsFilter}
 use Rattle.packet_filter.specs.Refusals.{Awaits, BeginsFilter}
 use Rattle.packet_filter.specs.States.{State, IsAwaiting, Runs, expression_of, first_state, settled}
-use Rattle.packet_filter.specs.Tokens.{Token}
 use Rattle.packet_filter.specs.Trees.{Expr}
 use Rattle.packet_filter.proofs.ContextLemmas.{Context, context_awaits, context_levels, filled_ends, filled_filter}
 use Rattle.packet_filter.proofs.Standing.{StandsIn}

@@ -2,29 +2,29 @@
 use Rattle.std.proofs.Common.{◌≡◌, ℕ, suc, Bool, true, false, List, [], ◌∷◌, ◌++◌, Option, Some, None, Ok, refl, ap, sym, ◌∙◌, subst, append_assoc}
 use Rattle.std.specs.declared.net.ip_addr.IpAddr.{IpAddr}
 use Rattle.std.specs.declared.net.ip_addr.IpAddr.TheVariants.{V4}
+use Rattle.filter_tokens.specs.declared.primitive.AddressLayer.{AddressLayer}
+use Rattle.filter_tokens.specs.declared.primitive.FieldLayer.{FieldLayer}
+use Rattle.filter_tokens.specs.declared.primitive.Operand.{Operand}
+use Rattle.filter_tokens.specs.declared.primitive.Operand.TheVariants.{Bytes}
+use Rattle.filter_tokens.specs.declared.primitive.Primitive.{Primitive}
+use Rattle.filter_tokens.specs.declared.primitive.Primitive.TheVariants as primitive
+use Rattle.filter_tokens.specs.declared.primitive.Relation.{Relation}
+use Rattle.filter_tokens.specs.declared.primitive.Side.{Side}
+use Rattle.filter_tokens.specs.declared.primitive.Width.{Width}
+use Rattle.filter_tokens.specs.declared.primitive.Width.TheVariants.{One}
 use Rattle.packet_filter.specs.declared.head.Head.{Head}
 use Rattle.packet_filter.specs.declared.head.Head.TheVariants as head
 use Rattle.packet_filter.specs.declared.mode.Comparison.{Comparison}
 use Rattle.packet_filter.specs.declared.mode.Mode.{Mode}
 use Rattle.packet_filter.specs.declared.mode.Mode.TheVariants as mode
 use Rattle.packet_filter.specs.declared.mode.Sided.{Sided}
-use Rattle.packet_filter.specs.declared.primitive.AddressLayer.{AddressLayer}
-use Rattle.packet_filter.specs.declared.primitive.FieldLayer.{FieldLayer}
-use Rattle.packet_filter.specs.declared.primitive.Operand.{Operand}
-use Rattle.packet_filter.specs.declared.primitive.Operand.TheVariants.{Bytes}
-use Rattle.packet_filter.specs.declared.primitive.Primitive.{Primitive}
-use Rattle.packet_filter.specs.declared.primitive.Primitive.TheVariants as primitive
-use Rattle.packet_filter.specs.declared.primitive.Relation.{Relation}
-use Rattle.packet_filter.specs.declared.primitive.Side.{Side}
-use Rattle.packet_filter.specs.declared.primitive.Width.{Width}
-use Rattle.packet_filter.specs.declared.primitive.Width.TheVariants.{One}
 use Rattle.std.proofs.lemmas.List.{append-nil}
+use Rattle.filter_tokens.specs.Networks.{has_no_host_bits}
+use Rattle.filter_tokens.specs.Tokens.{Token, word, relation, left_parenthesis, right_parenthesis, right_bracket, colon, slash, ampersand, bar, wrong}
+use Rattle.filter_tokens.specs.Values.{IsConstant, IsFamily, IsLength, IsMask, IsNumberText, IsSizeText, most_number}
 use Rattle.packet_filter.specs.Grammar.{IsBare, IsLeft, IsUnion, IsValue, IsWordValue, access, bare_greater, bare_less, bare_vlan_with, constant, in_parentheses, left_in_parentheses, more_constants, one_byte, one_constant, one_word, with_length, with_mask, with_size}
-use Rattle.packet_filter.specs.Networks.{has_no_host_bits}
 use Rattle.packet_filter.specs.Primitives.{length_test}
 use Rattle.packet_filter.specs.States.{Frame, State, Reads, ReadsValue, ReadsWord, Runs, opened, after_value, close_left, comparing, finish_bare, first_state, group_mode, in_mode, masking, more_tokens, no_tokens, qualified, read_group, read_group_end, read_in, read_left, read_offset_end, read_size_end, read_test, side_head, union}
-use Rattle.packet_filter.specs.Tokens.{Token, word, relation, left_parenthesis, right_parenthesis, right_bracket, colon, slash, ampersand, bar, wrong}
-use Rattle.packet_filter.specs.Values.{IsConstant, IsFamily, IsLength, IsMask, IsNumberText, IsSizeText, most_number}
 use Rattle.packet_filter.proofs.ContextLemmas.{Context, at_once, at_start, unopened}
 use Rattle.packet_filter.proofs.Standing.{After, IsItems, IsPart, IsValuePart, Stands, StandsIn, bare_fills, begin, compares, compares_more, extend, group_part, masks, no_items, part_greater, part_group, part_host, part_item, part_item_end, part_left, part_length, part_less, part_mask, part_net, part_offset, part_offset_end, part_size, part_size_end, part_test, part_vlan, some_items, value_fills}
 use Rattle.packet_filter.proofs.ReadLemmas.{after_reads, operand_reads, read_ok, refused, settle}

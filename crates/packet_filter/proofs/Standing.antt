@@ -3,31 +3,31 @@ use Rattle.std.proofs.Common.{◌≡◌, ℕ, Bool, true, false, List, [], ◌�
 use Rattle.std.specs.declared.net.ip_addr.IpAddr.{IpAddr}
 use Rattle.std.specs.declared.net.ip_addr.IpAddr.TheVariants.{V4}
 use Rattle.std.specs.declared.net.ipv4_addr.Ipv4Addr.{Ipv4Addr}
+use Rattle.filter_tokens.specs.declared.keyword.Keyword.{Keyword}
+use Rattle.filter_tokens.specs.declared.keyword.Keyword.TheVariants as name
+use Rattle.filter_tokens.specs.declared.network.Network.{Network}
+use Rattle.filter_tokens.specs.declared.primitive.AddressLayer.{AddressLayer}
+use Rattle.filter_tokens.specs.declared.primitive.FieldLayer.{FieldLayer}
+use Rattle.filter_tokens.specs.declared.primitive.Operand.{Operand}
+use Rattle.filter_tokens.specs.declared.primitive.PortProtocol.{PortProtocol}
+use Rattle.filter_tokens.specs.declared.primitive.Primitive.{Primitive}
+use Rattle.filter_tokens.specs.declared.primitive.Relation.{Relation}
+use Rattle.filter_tokens.specs.declared.primitive.Relation.TheVariants as comparison
+use Rattle.filter_tokens.specs.declared.primitive.Side.{Side}
+use Rattle.filter_tokens.specs.declared.primitive.Side.TheVariants.{Source, Destination, Either, Both}
+use Rattle.filter_tokens.specs.declared.primitive.Width.{Width}
+use Rattle.filter_tokens.specs.Tokens.{Token, keyword, word, and, or, relation, left_parenthesis, left_bracket, colon, slash, ampersand, bar}
+use Rattle.filter_tokens.specs.Values.{IsConstant, IsFamily, IsNetworkText, IsSizeText}
 use Rattle.packet_filter.specs.declared.head.Head.{Head}
 use Rattle.packet_filter.specs.declared.head.Head.TheVariants as head
-use Rattle.packet_filter.specs.declared.keyword.Keyword.{Keyword}
-use Rattle.packet_filter.specs.declared.keyword.Keyword.TheVariants as name
 use Rattle.packet_filter.specs.declared.mode.Comparison.{Comparison}
 use Rattle.packet_filter.specs.declared.mode.Mode.{Mode}
 use Rattle.packet_filter.specs.declared.mode.Mode.TheVariants as mode
 use Rattle.packet_filter.specs.declared.mode.Sided.{Sided}
 use Rattle.packet_filter.specs.declared.mode.Sided.TheVariants.{Addresses, Stations, Ports}
-use Rattle.packet_filter.specs.declared.network.Network.{Network}
-use Rattle.packet_filter.specs.declared.primitive.AddressLayer.{AddressLayer}
-use Rattle.packet_filter.specs.declared.primitive.FieldLayer.{FieldLayer}
-use Rattle.packet_filter.specs.declared.primitive.Operand.{Operand}
-use Rattle.packet_filter.specs.declared.primitive.PortProtocol.{PortProtocol}
-use Rattle.packet_filter.specs.declared.primitive.Primitive.{Primitive}
-use Rattle.packet_filter.specs.declared.primitive.Relation.{Relation}
-use Rattle.packet_filter.specs.declared.primitive.Relation.TheVariants as comparison
-use Rattle.packet_filter.specs.declared.primitive.Side.{Side}
-use Rattle.packet_filter.specs.declared.primitive.Side.TheVariants.{Source, Destination, Either, Both}
-use Rattle.packet_filter.specs.declared.primitive.Width.{Width}
 use Rattle.packet_filter.specs.Grammar.{IsAddressLayer, IsBare, IsField, IsGroup, IsHead, IsLeft, IsPortProtocol, IsRight, IsSide, IsUnion, IsValue, IsWordValue, bare, in_force, masked, more_groups, one_group, value, src, dst}
 use Rattle.packet_filter.specs.States.{Frame, State, completed, field_of, group_mode, masking, comparing}
-use Rattle.packet_filter.specs.Tokens.{Token, keyword, word, and, or, relation, left_parenthesis, left_bracket, colon, slash, ampersand, bar}
 use Rattle.packet_filter.specs.Trees.{test}
-use Rattle.packet_filter.specs.Values.{IsConstant, IsFamily, IsNetworkText, IsSizeText}
 use Rattle.packet_filter.proofs.ContextLemmas.{Context, Filled, IsFilling, after_head, fill}
 
 -- The tokens are those of a context and a part of an operand.

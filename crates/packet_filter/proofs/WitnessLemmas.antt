@@ -8,17 +8,17 @@ use Rattle.std.specs.declared.net.ipv4_addr.Ipv4Addr.{Ipv4Addr}
 use Rattle.std.specs.declared.net.ipv6_addr.Ipv6Addr.{Ipv6Addr}
 use Rattle.std.proofs.lemmas.Fmt.{decimal_digit}
 use Rattle.std.proofs.lemmas.Slice.Eq.{bytes_eq-Decides}
+use Rattle.filter_tokens.specs.declared.network.Network.{Network}
+use Rattle.filter_tokens.specs.declared.primitive.AddressLayer.{AddressLayer}
+use Rattle.filter_tokens.specs.declared.primitive.AddressLayer.TheVariants as of
+use Rattle.filter_tokens.specs.declared.primitive.Primitive.{Primitive}
+use Rattle.filter_tokens.specs.declared.primitive.Primitive.TheVariants as primitive
+use Rattle.filter_tokens.specs.declared.primitive.Width.TheVariants.{One}
+use Rattle.filter_tokens.specs.Networks.{address_bytes, address_width, has_no_host_bits, kept_bits, network_bytes}
+use Rattle.filter_tokens.specs.Values.{IsConstant, IsFamily, IsLeadingNumbers, IsLength, IsMask, IsNetworkText, IsNumberText, IsPortText, IsSizeText, IsStation, most_number}
 use Rattle.packet_filter.specs.declared.head.Head.{Head}
 use Rattle.packet_filter.specs.declared.head.Head.TheVariants as head
-use Rattle.packet_filter.specs.declared.network.Network.{Network}
-use Rattle.packet_filter.specs.declared.primitive.AddressLayer.{AddressLayer}
-use Rattle.packet_filter.specs.declared.primitive.AddressLayer.TheVariants as of
-use Rattle.packet_filter.specs.declared.primitive.Primitive.{Primitive}
-use Rattle.packet_filter.specs.declared.primitive.Primitive.TheVariants as primitive
-use Rattle.packet_filter.specs.declared.primitive.Width.TheVariants.{One}
 use Rattle.packet_filter.specs.Grammar.{IsWordValue}
-use Rattle.packet_filter.specs.Networks.{address_bytes, address_width, has_no_host_bits, kept_bits, network_bytes}
-use Rattle.packet_filter.specs.Values.{IsConstant, IsFamily, IsLeadingNumbers, IsLength, IsMask, IsNetworkText, IsNumberText, IsPortText, IsSizeText, IsStation, most_number}
 
 -- ---- numbers
 

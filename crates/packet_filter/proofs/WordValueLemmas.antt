@@ -1,15 +1,15 @@
 -- Lemmas about words that are no values.
 use Rattle.std.proofs.Common.{ℕ, ◌≤◌, List}
+use Rattle.filter_tokens.specs.declared.network.Network.{Network}
+use Rattle.filter_tokens.specs.declared.primitive.AddressLayer.{AddressLayer}
+use Rattle.filter_tokens.specs.declared.primitive.IpVersion.{IpVersion}
+use Rattle.filter_tokens.specs.declared.primitive.PortProtocol.{PortProtocol}
+use Rattle.filter_tokens.specs.declared.primitive.Primitive.{Primitive}
+use Rattle.filter_tokens.specs.declared.primitive.Primitive.TheVariants as primitive
+use Rattle.filter_tokens.specs.declared.primitive.Side.{Side}
+use Rattle.filter_tokens.specs.Values.{IsFamily, IsNetworkText, IsNumberText, IsPortText, IsRangeText}
 use Rattle.packet_filter.specs.declared.head.Head.TheVariants as head
-use Rattle.packet_filter.specs.declared.network.Network.{Network}
-use Rattle.packet_filter.specs.declared.primitive.AddressLayer.{AddressLayer}
-use Rattle.packet_filter.specs.declared.primitive.IpVersion.{IpVersion}
-use Rattle.packet_filter.specs.declared.primitive.PortProtocol.{PortProtocol}
-use Rattle.packet_filter.specs.declared.primitive.Primitive.{Primitive}
-use Rattle.packet_filter.specs.declared.primitive.Primitive.TheVariants as primitive
-use Rattle.packet_filter.specs.declared.primitive.Side.{Side}
 use Rattle.packet_filter.specs.Grammar.{IsWordValue}
-use Rattle.packet_filter.specs.Values.{IsFamily, IsNetworkText, IsNumberText, IsPortText, IsRangeText}
 
 -- Primitives of other kinds are no values of the head.
 pub no_net : (layer : AddressLayer) (side : Side) (text : List ℕ)

@@ -4,13 +4,13 @@ use Rattle.std.specs.List.{All, list_any}
 use Rattle.std.specs.List.Sorted.{IsPermutation}
 use Rattle.std.specs.Option.{option_map_or}
 use Rattle.std.specs.Str.{bytes_eq}
+use Rattle.filter_tokens.specs.declared.network.Network.{Network}
+use Rattle.filter_tokens.specs.declared.primitive.Side.TheVariants.{Both}
+use Rattle.filter_tokens.specs.Networks.{bytes_of}
 use Rattle.packet_filter.specs.declared.host_set.HostSet.{HostSet}
-use Rattle.packet_filter.specs.declared.network.Network.{Network}
-use Rattle.packet_filter.specs.declared.primitive.Side.TheVariants.{Both}
 use Rattle.packet_filter.specs.declared.step.Step.{Step}
 use Rattle.packet_filter.specs.HostRuns.{IsHost, host_number, or_hosts}
 use Rattle.packet_filter.specs.Meaning.{at_side_of}
-use Rattle.packet_filter.specs.Networks.{bytes_of}
 use Rattle.packet_filter.specs.Packets.{Packet, addresses_of}
 
 -- Steps that begin with the hosts of a set.

@@ -1,4 +1,3 @@
-pub mod Networks
 pub mod Trees
 pub mod Packets
 pub mod Shown
@@ -6,13 +5,20 @@ pub mod Meaning
 pub mod Running
 pub mod HostRuns
 pub mod HostSets
-pub mod Names
-pub mod Tokens
-pub mod Values
 pub mod Primitives
 pub mod Grammar
 pub mod Refusals
 pub mod States
 pub mod Parsing
 pub mod Printing
-pub mod KindTexts
+-- Definitions and types of the crate below that contracts use
+pub use Rattle.filter_tokens.specs.KindTexts
+pub use Rattle.filter_tokens.specs.Names
+pub use Rattle.filter_tokens.specs.Networks
+pub use Rattle.filter_tokens.specs.PrimitiveTexts
+pub use Rattle.filter_tokens.specs.Tokens
+pub use Rattle.filter_tokens.specs.Values
+pub use Rattle.filter_tokens.specs.declared.filter_error.FilterError
+pub use Rattle.filter_tokens.specs.declared.filter_error.FilterErrorKind
+pub use Rattle.filter_tokens.specs.declared.network.Network
+pub use Rattle.filter_tokens.specs.declared.primitive.Primitive

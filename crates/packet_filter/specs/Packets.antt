@@ -17,12 +17,12 @@ use Rattle.ep_packet.specs.Offsets.{link_len, tags_len}
 use Rattle.ep_packet.specs.PayloadStarts.{begins_payload}
 use Rattle.ep_lax.specs.LaxLayers.{LaxLayers}
 use Rattle.ep_lax.specs.StrictFrames.{extension_in}
-use Rattle.packet_filter.specs.declared.primitive.AddressLayer.{AddressLayer}
-use Rattle.packet_filter.specs.declared.primitive.AddressLayer.TheVariants as of
-use Rattle.packet_filter.specs.declared.primitive.FieldLayer.{FieldLayer}
-use Rattle.packet_filter.specs.declared.primitive.FieldLayer.TheVariants as field
-use Rattle.packet_filter.specs.declared.primitive.IpVersion.{IpVersion}
-use Rattle.packet_filter.specs.declared.primitive.IpVersion.TheVariants as version
+use Rattle.filter_tokens.specs.declared.primitive.AddressLayer.{AddressLayer}
+use Rattle.filter_tokens.specs.declared.primitive.AddressLayer.TheVariants as of
+use Rattle.filter_tokens.specs.declared.primitive.FieldLayer.{FieldLayer}
+use Rattle.filter_tokens.specs.declared.primitive.FieldLayer.TheVariants as field
+use Rattle.filter_tokens.specs.declared.primitive.IpVersion.{IpVersion}
+use Rattle.filter_tokens.specs.declared.primitive.IpVersion.TheVariants as version
 
 -- ---- packets
 

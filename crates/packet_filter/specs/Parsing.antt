@@ -1,7 +1,8 @@
 -- The parser's representation of a state of `States`, and the changes that tokens make.
 use Rattle.std.specs.Prelude.{◌≡◌, ◌⊎◌, ℕ, Bool, true, List, [], ◌∷◌, ◌++◌, length, Option, Some, None, Result, Ok, Err}
-use Rattle.packet_filter.specs.declared.filter_error.FilterErrorKind.{FilterErrorKind}
-use Rattle.packet_filter.specs.declared.filter_error.FilterErrorKind.TheVariants as kind
+use Rattle.filter_tokens.specs.declared.filter_error.FilterErrorKind.{FilterErrorKind}
+use Rattle.filter_tokens.specs.declared.filter_error.FilterErrorKind.TheVariants as kind
+use Rattle.filter_tokens.specs.Tokens.{Token}
 use Rattle.packet_filter.specs.declared.head.Head.{Head}
 use Rattle.packet_filter.specs.declared.mode.Mode.{Mode}
 use Rattle.packet_filter.specs.declared.mode.Mode.TheVariants as mode
@@ -16,7 +17,6 @@ use Rattle.packet_filter.specs.declared.parser.stack.Stack.{Stack}
 use Rattle.packet_filter.specs.declared.step.Step.{Step}
 use Rattle.packet_filter.specs.declared.step.Step.TheVariants as step
 use Rattle.packet_filter.specs.States.{Frame, expression, left_of_and, left_of_or, negating, opened, ReadsValue, ReadsWord, Reads, Reading, State, Stops, StopsWord, close_left, completed, finish_bare, finish_value, in_mode, levels_in, open_level, qualified, read_after}
-use Rattle.packet_filter.specs.Tokens.{Token}
 use Rattle.packet_filter.specs.Trees.{Expr, steps_of}
 
 -- ---- frames

@@ -1,16 +1,16 @@
 -- Primitives that keywords of filter expressions denote.
 use Rattle.std.specs.Prelude.{ℕ, [], ◌∷◌, unwrap_or, Option, Some, None}
-use Rattle.packet_filter.specs.declared.primitive.FieldLayer.TheVariants as field
-use Rattle.packet_filter.specs.declared.primitive.IpVersion.{IpVersion}
-use Rattle.packet_filter.specs.declared.primitive.Operand.{Operand}
-use Rattle.packet_filter.specs.declared.primitive.Operand.TheVariants.{Length, Bytes}
-use Rattle.packet_filter.specs.declared.primitive.Primitive.{Primitive}
-use Rattle.packet_filter.specs.declared.primitive.Primitive.TheVariants as primitive
-use Rattle.packet_filter.specs.declared.primitive.Relation.{Relation}
-use Rattle.packet_filter.specs.declared.primitive.Relation.TheVariants as is
-use Rattle.packet_filter.specs.declared.primitive.Side.TheVariants.{Destination}
-use Rattle.packet_filter.specs.declared.primitive.Width.TheVariants.{One}
-use Rattle.packet_filter.specs.Values.{most_number}
+use Rattle.filter_tokens.specs.declared.primitive.FieldLayer.TheVariants as field
+use Rattle.filter_tokens.specs.declared.primitive.IpVersion.{IpVersion}
+use Rattle.filter_tokens.specs.declared.primitive.Operand.{Operand}
+use Rattle.filter_tokens.specs.declared.primitive.Operand.TheVariants.{Length, Bytes}
+use Rattle.filter_tokens.specs.declared.primitive.Primitive.{Primitive}
+use Rattle.filter_tokens.specs.declared.primitive.Primitive.TheVariants as primitive
+use Rattle.filter_tokens.specs.declared.primitive.Relation.{Relation}
+use Rattle.filter_tokens.specs.declared.primitive.Relation.TheVariants as is
+use Rattle.filter_tokens.specs.declared.primitive.Side.TheVariants.{Destination}
+use Rattle.filter_tokens.specs.declared.primitive.Width.TheVariants.{One}
+use Rattle.filter_tokens.specs.Values.{most_number}
 
 -- `ether proto` with a number.
 abbrev pub type_test : ℕ → Primitive

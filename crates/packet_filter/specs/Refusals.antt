@@ -3,22 +3,22 @@ use Rattle.std.specs.Prelude.{◌≡◌, ℕ, suc, ◌≤◌, ◌<◌, ◌⊎◌
 use Rattle.std.specs.List.{list_any}
 use Rattle.std.specs.Net.Grammar.{IsIpText}
 use Rattle.std.specs.declared.net.ip_addr.IpAddr.{IpAddr}
-use Rattle.packet_filter.specs.declared.filter_error.FilterError.{FilterError}
-use Rattle.packet_filter.specs.declared.filter_error.FilterErrorKind.{FilterErrorKind}
-use Rattle.packet_filter.specs.declared.filter_error.FilterErrorKind.TheVariants as kind
+use Rattle.filter_tokens.specs.declared.filter_error.FilterError.{FilterError}
+use Rattle.filter_tokens.specs.declared.filter_error.FilterErrorKind.{FilterErrorKind}
+use Rattle.filter_tokens.specs.declared.filter_error.FilterErrorKind.TheVariants as kind
+use Rattle.filter_tokens.specs.declared.keyword.Keyword.TheVariants as name
+use Rattle.filter_tokens.specs.declared.network.Network.{Network}
+use Rattle.filter_tokens.specs.declared.primitive.AddressLayer.{AddressLayer}
+use Rattle.filter_tokens.specs.declared.primitive.FieldLayer.{FieldLayer}
+use Rattle.filter_tokens.specs.declared.primitive.Primitive.{Primitive}
+use Rattle.filter_tokens.specs.declared.primitive.Relation.{Relation}
+use Rattle.filter_tokens.specs.declared.primitive.Side.{Side}
+use Rattle.filter_tokens.specs.Tokens.{Token, keyword, word, not, relation, left_parenthesis, right_bracket, colon, slash, ampersand, bar, wrong, Placed, IsTokens, tokens_of, is_colon, is_digit}
+use Rattle.filter_tokens.specs.Values.{IsLength, IsMask, IsNetworkText}
 use Rattle.packet_filter.specs.declared.head.Head.{Head}
 use Rattle.packet_filter.specs.declared.head.Head.TheVariants as head
-use Rattle.packet_filter.specs.declared.keyword.Keyword.TheVariants as name
-use Rattle.packet_filter.specs.declared.network.Network.{Network}
-use Rattle.packet_filter.specs.declared.primitive.AddressLayer.{AddressLayer}
-use Rattle.packet_filter.specs.declared.primitive.FieldLayer.{FieldLayer}
-use Rattle.packet_filter.specs.declared.primitive.Primitive.{Primitive}
-use Rattle.packet_filter.specs.declared.primitive.Relation.{Relation}
-use Rattle.packet_filter.specs.declared.primitive.Side.{Side}
 use Rattle.packet_filter.specs.Grammar.{IsExpression, IsField, IsFilter, IsHead, IsJoinedValues, IsOperator, IsWordValue, most_bytes, most_levels}
-use Rattle.packet_filter.specs.Tokens.{Token, keyword, word, not, relation, left_parenthesis, right_bracket, colon, slash, ampersand, bar, wrong, Placed, IsTokens, tokens_of, is_colon, is_digit}
 use Rattle.packet_filter.specs.Trees.{Expr}
-use Rattle.packet_filter.specs.Values.{IsLength, IsMask, IsNetworkText}
 
 -- ---- the place
 

@@ -1,6 +1,6 @@
 -- Filter expressions as trees, and the steps that a filter consists of.
 use Rattle.std.specs.Prelude.{ℕ, zero, suc, List, [], ◌∷◌, ◌++◌, length, take, drop, Option, Some, None}
-use Rattle.packet_filter.specs.declared.primitive.Primitive.{Primitive}
+use Rattle.filter_tokens.specs.declared.primitive.Primitive.{Primitive}
 use Rattle.packet_filter.specs.declared.step.Step.{Step}
 use Rattle.packet_filter.specs.declared.step.Step.TheVariants as step
 

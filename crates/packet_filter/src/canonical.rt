@@ -4,8 +4,9 @@ ghost use Rattle.std.specs.Prelude.{◌≡◌, ◌++◌, IfOk, OnOk, Option};
 ghost use Rattle.packet_filter.specs.Printing.{canonical, nots_in, right_text, start_text, starts_text};
 ghost use Rattle.packet_filter.specs.Trees.{Expr, steps_of_text};
 
-use crate::printing::{append_primitive, first_steps};
+use crate::printing::first_steps;
 use crate::step::{Step, later_steps};
+use filter_tokens::primitive_text::append_primitive;
 use std::alloc::{AllocError, Global};
 
 /// Appends the canonical form of steps, or nothing without steps.

@@ -2,17 +2,16 @@
 
 ghost use Rattle.std.specs.Prelude.{◌≡◌, ◌≤◌, ◌⊎◌, ◌++◌, [], ◌∷◌, is_none, length, IfErr, IfOk, OnOk};
 ghost use Rattle.ep_lax.specs.LaxPackets.{lax_layers_of};
+ghost use Rattle.filter_tokens.specs.declared.filter_error.FilterErrorKind.{FilterErrorKind};
 ghost use Rattle.packet_filter.specs.Meaning.{meaning};
 ghost use Rattle.packet_filter.specs.Packets.{packet_of, reassembled_packet};
 ghost use Rattle.packet_filter.specs.Printing.{canonical, printed};
 ghost use Rattle.packet_filter.specs.Refusals.{IsFilterText, RefusesText};
 ghost use Rattle.packet_filter.specs.Shown.{shown_packet};
 ghost use Rattle.packet_filter.specs.Trees.{both_of, tree_of};
-ghost use Rattle.packet_filter.specs.declared.filter_error.FilterErrorKind.{FilterErrorKind};
 ghost use Rattle.packet_filter.specs.declared.step.Step.TheVariants as step;
 
 use crate::canonical::append_canonical;
-use crate::filter_error::{FilterError, FilterErrorKind};
 use crate::host_set::HostSet;
 use crate::host_sets::{host_sets, later_sets};
 use crate::matching::matches_primitive;
@@ -22,6 +21,7 @@ use crate::step::{Step, later_steps, steps_if_true};
 use crate::subject::Subject;
 use ep_base::{IpNumber, LaxIpPayloadSlice, LenSource};
 use ep_lax::LaxSlicedPacket;
+use filter_tokens::filter_error::{FilterError, FilterErrorKind};
 use std::alloc::{AllocError, Global};
 use std::marker::Model;
 use std::{fmt, str};

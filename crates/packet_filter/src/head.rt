@@ -1,9 +1,9 @@
 //! Qualifiers of values in filter expressions.
 
-use crate::primitive::{AddressLayer, IpVersion, PortProtocol, Side};
+use filter_tokens::primitive::{AddressLayer, IpVersion, PortProtocol, Side};
 
 /// Qualifiers of a value: what `tcp src port` says of the `80` after it.
-#[derive(Clone, Copy, Debug, PartialEq, Eq)]
+#[derive(Clone, Copy)]
 pub enum Head {
     /// `host`: an address.
     Host(AddressLayer, Side),

@@ -6,10 +6,10 @@ ghost use Rattle.std.specs.Ordering.{nat_cmp};
 ghost use Rattle.packet_filter.specs.HostRuns.{BeginsHost};
 
 use crate::matching::{HasAddress, has_address};
-use crate::network::{Network, number_of};
-use crate::primitive::{AddressLayer, Primitive, Side};
 use crate::step::{Step, later_steps};
 use crate::subject::Subject;
+use filter_tokens::network::{Network, number_of};
+use filter_tokens::primitive::{AddressLayer, Primitive, Side};
 use std::alloc::{AllocError, Global};
 
 /// Least number of hosts in a set. Fewer hosts are compared one after the other.

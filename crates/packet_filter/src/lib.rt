@@ -65,24 +65,17 @@
 
 mod canonical;
 pub mod filter;
-pub mod filter_error;
-pub mod head;
+mod head;
 mod host_set;
 mod host_sets;
-pub mod keyword;
 mod matching;
 mod mode;
-mod names;
-pub mod network;
 mod parser;
-pub mod primitive;
 mod printing;
 pub mod step;
 mod subject;
-mod token;
-mod value;
 
 pub use crate::filter::Filter;
-pub use crate::filter_error::{FilterError, FilterErrorKind};
-pub use crate::network::Network;
-pub use crate::primitive::Primitive;
+pub use filter_tokens::{
+    FilterError, FilterErrorKind, Network, Primitive, filter_error, network, primitive,
+};

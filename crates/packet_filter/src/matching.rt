@@ -12,13 +12,15 @@ ghost use Rattle.packet_filter.specs.Meaning.{at_side, at_side_of, has_port, has
 ghost use Rattle.packet_filter.specs.Packets.{addresses_of, arp_addresses, is_for_ipv4};
 ghost use Rattle.packet_filter.specs.Shown.{shown_packet};
 
-use crate::network::Network;
-use crate::primitive::{AddressLayer, Operand, PortProtocol, Primitive, Relation, Side, Width};
 use crate::subject::{SCTP, Subject, has_ether_type, has_ip_number, is_version};
 use ep_base::bytes::{byte_at, long_at, word_at};
 use ep_base::{IpNumber, VlanId};
 use ep_lax::{LaxIpv4Slice, LaxIpv6Slice, LaxLinkExtSlice, LaxNetSlice};
 use ep_link::{ArpPacketSlice, LinkSlice};
+use filter_tokens::network::Network;
+use filter_tokens::primitive::{
+    AddressLayer, Operand, PortProtocol, Primitive, Relation, Side, Width,
+};
 
 /// Set of addresses: a network, or a set of hosts.
 pub(crate) trait HasAddress {
@@ -32,7 +34,7 @@ pub(crate) trait HasAddress {
 }
 
 impl HasAddress for Network {
-    ghost use Rattle.packet_filter.specs.Networks.{is_within};
+    ghost use Rattle.filter_tokens.specs.Networks.{is_within};
 
     ghost holds = { is_within };
 

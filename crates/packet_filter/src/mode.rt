@@ -1,8 +1,8 @@
 //! State of the parser of filter expressions within an operand.
 
-use crate::keyword::Keyword;
-use crate::network::Network;
-use crate::primitive::{
+use filter_tokens::keyword::Keyword;
+use filter_tokens::network::Network;
+use filter_tokens::primitive::{
     AddressLayer, FieldLayer, Operand, PortProtocol, Primitive, Relation, Side, Width,
 };
 use std::net::IpAddr;

@@ -5,8 +5,8 @@ ghost use Rattle.packet_filter.specs.Packets.{Packet};
 ghost use Rattle.packet_filter.specs.Printing.{skip_text, step_text};
 ghost use Rattle.packet_filter.specs.Running.{value_after};
 
-use crate::primitive::Primitive;
-use crate::printing::append_primitive;
+use filter_tokens::primitive::Primitive;
+use filter_tokens::primitive_text::append_primitive;
 use std::alloc::AllocError;
 
 /// Step of a filter. A filter holds one truth value, which a step replaces, negates, or decides by it to skip steps.

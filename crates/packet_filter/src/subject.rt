@@ -16,11 +16,11 @@ ghost use Rattle.packet_filter.specs.Packets.{ip_numbers, is_type, is_version, l
 ghost use Rattle.packet_filter.specs.Packets.{tag_type, tags_in, type_after, type_number};
 ghost use Rattle.packet_filter.specs.Shown.{shown_begins, shown_packet, shown_payload};
 
-use crate::primitive::{FieldLayer, IpVersion};
 use ep_base::{EtherType, IpNumber, LaxIpPayloadSlice};
 use ep_ext::{Ipv4ExtensionsSlice, Ipv6ExtensionSlice, Ipv6ExtensionsSlice};
 use ep_lax::{LaxLinkExtSlice, LaxNetSlice, LaxSlicedPacket};
 use ep_link::LinkSlice;
+use filter_tokens::primitive::{FieldLayer, IpVersion};
 
 /// IP number of SCTP (RFC 9260).
 pub(crate) const SCTP: IpNumber = IpNumber(132);

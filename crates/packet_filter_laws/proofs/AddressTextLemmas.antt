@@ -11,7 +11,7 @@ use Rattle.std.proofs.NetLemmas.Texts.{IsColonHex-ipv6_text, IsDotted-ipv4_text}
 use Rattle.std.proofs.lemmas.Int.Digits.{digits_value-lt}
 use Rattle.std.proofs.lemmas.Bool.{cases_lt}
 use Rattle.std.proofs.lemmas.List.{length-replicate}
-use Rattle.packet_filter.specs.Tokens.{is_alphanumeric, is_run_byte}
+use Rattle.filter_tokens.specs.Tokens.{is_alphanumeric, is_run_byte}
 use Rattle.packet_filter_laws.proofs.WordTextLemmas
 use Rattle.packet_filter_laws.proofs.WordTextLemmas.{Each, IsWord, alphanumeric_of_capital, alphanumeric_of_digit, alphanumeric_of_small, digit_test, begins_longer, begins_with_digit, begins_word, colons, colons_append, decimal_begins, decimal_each, each_append, each_weaker, is_plain_byte, plain_of_alphanumeric, plain_run}
 

@@ -10,11 +10,11 @@ use Rattle.std.proofs.NetLemmas.Ipv4.{read_ipv4_complete, read_ipv4_sound}
 use Rattle.std.proofs.NetLemmas.Ipv6.{EndsGroups-nil, read_ipv6_complete, read_ipv6_sound}
 use Rattle.std.proofs.NetLemmas.Options.{same_parts}
 use Rattle.std.proofs.NetLemmas.Theorems.{IsIpText_unique}
-use Rattle.packet_filter.specs.declared.network.Network.{Network}
-use Rattle.packet_filter.specs.declared.primitive.AddressLayer.{AddressLayer}
-use Rattle.packet_filter.specs.declared.primitive.AddressLayer.TheVariants as of
-use Rattle.packet_filter.specs.Networks.{address_bytes, address_width}
-use Rattle.packet_filter.specs.Values.{IsFamily, IsLeadingNumbers, IsLength, IsMask, IsNetworkText, mask_bytes}
+use Rattle.filter_tokens.specs.declared.network.Network.{Network}
+use Rattle.filter_tokens.specs.declared.primitive.AddressLayer.{AddressLayer}
+use Rattle.filter_tokens.specs.declared.primitive.AddressLayer.TheVariants as of
+use Rattle.filter_tokens.specs.Networks.{address_bytes, address_width}
+use Rattle.filter_tokens.specs.Values.{IsFamily, IsLeadingNumbers, IsLength, IsMask, IsNetworkText, mask_bytes}
 use Rattle.packet_filter_laws.proofs.DecidedLemmas.{Decided, Found, below_found, same_text_decided}
 use Rattle.packet_filter_laws.proofs.DecideNumberLemmas.{decimal_found, leading_found}
 

@@ -2,21 +2,21 @@
 use Rattle.std.proofs.Common.{◌≡◌, ℕ, ◌⊎◌, inl, inr, Bool, true, false, take, IsTrue, List, [], ◌∷◌, ◌++◌, Option, Some, None, Ok, Err, refl, ap, lit<}
 use Rattle.std.specs.List.{list_any}
 use Rattle.std.specs.declared.net.ip_addr.IpAddr.{IpAddr}
-use Rattle.packet_filter.specs.declared.filter_error.FilterErrorKind.{FilterErrorKind}
-use Rattle.packet_filter.specs.declared.filter_error.FilterErrorKind.TheVariants as kind
+use Rattle.filter_tokens.specs.declared.filter_error.FilterErrorKind.{FilterErrorKind}
+use Rattle.filter_tokens.specs.declared.filter_error.FilterErrorKind.TheVariants as kind
+use Rattle.filter_tokens.specs.declared.primitive.AddressLayer.{AddressLayer}
+use Rattle.filter_tokens.specs.declared.primitive.Primitive.TheVariants as primitive
+use Rattle.filter_tokens.specs.declared.primitive.Side.{Side}
+use Rattle.filter_tokens.specs.Networks.{has_no_host_bits}
+use Rattle.filter_tokens.specs.Tokens.{Placed, Token, is_colon, is_digit, tokens_of, word, wrong}
+use Rattle.filter_tokens.specs.Values.{IsConstant, IsLength, IsMask, IsNumberText, most_number}
 use Rattle.packet_filter.specs.declared.head.Head.{Head}
 use Rattle.packet_filter.specs.declared.mode.Mode.{Mode}
 use Rattle.packet_filter.specs.declared.mode.Mode.TheVariants as mode
-use Rattle.packet_filter.specs.declared.primitive.AddressLayer.{AddressLayer}
-use Rattle.packet_filter.specs.declared.primitive.Primitive.TheVariants as primitive
-use Rattle.packet_filter.specs.declared.primitive.Side.{Side}
 use Rattle.packet_filter.specs.Grammar.{IsWordValue}
-use Rattle.packet_filter.specs.Networks.{has_no_host_bits}
 use Rattle.packet_filter.specs.Primitives.{length_test}
 use Rattle.packet_filter.specs.Refusals.{IsLikeValue, IsOperandKind, value_kind}
 use Rattle.packet_filter.specs.States.{State, Reading, Reads, ReadsConstant, ReadsPrefix, ReadsValue, ReadsWord, Runs, Stops, StopsConstant, StopsPrefix, StopsSide, StopsValue, StopsWord, after_value, finish_bare, finish_value, group_mode, in_mode, more_tokens, no_tokens, qualified, read_in, side_head, union}
-use Rattle.packet_filter.specs.Tokens.{Placed, Token, is_colon, is_digit, tokens_of, word, wrong}
-use Rattle.packet_filter.specs.Values.{IsConstant, IsLength, IsMask, IsNumberText, most_number}
 use Rattle.packet_filter_laws.proofs.DecideAddressLemmas.{length_found, mask_found}
 use Rattle.packet_filter_laws.proofs.DecideNumberLemmas.{constant_found, number_found, size_found}
 use Rattle.packet_filter_laws.proofs.DecideValueLemmas.{other_family_decided, value_found}

@@ -3,12 +3,12 @@ use Rattle.std.proofs.Common.{◌≡◌, ℕ, zero, suc, ◌^◌, ◌<◌, ◌�
 use Rattle.std.specs.Char.{digit_value}
 use Rattle.std.specs.List.{after_first, before_first, list_any, position_or_len}
 use Rattle.std.specs.Str.Parse.{AllDigits, IsNumeral, digits_value}
-use Rattle.packet_filter.specs.declared.primitive.Width.{Width}
-use Rattle.packet_filter.specs.declared.primitive.Width.TheVariants.{One, Two, Four}
-use Rattle.packet_filter.specs.Names.{constant_names, lookup_name, port_names}
-use Rattle.packet_filter.specs.Values.{IsAfterHexadecimalMark, IsConstant, IsDecimal, IsHexadecimal, IsLeadingNumbers, IsNumberText, IsOctet, IsOctets, IsPortText, IsRangeText, IsSizeText, IsStation, most_number}
+use Rattle.filter_tokens.specs.declared.primitive.Width.{Width}
+use Rattle.filter_tokens.specs.declared.primitive.Width.TheVariants.{One, Two, Four}
+use Rattle.filter_tokens.specs.Names.{constant_names, lookup_name, port_names}
+use Rattle.filter_tokens.specs.Values.{IsAfterHexadecimalMark, IsConstant, IsDecimal, IsHexadecimal, IsLeadingNumbers, IsNumberText, IsOctet, IsOctets, IsPortText, IsRangeText, IsSizeText, IsStation, most_number}
+use Rattle.filter_tokens.proofs.ValueLemmas.{decimal_digits, digits_lack, split_is, split_only}
 use Rattle.packet_filter_laws.proofs.DecidedLemmas.{Decided, Found, below_decided, both_decided, decided_as, either_decided, found_as, found_either, found_named, found_only, most_decided, same_decided, same_text_decided}
-use Rattle.packet_filter.proofs.ValueLemmas.{decimal_digits, digits_lack, split_is, split_only}
 
 -- ---- numbers
 

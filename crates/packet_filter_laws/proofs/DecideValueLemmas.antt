@@ -3,24 +3,24 @@ use Rattle.std.proofs.Common.{ℕ, ◌≤◌, inl, inr, List, refl, lit<}
 use Rattle.std.specs.Net.Grammar.{IsIpText}
 use Rattle.std.specs.declared.net.ip_addr.IpAddr.{IpAddr}
 use Rattle.std.proofs.NetLemmas.Theorems.{IsIpText_unique}
+use Rattle.filter_tokens.specs.declared.network.Network.{Network}
+use Rattle.filter_tokens.specs.declared.primitive.AddressLayer.{AddressLayer}
+use Rattle.filter_tokens.specs.declared.primitive.IpVersion.{IpVersion}
+use Rattle.filter_tokens.specs.declared.primitive.PortProtocol.{PortProtocol}
+use Rattle.filter_tokens.specs.declared.primitive.Primitive.{Primitive}
+use Rattle.filter_tokens.specs.declared.primitive.Primitive.TheVariants as primitive
+use Rattle.filter_tokens.specs.declared.primitive.Side.{Side}
+use Rattle.filter_tokens.specs.Networks.{address_width}
+use Rattle.filter_tokens.specs.Values.{IsFamily, IsNetworkText, IsNumberText, IsPortText, IsRangeText, IsStation}
+use Rattle.filter_tokens.proofs.OnceLemmas.{one_network}
 use Rattle.packet_filter.specs.declared.head.Head.{Head}
 use Rattle.packet_filter.specs.declared.head.Head.TheVariants as head
-use Rattle.packet_filter.specs.declared.network.Network.{Network}
-use Rattle.packet_filter.specs.declared.primitive.AddressLayer.{AddressLayer}
-use Rattle.packet_filter.specs.declared.primitive.IpVersion.{IpVersion}
-use Rattle.packet_filter.specs.declared.primitive.PortProtocol.{PortProtocol}
-use Rattle.packet_filter.specs.declared.primitive.Primitive.{Primitive}
-use Rattle.packet_filter.specs.declared.primitive.Primitive.TheVariants as primitive
-use Rattle.packet_filter.specs.declared.primitive.Side.{Side}
 use Rattle.packet_filter.specs.Grammar.{IsWordValue}
-use Rattle.packet_filter.specs.Networks.{address_width}
 use Rattle.packet_filter.specs.Primitives.{protocol_test, type_test}
 use Rattle.packet_filter.specs.Refusals.{IsOtherFamily}
-use Rattle.packet_filter.specs.Values.{IsFamily, IsNetworkText, IsNumberText, IsPortText, IsRangeText, IsStation}
 use Rattle.packet_filter_laws.proofs.DecideAddressLemmas.{family_decided, ip_found, network_found}
 use Rattle.packet_filter_laws.proofs.DecideNumberLemmas.{number_found, number_such, port_found, range_found, station_found}
 use Rattle.packet_filter_laws.proofs.DecidedLemmas.{Decided, Found, found_as, found_such, most_decided}
-use Rattle.packet_filter.proofs.OnceLemmas.{one_network}
 
 -- ---- values
 

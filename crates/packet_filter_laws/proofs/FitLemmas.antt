@@ -8,24 +8,24 @@ use Rattle.std.specs.declared.net.ipv4_addr.Ipv4Addr.{Ipv4Addr}
 use Rattle.std.proofs.lemmas.List.{length-replicate}
 use Rattle.std.proofs.lemmas.Nat.{or_of_32}
 use Rattle.std.proofs.lemmas.Slice.Eq.{bytes_eq-Decides}
+use Rattle.filter_tokens.specs.declared.network.Network.{Network}
+use Rattle.filter_tokens.specs.declared.primitive.AddressLayer.{AddressLayer}
+use Rattle.filter_tokens.specs.declared.primitive.AddressLayer.TheVariants as of
+use Rattle.filter_tokens.specs.declared.primitive.Operand.{Operand}
+use Rattle.filter_tokens.specs.declared.primitive.Operand.TheVariants.{Length, Bytes}
+use Rattle.filter_tokens.specs.declared.primitive.Primitive.{Primitive}
+use Rattle.filter_tokens.specs.declared.primitive.Primitive.TheVariants as primitive
+use Rattle.filter_tokens.specs.declared.primitive.Side.TheVariants.{Destination}
+use Rattle.filter_tokens.specs.Names.{constant_names, is_text, lookup_name, port_names}
+use Rattle.filter_tokens.specs.Networks.{address_bytes, address_width, has_no_host_bits, kept_bits, network_bytes}
+use Rattle.filter_tokens.specs.Tokens.{Token}
+use Rattle.filter_tokens.specs.Values.{IsConstant, IsFamily, IsLeadingNumbers, IsMask, IsNetworkText, IsOctets, IsPortText, IsRangeText, most_number}
+use Rattle.filter_tokens.proofs.ValueLemmas.{number_bound, octet_small}
 use Rattle.packet_filter.specs.declared.head.Head.{Head}
 use Rattle.packet_filter.specs.declared.head.Head.TheVariants as head
-use Rattle.packet_filter.specs.declared.network.Network.{Network}
-use Rattle.packet_filter.specs.declared.primitive.AddressLayer.{AddressLayer}
-use Rattle.packet_filter.specs.declared.primitive.AddressLayer.TheVariants as of
-use Rattle.packet_filter.specs.declared.primitive.Operand.{Operand}
-use Rattle.packet_filter.specs.declared.primitive.Operand.TheVariants.{Length, Bytes}
-use Rattle.packet_filter.specs.declared.primitive.Primitive.{Primitive}
-use Rattle.packet_filter.specs.declared.primitive.Primitive.TheVariants as primitive
-use Rattle.packet_filter.specs.declared.primitive.Side.TheVariants.{Destination}
 use Rattle.packet_filter.specs.Grammar
 use Rattle.packet_filter.specs.Grammar.{IsAccess, IsBare, IsGroup, IsLeft, IsRight, IsUnion, IsValue, IsWordValue}
-use Rattle.packet_filter.specs.Names.{constant_names, is_text, lookup_name, port_names}
-use Rattle.packet_filter.specs.Networks.{address_bytes, address_width, has_no_host_bits, kept_bits, network_bytes}
-use Rattle.packet_filter.specs.Tokens.{Token}
-use Rattle.packet_filter.specs.Values.{IsConstant, IsFamily, IsLeadingNumbers, IsMask, IsNetworkText, IsOctets, IsPortText, IsRangeText, most_number}
 use Rattle.packet_filter_laws.proofs.AddressTextLemmas.{Below, IsAddress, address_of_text, below_append, below_at, below_zeros}
-use Rattle.packet_filter.proofs.ValueLemmas.{number_bound, octet_small}
 use Rattle.packet_filter_laws.proofs.WordTextLemmas.{left_true, right_true}
 
 abbrev pub FitsOperand : Operand → Type 0

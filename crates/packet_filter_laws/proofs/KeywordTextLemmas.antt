@@ -1,18 +1,18 @@
 -- Lemmas about keywords, symbols and qualifiers as they are printed: they are read as their tokens.
 use Rattle.std.proofs.Common.{◌≡◌, ℕ, true, List, [], ◌∷◌, ◌++◌, codes, refl, ap, sym, subst, ◌∙◌, append_assoc}
-use Rattle.packet_filter.specs.declared.primitive.AddressLayer.{AddressLayer}
-use Rattle.packet_filter.specs.declared.primitive.AddressLayer.TheVariants as of
-use Rattle.packet_filter.specs.declared.primitive.IpVersion.{IpVersion}
-use Rattle.packet_filter.specs.declared.primitive.IpVersion.TheVariants as version
-use Rattle.packet_filter.specs.declared.primitive.PortProtocol.{PortProtocol}
-use Rattle.packet_filter.specs.declared.primitive.PortProtocol.TheVariants as protocol
-use Rattle.packet_filter.specs.declared.primitive.Side.{Side}
-use Rattle.packet_filter.specs.declared.primitive.Side.TheVariants.{Source, Destination, Either, Both}
-use Rattle.packet_filter.specs.declared.keyword.Keyword.TheVariants as name
+use Rattle.filter_tokens.specs.declared.primitive.AddressLayer.{AddressLayer}
+use Rattle.filter_tokens.specs.declared.primitive.AddressLayer.TheVariants as of
+use Rattle.filter_tokens.specs.declared.primitive.IpVersion.{IpVersion}
+use Rattle.filter_tokens.specs.declared.primitive.IpVersion.TheVariants as version
+use Rattle.filter_tokens.specs.declared.primitive.PortProtocol.{PortProtocol}
+use Rattle.filter_tokens.specs.declared.primitive.PortProtocol.TheVariants as protocol
+use Rattle.filter_tokens.specs.declared.primitive.Side.{Side}
+use Rattle.filter_tokens.specs.declared.primitive.Side.TheVariants.{Source, Destination, Either, Both}
+use Rattle.filter_tokens.specs.declared.keyword.Keyword.TheVariants as name
+use Rattle.filter_tokens.specs.Tokens
+use Rattle.filter_tokens.specs.Tokens.{Token, is_alphanumeric, word_of, word_token, keyword, and, or, left_parenthesis, right_parenthesis, left_bracket, right_bracket, slash}
 use Rattle.packet_filter.specs.Grammar.{src, dst}
-use Rattle.packet_filter.specs.Printing.{layer_text, ports_text, side_text, version_text}
-use Rattle.packet_filter.specs.Tokens
-use Rattle.packet_filter.specs.Tokens.{Token, is_alphanumeric, word_of, word_token, keyword, and, or, left_parenthesis, right_parenthesis, left_bracket, right_bracket, slash}
+use Rattle.filter_tokens.specs.PrimitiveTexts.{layer_text, ports_text, side_text, version_text}
 use Rattle.packet_filter_laws.proofs.LexingLemmas
 use Rattle.packet_filter_laws.proofs.LexingLemmas.{IsLexed}
 use Rattle.packet_filter_laws.proofs.PrintedTokens.{layer_tokens, ports_tokens, side_tokens, version_tokens}

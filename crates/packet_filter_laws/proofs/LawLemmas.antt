@@ -6,14 +6,14 @@ use Rattle.std.proofs.lemmas.Bool.Decides.{nat_tests}
 use Rattle.std.proofs.lemmas.Grind.{and_numeral}
 use Rattle.ep_base.specs.Bytes.{AreBytes, word_at}
 use Rattle.ep_base.specs.IpNumbers.{tcp_number}
-use Rattle.packet_filter.specs.declared.primitive.PortProtocol.TheVariants as protocol
-use Rattle.packet_filter.specs.declared.primitive.Relation.TheVariants.{Equal}
-use Rattle.packet_filter.specs.declared.primitive.Side.TheVariants.{Source}
-use Rattle.packet_filter.specs.declared.primitive.Width.TheVariants.{Two}
+use Rattle.filter_tokens.specs.declared.primitive.PortProtocol.TheVariants as protocol
+use Rattle.filter_tokens.specs.declared.primitive.Relation.TheVariants.{Equal}
+use Rattle.filter_tokens.specs.declared.primitive.Side.TheVariants.{Source}
+use Rattle.filter_tokens.specs.declared.primitive.Width.TheVariants.{Two}
+use Rattle.filter_tokens.specs.Values.{most_number}
 use Rattle.packet_filter_laws.specs.Laws.{HasTransportBytes, IsLessOrGreater, IsPortOfBytes}
 use Rattle.packet_filter.specs.Meaning.{has_port, has_port_at, has_relation, number_at}
 use Rattle.packet_filter.specs.Packets.{Packet, Transport, bytes_of_number}
-use Rattle.packet_filter.specs.Values.{most_number}
 
 -- A number is at most another one if it is not at least the next one.
 at_most : (value number : ℕ) → nat_le value number ≡ not (nat_le (number + 1) value)

@@ -4,7 +4,7 @@ use Rattle.std.proofs.lemmas.List.{drop_at}
 use Rattle.std.proofs.lemmas.List.Elements.{All-cons, All-nil}
 use Rattle.std.proofs.lemmas.List.Sums.{take_while-cons}
 use Rattle.std.specs.Prelude.{IsTrue}
-use Rattle.packet_filter.specs.Tokens.{Token, Placed, IsTokens, first_token, is_blank, tokens_of}
+use Rattle.filter_tokens.specs.Tokens.{Token, Placed, IsTokens, first_token, is_blank, tokens_of}
 
 -- A text consists of these tokens, with blanks before and after them.
 pub data IsLexed : List ℕ → List Token → Type 0 where

@@ -20,24 +20,24 @@ use Rattle.ep_lax.specs.LaxLayers.{LaxLayers}
 use Rattle.ep_packet.specs.Layers.{NetLayer, ipv4, ipv6, arp}
 use Rattle.ep_packet.specs.Offsets.{link_len, tags_len}
 use Rattle.ep_packet.specs.PayloadStarts.{are_first}
-use Rattle.packet_filter.specs.declared.primitive.AddressLayer.{AddressLayer}
-use Rattle.packet_filter.specs.declared.primitive.AddressLayer.TheVariants as of
-use Rattle.packet_filter.specs.declared.primitive.FieldLayer.{FieldLayer}
-use Rattle.packet_filter.specs.declared.primitive.FieldLayer.TheVariants as field
-use Rattle.packet_filter.specs.declared.primitive.IpVersion.{IpVersion}
-use Rattle.packet_filter.specs.declared.primitive.IpVersion.TheVariants as version
-use Rattle.packet_filter.specs.declared.primitive.Operand.TheVariants.{Length, Bytes}
-use Rattle.packet_filter.specs.declared.primitive.PortProtocol.{PortProtocol}
-use Rattle.packet_filter.specs.declared.primitive.PortProtocol.TheVariants as protocol
-use Rattle.packet_filter.specs.declared.primitive.Primitive.{Primitive}
-use Rattle.packet_filter.specs.declared.primitive.Primitive.TheVariants as primitive
-use Rattle.packet_filter.specs.declared.primitive.Side.{Side}
-use Rattle.packet_filter.specs.declared.primitive.Side.TheVariants.{Source, Destination, Either, Both}
-use Rattle.packet_filter.specs.declared.primitive.Width.{Width}
-use Rattle.packet_filter.specs.declared.primitive.Width.TheVariants.{One, Two, Four}
+use Rattle.filter_tokens.specs.declared.primitive.AddressLayer.{AddressLayer}
+use Rattle.filter_tokens.specs.declared.primitive.AddressLayer.TheVariants as of
+use Rattle.filter_tokens.specs.declared.primitive.FieldLayer.{FieldLayer}
+use Rattle.filter_tokens.specs.declared.primitive.FieldLayer.TheVariants as field
+use Rattle.filter_tokens.specs.declared.primitive.IpVersion.{IpVersion}
+use Rattle.filter_tokens.specs.declared.primitive.IpVersion.TheVariants as version
+use Rattle.filter_tokens.specs.declared.primitive.Operand.TheVariants.{Length, Bytes}
+use Rattle.filter_tokens.specs.declared.primitive.PortProtocol.{PortProtocol}
+use Rattle.filter_tokens.specs.declared.primitive.PortProtocol.TheVariants as protocol
+use Rattle.filter_tokens.specs.declared.primitive.Primitive.{Primitive}
+use Rattle.filter_tokens.specs.declared.primitive.Primitive.TheVariants as primitive
+use Rattle.filter_tokens.specs.declared.primitive.Side.{Side}
+use Rattle.filter_tokens.specs.declared.primitive.Side.TheVariants.{Source, Destination, Either, Both}
+use Rattle.filter_tokens.specs.declared.primitive.Width.{Width}
+use Rattle.filter_tokens.specs.declared.primitive.Width.TheVariants.{One, Two, Four}
+use Rattle.filter_tokens.specs.Networks.{is_within}
 use Rattle.packet_filter_laws.specs.Laws.{IsPositive}
 use Rattle.packet_filter.specs.Meaning.{at_side, at_side_of, has_port, has_port_at, has_ports, has_relation, is_vlan, matches_expr, matches_primitive, number_at}
-use Rattle.packet_filter.specs.Networks.{is_within}
 use Rattle.packet_filter.specs.Packets.{arp_addresses, Transport, addresses_of, bytes_of, bytes_of_number, bytes_of_type, bytes_of_version, ethernet_bytes, ip_numbers, is_type, is_version, link_type, packet_of, sctp_number, tag_type, tags_in, transport_in, transport_of, type_after}
 use Rattle.packet_filter.specs.Trees.{Expr, test, negated, both, either}
 use Rattle.packet_filter_laws.proofs.MoreLayers.{is_transport, IsNoNetType, MoreBytes, MoreLayers, MoreNet, MoreNets, MoreParts, MorePayload, MoreTags, MoreTransport}

@@ -5,36 +5,36 @@ use Rattle.std.proofs.lemmas.Bool.{cases_eq}
 use Rattle.std.proofs.lemmas.Str.{digit_value-digit_char}
 use Rattle.std.specs.Char.{digit_value}
 use Rattle.std.specs.Net.Text.{ip_text}
+use Rattle.filter_tokens.specs.declared.keyword.Keyword.TheVariants as name
+use Rattle.filter_tokens.specs.declared.network.Network.{Network}
+use Rattle.filter_tokens.specs.declared.primitive.AddressLayer.{AddressLayer}
+use Rattle.filter_tokens.specs.declared.primitive.AddressLayer.TheVariants as of
+use Rattle.filter_tokens.specs.declared.primitive.FieldLayer.{FieldLayer}
+use Rattle.filter_tokens.specs.declared.primitive.FieldLayer.TheVariants as field
+use Rattle.filter_tokens.specs.declared.primitive.IpVersion.{IpVersion}
+use Rattle.filter_tokens.specs.declared.primitive.IpVersion.TheVariants as version
+use Rattle.filter_tokens.specs.declared.primitive.Operand.{Operand}
+use Rattle.filter_tokens.specs.declared.primitive.Operand.TheVariants.{Length, Bytes}
+use Rattle.filter_tokens.specs.declared.primitive.PortProtocol.{PortProtocol}
+use Rattle.filter_tokens.specs.declared.primitive.PortProtocol.TheVariants as protocol
+use Rattle.filter_tokens.specs.declared.primitive.Primitive.{Primitive}
+use Rattle.filter_tokens.specs.declared.primitive.Primitive.TheVariants as primitive
+use Rattle.filter_tokens.specs.declared.primitive.Relation.{Relation}
+use Rattle.filter_tokens.specs.declared.primitive.Side.{Side}
+use Rattle.filter_tokens.specs.declared.primitive.Side.TheVariants.{Source, Destination, Either, Both}
+use Rattle.filter_tokens.specs.declared.primitive.Width.{Width}
+use Rattle.filter_tokens.specs.declared.primitive.Width.TheVariants.{One, Two, Four}
+use Rattle.filter_tokens.specs.Networks.{address_width}
+use Rattle.filter_tokens.specs.Names.{constant_names, port_names}
+use Rattle.filter_tokens.specs.Tokens
+use Rattle.filter_tokens.specs.Tokens.{Token, keyword, word, and, or, relation, left_parenthesis, right_parenthesis, slash, ampersand}
+use Rattle.filter_tokens.specs.Values.{IsConstant, IsNumberText, IsOctet, IsOctets, IsPortText, IsSizeText, most_number}
 use Rattle.packet_filter.specs.declared.head.Head.{Head}
 use Rattle.packet_filter.specs.declared.head.Head.TheVariants as head
-use Rattle.packet_filter.specs.declared.keyword.Keyword.TheVariants as name
-use Rattle.packet_filter.specs.declared.network.Network.{Network}
-use Rattle.packet_filter.specs.declared.primitive.AddressLayer.{AddressLayer}
-use Rattle.packet_filter.specs.declared.primitive.AddressLayer.TheVariants as of
-use Rattle.packet_filter.specs.declared.primitive.FieldLayer.{FieldLayer}
-use Rattle.packet_filter.specs.declared.primitive.FieldLayer.TheVariants as field
-use Rattle.packet_filter.specs.declared.primitive.IpVersion.{IpVersion}
-use Rattle.packet_filter.specs.declared.primitive.IpVersion.TheVariants as version
-use Rattle.packet_filter.specs.declared.primitive.Operand.{Operand}
-use Rattle.packet_filter.specs.declared.primitive.Operand.TheVariants.{Length, Bytes}
-use Rattle.packet_filter.specs.declared.primitive.PortProtocol.{PortProtocol}
-use Rattle.packet_filter.specs.declared.primitive.PortProtocol.TheVariants as protocol
-use Rattle.packet_filter.specs.declared.primitive.Primitive.{Primitive}
-use Rattle.packet_filter.specs.declared.primitive.Primitive.TheVariants as primitive
-use Rattle.packet_filter.specs.declared.primitive.Relation.{Relation}
-use Rattle.packet_filter.specs.declared.primitive.Side.{Side}
-use Rattle.packet_filter.specs.declared.primitive.Side.TheVariants.{Source, Destination, Either, Both}
-use Rattle.packet_filter.specs.declared.primitive.Width.{Width}
-use Rattle.packet_filter.specs.declared.primitive.Width.TheVariants.{One, Two, Four}
 use Rattle.packet_filter.specs.Grammar
 use Rattle.packet_filter.specs.Grammar.{IsAccess, IsAddressLayer, IsExpression, IsField, IsHead, IsIpVersion, IsLeft, IsOperand, IsOperator, IsPortProtocol, IsSide, IsValue}
-use Rattle.packet_filter.specs.Networks.{address_width}
-use Rattle.packet_filter.specs.Names.{constant_names, port_names}
-use Rattle.packet_filter.specs.Printing.{hex_digit, hex_pair, station_text}
-use Rattle.packet_filter.specs.Tokens
-use Rattle.packet_filter.specs.Tokens.{Token, keyword, word, and, or, relation, left_parenthesis, right_parenthesis, slash, ampersand}
+use Rattle.filter_tokens.specs.PrimitiveTexts.{hex_digit, hex_pair, station_text}
 use Rattle.packet_filter.specs.Trees.{Expr, test, negated, both, either}
-use Rattle.packet_filter.specs.Values.{IsConstant, IsNumberText, IsOctet, IsOctets, IsPortText, IsSizeText, most_number}
 use Rattle.packet_filter_laws.proofs.AddressTextLemmas.{Below, ip_text_is}
 use Rattle.packet_filter_laws.proofs.WordTextLemmas.{begins_with_digit, decimal_begins, if_false, if_true, no_name}
 use Rattle.packet_filter_laws.proofs.FitLemmas.{Fits, FitsOperand}

@@ -5,23 +5,24 @@ use Rattle.std.proofs.lemmas.Str.{digit_value-digit_char}
 use Rattle.std.specs.declared.net.ip_addr.IpAddr.{IpAddr}
 use Rattle.std.specs.declared.net.ip_addr.IpAddr.TheVariants.{V4, V6}
 use Rattle.std.specs.Net.Text.{ip_text}
-use Rattle.packet_filter.specs.declared.network.Network.{Network}
-use Rattle.packet_filter.specs.declared.primitive.FieldLayer.{FieldLayer}
-use Rattle.packet_filter.specs.declared.primitive.FieldLayer.TheVariants as field
-use Rattle.packet_filter.specs.declared.primitive.Operand.{Operand}
-use Rattle.packet_filter.specs.declared.primitive.Operand.TheVariants.{Length, Bytes}
-use Rattle.packet_filter.specs.declared.primitive.Primitive.{Primitive}
-use Rattle.packet_filter.specs.declared.primitive.Primitive.TheVariants as primitive
-use Rattle.packet_filter.specs.declared.primitive.Relation.{Relation}
-use Rattle.packet_filter.specs.declared.primitive.Relation.TheVariants.{Equal, NotEqual, Less, LessOrEqual, Greater, GreaterOrEqual}
-use Rattle.packet_filter.specs.declared.primitive.Width.{Width}
-use Rattle.packet_filter.specs.declared.primitive.Width.TheVariants.{One, Two, Four}
-use Rattle.packet_filter.specs.declared.keyword.Keyword.TheVariants as name
-use Rattle.packet_filter.specs.Networks.{address_width}
-use Rattle.packet_filter.specs.Printing.{expression_text, field_text, grouped, hex_digit, hex_pair, layer_text, mask_text, network_text, operand_text, port_range_text, ports_text, primitive_text, relation_text, side_text, station_text, version_text, width_text}
-use Rattle.packet_filter.specs.Tokens.{Token, first_token, is_alphanumeric, is_digit, is_run_byte, keyword, word, and, or, relation, left_parenthesis, right_parenthesis, left_bracket, right_bracket, colon, slash, ampersand}
+use Rattle.filter_tokens.specs.declared.network.Network.{Network}
+use Rattle.filter_tokens.specs.declared.primitive.FieldLayer.{FieldLayer}
+use Rattle.filter_tokens.specs.declared.primitive.FieldLayer.TheVariants as field
+use Rattle.filter_tokens.specs.declared.primitive.Operand.{Operand}
+use Rattle.filter_tokens.specs.declared.primitive.Operand.TheVariants.{Length, Bytes}
+use Rattle.filter_tokens.specs.declared.primitive.Primitive.{Primitive}
+use Rattle.filter_tokens.specs.declared.primitive.Primitive.TheVariants as primitive
+use Rattle.filter_tokens.specs.declared.primitive.Relation.{Relation}
+use Rattle.filter_tokens.specs.declared.primitive.Relation.TheVariants.{Equal, NotEqual, Less, LessOrEqual, Greater, GreaterOrEqual}
+use Rattle.filter_tokens.specs.declared.primitive.Width.{Width}
+use Rattle.filter_tokens.specs.declared.primitive.Width.TheVariants.{One, Two, Four}
+use Rattle.filter_tokens.specs.declared.keyword.Keyword.TheVariants as name
+use Rattle.filter_tokens.specs.Networks.{address_width}
+use Rattle.filter_tokens.specs.Tokens.{Token, first_token, is_alphanumeric, is_digit, is_run_byte, keyword, word, and, or, relation, left_parenthesis, right_parenthesis, left_bracket, right_bracket, colon, slash, ampersand}
+use Rattle.filter_tokens.specs.Values.{most_number}
+use Rattle.filter_tokens.specs.PrimitiveTexts.{field_text, hex_digit, hex_pair, layer_text, mask_text, network_text, operand_text, port_range_text, ports_text, primitive_text, relation_text, side_text, station_text, version_text, width_text}
+use Rattle.packet_filter.specs.Printing.{expression_text, grouped}
 use Rattle.packet_filter.specs.Trees.{Expr, test, negated, both, either}
-use Rattle.packet_filter.specs.Values.{most_number}
 use Rattle.packet_filter_laws.proofs.AddressTextLemmas.{Below, IsAddress, address_word, hex_digit_is, ip_text_is}
 use Rattle.packet_filter_laws.proofs.LexingLemmas
 use Rattle.packet_filter_laws.proofs.LexingLemmas.{IsLexed}

@@ -1,20 +1,20 @@
 -- Every text is a filter or has an error.
 use Rattle.std.proofs.Common.{◌≡◌, ℕ, ◌≤◌, ◌⊎◌, inl, inr, List, [], ◌∷◌, ◌++◌, length, Option, Some, None, refl, ap, ap₂, sym, ◌∙◌, subst, append_assoc, append-nil, arith}
 use Rattle.std.proofs.lemmas.Bool.{cases_lt}
-use Rattle.packet_filter.specs.declared.filter_error.FilterError.{FilterError}
-use Rattle.packet_filter.specs.declared.filter_error.FilterErrorKind.{FilterErrorKind}
-use Rattle.packet_filter.specs.declared.filter_error.FilterErrorKind.TheVariants as kind
+use Rattle.filter_tokens.specs.declared.filter_error.FilterError.{FilterError}
+use Rattle.filter_tokens.specs.declared.filter_error.FilterErrorKind.{FilterErrorKind}
+use Rattle.filter_tokens.specs.declared.filter_error.FilterErrorKind.TheVariants as kind
+use Rattle.filter_tokens.specs.Tokens.{Token, Placed, IsTokens, tokens_of}
+use Rattle.filter_tokens.proofs.TokenListLemmas.{one_list, tokens_exist}
 use Rattle.packet_filter.specs.Grammar.{IsFilter, empty, most_bytes, most_levels}
 use Rattle.packet_filter_laws.specs.Laws.{IsDecided}
 use Rattle.packet_filter.specs.Refusals.{BeginsFilter, EndsEarly, IsAllowed, IsFilterText, IsKind, RefusesText, RefusesToken}
 use Rattle.packet_filter.specs.States.{State, Runs, expression_of, first_state, no_tokens, settled}
-use Rattle.packet_filter.specs.Tokens.{Token, Placed, IsTokens, tokens_of}
 use Rattle.packet_filter.specs.Trees.{Expr}
 use Rattle.packet_filter_laws.proofs.DecideLemmas.{StopsFirst, every_token}
 use Rattle.packet_filter.proofs.KindLemmas.{kind_stops, stops_kind, stops_once}
 use Rattle.packet_filter.proofs.RunLemmas.{allowed_reads, begins_runs, filter_runs, runs_once, stops_apart}
 use Rattle.packet_filter.proofs.StandLemmas.{runs_begin, runs_filter}
-use Rattle.packet_filter.proofs.TokenListLemmas.{one_list, tokens_exist}
 
 -- ---- what begins a filter
 

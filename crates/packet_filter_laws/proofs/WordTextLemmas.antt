@@ -8,10 +8,10 @@ use Rattle.std.proofs.lemmas.List.{append-nil, take_at}
 use Rattle.std.proofs.lemmas.List.Sums.{sum_by-append}
 use Rattle.std.proofs.lemmas.Slice.Eq.{bytes_eq-Decides}
 use Rattle.std.proofs.lemmas.Str.Parse.{digit_from_value}
-use Rattle.packet_filter.specs.Names.{is_text, keyword_names, lookup_name, not_taken_words}
-use Rattle.packet_filter.specs.declared.filter_error.FilterErrorKind.TheVariants as kind
-use Rattle.packet_filter.specs.Tokens
-use Rattle.packet_filter.specs.Tokens.{Token, word, and, or, wrong, escaped_token, symbol_of, symbols, has_two_colons, is_alphanumeric, is_blank, is_colon, is_digit, is_run_byte, keyword_or_word, run_of, word_of, word_token}
+use Rattle.filter_tokens.specs.Names.{is_text, keyword_names, lookup_name, not_taken_words}
+use Rattle.filter_tokens.specs.declared.filter_error.FilterErrorKind.TheVariants as kind
+use Rattle.filter_tokens.specs.Tokens
+use Rattle.filter_tokens.specs.Tokens.{Token, word, and, or, wrong, escaped_token, symbol_of, symbols, has_two_colons, is_alphanumeric, is_blank, is_colon, is_digit, is_run_byte, keyword_or_word, run_of, word_of, word_token}
 use Rattle.packet_filter_laws.proofs.LexingLemmas
 use Rattle.packet_filter_laws.proofs.LexingLemmas.{IsLexed}
 

@@ -4,14 +4,14 @@ use Rattle.ep_base.specs.Bytes.{AreBytes}
 use Rattle.ep_lax.specs.Lax.{IsLax}
 use Rattle.ep_lax.specs.LaxLayers.{LaxLayers}
 use Rattle.ep_packet.specs.declared.entry.Entry.{Entry}
-use Rattle.packet_filter.specs.declared.filter_error.FilterError.{FilterError}
-use Rattle.packet_filter.specs.declared.primitive.FieldLayer.TheVariants as field
-use Rattle.packet_filter.specs.declared.primitive.Operand.TheVariants.{Bytes}
-use Rattle.packet_filter.specs.declared.primitive.PortProtocol.TheVariants as protocol
-use Rattle.packet_filter.specs.declared.primitive.Primitive.TheVariants as primitive
-use Rattle.packet_filter.specs.declared.primitive.Relation.TheVariants.{Equal, LessOrEqual, GreaterOrEqual}
-use Rattle.packet_filter.specs.declared.primitive.Side.TheVariants.{Source}
-use Rattle.packet_filter.specs.declared.primitive.Width.TheVariants.{Two}
+use Rattle.filter_tokens.specs.declared.filter_error.FilterError.{FilterError}
+use Rattle.filter_tokens.specs.declared.primitive.FieldLayer.TheVariants as field
+use Rattle.filter_tokens.specs.declared.primitive.Operand.TheVariants.{Bytes}
+use Rattle.filter_tokens.specs.declared.primitive.PortProtocol.TheVariants as protocol
+use Rattle.filter_tokens.specs.declared.primitive.Primitive.TheVariants as primitive
+use Rattle.filter_tokens.specs.declared.primitive.Relation.TheVariants.{Equal, LessOrEqual, GreaterOrEqual}
+use Rattle.filter_tokens.specs.declared.primitive.Side.TheVariants.{Source}
+use Rattle.filter_tokens.specs.declared.primitive.Width.TheVariants.{Two}
 use Rattle.packet_filter.specs.Grammar.{most_bytes}
 use Rattle.packet_filter.specs.Meaning.{matches_expr, matches_primitive}
 use Rattle.packet_filter.specs.Packets.{Packet, Transport, packet_of}

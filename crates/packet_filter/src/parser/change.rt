@@ -1,26 +1,26 @@
 //! Tokens that are no words: the change that each makes, by the part of the operand before it.
 
 ghost use Rattle.std.specs.Prelude.{◌≡◌, ℕ, List, None, Some, false, true};
+ghost use Rattle.filter_tokens.specs.ShownTokens.{shown_token};
+ghost use Rattle.filter_tokens.specs.Tokens.{Token};
 ghost use Rattle.packet_filter.specs.Parsing.{IsApt, IsAptEnd, changed, reading, settled_by, settling};
-ghost use Rattle.packet_filter.specs.Shown.{shown_token};
 ghost use Rattle.packet_filter.specs.States.{State, constant_kind, field_of, in_mode, layer_primitive, read_after, read_address_word};
 ghost use Rattle.packet_filter.specs.States.{read_group, read_group_end, read_host, read_in, read_keyword, read_layer, read_layer_word};
 ghost use Rattle.packet_filter.specs.States.{read_left, read_net, read_offset_end, read_operand, read_other_side, read_port_word};
 ghost use Rattle.packet_filter.specs.States.{read_side, read_side_values, read_sided, read_sided_word, read_size_end, read_test, settled_in, side_head};
 ghost use Rattle.packet_filter.specs.States.{group_mode, multicast_v4, multicast_v6, test_kind, union};
 ghost use Rattle.packet_filter.specs.Primitives.{ethernet_broadcast, ethernet_multicast, protocol_test, number_test};
-ghost use Rattle.packet_filter.specs.Tokens.{Token};
 
-use crate::filter_error::FilterErrorKind;
 use crate::head::Head;
-use crate::keyword::Keyword;
 use crate::mode::{Comparison, Mode, Sided};
-use crate::network::Network;
-use crate::primitive::{
+use ep_base::{EtherType, IpNumber};
+use filter_tokens::filter_error::FilterErrorKind;
+use filter_tokens::keyword::Keyword;
+use filter_tokens::network::Network;
+use filter_tokens::primitive::{
     AddressLayer, FieldLayer, IpVersion, Operand, PortProtocol, Primitive, Relation, Side, Width,
 };
-use crate::token::TokenKind;
-use ep_base::{EtherType, IpNumber};
+use filter_tokens::token::TokenKind;
 use std::net::{IpAddr, Ipv4Addr, Ipv6Addr};
 
 /// Change of the parser by a token.

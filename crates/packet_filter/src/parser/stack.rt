@@ -1,19 +1,19 @@
 //! Steps of the expressions that were read, and the levels around the next operand.
 
 ghost use Rattle.std.specs.Prelude.{◌≡◌, ◌≤◌, ◌<◌, ◌+◌, ◌-◌, ◌⊎◌, ◌∷◌, ◌++◌, [], Bool, IfErr, IfOk, IsFalse, IsTrue, List, MatchOption, MatchResult, OnOk, Option, length, ℕ};
+ghost use Rattle.filter_tokens.specs.declared.filter_error.FilterErrorKind.{FilterErrorKind};
 ghost use Rattle.packet_filter.specs.Grammar.{most_levels};
 ghost use Rattle.packet_filter.specs.Parsing.{AreFrames, HasNoExpression, IsClosed, IsOperandOf, with_skip};
 ghost use Rattle.packet_filter.specs.States.{Frame, completed, expression, left_of_and, left_of_or, levels_in, negating, opened};
 ghost use Rattle.packet_filter.specs.Trees.{Expr, steps_of, test};
-ghost use Rattle.packet_filter.specs.declared.filter_error.FilterErrorKind.{FilterErrorKind};
 ghost use Rattle.packet_filter.specs.declared.head.Head.{Head};
 ghost use Rattle.packet_filter.specs.declared.parser.stack.Level.{Level};
 ghost use Rattle.packet_filter.specs.declared.step.Step.{Step};
 
-use crate::filter_error::FilterErrorKind;
 use crate::head::Head;
-use crate::primitive::Primitive;
 use crate::step::Step;
+use filter_tokens::filter_error::FilterErrorKind;
+use filter_tokens::primitive::Primitive;
 use std::alloc::Global;
 
 /// Maximum number of `(` and `not` that are open at a time.

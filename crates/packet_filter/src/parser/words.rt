@@ -2,28 +2,28 @@
 
 ghost use Rattle.std.specs.Prelude.{◌≡◌, ℕ, List, None, Bool, IfErr, IfOk, IfSome, IfNone, IsTrue, true, false, take};
 ghost use Rattle.std.specs.List.{list_any};
+ghost use Rattle.filter_tokens.specs.Networks.{has_no_host_bits};
+ghost use Rattle.filter_tokens.specs.Tokens.{Token, is_colon, is_digit};
+ghost use Rattle.filter_tokens.specs.Values.{IsFamily, IsMask};
+ghost use Rattle.filter_tokens.specs.declared.filter_error.FilterErrorKind.{FilterErrorKind};
+ghost use Rattle.filter_tokens.specs.declared.primitive.Primitive.{Primitive};
+ghost use Rattle.filter_tokens.specs.declared.primitive.Side.{Side};
 ghost use Rattle.packet_filter.specs.Grammar.{IsWordValue};
-ghost use Rattle.packet_filter.specs.Networks.{has_no_host_bits};
 ghost use Rattle.packet_filter.specs.Parsing.{IsApt, IsModeChange, IsValueChange, IsWordChange, StopsMode, StopsWordIn, changed};
 ghost use Rattle.packet_filter.specs.Refusals.{IsValueKind};
 ghost use Rattle.packet_filter.specs.States.{State, StopsSide, StopsValue, after_value, qualified};
-ghost use Rattle.packet_filter.specs.Tokens.{Token, is_colon, is_digit};
-ghost use Rattle.packet_filter.specs.Values.{IsFamily, IsMask};
-ghost use Rattle.packet_filter.specs.declared.filter_error.FilterErrorKind.{FilterErrorKind};
-ghost use Rattle.packet_filter.specs.declared.primitive.Primitive.{Primitive};
-ghost use Rattle.packet_filter.specs.declared.primitive.Side.{Side};
 ghost use Rattle.packet_filter.specs.declared.mode.Sided.{Sided};
 
-use crate::filter_error::FilterErrorKind;
 use crate::head::Head;
 use crate::mode::{Comparison, Mode};
-use crate::network::Network;
 use crate::parser::change::{
     Change, Completion, group_mode, number_test, protocol_test, side_head, union,
 };
-use crate::primitive::{AddressLayer, FieldLayer, Operand, Primitive, Relation, Side};
-use crate::value;
 use ep_base::EtherType;
+use filter_tokens::filter_error::FilterErrorKind;
+use filter_tokens::network::Network;
+use filter_tokens::primitive::{AddressLayer, FieldLayer, Operand, Primitive, Relation, Side};
+use filter_tokens::value;
 use std::net::IpAddr;
 
 /// Returns what a word changes in a mode, with these qualifiers in force.

@@ -1,5 +1,5 @@
 use Rattle.std.proofs.Common.{◌∙◌}
-use Rattle.packet_filter.specs.declared.keyword.Keyword.TheVariants as name
+use Rattle.filter_tokens.specs.declared.keyword.Keyword.TheVariants as name
 use Rattle.packet_filter.proofs.ChangeLemmas.{address_of_ip}
 use Rattle.packet_filter.proofs.parser.change.ip_change.Goals as goal
 

@@ -1,7 +1,7 @@
 use Rattle.std.proofs.Common.{refl, ap}
+use Rattle.filter_tokens.proofs.ValueLemmas.{none_is_some}
 use Rattle.packet_filter.specs.declared.mode.Mode.{Mode}
 use Rattle.packet_filter.specs.States.{in_mode}
-use Rattle.packet_filter.proofs.ValueLemmas.{none_is_some}
 use Rattle.packet_filter.proofs.parser.words.group_word_change.Goals as goal
 
 pub returns-in-Some-clause-ok : goal.returns-in-Some-clause-ok

@@ -1,7 +1,7 @@
 use Rattle.std.proofs.Common.{◌≡◌, Some, subst}
-use Rattle.packet_filter.specs.declared.network.Network.{Network}
-use Rattle.packet_filter.specs.Values.{IsFamily}
-use Rattle.packet_filter.proofs.ValueLemmas.{none_is_some}
+use Rattle.filter_tokens.specs.declared.network.Network.{Network}
+use Rattle.filter_tokens.specs.Values.{IsFamily}
+use Rattle.filter_tokens.proofs.ValueLemmas.{none_is_some}
 use Rattle.packet_filter.proofs.WordValueLemmas.{no_net}
 use Rattle.packet_filter.proofs.parser.words.net_value.Goals as goal
 

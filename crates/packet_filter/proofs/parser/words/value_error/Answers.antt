@@ -1,8 +1,8 @@
 use Rattle.std.proofs.Common.{refl, inr, subst, sym}
+use Rattle.filter_tokens.specs.declared.filter_error.FilterErrorKind.TheVariants as kind
+use Rattle.filter_tokens.proofs.ValueLemmas.{none_is_some}
 use Rattle.packet_filter.specs.declared.head.Head.{Head}
-use Rattle.packet_filter.specs.declared.filter_error.FilterErrorKind.TheVariants as kind
 use Rattle.packet_filter.specs.Refusals.{IsValueKind}
-use Rattle.packet_filter.proofs.ValueLemmas.{none_is_some}
 use Rattle.packet_filter.proofs.parser.words.value_error.Goals as goal
 
 pub returns-in-None : goal.returns-in-None

@@ -1,5 +1,5 @@
 use Rattle.std.proofs.Common.{refl, inl, rules}
-use Rattle.packet_filter.proofs.ValueLemmas.{none_is_some}
+use Rattle.filter_tokens.proofs.ValueLemmas.{none_is_some}
 use Rattle.packet_filter.proofs.parser.words.vlan_change.Goals as goal
 
 pub returns-in-Some-clause-ok : goal.returns-in-Some-clause-ok

@@ -1,7 +1,7 @@
 use Rattle.std.proofs.Common.{subst}
+use Rattle.filter_tokens.proofs.ValueLemmas.{none_is_some}
 use Rattle.packet_filter.specs.declared.head.Head.{Head}
 use Rattle.packet_filter.specs.Grammar.{IsWordValue}
-use Rattle.packet_filter.proofs.ValueLemmas.{none_is_some}
 use Rattle.packet_filter.proofs.WordValueLemmas.{no_ether_type, no_port, no_protocol, no_range}
 use Rattle.packet_filter.proofs.parser.words.word_value.Goals as goal
 

@@ -1,0 +1,82 @@
+-- Lemmas about names, and about runs of bytes at the start of a text.
+use Rattle.std.proofs.Common.{◌≡◌, ℕ, ◌+◌, ◌≤◌, Bool, true, false, not, cond, ltb, List, [], ◌∷◌, length, take_while, map, drop, get_or, ◌||◌, ◌<◌, Option, Bor}
+use Rattle.std.proofs.Common.{Some, None, unwrap_or, refl, ap, ap₂, ◌∙◌, arith}
+use Rattle.std.specs.List.{list_any, position_from, position_or_len, prefix_len}
+use Rattle.std.proofs.lemmas.Grind.{common_steps}
+use Rattle.std.proofs.lemmas.Iterator.Adapters.{position_from-zero}
+use Rattle.std.proofs.lemmas.List.{drop_more}
+use Rattle.std.proofs.lemmas.List.Folds.{length-prefix_len}
+use Rattle.std.proofs.lemmas.List.Sums.{prefix_len-le-length}
+use Rattle.filter_tokens.specs.declared.filter_error.FilterErrorKind.TheVariants as kind
+use Rattle.filter_tokens.specs.Names.{is_text, lookup_name}
+use Rattle.filter_tokens.specs.Tokens.{escaped_token, wrong}
+
+cut_or_length : (a n : ℕ) → a ≤ n → unwrap_or (cond (ltb a n) (Some a) None) n ≡ a
+cut_or_length a n h = grind (arith, common_steps)
+
+-- The first place that passes, or else the length.
+pub place_or_length : {A : Type 0} (p : A → Bool) (list : List A)
+    → unwrap_or (position_from p 0 list) (length list) ≡ position_or_len p list
+place_or_length p list =
+    rw (← position_from-zero p list) (cut_or_length (position_or_len p list) (length list) (prefix_len-le-length _ list))
+
+not_not : (b : Bool) → not (not b) ≡ b
+not_not true = refl
+not_not false = refl
+
+prefix_of_not : {A : Type 0} (p : A → Bool) (list : List A) → position_or_len (λ x. not (p x)) list ≡ prefix_len p list
+prefix_of_not p [] = refl
+prefix_of_not p (first ∷ list) = ap₂ (λ b n. cond b (1 + n) 0) (not_not (p first)) (prefix_of_not p list)
+
+-- The first place that fails, or else the length, is the length of the longest start that passes.
+pub prefix_or_length : {A : Type 0} (p : A → Bool) (list : List A)
+    → unwrap_or (position_from (λ x. not (p x)) 0 list) (length list) ≡ prefix_len p list
+prefix_or_length p list = place_or_length (λ x. not (p x)) list ∙ prefix_of_not p list
+
+-- The length of the longest start that passes, as it is found.
+pub prefix_found : {A : Type 0} (p : A → Bool) (list : List A) (found : Option ℕ) (n : ℕ)
+    → n ≡ unwrap_or found (length list) → found ≡ position_from (λ x. not (p x)) 0 list
+    → (n ≡ prefix_len p list) × (n ≤ length list)
+prefix_found p list found n is there =
+    let same : n ≡ prefix_len p list =
+    is ∙ ap (λ o. unwrap_or o (length list)) there ∙ prefix_or_length p list in
+    (same, omega (arith, same, prefix_len-le-length p list))
+
+pub place_found : {A : Type 0} (p : A → Bool) (list : List A) (found : Option ℕ) (n : ℕ)
+    → n ≡ unwrap_or found (length list) → found ≡ position_from p 0 list
+    → (n ≡ position_or_len p list) × (n ≤ length list)
+place_found p list found n is there =
+    let same : n ≡ position_or_len p list =
+    is ∙ ap (λ o. unwrap_or o (length list)) there ∙ place_or_length p list in
+    (same, omega (arith, same, prefix_len-le-length (λ x. not (p x)) list))
+
+-- The longest start that passes has this length.
+pub length_of_run : {A : Type 0} (p : A → Bool) (list : List A) → length (take_while p list) ≡ prefix_len p list
+length_of_run p list = length-prefix_len p list
+
+-- The token of a backslash without a run after it, and with one.
+pub escaped_alone : (run : List ℕ) → length run ≡ 0 → escaped_token run ≡ (1, wrong kind.Character)
+escaped_alone [] none = refl
+escaped_alone (byte ∷ run) none = absurd (omega (arith, none))
+
+pub escaped_run : (run : List ℕ) → 0 < length run → escaped_token run ≡ (length run + 1, wrong kind.NotTaken)
+escaped_run [] some = absurd (omega (arith, some))
+escaped_run (byte ∷ run) some =
+    let e : 2 + length run ≡ length (byte ∷ run) + 1 = omega arith in ap (λ n. (n, wrong kind.NotTaken)) e
+
+-- ---- names
+
+-- The first of the names from index i on, or one after it.
+pub lookup_first : {V : Type 0} (text : List ℕ) (rows : List (Bor (List ℕ) × V)) (i : ℕ) (row : Bor (List ℕ) × V)
+    → i < length rows
+    → lookup_name text (map (λ row. (row.0.now, row.1)) (drop i rows))
+    ≡ cond (is_text text (get_or rows i row).0.now) (Some (get_or rows i row).1)
+    (lookup_name text (map (λ row. (row.0.now, row.1)) (drop (i + 1) rows)))
+lookup_first text rows i row inside =
+    ap (λ l. lookup_name text (map (λ row. (row.0.now, row.1)) l)) (drop_more rows i row inside)
+
+pub any_first : (text : List ℕ) (names : List (Bor (List ℕ))) (i : ℕ) (name : Bor (List ℕ)) → i < length names
+    → list_any (is_text text) (map (λ name. name.now) (drop i names))
+    ≡ (is_text text (get_or names i name).now || list_any (is_text text) (map (λ name. name.now) (drop (i + 1) names)))
+any_first text names i name inside =
+    ap (λ l. list_any (is_text text) (map (λ name. name.now) l)) (drop_more names i name inside)

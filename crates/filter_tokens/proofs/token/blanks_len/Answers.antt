@@ -1,0 +1,11 @@
+use Rattle.filter_tokens.specs.Tokens.{is_blank}
+use Rattle.filter_tokens.proofs.TokenLemmas.{prefix_found}
+use Rattle.filter_tokens.proofs.token.blanks_len.Goals as goal
+
+pub returns-clause-bound : goal.returns-clause-bound
+returns-clause-bound c =
+    (prefix_found is_blank c.args.text.now c.find_non_blank.result c.unwrap_or.result c.unwrap_or.ensures c.find_non_blank.ensures).1
+
+pub returns-clause-value : goal.returns-clause-value
+returns-clause-value c =
+    (prefix_found is_blank c.args.text.now c.find_non_blank.result c.unwrap_or.result c.unwrap_or.ensures c.find_non_blank.ensures).0

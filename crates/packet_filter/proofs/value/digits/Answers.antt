@@ -1,6 +1,0 @@
-use Rattle.packet_filter.proofs.ValueLemmas.{numeral_is_utf8}
-use Rattle.packet_filter.proofs.value.digits.Goals as goal
-
-pub returns-in_default : goal.returns-in_default
-returns-in_default c =
-    λ said. c.in_default.ensures.cases.0 (numeral_is_utf8 c.args.radix c.args.text.now c.requires.high said.0)
