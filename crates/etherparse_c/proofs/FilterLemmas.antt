@@ -17,7 +17,7 @@ use Rattle.etherparse.specs.Types.SliceError.{SliceError}
 use Rattle.packet_filter.specs.Refusals.{RefusesText}
 use Rattle.packet_filter.specs.FilterError.{FilterError as WrongFilter}
 use Rattle.packet_filter.specs.FilterErrorKind.TheVariants as kind
-use Rattle.packet_filter.specs.declared.step.Step.{Step}
+use Rattle.packet_filter.specs.Step.{Step}
 use Rattle.etherparse_c.specs.FilterAnswers.{AreMatched, HasLayers, IsMatchedAt, IsMatchWith, IsNewFilter, filter_error_part, kind_number}
 use Rattle.etherparse_c.specs.declared.filter_handle.FilterHandle.{FilterHandle}
 use Rattle.etherparse_c.specs.declared.filter_values.FilterError.{FilterError}

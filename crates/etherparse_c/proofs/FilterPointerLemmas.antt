@@ -23,7 +23,7 @@ use Rattle.std.specs.contracts.impls.GlobalAllocator.TheImpl.{ghosts}
 use Rattle.etherparse_c.specs.FilterOwnership.{owns_filter}
 use Rattle.etherparse_c.specs.HeldFilterOwnership.{owns_held_filter}
 use Rattle.etherparse_c.specs.declared.held_filter.HeldFilter.{HeldFilter}
-use Rattle.packet_filter.specs.declared.step.Step.{Step as FilterStep}
+use Rattle.packet_filter.specs.Step.{Step as FilterStep}
 use Rattle.etherparse_c.specs.contracts.held_filter.HeldFilter.{the_row as held_row}
 use Rattle.packet_filter.specs.contracts.filter.Filter.{the_row}
 use Rattle.etherparse_c.specs.contracts.filter_handle.FilterHandle as handle

@@ -17,7 +17,7 @@ use Rattle.packet_filter.specs.Trees.{tree_of}
 use Rattle.packet_filter.specs.FilterError.{FilterError as WrongFilter}
 use Rattle.packet_filter.specs.FilterErrorKind.{FilterErrorKind}
 use Rattle.packet_filter.specs.FilterErrorKind.TheVariants as kind
-use Rattle.packet_filter.specs.declared.step.Step.{Step}
+use Rattle.packet_filter.specs.Step.{Step}
 use Rattle.etherparse_c.specs.declared.filter_handle.FilterHandle.{FilterHandle}
 use Rattle.etherparse_c.specs.declared.filter_values.FilterError.{FilterError}
 use Rattle.etherparse_c.specs.declared.held_filter.HeldFilter.{HeldFilter}

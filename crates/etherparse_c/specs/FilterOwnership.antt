@@ -6,7 +6,7 @@ use Rattle.std.specs.Box.Ownership.{box_owns}
 use Rattle.std.specs.contracts.impls.GlobalAllocator.TheImpl.{ghosts}
 use Rattle.std.specs.declared.alloc.Global.{Global}
 use Rattle.packet_filter.specs.contracts.filter.Filter.{the_row}
-use Rattle.packet_filter.specs.declared.step.Step.{Step}
+use Rattle.packet_filter.specs.Step.{Step}
 
 -- the box at the pointer, if there is a filter
 abbrev pub owns_filter : Option (List Step) → Global → Ptr → Fml

@@ -2,7 +2,7 @@
 
 ghost use Rattle.std.specs.Prelude.{◌≡◌, List, Option, Some, None, is_some, true};
 ghost use Rattle.etherparse_c.specs.FilterOwnership.{owns_filter};
-ghost use Rattle.packet_filter.specs.declared.step.Step.{Step};
+ghost use Rattle.packet_filter.specs.Step.{Step};
 
 use crate::raw_box::RawBox;
 use packet_filter::Filter;

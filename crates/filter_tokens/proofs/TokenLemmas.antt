@@ -1,15 +1,19 @@
 -- Lemmas about names, and about runs of bytes at the start of a text.
 use Rattle.std.proofs.Common.{◌≡◌, ℕ, ◌+◌, ◌≤◌, Bool, true, false, not, cond, ltb, List, [], ◌∷◌, length, take_while, map, drop, get_or, ◌||◌, ◌<◌, Option, Bor}
-use Rattle.std.proofs.Common.{Some, None, unwrap_or, refl, ap, ap₂, ◌∙◌, arith}
-use Rattle.std.specs.List.{list_any, position_from, position_or_len, prefix_len}
+use Rattle.std.proofs.Common.{Some, None, nat_eq, take, unwrap_or, refl, ap, ap₂, sym, ◌∙◌, arith}
+use Rattle.std.specs.List.{list_any, position_from, position_or_len, prefix_len, starts_with}
 use Rattle.std.proofs.lemmas.Grind.{common_steps}
 use Rattle.std.proofs.lemmas.Iterator.Adapters.{position_from-zero}
 use Rattle.std.proofs.lemmas.List.{drop_more}
 use Rattle.std.proofs.lemmas.List.Folds.{length-prefix_len}
 use Rattle.std.proofs.lemmas.List.Sums.{prefix_len-le-length}
+use Rattle.std.proofs.lemmas.Bool.Decides.{Decides-eqb}
+use Rattle.std.proofs.lemmas.Slice.Eq.{slice_eq-Decides}
 use Rattle.filter_tokens.specs.declared.filter_error.FilterErrorKind.TheVariants as kind
 use Rattle.filter_tokens.specs.Names.{is_text, lookup_name}
-use Rattle.filter_tokens.specs.Tokens.{escaped_token, wrong}
+use Rattle.filter_tokens.specs.declared.token.TokenKind.{TokenKind}
+use Rattle.filter_tokens.specs.ShownTokens.{shown_first, shown_token}
+use Rattle.filter_tokens.specs.Tokens.{escaped_token, symbol_of, wrong}
 
 cut_or_length : (a n : ℕ) → a ≤ n → unwrap_or (cond (ltb a n) (Some a) None) n ≡ a
 cut_or_length a n h = grind (arith, common_steps)
@@ -66,17 +70,43 @@ escaped_run (byte ∷ run) some =
 
 -- ---- names
 
--- The first of the names from index i on, or one after it.
-pub lookup_first : {V : Type 0} (text : List ℕ) (rows : List (Bor (List ℕ) × V)) (i : ℕ) (row : Bor (List ℕ) × V)
-    → i < length rows
+-- The first of the names from index i on that equals a text: the one at index i, if that does, or one after it.
+pub lookup_step : {V : Type 0} (text : List ℕ) (rows : List (Bor (List ℕ) × V)) (i : ℕ) (row : Bor (List ℕ) × V)
+    (equal : Bool) → i < length rows → row ≡ get_or rows i row → is_text text row.0.now ≡ equal
     → lookup_name text (map (λ row. (row.0.now, row.1)) (drop i rows))
-    ≡ cond (is_text text (get_or rows i row).0.now) (Some (get_or rows i row).1)
-    (lookup_name text (map (λ row. (row.0.now, row.1)) (drop (i + 1) rows)))
-lookup_first text rows i row inside =
+    ≡ cond equal (Some row.1) (lookup_name text (map (λ row. (row.0.now, row.1)) (drop (i + 1) rows)))
+lookup_step {V} text rows i row equal inside here is =
+    let others : Option V = lookup_name text (map (λ row. (row.0.now, row.1)) (drop (i + 1) rows)) in
     ap (λ l. lookup_name text (map (λ row. (row.0.now, row.1)) l)) (drop_more rows i row inside)
+    ∙ ap (λ (r : Bor (List ℕ) × V). cond (is_text text r.0.now) (Some r.1) others) (sym here)
+    ∙ ap (λ (b : Bool). cond b (Some row.1) others) is
 
-pub any_first : (text : List ℕ) (names : List (Bor (List ℕ))) (i : ℕ) (name : Bor (List ℕ)) → i < length names
+-- Whether one of the names from index i on equals a text: the one at index i, or one after it.
+pub any_step : (text : List ℕ) (names : List (Bor (List ℕ))) (i : ℕ) (name : Bor (List ℕ)) (equal : Bool)
+    → i < length names → is_text text (get_or names i name).now ≡ equal
     → list_any (is_text text) (map (λ name. name.now) (drop i names))
-    ≡ (is_text text (get_or names i name).now || list_any (is_text text) (map (λ name. name.now) (drop (i + 1) names)))
-any_first text names i name inside =
+    ≡ (equal || list_any (is_text text) (map (λ name. name.now) (drop (i + 1) names)))
+any_step text names i name equal inside is =
     ap (λ l. list_any (is_text text) (map (λ name. name.now) l)) (drop_more names i name inside)
+    ∙ ap (λ (b : Bool). b || list_any (is_text text) (map (λ name. name.now) (drop (i + 1) names))) is
+
+-- ---- symbols
+
+-- A text that begins with a symbol.
+prefix_is : (text symbol : List ℕ) → starts_with nat_eq text symbol ≡ true → take (length symbol) text ≡ symbol
+prefix_is text symbol begins = sym ((slice_eq-Decides Decides-eqb symbol (take (length symbol) text) _ refl).0 begins)
+
+-- The first of the symbols from index i on is the token of a text that begins with it.
+pub symbol_here : (text : List ℕ) (symbols : List (Bor (List ℕ) × TokenKind)) (i : ℕ) (row : Bor (List ℕ) × TokenKind)
+    → i < length symbols → starts_with nat_eq text (get_or symbols i row).0.now ≡ true
+    → shown_first (get_or symbols i row).1 (length (get_or symbols i row).0.now) text
+    ≡ symbol_of (map (λ row. (row.0.now, shown_token row.1 row.0.now)) (drop i symbols)) text
+symbol_here text symbols i row inside begins =
+    let here = get_or symbols i row in
+    let len : ℕ = length here.0.now in
+    let same : take len text ≡ here.0.now = prefix_is text here.0.now begins in
+    ap (λ (word : List ℕ). (len, shown_token here.1 word)) same
+    ∙ sym (ap (λ l. symbol_of (map (λ row. (row.0.now, shown_token row.1 row.0.now)) l) text)
+    (drop_more symbols i row inside)
+    ∙ ap (λ b. cond b (len, shown_token here.1 here.0.now)
+    (symbol_of (map (λ row. (row.0.now, shown_token row.1 row.0.now)) (drop (i + 1) symbols)) text)) begins)

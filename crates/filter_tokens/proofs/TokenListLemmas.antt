@@ -1,12 +1,16 @@
 -- Lemmas about the tokens of a text: every text has one list of tokens, which is read from the front.
-use Rattle.std.proofs.Common.{◌≡◌, ℕ, zero, suc, ◌+◌, ◌-◌, ◌<◌, ◌≤◌, ◌==◌, ◌&&◌, ◌||◌, not, Bool, true, false, cond, Option, Some, None, append-nil, codes, nat_eq, All, IsTrue, List, [], ◌∷◌, ◌++◌, append_assoc, length, take_while, drop, take, refl, ap, sym, ◌∙◌, subst, arith, eqb-true, lit<, length-drop}
+use Rattle.std.proofs.Common.{◌≡◌, ◌≢◌, ℕ, zero, suc, get_or, ne_eqb, ◌+◌, ◌-◌, ◌<◌, ◌≤◌, ◌==◌, ◌&&◌, ◌||◌, not, Bool, true, false, cond, Option, Some, None, append-nil, codes, nat_eq, All, IsTrue, List, [], ◌∷◌, ◌++◌, append_assoc, length, take_while, drop, take, refl, ap, sym, ◌∙◌, subst, arith, ap₂, eqb-true, lit<, length-drop, length-take}
 use Rattle.std.specs.List.{before_first, list_any, position_or_len, prefix_len, starts_with}
 use Rattle.std.proofs.Math.Seq.{drop-nil}
+use Rattle.std.proofs.lemmas.List.{take-take, take_min}
 use Rattle.filter_tokens.specs.declared.filter_error.FilterErrorKind.TheVariants as kind
 use Rattle.filter_tokens.specs.declared.keyword.Keyword.{Keyword}
 use Rattle.filter_tokens.specs.Names.{is_text, keyword_names, lookup_name, not_taken_words}
 use Rattle.filter_tokens.specs.Tokens.{Placed, Token, IsTokens, escaped_token, first_token, has_two_colons, is_alphanumeric, is_blank, is_colon, is_run_byte, run_of, symbol_of, symbols, word_of, keyword_or_word, word, word_token, wrong}
 use Rattle.filter_tokens.specs.Tokens as Tokens
+use Rattle.filter_tokens.specs.declared.token.TokenKind.{TokenKind}
+use Rattle.filter_tokens.specs.declared.token.TokenKind.TheVariants as TheKinds
+use Rattle.filter_tokens.specs.ShownTokens.{shown_first, shown_token}
 use Rattle.filter_tokens.proofs.TokenLemmas.{length_of_run}
 
 -- Tokens that a text begins with, up to an offset: with the tokens of the rest they are those of the text.
@@ -194,6 +198,97 @@ first_has_byte byte text =
     (λ is. colons_have_byte byte text (and_left (is_colon byte) _ is))
     (λ no_colons. choose (λ (t : ℕ × Token). 0 < t.0) (byte == 92) _ _ (λ is. escaped_has_byte (run_of text))
     (λ no_mark. symbol_has_byte symbols (byte ∷ text) symbols_long)))
+
+when : {A : Type 0} (b : Bool) (x y : A) → b ≡ true → cond b x y ≡ x
+when true x y is = refl
+when false x y is = let never : ⊥ = cc in absurd never
+
+unless : {A : Type 0} (b : Bool) (x y : A) → b ≡ false → cond b x y ≡ y
+unless true x y is = let never : ⊥ = cc in absurd never
+unless false x y is = refl
+
+no_colons : (b c : Bool) → b ≡ false → (b && c) ≡ false
+no_colons true c is = let never : ⊥ = cc in absurd never
+no_colons false c is = refl
+
+-- The length of a token that is read.
+pub length_is : (kind : TokenKind) (len : ℕ) (text : List ℕ) → 0 < length text
+    → shown_first kind len text ≡ first_token text → 0 < len
+length_is kind len [] some is = absurd (omega (arith, some))
+length_is kind len (byte ∷ text) some is =
+    omega (arith, ap (λ (t : ℕ × Token). t.0) is, first_has_byte byte text)
+
+-- The bytes that a start of a text has are a start of it.
+start_is : (n : ℕ) (list : List ℕ) → take (length (take n list)) list ≡ take n list
+start_is n list = ap (λ (k : ℕ). take k list) (length-take n list) ∙ take_min n list
+
+start_within : (m n : ℕ) (list : List ℕ)
+    → take (length (take m (take n list))) list ≡ take m (take n list)
+start_within m n list =
+    let short : length (take m (take n list)) ≤ n =
+    omega (arith, length-take m (take n list), length-take n list) in
+    sym (take-take (length (take m (take n list))) n list short) ∙ start_is m (take n list)
+
+word_is_start : (text : List ℕ) → take (length (word_of text)) text ≡ word_of text
+word_is_start text =
+    choose (λ (w : List ℕ). take (length w) text ≡ w) (has_two_colons (run_of text)) (run_of text)
+    (before_first is_colon (run_of text)) (λ two. start_is (prefix_len is_run_byte text) text)
+    (λ few. start_within (position_or_len is_colon (run_of text)) (prefix_len is_run_byte text) text)
+
+-- The token of a text that begins with a letter or digit.
+pub word_first : (kind : TokenKind) (len : ℕ) (text read : List ℕ) → 0 < length text
+    → is_alphanumeric (get_or text 0 0) ≡ true → read ≡ word_of text → shown_token kind read ≡ word_token read
+    → len ≡ length read → shown_first kind len text ≡ first_token text
+word_first kind len [] read some is read_is shown long = absurd (omega (arith, some))
+word_first kind len (byte ∷ text) read some is read_is shown long =
+    let same : take len (byte ∷ text) ≡ read =
+    ap (λ (n : ℕ). take n (byte ∷ text)) (long ∙ ap length read_is) ∙ word_is_start (byte ∷ text) ∙ sym read_is in
+    let there : ◌≡◌ {A = ℕ × Token} (len, shown_token kind (take len (byte ∷ text)))
+    (length (word_of (byte ∷ text)), word_token (word_of (byte ∷ text))) =
+    λ i. ((long ∙ ap length read_is) i, (ap (shown_token kind) same ∙ shown ∙ ap word_token read_is) i) in
+    there ∙ sym (when (is_alphanumeric byte) _ _ is)
+
+-- The token of a text that begins with a colon.
+colon_here : (kind : TokenKind) (len : ℕ) (text : List ℕ) (two : Bool) → has_two_colons (run_of (58 ∷ text)) ≡ two
+    → (IsTrue (has_two_colons (run_of (58 ∷ text)))
+    → shown_first kind len (58 ∷ text) ≡ (length (run_of (58 ∷ text)), word (run_of (58 ∷ text))))
+    → (has_two_colons (run_of (58 ∷ text)) ≡ false → (kind ≡ TheKinds.Colon) × (len ≡ 1))
+    → shown_first kind len (58 ∷ text) ≡ first_token (58 ∷ text)
+colon_here kind len text true is more one = more is ∙ sym (when (has_two_colons (run_of (58 ∷ text))) _ _ is)
+colon_here kind len text false is more one =
+    let there = one is in
+    ap₂ (λ k n. shown_first k n (58 ∷ text)) there.0 there.1
+    ∙ sym (unless (has_two_colons (run_of (58 ∷ text))) _ _ is)
+
+pub colon_first : (kind : TokenKind) (len : ℕ) (text : List ℕ) → 0 < length text → get_or text 0 0 ≡ 58
+    → (IsTrue (has_two_colons (run_of text)) → shown_first kind len text ≡ (length (run_of text), word (run_of text)))
+    → (has_two_colons (run_of text) ≡ false → (kind ≡ TheKinds.Colon) × (len ≡ 1))
+    → shown_first kind len text ≡ first_token text
+colon_first kind len [] some is = absurd (omega (arith, some))
+colon_first kind len (byte ∷ text) some is =
+    subst (λ (b : ℕ). (IsTrue (has_two_colons (run_of (b ∷ text)))
+    → shown_first kind len (b ∷ text) ≡ (length (run_of (b ∷ text)), word (run_of (b ∷ text))))
+    → (has_two_colons (run_of (b ∷ text)) ≡ false → (kind ≡ TheKinds.Colon) × (len ≡ 1))
+    → shown_first kind len (b ∷ text) ≡ first_token (b ∷ text)) (sym is)
+    (colon_here kind len text (has_two_colons (run_of (58 ∷ text))) refl)
+
+-- The token of a text that begins with a backslash.
+pub escaped_first : (kind : TokenKind) (len : ℕ) (text others : List ℕ) → 0 < length text → get_or text 0 0 ≡ 92
+    → others ≡ drop 1 text → shown_first kind len (92 ∷ others) ≡ escaped_token (run_of others)
+    → shown_first kind len text ≡ first_token text
+escaped_first kind len [] others some is others_is shown = absurd (omega (arith, some))
+escaped_first kind len (byte ∷ text) others some is others_is shown =
+    subst (λ (t : List ℕ). shown_first kind len t ≡ first_token t) (λ i. sym is i ∷ others_is i) shown
+
+-- A text that begins with no word, colon or backslash begins with a symbol or a wrong character.
+pub symbol_first : (text : List ℕ) → 0 < length text → is_alphanumeric (get_or text 0 0) ≡ false
+    → get_or text 0 0 ≢ 58 → get_or text 0 0 ≢ 92 → first_token text ≡ symbol_of symbols text
+symbol_first [] some no_word no_colon no_mark = absurd (omega (arith, some))
+symbol_first (byte ∷ text) some no_word no_colon no_mark =
+    unless (is_alphanumeric byte) _ _ no_word
+    ∙ unless (is_colon byte && has_two_colons (run_of (byte ∷ text))) _ _
+    (no_colons (is_colon byte) _ (ne_eqb byte 58 no_colon))
+    ∙ unless (byte == 92) _ _ (ne_eqb byte 92 no_mark)
 
 -- ---- every text has tokens
 

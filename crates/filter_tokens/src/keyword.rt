@@ -94,7 +94,7 @@ impl Keyword {
     ghost use Rattle.filter_tokens.specs.Names.{keyword_names, lookup_name};
 
     /// Returns the keyword with this text, or `None` if the word is no keyword.
-    pub fn of_word(word: &[u8]) -> Option<Keyword>
+    pub(crate) fn of_word(word: &[u8]) -> Option<Keyword>
         ensures { result ≡ lookup_name word.now keyword_names }
     {
         find_name(&KEYWORDS, word)

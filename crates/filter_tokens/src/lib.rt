@@ -1,5 +1,5 @@
-//! Tokens and values of filter expressions, and the primitives that they denote. The parser and the filters are in
-//! `packet_filter`.
+//! Tokens, values, primitives and errors of filter expressions, and the text of primitives. The parser and the filters
+//! are in `packet_filter`.
 #![tactic(auto)]
 
 pub mod filter_error;
@@ -12,7 +12,5 @@ pub mod token;
 pub mod value;
 
 pub use crate::filter_error::{FilterError, FilterErrorKind};
-pub use crate::keyword::Keyword;
 pub use crate::network::Network;
 pub use crate::primitive::Primitive;
-pub use crate::token::{Token, TokenKind};

@@ -181,8 +181,7 @@ static NOT_TAKEN: [&str; 99] = [
 ];
 
 /// Returns the value of the first name that equals a word.
-#[tactic(auto, using(crate::proofs::TokenLemmas::lookup_first))]
-pub fn find_name<V: Copy>(names: &[(&'static str, V)], word: &[u8]) -> Option<V>
+pub(crate) fn find_name<V: Copy>(names: &[(&'static str, V)], word: &[u8]) -> Option<V>
     ensures { result ≡ lookup_name word.now (map (λ row. (row.0.now, row.1)) names.now) }
 {
     for (name, value) in names {
@@ -194,28 +193,27 @@ pub fn find_name<V: Copy>(names: &[(&'static str, V)], word: &[u8]) -> Option<V>
 }
 
 /// Returns the port with this name.
-pub fn named_port(word: &[u8]) -> Option<u16>
+pub(crate) fn named_port(word: &[u8]) -> Option<u16>
     ensures { result ≡ lookup_name word.now port_names }
 {
     find_name(&PORTS, word)
 }
 
 /// Returns the constant of byte tests with this name.
-pub fn named_constant(word: &[u8]) -> Option<u32>
+pub(crate) fn named_constant(word: &[u8]) -> Option<u32>
     ensures { result ≡ lookup_name word.now constant_names }
 {
     find_name(&CONSTANTS, word)
 }
 
 /// Returns true if the word is one of tcpdump that is not supported.
-pub fn is_not_taken(word: &[u8]) -> bool
+pub(crate) fn is_not_taken(word: &[u8]) -> bool
     ensures { result ≡ list_any (is_text word.now) not_taken_words }
 {
     is_one_of(&NOT_TAKEN, word)
 }
 
 /// Returns true if a word is one of a list.
-#[tactic(auto, using(crate::proofs::TokenLemmas::any_first))]
 fn is_one_of(words: &[&'static str], word: &[u8]) -> bool
     ensures { result ≡ list_any (is_text word.now) (map (λ name. name.now) words.now) }
 {

@@ -63,7 +63,7 @@ impl Network {
     }
 }
 
-/// Returns an address of 4 or 16 bytes as a big-endian number.
+/// Returns an address of 4 or 16 bytes as a big-endian number. For another length the number is unspecified.
 #[inline]
 pub fn number_of(address: &[u8]) -> u128
     ensures bytes { AreBytes address.now }

@@ -2,16 +2,18 @@
 
 ghost use Rattle.std.specs.Prelude.{◌≡◌, ◌<◌, ◌++◌, OnOk, codes};
 ghost use Rattle.std.specs.Fmt.{decimal};
+ghost use Rattle.std.specs.Net.Text.{ip_text};
 ghost use Rattle.filter_tokens.specs.declared.primitive.Primitive.TheVariants as primitive;
-ghost use Rattle.filter_tokens.specs.PrimitiveTexts.{field_text, hex_digit, hex_pair, layer_text, network_text, operand_text};
-ghost use Rattle.filter_tokens.specs.PrimitiveTexts.{port_range_text, ports_text, primitive_text, relation_text, side_text};
-ghost use Rattle.filter_tokens.specs.PrimitiveTexts.{station_text, version_text};
+ghost use Rattle.filter_tokens.specs.PrimitiveTexts.{field_text, hex_digit, hex_pair, layer_text, mask_text, network_text};
+ghost use Rattle.filter_tokens.specs.PrimitiveTexts.{operand_text, port_range_text, ports_text, primitive_text, relation_text, side_text};
+ghost use Rattle.filter_tokens.specs.PrimitiveTexts.{station_text, version_text, width_text};
 
 use crate::network::Network;
 use crate::primitive::{
     AddressLayer, FieldLayer, IpVersion, Operand, PortProtocol, Primitive, Relation, Side, Width,
 };
-use ep_base::VlanId;
+use crate::value::address_bits;
+use ep_base::{EtherType, IpNumber, VlanId};
 use std::alloc::AllocError;
 use std::net::IpAddr;
 
@@ -28,67 +30,130 @@ pub fn append_primitive(output: &mut Vec<u8>, primitive: &Primitive) -> Result<(
     ensures { OnOk result (output.new.items ≡ output.old.items ++ primitive_text primitive.now) }
 {
     match primitive {
-        Primitive::EtherType(ether_type) => {
-            output.extend_from_slice(b"ether proto 0x")?;
-            append_hex(output, (ether_type.0 / 256) as u8)?;
-            append_hex(output, (ether_type.0 % 256) as u8)
-        }
-        Primitive::Protocol(version, number) => {
-            output.extend_from_slice(version_word(*version).as_bytes())?;
-            output.extend_from_slice(b"proto ")?;
-            append_number(output, u32::from(number.0))
-        }
-        Primitive::Address(layer, side, network) => {
-            output.extend_from_slice(layer_word(*layer).as_bytes())?;
-            output.extend_from_slice(side_word(*side).as_bytes())?;
-            append_network(output, network)
-        }
-        Primitive::Station(side, station) => {
-            output.extend_from_slice(b"ether ")?;
-            output.extend_from_slice(side_word(*side).as_bytes())?;
-            output.extend_from_slice(b"host ")?;
-            append_station(output, *station)
-        }
+        Primitive::EtherType(ether_type) => append_ether_type(output, *ether_type),
+        Primitive::Protocol(version, number) => append_protocol(output, *version, *number),
+        Primitive::Address(layer, side, network) => append_address(output, *layer, *side, network),
+        Primitive::Station(side, station) => append_ether_host(output, *side, *station),
         Primitive::Port(ports, side, low, high) => {
-            output.extend_from_slice(ports_word(*ports).as_bytes())?;
-            output.extend_from_slice(side_word(*side).as_bytes())?;
-            append_ports(output, *low, *high)
+            append_port_range(output, *ports, *side, *low, *high)
         }
         Primitive::Vlan(id) => append_vlan(output, id),
         Primitive::Number(operand, mask, relation, number) => {
-            append_operand(output, operand)?;
-            if *mask != u32::MAX {
-                output.extend_from_slice(b" & ")?;
-                append_number(output, *mask)?;
-            }
-            output.extend_from_slice(relation_word(*relation).as_bytes())?;
-            append_number(output, *number)
+            append_comparison(output, operand, *mask, *relation, *number)
         }
     }
+}
+
+/// Appends `ether proto` and an ether type in hexadecimal.
+fn append_ether_type(output: &mut Vec<u8>, ether_type: EtherType) -> Result<(), AllocError>
+    ensures { OnOk result (output.new.items ≡ output.old.items ++ primitive_text (primitive.EtherType ether_type)) }
+{
+    output.extend_from_slice(b"ether proto 0x")?;
+    append_hex(output, (ether_type.0 / 256) as u8)?;
+    append_hex(output, (ether_type.0 % 256) as u8)
+}
+
+/// Appends the word of an IP version, `proto` and a protocol number.
+fn append_protocol(
+    output: &mut Vec<u8>,
+    version: IpVersion,
+    number: IpNumber,
+) -> Result<(), AllocError>
+    ensures { OnOk result (output.new.items ≡ output.old.items ++ primitive_text (primitive.Protocol version number)) }
+{
+    output.extend_from_slice(version_word(version).as_bytes())?;
+    output.extend_from_slice(b"proto ")?;
+    append_number(output, u32::from(number.0))
+}
+
+/// Appends the words of a network layer and a side, and a host or network.
+fn append_address(
+    output: &mut Vec<u8>,
+    layer: AddressLayer,
+    side: Side,
+    network: &Network,
+) -> Result<(), AllocError>
+    ensures { OnOk result (output.new.items
+        ≡ output.old.items ++ primitive_text (primitive.Address layer side network.now)) }
+{
+    output.extend_from_slice(layer_word(layer).as_bytes())?;
+    output.extend_from_slice(side_word(side).as_bytes())?;
+    append_network(output, network)
+}
+
+/// Appends `ether`, the words of a side, `host` and a MAC address.
+fn append_ether_host(output: &mut Vec<u8>, side: Side, station: [u8; 6]) -> Result<(), AllocError>
+    ensures { OnOk result (output.new.items ≡ output.old.items ++ primitive_text (primitive.Station side station)) }
+{
+    output.extend_from_slice(b"ether ")?;
+    output.extend_from_slice(side_word(side).as_bytes())?;
+    output.extend_from_slice(b"host ")?;
+    append_station(output, station)
+}
+
+/// Appends the words of a transport protocol and a side, and a port or a range.
+fn append_port_range(
+    output: &mut Vec<u8>,
+    ports: PortProtocol,
+    side: Side,
+    low: u16,
+    high: u16,
+) -> Result<(), AllocError>
+    ensures { OnOk result (output.new.items ≡ output.old.items ++ primitive_text (primitive.Port ports side low high)) }
+{
+    output.extend_from_slice(ports_word(ports).as_bytes())?;
+    output.extend_from_slice(side_word(side).as_bytes())?;
+    append_ports(output, low, high)
+}
+
+/// Appends an operand, its mask, the symbol of a relation, and a number.
+fn append_comparison(
+    output: &mut Vec<u8>,
+    operand: &Operand,
+    mask: u32,
+    relation: Relation,
+    number: u32,
+) -> Result<(), AllocError>
+    ensures { OnOk result (output.new.items
+        ≡ output.old.items ++ primitive_text (primitive.Number operand.now mask relation number)) }
+{
+    append_operand(output, operand)?;
+    append_mask(output, mask)?;
+    output.extend_from_slice(relation_word(relation).as_bytes())?;
+    append_number(output, number)
+}
+
+/// Appends `&` and a mask, if it leaves a bit out.
+fn append_mask(output: &mut Vec<u8>, mask: u32) -> Result<(), AllocError>
+    ensures { OnOk result (output.new.items ≡ output.old.items ++ mask_text mask) }
+{
+    if mask == u32::MAX {
+        return Ok(());
+    }
+    output.extend_from_slice(b" & ")?;
+    append_number(output, mask)
 }
 
 /// Appends `host` and an address, or `net` and a network that has more than one.
 fn append_network(output: &mut Vec<u8>, network: &Network) -> Result<(), AllocError>
     ensures { OnOk result (output.new.items ≡ output.old.items ++ network_text network.now) }
 {
-    let bits = match network.address {
-        IpAddr::V4(_) => 32,
-        IpAddr::V6(_) => 128,
-    };
-    let whole = network.bits == bits;
-    output.extend_from_slice(if whole {
-        b"host ".as_slice()
-    } else {
-        b"net ".as_slice()
-    })?;
-    let address = network.address;
-    let text = format!(in *output.allocator(); "{address}")?;
-    output.extend_from_slice(text.as_bytes())?;
-    if whole {
-        return Ok(());
+    if network.bits == address_bits(&network.address) {
+        output.extend_from_slice(b"host ")?;
+        return append_ip(output, network.address);
     }
+    output.extend_from_slice(b"net ")?;
+    append_ip(output, network.address)?;
     output.extend_from_slice(b"/")?;
     append_number(output, u32::from(network.bits))
+}
+
+/// Appends an IP address.
+fn append_ip(output: &mut Vec<u8>, address: IpAddr) -> Result<(), AllocError>
+    ensures { OnOk result (output.new.items ≡ output.old.items ++ ip_text address) }
+{
+    let text = format!(in *output.allocator(); "{address}")?;
+    output.extend_from_slice(text.as_bytes())
 }
 
 /// Appends a MAC address.
@@ -150,13 +215,12 @@ fn append_ports(output: &mut Vec<u8>, low: u16, high: u16) -> Result<(), AllocEr
 fn append_vlan(output: &mut Vec<u8>, id: &Option<VlanId>) -> Result<(), AllocError>
     ensures { OnOk result (output.new.items ≡ output.old.items ++ primitive_text (primitive.Vlan id.now)) }
 {
-    output.extend_from_slice(b"vlan")?;
     match id {
         Some(id) => {
-            output.extend_from_slice(b" ")?;
+            output.extend_from_slice(b"vlan ")?;
             append_number(output, u32::from(id.value()))
         }
-        None => Ok(()),
+        None => output.extend_from_slice(b"vlan"),
     }
 }
 
@@ -170,12 +234,19 @@ fn append_operand(output: &mut Vec<u8>, operand: &Operand) -> Result<(), AllocEr
             output.extend_from_slice(field_word(*layer).as_bytes())?;
             output.extend_from_slice(b"[")?;
             append_number(output, *offset)?;
-            output.extend_from_slice(match width {
-                Width::One => b":1]",
-                Width::Two => b":2]",
-                Width::Four => b":4]",
-            })
+            output.extend_from_slice(width_word(*width).as_bytes())
         }
+    }
+}
+
+/// Returns the size of a number, with a colon before it and a bracket after it.
+fn width_word(width: Width) -> &'static str
+    ensures { result.now ≡ width_text width }
+{
+    match width {
+        Width::One => ":1]",
+        Width::Two => ":2]",
+        Width::Four => ":4]",
     }
 }
 

@@ -1,17 +1,18 @@
 //! Tokens of filter expressions.
 
-ghost use Rattle.std.specs.Prelude.{◌≡◌, ◌≢◌, ◌≤◌, ◌<◌, ◌+◌, ◌-◌, ◌∷◌, false, IsTrue, drop, length, take, take_while};
+ghost use Rattle.std.specs.Prelude.{◌≡◌, ◌≢◌, ◌≤◌, ◌<◌, ◌+◌, ◌-◌, ◌∷◌, false, IsTrue, drop, length, map, take_while};
 ghost use Rattle.std.specs.Prelude.{not};
-ghost use Rattle.std.specs.List.{position_from, position_or_len, prefix_len};
+ghost use Rattle.std.specs.List.{position_from, prefix_len};
 ghost use Rattle.filter_tokens.specs.ShownTokens.{shown_first, shown_token};
-ghost use Rattle.filter_tokens.specs.Tokens.{word, escaped_token, first_token, has_two_colons, is_blank, is_continuation};
-ghost use Rattle.filter_tokens.specs.Tokens.{is_colon, is_run_byte, run_of, word_of, word_token};
+ghost use Rattle.filter_tokens.specs.Tokens.{word, escaped_token, first_token, has_two_colons, is_alphanumeric, is_blank, is_continuation};
+ghost use Rattle.filter_tokens.specs.Tokens.{is_run_byte, run_of, symbol_of, word_of, word_token};
 ghost use Rattle.filter_tokens.specs.declared.token.TokenKind.{TokenKind};
 
 use crate::filter_error::FilterErrorKind;
 use crate::keyword::Keyword;
 use crate::names::is_not_taken;
 use crate::primitive::Relation;
+use crate::value::byte_place;
 
 /// Token of a filter expression.
 #[derive(Clone, Copy)]
@@ -61,7 +62,36 @@ pub enum TokenKind {
     End,
 }
 
-/// Returns the first token at or after an offset of a text.
+/// Symbols, and their tokens. Longer symbols come before their first bytes: `<=` is one token.
+static SYMBOLS: [(&str, TokenKind); 25] = [
+    ("&&", TokenKind::And),
+    ("||", TokenKind::Or),
+    ("!=", TokenKind::Relation(Relation::NotEqual)),
+    ("!", TokenKind::Not),
+    ("==", TokenKind::Relation(Relation::Equal)),
+    ("=", TokenKind::Relation(Relation::Equal)),
+    ("<=", TokenKind::Relation(Relation::LessOrEqual)),
+    ("<<", TokenKind::Wrong(FilterErrorKind::Arithmetic)),
+    ("<", TokenKind::Relation(Relation::Less)),
+    (">=", TokenKind::Relation(Relation::GreaterOrEqual)),
+    (">>", TokenKind::Wrong(FilterErrorKind::Arithmetic)),
+    (">", TokenKind::Relation(Relation::Greater)),
+    ("(", TokenKind::Open),
+    (")", TokenKind::Close),
+    ("[", TokenKind::LeftBracket),
+    ("]", TokenKind::RightBracket),
+    (":", TokenKind::Colon),
+    ("/", TokenKind::Slash),
+    ("&", TokenKind::Ampersand),
+    ("|", TokenKind::Bar),
+    ("+", TokenKind::Wrong(FilterErrorKind::Arithmetic)),
+    ("*", TokenKind::Wrong(FilterErrorKind::Arithmetic)),
+    ("%", TokenKind::Wrong(FilterErrorKind::Arithmetic)),
+    ("^", TokenKind::Wrong(FilterErrorKind::Arithmetic)),
+    ("-", TokenKind::Wrong(FilterErrorKind::Arithmetic)),
+];
+
+/// Returns the first token at or after an offset of a text. The offset must be at most the text's length.
 #[tactic(auto, using(crate::proofs::TokenLemmas::length_of_run))]
 pub fn token_at(text: &[u8], at: usize) -> Token
     requires { at ≤ length text.now }
@@ -109,38 +139,45 @@ fn first_token(text: &[u8]) -> (TokenKind, usize)
     ensures some { result.0 ≢ TokenKind.End → 0 < result.1 }
     ensures token { shown_first result.0 result.1 text.now ≡ first_token text.now }
 {
-    match text {
-        [] => (TokenKind::End, 0),
-        [b'(', ..] => (TokenKind::Open, 1),
-        [b')', ..] => (TokenKind::Close, 1),
-        [b'[', ..] => (TokenKind::LeftBracket, 1),
-        [b']', ..] => (TokenKind::RightBracket, 1),
-        [b'/', ..] => (TokenKind::Slash, 1),
-        [b'&', b'&', ..] => (TokenKind::And, 2),
-        [b'&', ..] => (TokenKind::Ampersand, 1),
-        [b'|', b'|', ..] => (TokenKind::Or, 2),
-        [b'|', ..] => (TokenKind::Bar, 1),
-        [b'!', b'=', ..] => (TokenKind::Relation(Relation::NotEqual), 2),
-        [b'!', ..] => (TokenKind::Not, 1),
-        [b'=', b'=', ..] => (TokenKind::Relation(Relation::Equal), 2),
-        [b'=', ..] => (TokenKind::Relation(Relation::Equal), 1),
-        [b'<', b'=', ..] => (TokenKind::Relation(Relation::LessOrEqual), 2),
-        [b'<', b'<', ..] => (TokenKind::Wrong(FilterErrorKind::Arithmetic), 2),
-        [b'<', ..] => (TokenKind::Relation(Relation::Less), 1),
-        [b'>', b'=', ..] => (TokenKind::Relation(Relation::GreaterOrEqual), 2),
-        [b'>', b'>', ..] => (TokenKind::Wrong(FilterErrorKind::Arithmetic), 2),
-        [b'>', ..] => (TokenKind::Relation(Relation::Greater), 1),
-        [b'+' | b'*' | b'%' | b'^' | b'-', ..] => {
-            (TokenKind::Wrong(FilterErrorKind::Arithmetic), 1)
-        }
-        [b'\\', others @ ..] => escaped_token(others),
-        [b':', ..] => colon_token(text),
-        [b'A'..=b'Z' | b'a'..=b'z' | b'0'..=b'9', ..] => word_token(word_of(text)),
-        _ => (
-            TokenKind::Wrong(FilterErrorKind::Character),
-            character_len(text),
-        ),
+    let [first, others @ ..] = text else {
+        return (TokenKind::End, 0);
+    };
+    if is_alphanumeric(*first) {
+        return word_token(word_of(text));
     }
+    if *first == b':' {
+        return colon_token(text);
+    }
+    if *first == b'\\' {
+        return escaped_token(others);
+    }
+    symbol_token(&SYMBOLS, text)
+}
+
+/// Returns true if a byte is a letter or digit of ASCII.
+fn is_alphanumeric(byte: u8) -> bool
+    ensures { result ≡ is_alphanumeric byte }
+{
+    byte.is_ascii_alphanumeric()
+}
+
+/// Returns the token of the first symbol of a list that a text begins with, and its length in bytes. For a text that
+/// begins with none of them, returns an error with the length of the text's first character.
+fn symbol_token(symbols: &[(&'static str, TokenKind)], text: &[u8]) -> (TokenKind, usize)
+    requires { 0 < length text.now }
+    ensures bound { result.1 ≤ length text.now }
+    ensures token { shown_first result.0 result.1 text.now
+        ≡ symbol_of (map (λ row. (row.0.now, shown_token row.1 row.0.now)) symbols.now) text.now }
+{
+    for (symbol, kind) in symbols {
+        if text.starts_with(symbol.as_bytes()) {
+            return (*kind, symbol.len());
+        }
+    }
+    (
+        TokenKind::Wrong(FilterErrorKind::Character),
+        character_len(text),
+    )
 }
 
 /// Returns the token of a backslash, given the text after it: the backslash with the run after it.
@@ -215,22 +252,7 @@ fn word_of(text: &[u8]) -> &[u8]
     if has_two_colons(run) {
         return run;
     }
-    &run[..colon_place(run)]
-}
-
-/// Returns the offset of the first colon of a text, or else the text's length.
-fn colon_place(text: &[u8]) -> usize
-    ensures bound { result ≤ length text.now }
-    ensures value { result ≡ position_or_len is_colon text.now }
-{
-    find_colon(text).unwrap_or(text.len())
-}
-
-/// Returns the offset of the first colon of a text.
-fn find_colon(text: &[u8]) -> Option<usize>
-    ensures { result ≡ position_from is_colon 0 text.now }
-{
-    text.iter().position(|byte| *byte == b':')
+    &run[..byte_place(run, b':')]
 }
 
 /// Returns the length in bytes of the run at the start of a text: letters, digits, `.`, `_`, `:` and `-`.
@@ -252,7 +274,7 @@ fn find_non_run_byte(text: &[u8]) -> Option<usize>
 fn is_run_byte(byte: u8) -> bool
     ensures { result ≡ is_run_byte byte }
 {
-    matches!(byte, b'A'..=b'Z' | b'a'..=b'z' | b'0'..=b'9' | b'.' | b'_' | b':' | b'-')
+    is_alphanumeric(byte) || matches!(byte, b'.' | b'_' | b':' | b'-')
 }
 
 /// Returns true if a run has two colons or more.

@@ -19,7 +19,7 @@ use ep_base::VlanId;
 use std::net::{IpAddr, Ipv4Addr};
 
 /// Parses a decimal number without leading zeros.
-pub fn decimal(word: &[u8]) -> Option<u32>
+fn decimal(word: &[u8]) -> Option<u32>
     ensures some { IfSome result (λ value. IsDecimal most_number word.now value) }
     ensures only { (value : ℕ) → IsDecimal most_number word.now value → result ≡ Some value }
 {
@@ -84,7 +84,7 @@ fn begins_with_plus(text: &[u8]) -> bool
 fn has_leading_zero(text: &[u8]) -> bool
     ensures { result ≡ (nat_lt 1 (length text.now) && (slice_index text.now 0 == 48)) }
 {
-    text.len() > 1 && text[0] == b'0'
+    matches!(text, [b'0', _, ..])
 }
 
 /// Parses a number of one byte: an IP protocol number.
@@ -230,7 +230,7 @@ fn split_once(text: &[u8], separator: u8) -> Option<(&[u8], &[u8])>
 }
 
 /// Returns the offset of the first byte of a text that equals another one, or else the text's length.
-fn byte_place(text: &[u8], other: u8) -> usize
+pub(crate) fn byte_place(text: &[u8], other: u8) -> usize
     ensures bound { result ≤ length text.now }
     ensures value { result ≡ position_or_len (λ byte. byte == other) text.now }
 {
@@ -265,7 +265,7 @@ pub fn whole_network(address: IpAddr) -> Network
 }
 
 /// Returns the number of bits of an address: 32 (IPv4) or 128 (IPv6).
-pub fn address_bits(address: &IpAddr) -> u8
+pub(crate) fn address_bits(address: &IpAddr) -> u8
     ensures { result ≡ address_width address.now }
 {
     match address {

@@ -4,7 +4,7 @@ use Rattle.std.specs.Fmt.{decimal}
 use Rattle.line_io.specs.Lines.{line_feed, space}
 use Rattle.packet_filter.specs.Printing.{canonical, step_text}
 use Rattle.packet_filter.specs.Trees.{tree_of}
-use Rattle.packet_filter.specs.declared.step.Step.{Step}
+use Rattle.packet_filter.specs.Step.{Step}
 
 -- the lines of the steps, numbered from this number on
 abbrev pub steps_text : ℕ → List Step → List ℕ

@@ -2,7 +2,7 @@
 use Rattle.std.specs.Prelude.{◌≡◌, ◌⊎◌, ℕ, List, [], ◌∷◌, ◌++◌, Option, Some, None, codes, is_some, string_bytes, true}
 use Rattle.packet_filter.specs.Refusals.{IsFilterText, RefusesText}
 use Rattle.packet_filter.specs.Trees.{Expr, both_of, tree_of}
-use Rattle.packet_filter.specs.declared.step.Step.{Step}
+use Rattle.packet_filter.specs.Step.{Step}
 use Rattle.packet_dump.specs.declared.filters.FilterFault.{FilterFault}
 use Rattle.packet_dump.specs.declared.filters.FilterFault.TheVariants.{OutOfMemory, Wrong}
 use Rattle.packet_dump.specs.declared.options.FilterKind.{FilterKind}

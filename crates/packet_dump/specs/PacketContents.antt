@@ -20,7 +20,7 @@ use Rattle.etherparse.specs.TransportParts.{TransportLayer}
 use Rattle.packet_filter.specs.Meaning.{meaning}
 use Rattle.packet_filter.specs.Packets.{Packet, packet_of}
 use Rattle.packet_filter.specs.Trees.{tree_of}
-use Rattle.packet_filter.specs.declared.step.Step.{Step}
+use Rattle.packet_filter.specs.Step.{Step}
 use Rattle.packet_text.specs.LayerTexts.{lax_layers_text}
 use Rattle.link_types.specs.Openings.{is_cooked, opening_of, read_bytes}
 use Rattle.packet_text.specs.Rows.{rows_text}

@@ -5,15 +5,16 @@ use Rattle.filter_tokens.specs.declared.filter_error.FilterErrorKind.{FilterErro
 use Rattle.filter_tokens.specs.declared.filter_error.FilterErrorKind.TheVariants as kind
 use Rattle.filter_tokens.specs.declared.primitive.Primitive.{Primitive}
 use Rattle.filter_tokens.specs.Tokens.{Token}
-use Rattle.packet_filter.specs.declared.head.Head.{Head}
-use Rattle.packet_filter.specs.declared.mode.Mode.{Mode}
-use Rattle.packet_filter.specs.declared.mode.Mode.TheVariants as mode
+use Rattle.filter_expressions.specs.declared.head.Head.{Head}
+use Rattle.filter_expressions.specs.declared.mode.Mode.{Mode}
+use Rattle.filter_expressions.specs.declared.mode.Mode.TheVariants as mode
 use Rattle.packet_filter.specs.declared.parser.Parser.{Parser}
-use Rattle.packet_filter.specs.declared.parser.change.Change.{Change}
+use Rattle.filter_expressions.specs.declared.change.Change.{Change}
 use Rattle.packet_filter.specs.declared.parser.stack.Stack.{Stack}
-use Rattle.packet_filter.specs.Parsing.{AreFrames, HasNoExpression, IsChange, IsDone, IsFrames, IsShown, IsWithin, changed, state_in, state_of}
-use Rattle.packet_filter.specs.States.{Frame, Reads, State, Stops, completed, expression, expression_in, join_frames, left_of_and, left_of_or, negating, opened}
-use Rattle.packet_filter.specs.Trees.{Expr, steps_of, test}
+use Rattle.filter_expressions.specs.Changes.{IsChange, IsWithin, changed, state_in}
+use Rattle.packet_filter.specs.Parsing.{AreFrames, HasNoExpression, IsDone, IsFrames, IsShown, state_of}
+use Rattle.filter_expressions.specs.States.{Frame, Reads, State, Stops, completed, expression, expression_in, join_frames, left_of_and, left_of_or, negating, opened}
+use Rattle.filter_expressions.specs.Trees.{Expr, steps_of, test}
 use Rattle.packet_filter.proofs.ParserLemmas.{completed_frames, frames_within}
 use Rattle.packet_filter.proofs.StackLemmas.{no_last}
 

@@ -1,11 +1,12 @@
 -- Lemmas about `)` after an operand.
 use Rattle.std.proofs.Common.{◌≡◌, Bool, List, [], ◌∷◌, Option, Some, Ok, subst, sym}
-use Rattle.packet_filter.specs.declared.head.Head.{Head}
-use Rattle.packet_filter.specs.declared.mode.Mode.TheVariants as mode
+use Rattle.filter_expressions.specs.declared.head.Head.{Head}
+use Rattle.filter_expressions.specs.declared.mode.Mode.TheVariants as mode
 use Rattle.packet_filter.specs.declared.parser.stack.Stack.{Stack}
-use Rattle.packet_filter.specs.Parsing.{AreFrames, HasNoExpression, IsClosed, IsFrames, state_in}
-use Rattle.packet_filter.specs.States.{Frame, close_frames, completed, expression, opened}
-use Rattle.packet_filter.specs.Trees.{Expr}
+use Rattle.filter_expressions.specs.Changes.{state_in}
+use Rattle.packet_filter.specs.Parsing.{AreFrames, HasNoExpression, IsClosed, IsFrames}
+use Rattle.filter_expressions.specs.States.{Frame, close_frames, completed, expression, opened}
+use Rattle.filter_expressions.specs.Trees.{Expr}
 use Rattle.packet_filter.proofs.ParserLemmas.{completed_frames}
 
 -- The parenthesis that was closed is an operand of the frames around it.

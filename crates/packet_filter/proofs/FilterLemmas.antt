@@ -3,14 +3,14 @@ use Rattle.std.proofs.Common.{◌≡◌, ℕ, ◌+◌, ◌<◌, ◌≤◌, Bool,
 use Rattle.std.specs.List.{All}
 use Rattle.std.proofs.lemmas.List.{drop-drop}
 use Rattle.std.proofs.lemmas.List.Elements.{All-drop, All-get_or}
-use Rattle.packet_filter.specs.declared.host_set.HostSet.{HostSet}
-use Rattle.packet_filter.specs.declared.step.Step.{Step}
-use Rattle.packet_filter.specs.HostSets.{BeginsHostSet, HasHostSet, matches_set}
-use Rattle.packet_filter.specs.Meaning.{meaning}
-use Rattle.packet_filter.specs.Packets.{Packet}
-use Rattle.packet_filter.specs.Running.{value_after}
-use Rattle.packet_filter.specs.Trees.{tree_of}
-use Rattle.packet_filter.proofs.HostLemmas.{same_end, set_runs}
+use Rattle.filter_packets.specs.declared.host_set.HostSet.{HostSet}
+use Rattle.filter_expressions.specs.declared.step.Step.{Step}
+use Rattle.filter_packets.specs.HostSets.{BeginsHostSet, HasHostSet, matches_set}
+use Rattle.filter_packets.specs.Meaning.{meaning}
+use Rattle.filter_packets.specs.Packets.{Packet}
+use Rattle.filter_packets.specs.Running.{value_after}
+use Rattle.filter_expressions.specs.Trees.{tree_of}
+use Rattle.filter_packets.proofs.HostLemmas.{same_end, set_runs}
 
 -- The steps that are left of all of them lead to the meaning, and the sets are sets of all steps.
 abbrev pub Runs : List Step → List HostSet → Packet → List Step → Bool → Type 0

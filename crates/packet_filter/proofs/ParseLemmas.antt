@@ -11,17 +11,17 @@ use Rattle.filter_tokens.specs.Tokens.{IsTokens, Placed, first_token, is_blank, 
 use Rattle.filter_tokens.specs.Tokens as Tokens
 use Rattle.filter_tokens.proofs.TokenListLemmas.{IsFront, all_read, front_more, no_front, tokens_exist}
 use Rattle.packet_filter.specs.declared.parser.Parser.{Parser}
-use Rattle.packet_filter.specs.declared.step.Step.{Step}
-use Rattle.packet_filter.specs.Grammar as Grammar
-use Rattle.packet_filter.specs.Grammar.{IsFilter, most_bytes, most_levels}
+use Rattle.filter_expressions.specs.declared.step.Step.{Step}
+use Rattle.filter_expressions.specs.Grammar as Grammar
+use Rattle.filter_expressions.specs.Grammar.{IsFilter, most_bytes, most_levels}
 use Rattle.packet_filter.specs.Parsing.{IsShown, state_of}
-use Rattle.packet_filter.specs.Refusals.{IsAllowed, IsFilterText, RefusesText}
-use Rattle.packet_filter.specs.States.{Frame, Reads, Runs, State, Stops, expression_of, first_state, more_tokens, no_tokens, settled}
-use Rattle.packet_filter.specs.Trees.{Expr, steps_of, steps_of_text}
-use Rattle.packet_filter.proofs.KindLemmas.{stops_kind}
-use Rattle.packet_filter.proofs.RunLemmas.{allowed_reads, filter_runs}
-use Rattle.packet_filter.proofs.RunOnceLemmas.{runs_joined, runs_once, stops_apart}
-use Rattle.packet_filter.proofs.StandLemmas.{runs_begin, runs_filter}
+use Rattle.filter_expressions.specs.Refusals.{IsAllowed, IsFilterText, RefusesText}
+use Rattle.filter_expressions.specs.States.{Frame, Reads, Runs, State, Stops, expression_of, first_state, more_tokens, no_tokens, settled}
+use Rattle.filter_expressions.specs.Trees.{Expr, steps_of, steps_of_text}
+use Rattle.filter_expressions.proofs.KindLemmas.{stops_kind}
+use Rattle.filter_expressions.proofs.RunLemmas.{allowed_reads, filter_runs}
+use Rattle.filter_expressions.proofs.RunOnceLemmas.{runs_joined, runs_once, stops_apart}
+use Rattle.filter_expressions.proofs.StandLemmas.{runs_begin, runs_filter}
 
 -- ---- the next token
 

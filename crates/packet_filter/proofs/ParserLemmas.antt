@@ -7,14 +7,15 @@ use Rattle.filter_tokens.specs.declared.token.TokenKind.{TokenKind}
 use Rattle.filter_tokens.specs.declared.token.TokenKind.TheVariants as token_kind
 use Rattle.filter_tokens.specs.ShownTokens.{shown_token}
 use Rattle.filter_tokens.specs.Tokens.{word}
-use Rattle.packet_filter.specs.declared.head.Head.{Head}
-use Rattle.packet_filter.specs.declared.mode.Mode.{Mode}
-use Rattle.packet_filter.specs.declared.mode.Mode.TheVariants as mode
-use Rattle.packet_filter.specs.declared.parser.change.Change.{Change}
-use Rattle.packet_filter.specs.Grammar.{most_levels}
-use Rattle.packet_filter.specs.Parsing.{HasNoExpression, IsChange, IsFrames, IsWithin, IsWordChange, state_in}
-use Rattle.packet_filter.specs.States.{Frame, ReadsWord, State, completed, expression, left_of_and, left_of_or, levels_in, negating, open_level, opened}
-use Rattle.packet_filter.specs.Trees.{Expr, negated}
+use Rattle.filter_expressions.specs.declared.head.Head.{Head}
+use Rattle.filter_expressions.specs.declared.mode.Mode.{Mode}
+use Rattle.filter_expressions.specs.declared.mode.Mode.TheVariants as mode
+use Rattle.filter_expressions.specs.declared.change.Change.{Change}
+use Rattle.filter_expressions.specs.Grammar.{most_levels}
+use Rattle.filter_expressions.specs.Changes.{IsChange, IsWithin, IsWordChange, state_in}
+use Rattle.packet_filter.specs.Parsing.{HasNoExpression, IsFrames}
+use Rattle.filter_expressions.specs.States.{Frame, ReadsWord, State, completed, expression, left_of_and, left_of_or, levels_in, negating, open_level, opened}
+use Rattle.filter_expressions.specs.Trees.{Expr, negated}
 
 -- While an operand goes on, no frame is a complete expression.
 pub frames_within : (m : Mode) (frames : List Frame) → IsWithin m → IsFrames m frames → HasNoExpression frames

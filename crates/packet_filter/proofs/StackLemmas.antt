@@ -1,15 +1,15 @@
 -- Lemmas about levels and steps.
 use Rattle.std.proofs.Common.{◌≡◌, ℕ, ◌-◌, Bool, List, [], ◌∷◌, ◌++◌, length, Option, Some, refl, ap, ap₂, sym, ◌∙◌, append_assoc, arith, length-append, get_or, set, subst}
 use Rattle.std.proofs.Math.Seq.{get_or-append_seam, set-append_seam}
-use Rattle.packet_filter.specs.declared.head.Head.{Head}
+use Rattle.filter_expressions.specs.declared.head.Head.{Head}
 use Rattle.packet_filter.specs.declared.parser.stack.Level.{Level}
 use Rattle.packet_filter.specs.declared.parser.stack.Level.TheVariants as level
 use Rattle.packet_filter.specs.declared.parser.stack.Stack.{Stack}
-use Rattle.packet_filter.specs.declared.step.Step.{Step}
-use Rattle.packet_filter.specs.declared.step.Step.TheVariants as step
+use Rattle.filter_expressions.specs.declared.step.Step.{Step}
+use Rattle.filter_expressions.specs.declared.step.Step.TheVariants as step
 use Rattle.packet_filter.specs.Parsing.{AreFrames, HasNoExpression, IsClosed, levels_of, steps_before, with_skip}
-use Rattle.packet_filter.specs.States.{Frame, expression, left_of_and, left_of_or, negating, opened, completed, levels_in}
-use Rattle.packet_filter.specs.Trees.{Expr, negated, steps_of}
+use Rattle.filter_expressions.specs.States.{Frame, expression, left_of_and, left_of_or, negating, opened, completed, levels_in}
+use Rattle.filter_expressions.specs.Trees.{Expr, negated, steps_of}
 
 -- Lists that end in one element have the same elements before it.
 last_same : {A : Type 0} (xs ys : List A) (x y : A) → xs ++ x ∷ [] ≡ ys ++ y ∷ [] → (xs ≡ ys) × (x ≡ y)

@@ -1,12 +1,22 @@
 -- Lemmas about running the steps of a filter.
 use Rattle.std.proofs.Common.{◌≡◌, ℕ, zero, suc, ◌≤◌, Bool, true, false, ◌&&◌, ◌||◌, List, [], ◌∷◌, ◌++◌, length, get_or, drop, Option, Some, None, refl, ap, sym, ◌∙◌, append_assoc, arith}
 use Rattle.std.proofs.lemmas.List.{append-nil}
-use Rattle.packet_filter.specs.declared.step.Step.{Step}
-use Rattle.packet_filter.specs.declared.step.Step.TheVariants as step
-use Rattle.packet_filter.specs.Meaning.{matches_expr, meaning}
-use Rattle.packet_filter.specs.Packets.{Packet}
-use Rattle.packet_filter.specs.Running.{value_after}
-use Rattle.packet_filter.specs.Trees.{Expr, test, negated, both, either, steps_of, steps_of_text, tree_of}
+use Rattle.filter_expressions.specs.declared.step.Step.{Step}
+use Rattle.filter_expressions.specs.declared.step.Step.TheVariants as step
+use Rattle.filter_packets.specs.Meaning.{matches_expr, meaning}
+use Rattle.filter_packets.specs.Packets.{Packet}
+use Rattle.filter_packets.specs.Running.{value_after}
+use Rattle.filter_expressions.specs.Trees.{Expr, test, negated, both, either, steps_of, steps_of_text, tree_of}
+use Rattle.filter_expressions.proofs.TreeLemmas.{begin_with}
+
+-- The later steps lead to the same value, if the value before them is that after the first step.
+pub first_runs : (steps : List Step) (item first : Step) (held value : Bool) (packet : Packet)
+    → 1 ≤ length steps → item ≡ get_or steps 0 item → item ≡ first
+    → ((later : List Step) → value_after later 0 value packet ≡ value_after (first ∷ later) 0 held packet)
+    → value_after (drop 1 steps) 0 value packet ≡ value_after steps 0 held packet
+first_runs steps item first held value packet some at is same =
+    same (drop 1 steps)
+    ∙ sym (ap (λ (list : List Step). value_after list 0 held packet) (begin_with steps item first some at is))
 
 -- Skipping steps is running those after them.
 pub skips : (steps : List Step) (skipped : ℕ) (held : Bool) (packet : Packet)

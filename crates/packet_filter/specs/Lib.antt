@@ -1,19 +1,6 @@
-pub mod Trees
-pub mod Packets
-pub mod Shown
-pub mod Meaning
-pub mod Running
-pub mod HostRuns
-pub mod HostSets
-pub mod Primitives
-pub mod Grammar
-pub mod Refusals
-pub mod States
 pub mod Parsing
-pub mod Printing
--- Definitions and types of the crate below that contracts use
+-- Definitions and types of the `filter_` crates that contracts use
 pub use Rattle.filter_tokens.specs.KindTexts
-pub use Rattle.filter_tokens.specs.Names
 pub use Rattle.filter_tokens.specs.Networks
 pub use Rattle.filter_tokens.specs.PrimitiveTexts
 pub use Rattle.filter_tokens.specs.Tokens
@@ -22,3 +9,13 @@ pub use Rattle.filter_tokens.specs.declared.filter_error.FilterError
 pub use Rattle.filter_tokens.specs.declared.filter_error.FilterErrorKind
 pub use Rattle.filter_tokens.specs.declared.network.Network
 pub use Rattle.filter_tokens.specs.declared.primitive.Primitive
+pub use Rattle.filter_expressions.specs.Trees
+pub use Rattle.filter_expressions.specs.Primitives
+pub use Rattle.filter_expressions.specs.Grammar
+pub use Rattle.filter_expressions.specs.Refusals
+pub use Rattle.filter_expressions.specs.Printing
+pub use Rattle.filter_expressions.specs.declared.step.Step
+pub use Rattle.filter_packets.specs.Packets
+pub use Rattle.filter_packets.specs.Shown
+pub use Rattle.filter_packets.specs.Meaning
+pub use Rattle.filter_packets.specs.HostSets

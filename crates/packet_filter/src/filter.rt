@@ -3,24 +3,24 @@
 ghost use Rattle.std.specs.Prelude.{◌≡◌, ◌≤◌, ◌⊎◌, ◌++◌, [], ◌∷◌, is_none, length, IfErr, IfOk, OnOk};
 ghost use Rattle.ep_lax.specs.LaxPackets.{lax_layers_of};
 ghost use Rattle.filter_tokens.specs.declared.filter_error.FilterErrorKind.{FilterErrorKind};
-ghost use Rattle.packet_filter.specs.Meaning.{meaning};
-ghost use Rattle.packet_filter.specs.Packets.{packet_of, reassembled_packet};
-ghost use Rattle.packet_filter.specs.Printing.{canonical, printed};
-ghost use Rattle.packet_filter.specs.Refusals.{IsFilterText, RefusesText};
-ghost use Rattle.packet_filter.specs.Shown.{shown_packet};
-ghost use Rattle.packet_filter.specs.Trees.{both_of, tree_of};
-ghost use Rattle.packet_filter.specs.declared.step.Step.TheVariants as step;
+ghost use Rattle.filter_packets.specs.Meaning.{meaning};
+ghost use Rattle.filter_packets.specs.Packets.{packet_of, reassembled_packet};
+ghost use Rattle.filter_expressions.specs.Printing.{canonical, printed};
+ghost use Rattle.filter_expressions.specs.Refusals.{IsFilterText, RefusesText};
+ghost use Rattle.filter_packets.specs.Shown.{shown_packet};
+ghost use Rattle.filter_expressions.specs.Trees.{both_of, tree_of};
+ghost use Rattle.filter_expressions.specs.declared.step.Step.TheVariants as step;
 
-use crate::canonical::append_canonical;
-use crate::host_set::HostSet;
-use crate::host_sets::{host_sets, later_sets};
 use crate::matching::matches_primitive;
 use crate::parser;
-use crate::printing::append_expression;
 use crate::step::{Step, later_steps, steps_if_true};
-use crate::subject::Subject;
 use ep_base::{IpNumber, LaxIpPayloadSlice, LenSource};
 use ep_lax::LaxSlicedPacket;
+use filter_expressions::canonical::append_canonical;
+use filter_expressions::printing::append_expression;
+use filter_packets::host_set::HostSet;
+use filter_packets::host_sets::{host_sets, later_sets};
+use filter_packets::subject::Subject;
 use filter_tokens::filter_error::{FilterError, FilterErrorKind};
 use std::alloc::{AllocError, Global};
 use std::marker::Model;
@@ -39,9 +39,9 @@ pub struct Filter {
 impl Model for Filter {
     ghost use Rattle.std.specs.Prelude.{◌≡◌, List};
     ghost use Rattle.std.specs.List.{All};
-    ghost use Rattle.packet_filter.specs.HostSets.{HasHostSet};
-    ghost use Rattle.packet_filter.specs.declared.step.Step.{Step};
-    ghost use Rattle.packet_filter.specs.Trees.{steps_of_text, tree_of};
+    ghost use Rattle.filter_packets.specs.HostSets.{HasHostSet};
+    ghost use Rattle.filter_expressions.specs.declared.step.Step.{Step};
+    ghost use Rattle.filter_expressions.specs.Trees.{steps_of_text, tree_of};
 
     ghost Value = { List Step };
 

@@ -63,19 +63,13 @@
 //! A primitive does not match if its layer is missing, and then its `not` matches.
 #![tactic(auto)]
 
-mod canonical;
 pub mod filter;
-mod head;
-mod host_set;
-mod host_sets;
 mod matching;
-mod mode;
+pub mod network;
 mod parser;
-mod printing;
 pub mod step;
 mod subject;
 
 pub use crate::filter::Filter;
-pub use filter_tokens::{
-    FilterError, FilterErrorKind, Network, Primitive, filter_error, network, primitive,
-};
+pub use crate::network::Network;
+pub use filter_tokens::{FilterError, FilterErrorKind, Primitive, filter_error, primitive};

@@ -3,22 +3,22 @@
 ghost use Rattle.std.specs.Prelude.{◌≡◌, ◌≤◌, ◌⊎◌, [], IfErr, IfOk, List, MatchResult, None, OnOk, Option, Some, length, ℕ};
 ghost use Rattle.filter_tokens.specs.ShownTokens.{shown_token};
 ghost use Rattle.filter_tokens.specs.declared.filter_error.FilterErrorKind.{FilterErrorKind};
-ghost use Rattle.packet_filter.specs.Grammar.{most_levels};
-ghost use Rattle.packet_filter.specs.Parsing.{IsApt, IsAptIn, IsChange, IsDone, IsShown, IsWithin, changed, settled_by, state_of};
-ghost use Rattle.packet_filter.specs.Refusals.{IsFilterText, RefusesText};
-ghost use Rattle.packet_filter.specs.States.{Frame, Reads, Stops, close_frames, close_left, expression_of, first_state, negating, open_level, opened, read_after, settled};
-ghost use Rattle.packet_filter.specs.Trees.{Expr, steps_of, steps_of_text};
+ghost use Rattle.filter_expressions.specs.Grammar.{most_levels};
+ghost use Rattle.filter_expressions.specs.Changes.{IsApt, IsAptIn, IsChange, IsWithin, changed, settled_by};
+ghost use Rattle.packet_filter.specs.Parsing.{IsDone, IsShown, state_of};
+ghost use Rattle.filter_expressions.specs.Refusals.{IsFilterText, RefusesText};
+ghost use Rattle.filter_expressions.specs.States.{Frame, Reads, Stops, close_frames, close_left, expression_of, first_state, negating, open_level, opened, read_after, settled};
+ghost use Rattle.filter_expressions.specs.Trees.{Expr, steps_of, steps_of_text};
 
-mod change;
 mod stack;
 mod words;
 
-use crate::head::Head;
-use crate::mode::Mode;
-use crate::parser::change::{Change, Completion, completion_of, symbol_change};
 use crate::parser::stack::Stack;
 use crate::parser::words::word_change;
 use crate::step::Step;
+use filter_expressions::change::{Change, Completion, completion_of, symbol_change};
+use filter_expressions::head::Head;
+use filter_expressions::mode::Mode;
 use filter_tokens::filter_error::{FilterError, FilterErrorKind};
 use filter_tokens::primitive::Operand;
 use filter_tokens::token::{TokenKind, token_at};

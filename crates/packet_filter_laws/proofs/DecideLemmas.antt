@@ -10,13 +10,13 @@ use Rattle.filter_tokens.specs.declared.primitive.Side.{Side}
 use Rattle.filter_tokens.specs.Networks.{has_no_host_bits}
 use Rattle.filter_tokens.specs.Tokens.{Placed, Token, is_colon, is_digit, tokens_of, word, wrong}
 use Rattle.filter_tokens.specs.Values.{IsConstant, IsLength, IsMask, IsNumberText, most_number}
-use Rattle.packet_filter.specs.declared.head.Head.{Head}
-use Rattle.packet_filter.specs.declared.mode.Mode.{Mode}
-use Rattle.packet_filter.specs.declared.mode.Mode.TheVariants as mode
-use Rattle.packet_filter.specs.Grammar.{IsWordValue}
-use Rattle.packet_filter.specs.Primitives.{length_test}
-use Rattle.packet_filter.specs.Refusals.{IsLikeValue, IsOperandKind, value_kind}
-use Rattle.packet_filter.specs.States.{State, Reading, Reads, ReadsConstant, ReadsPrefix, ReadsValue, ReadsWord, Runs, Stops, StopsConstant, StopsPrefix, StopsSide, StopsValue, StopsWord, after_value, finish_bare, finish_value, group_mode, in_mode, more_tokens, no_tokens, qualified, read_in, side_head, union}
+use Rattle.filter_expressions.specs.declared.head.Head.{Head}
+use Rattle.filter_expressions.specs.declared.mode.Mode.{Mode}
+use Rattle.filter_expressions.specs.declared.mode.Mode.TheVariants as mode
+use Rattle.filter_expressions.specs.Grammar.{IsWordValue}
+use Rattle.filter_expressions.specs.Primitives.{length_test}
+use Rattle.filter_expressions.specs.Refusals.{IsLikeValue, IsOperandKind, value_kind}
+use Rattle.filter_expressions.specs.States.{State, Reading, Reads, ReadsConstant, ReadsPrefix, ReadsValue, ReadsWord, Runs, Stops, StopsConstant, StopsPrefix, StopsSide, StopsValue, StopsWord, after_value, finish_bare, finish_value, group_mode, in_mode, more_tokens, no_tokens, qualified, read_in, side_head, union}
 use Rattle.packet_filter_laws.proofs.DecideAddressLemmas.{length_found, mask_found}
 use Rattle.packet_filter_laws.proofs.DecideNumberLemmas.{constant_found, number_found, size_found}
 use Rattle.packet_filter_laws.proofs.DecideValueLemmas.{other_family_decided, value_found}

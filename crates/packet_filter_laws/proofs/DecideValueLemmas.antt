@@ -13,11 +13,11 @@ use Rattle.filter_tokens.specs.declared.primitive.Side.{Side}
 use Rattle.filter_tokens.specs.Networks.{address_width}
 use Rattle.filter_tokens.specs.Values.{IsFamily, IsNetworkText, IsNumberText, IsPortText, IsRangeText, IsStation}
 use Rattle.filter_tokens.proofs.OnceLemmas.{one_network}
-use Rattle.packet_filter.specs.declared.head.Head.{Head}
-use Rattle.packet_filter.specs.declared.head.Head.TheVariants as head
-use Rattle.packet_filter.specs.Grammar.{IsWordValue}
-use Rattle.packet_filter.specs.Primitives.{protocol_test, type_test}
-use Rattle.packet_filter.specs.Refusals.{IsOtherFamily}
+use Rattle.filter_expressions.specs.declared.head.Head.{Head}
+use Rattle.filter_expressions.specs.declared.head.Head.TheVariants as head
+use Rattle.filter_expressions.specs.Grammar.{IsWordValue}
+use Rattle.filter_expressions.specs.Primitives.{protocol_test, type_test}
+use Rattle.filter_expressions.specs.Refusals.{IsOtherFamily}
 use Rattle.packet_filter_laws.proofs.DecideAddressLemmas.{family_decided, ip_found, network_found}
 use Rattle.packet_filter_laws.proofs.DecideNumberLemmas.{number_found, number_such, port_found, range_found, station_found}
 use Rattle.packet_filter_laws.proofs.DecidedLemmas.{Decided, Found, found_as, found_such, most_decided}

@@ -21,10 +21,10 @@ use Rattle.filter_tokens.specs.Networks.{address_bytes, address_width, has_no_ho
 use Rattle.filter_tokens.specs.Tokens.{Token}
 use Rattle.filter_tokens.specs.Values.{IsConstant, IsFamily, IsLeadingNumbers, IsMask, IsNetworkText, IsOctets, IsPortText, IsRangeText, most_number}
 use Rattle.filter_tokens.proofs.ValueLemmas.{number_bound, octet_small}
-use Rattle.packet_filter.specs.declared.head.Head.{Head}
-use Rattle.packet_filter.specs.declared.head.Head.TheVariants as head
-use Rattle.packet_filter.specs.Grammar
-use Rattle.packet_filter.specs.Grammar.{IsAccess, IsBare, IsGroup, IsLeft, IsRight, IsUnion, IsValue, IsWordValue}
+use Rattle.filter_expressions.specs.declared.head.Head.{Head}
+use Rattle.filter_expressions.specs.declared.head.Head.TheVariants as head
+use Rattle.filter_expressions.specs.Grammar
+use Rattle.filter_expressions.specs.Grammar.{IsAccess, IsBare, IsGroup, IsLeft, IsRight, IsUnion, IsValue, IsWordValue}
 use Rattle.packet_filter_laws.proofs.AddressTextLemmas.{Below, IsAddress, address_of_text, below_append, below_at, below_zeros}
 use Rattle.packet_filter_laws.proofs.WordTextLemmas.{left_true, right_true}
 

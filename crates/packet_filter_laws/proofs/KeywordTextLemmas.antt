@@ -11,7 +11,7 @@ use Rattle.filter_tokens.specs.declared.primitive.Side.TheVariants.{Source, Dest
 use Rattle.filter_tokens.specs.declared.keyword.Keyword.TheVariants as name
 use Rattle.filter_tokens.specs.Tokens
 use Rattle.filter_tokens.specs.Tokens.{Token, is_alphanumeric, word_of, word_token, keyword, and, or, left_parenthesis, right_parenthesis, left_bracket, right_bracket, slash}
-use Rattle.packet_filter.specs.Grammar.{src, dst}
+use Rattle.filter_expressions.specs.Grammar.{src, dst}
 use Rattle.filter_tokens.specs.PrimitiveTexts.{layer_text, ports_text, side_text, version_text}
 use Rattle.packet_filter_laws.proofs.LexingLemmas
 use Rattle.packet_filter_laws.proofs.LexingLemmas.{IsLexed}

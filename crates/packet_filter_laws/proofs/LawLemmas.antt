@@ -12,8 +12,8 @@ use Rattle.filter_tokens.specs.declared.primitive.Side.TheVariants.{Source}
 use Rattle.filter_tokens.specs.declared.primitive.Width.TheVariants.{Two}
 use Rattle.filter_tokens.specs.Values.{most_number}
 use Rattle.packet_filter_laws.specs.Laws.{HasTransportBytes, IsLessOrGreater, IsPortOfBytes}
-use Rattle.packet_filter.specs.Meaning.{has_port, has_port_at, has_relation, number_at}
-use Rattle.packet_filter.specs.Packets.{Packet, Transport, bytes_of_number}
+use Rattle.filter_packets.specs.Meaning.{has_port, has_port_at, has_relation, number_at}
+use Rattle.filter_packets.specs.Packets.{Packet, Transport, bytes_of_number}
 
 -- A number is at most another one if it is not at least the next one.
 at_most : (value number : ℕ) → nat_le value number ≡ not (nat_le (number + 1) value)

@@ -21,8 +21,8 @@ use Rattle.ep_lax.specs.LaxLayers.{LaxLayers, LaxNet}
 use Rattle.ep_lax.specs.StrictFrames.{extension_in}
 use Rattle.ep_lax.proofs.LaxLawLemmas.{Tagged}
 use Rattle.packet_filter_laws.specs.Laws.{HoldsOfMore}
-use Rattle.packet_filter.specs.Packets.{ip_type, link_type, payload_type, tags_in, type_number}
-use Rattle.packet_filter.specs.Trees.{Expr}
+use Rattle.filter_packets.specs.Packets.{ip_type, link_type, payload_type, tags_in, type_number}
+use Rattle.filter_expressions.specs.Trees.{Expr}
 use Rattle.packet_filter_laws.proofs.MoreLayers.{MoreLayers, MoreLink, MoreNet, MoreNets, MoreTags}
 use Rattle.packet_filter_laws.proofs.MoreNetLemmas.{net_pair}
 use Rattle.packet_filter_laws.proofs.MorePrimitiveLemmas.{expr_more}

@@ -10,8 +10,8 @@ use Rattle.ep_lax.specs.LaxLayers.{LaxLayers}
 use Rattle.ep_packet.specs.Layers.{NetLayer, ipv4, ipv6, arp}
 use Rattle.ep_packet.specs.Offsets.{link_len}
 use Rattle.filter_tokens.specs.declared.primitive.Side.{Side}
-use Rattle.packet_filter.specs.Meaning.{has_station}
-use Rattle.packet_filter.specs.Packets.{Packet, Transport, ethernet_bytes, is_type, link_type, sctp_number, tag_type, tags_in}
+use Rattle.filter_packets.specs.Meaning.{has_station}
+use Rattle.filter_packets.specs.Packets.{Packet, Transport, ethernet_bytes, is_type, link_type, sctp_number, tag_type, tags_in}
 
 -- ---- network layer
 

@@ -37,9 +37,9 @@ use Rattle.filter_tokens.specs.declared.primitive.Width.{Width}
 use Rattle.filter_tokens.specs.declared.primitive.Width.TheVariants.{One, Two, Four}
 use Rattle.filter_tokens.specs.Networks.{is_within}
 use Rattle.packet_filter_laws.specs.Laws.{IsPositive}
-use Rattle.packet_filter.specs.Meaning.{at_side, at_side_of, has_port, has_port_at, has_ports, has_relation, is_vlan, matches_expr, matches_primitive, number_at}
-use Rattle.packet_filter.specs.Packets.{arp_addresses, Transport, addresses_of, bytes_of, bytes_of_number, bytes_of_type, bytes_of_version, ethernet_bytes, ip_numbers, is_type, is_version, link_type, packet_of, sctp_number, tag_type, tags_in, transport_in, transport_of, type_after}
-use Rattle.packet_filter.specs.Trees.{Expr, test, negated, both, either}
+use Rattle.filter_packets.specs.Meaning.{at_side, at_side_of, has_port, has_port_at, has_ports, has_relation, is_vlan, matches_expr, matches_primitive, number_at}
+use Rattle.filter_packets.specs.Packets.{arp_addresses, Transport, addresses_of, bytes_of, bytes_of_number, bytes_of_type, bytes_of_version, ethernet_bytes, ip_numbers, is_type, is_version, link_type, packet_of, sctp_number, tag_type, tags_in, transport_in, transport_of, type_after}
+use Rattle.filter_expressions.specs.Trees.{Expr, test, negated, both, either}
 use Rattle.packet_filter_laws.proofs.MoreLayers.{is_transport, IsNoNetType, MoreBytes, MoreLayers, MoreNet, MoreNets, MoreParts, MorePayload, MoreTags, MoreTransport}
 
 -- ---- tests

@@ -20,7 +20,7 @@ use Rattle.ep_lax.proofs.LaxLawLemmas.{Tagged, lax_extension_begins, lax_extensi
 use Rattle.ep_lax.proofs.LaxMacsecLemmas.{payload_by_is}
 use Rattle.ep_lax.proofs.MoreIpLemmas.{cut_more}
 use Rattle.ep_lax.proofs.MoreTransportLemmas.{parts_more}
-use Rattle.packet_filter.specs.Packets.{type_number}
+use Rattle.filter_packets.specs.Packets.{type_number}
 use Rattle.packet_filter_laws.proofs.MoreLayers.{IsNoNetType, MoreNets, MoreTags}
 use Rattle.packet_filter_laws.proofs.MoreNetLemmas.{net_pair}
 

@@ -29,12 +29,12 @@ use Rattle.filter_tokens.specs.Names.{constant_names, port_names}
 use Rattle.filter_tokens.specs.Tokens
 use Rattle.filter_tokens.specs.Tokens.{Token, keyword, word, and, or, relation, left_parenthesis, right_parenthesis, slash, ampersand}
 use Rattle.filter_tokens.specs.Values.{IsConstant, IsNumberText, IsOctet, IsOctets, IsPortText, IsSizeText, most_number}
-use Rattle.packet_filter.specs.declared.head.Head.{Head}
-use Rattle.packet_filter.specs.declared.head.Head.TheVariants as head
-use Rattle.packet_filter.specs.Grammar
-use Rattle.packet_filter.specs.Grammar.{IsAccess, IsAddressLayer, IsExpression, IsField, IsHead, IsIpVersion, IsLeft, IsOperand, IsOperator, IsPortProtocol, IsSide, IsValue}
+use Rattle.filter_expressions.specs.declared.head.Head.{Head}
+use Rattle.filter_expressions.specs.declared.head.Head.TheVariants as head
+use Rattle.filter_expressions.specs.Grammar
+use Rattle.filter_expressions.specs.Grammar.{IsAccess, IsAddressLayer, IsExpression, IsField, IsHead, IsIpVersion, IsLeft, IsOperand, IsOperator, IsPortProtocol, IsSide, IsValue}
 use Rattle.filter_tokens.specs.PrimitiveTexts.{hex_digit, hex_pair, station_text}
-use Rattle.packet_filter.specs.Trees.{Expr, test, negated, both, either}
+use Rattle.filter_expressions.specs.Trees.{Expr, test, negated, both, either}
 use Rattle.packet_filter_laws.proofs.AddressTextLemmas.{Below, ip_text_is}
 use Rattle.packet_filter_laws.proofs.WordTextLemmas.{begins_with_digit, decimal_begins, if_false, if_true, no_name}
 use Rattle.packet_filter_laws.proofs.FitLemmas.{Fits, FitsOperand}

@@ -21,8 +21,8 @@ use Rattle.filter_tokens.specs.Networks.{address_width}
 use Rattle.filter_tokens.specs.Tokens.{Token, first_token, is_alphanumeric, is_digit, is_run_byte, keyword, word, and, or, relation, left_parenthesis, right_parenthesis, left_bracket, right_bracket, colon, slash, ampersand}
 use Rattle.filter_tokens.specs.Values.{most_number}
 use Rattle.filter_tokens.specs.PrimitiveTexts.{field_text, hex_digit, hex_pair, layer_text, mask_text, network_text, operand_text, port_range_text, ports_text, primitive_text, relation_text, side_text, station_text, version_text, width_text}
-use Rattle.packet_filter.specs.Printing.{expression_text, grouped}
-use Rattle.packet_filter.specs.Trees.{Expr, test, negated, both, either}
+use Rattle.filter_expressions.specs.Printing.{expression_text, grouped}
+use Rattle.filter_expressions.specs.Trees.{Expr, test, negated, both, either}
 use Rattle.packet_filter_laws.proofs.AddressTextLemmas.{Below, IsAddress, address_word, hex_digit_is, ip_text_is}
 use Rattle.packet_filter_laws.proofs.LexingLemmas
 use Rattle.packet_filter_laws.proofs.LexingLemmas.{IsLexed}

@@ -23,11 +23,11 @@ use Rattle.filter_tokens.specs.Networks.{address_width}
 use Rattle.filter_tokens.specs.Tokens
 use Rattle.filter_tokens.specs.Tokens.{Token, keyword, word, and, or, relation, left_parenthesis, right_parenthesis, left_bracket, right_bracket, colon, slash, ampersand}
 use Rattle.filter_tokens.specs.Values.{most_number}
-use Rattle.packet_filter.specs.declared.head.Head.{Head}
-use Rattle.packet_filter.specs.Grammar
-use Rattle.packet_filter.specs.Grammar.{IsExpression, IsJoinedValues, IsOperand, IsOperator, IsValues, dst, src}
+use Rattle.filter_expressions.specs.declared.head.Head.{Head}
+use Rattle.filter_expressions.specs.Grammar
+use Rattle.filter_expressions.specs.Grammar.{IsExpression, IsJoinedValues, IsOperand, IsOperator, IsValues, dst, src}
 use Rattle.filter_tokens.specs.PrimitiveTexts.{hex_pair, station_text}
-use Rattle.packet_filter.specs.Trees.{Expr, test, negated, both, either}
+use Rattle.filter_expressions.specs.Trees.{Expr, test, negated, both, either}
 use Rattle.packet_filter_laws.proofs.FitLemmas.{Fits, bare_fits, value_fits}
 
 -- ---- the tokens that are printed

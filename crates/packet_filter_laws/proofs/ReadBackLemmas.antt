@@ -4,11 +4,11 @@ use Rattle.std.proofs.lemmas.List.{append-nil}
 use Rattle.std.proofs.lemmas.List.Elements.{All-nil}
 use Rattle.std.specs.Prelude.{IsTrue}
 use Rattle.filter_tokens.specs.Tokens.{Token, is_blank, tokens_of}
-use Rattle.packet_filter.specs.Grammar
-use Rattle.packet_filter.specs.Grammar.{IsFilter, most_bytes, most_levels}
-use Rattle.packet_filter.specs.Printing.{expression_text, printed}
-use Rattle.packet_filter.specs.Refusals.{IsFilterText}
-use Rattle.packet_filter.specs.Trees.{Expr}
+use Rattle.filter_expressions.specs.Grammar
+use Rattle.filter_expressions.specs.Grammar.{IsFilter, most_bytes, most_levels}
+use Rattle.filter_expressions.specs.Printing.{expression_text, printed}
+use Rattle.filter_expressions.specs.Refusals.{IsFilterText}
+use Rattle.filter_expressions.specs.Trees.{Expr}
 use Rattle.packet_filter_laws.proofs.LexingLemmas
 use Rattle.packet_filter_laws.proofs.LexingLemmas.{IsLexed, placed_tokens}
 use Rattle.packet_filter_laws.proofs.PrintedLemmas.{printed_expression}

@@ -6,15 +6,15 @@ use Rattle.filter_tokens.specs.declared.filter_error.FilterErrorKind.{FilterErro
 use Rattle.filter_tokens.specs.declared.filter_error.FilterErrorKind.TheVariants as kind
 use Rattle.filter_tokens.specs.Tokens.{Token, Placed, IsTokens, tokens_of}
 use Rattle.filter_tokens.proofs.TokenListLemmas.{one_list, tokens_exist}
-use Rattle.packet_filter.specs.Grammar.{IsFilter, empty, most_bytes, most_levels}
+use Rattle.filter_expressions.specs.Grammar.{IsFilter, empty, most_bytes, most_levels}
 use Rattle.packet_filter_laws.specs.Laws.{IsDecided}
-use Rattle.packet_filter.specs.Refusals.{BeginsFilter, EndsEarly, IsAllowed, IsFilterText, IsKind, RefusesText, RefusesToken}
-use Rattle.packet_filter.specs.States.{State, Runs, expression_of, first_state, no_tokens, settled}
-use Rattle.packet_filter.specs.Trees.{Expr}
+use Rattle.filter_expressions.specs.Refusals.{BeginsFilter, EndsEarly, IsAllowed, IsFilterText, IsKind, RefusesText, RefusesToken}
+use Rattle.filter_expressions.specs.States.{State, Runs, expression_of, first_state, no_tokens, settled}
+use Rattle.filter_expressions.specs.Trees.{Expr}
 use Rattle.packet_filter_laws.proofs.DecideLemmas.{StopsFirst, every_token}
-use Rattle.packet_filter.proofs.KindLemmas.{kind_stops, stops_kind, stops_once}
-use Rattle.packet_filter.proofs.RunLemmas.{allowed_reads, begins_runs, filter_runs, runs_once, stops_apart}
-use Rattle.packet_filter.proofs.StandLemmas.{runs_begin, runs_filter}
+use Rattle.filter_expressions.proofs.KindLemmas.{kind_stops, stops_kind, stops_once}
+use Rattle.filter_expressions.proofs.RunLemmas.{allowed_reads, begins_runs, filter_runs, runs_once, stops_apart}
+use Rattle.filter_expressions.proofs.StandLemmas.{runs_begin, runs_filter}
 
 -- ---- what begins a filter
 

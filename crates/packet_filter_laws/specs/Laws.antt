@@ -12,13 +12,13 @@ use Rattle.filter_tokens.specs.declared.primitive.Primitive.TheVariants as primi
 use Rattle.filter_tokens.specs.declared.primitive.Relation.TheVariants.{Equal, LessOrEqual, GreaterOrEqual}
 use Rattle.filter_tokens.specs.declared.primitive.Side.TheVariants.{Source}
 use Rattle.filter_tokens.specs.declared.primitive.Width.TheVariants.{Two}
-use Rattle.packet_filter.specs.Grammar.{most_bytes}
-use Rattle.packet_filter.specs.Meaning.{matches_expr, matches_primitive}
-use Rattle.packet_filter.specs.Packets.{Packet, Transport, packet_of}
-use Rattle.packet_filter.specs.Primitives.{length_test, number_test}
-use Rattle.packet_filter.specs.Printing.{printed}
-use Rattle.packet_filter.specs.Refusals.{IsFilterText, RefusesText}
-use Rattle.packet_filter.specs.Trees.{Expr, test, negated, both, either}
+use Rattle.filter_expressions.specs.Grammar.{most_bytes}
+use Rattle.filter_packets.specs.Meaning.{matches_expr, matches_primitive}
+use Rattle.filter_packets.specs.Packets.{Packet, Transport, packet_of}
+use Rattle.filter_expressions.specs.Primitives.{length_test, number_test}
+use Rattle.filter_expressions.specs.Printing.{printed}
+use Rattle.filter_expressions.specs.Refusals.{IsFilterText, RefusesText}
+use Rattle.filter_expressions.specs.Trees.{Expr, test, negated, both, either}
 
 -- A text is a filter or has an error, in one way, and never both.
 pub record IsDecided (text : List ℕ) : Type 0 where

@@ -1,15 +1,15 @@
-//! Laws of filter expressions: theorems about the definitions in the contracts of [`packet_filter`]. Each is the
-//! contract of a function that does nothing.
+//! Laws of filter expressions: theorems about the definitions in the contracts of `packet_filter`. Each is the contract
+//! of a function that does nothing.
 //!
-//! No code calls these laws, and no must-fail edit is refused by them. So they are a crate of their own: the edits of
-//! `packet_filter` are tried without proving them again.
+//! No code calls these laws, and no must-fail edit is refused by them. So they are a crate of their own, over the crates
+//! with the definitions: a change of `packet_filter` alone does not prove them again.
 #![tactic(auto)]
 
 ghost use Rattle.std.specs.Prelude.{◌≡◌, ℕ, List, Option};
 ghost use Rattle.ep_packet.specs.declared.entry.Entry.{Entry};
 ghost use Rattle.packet_filter_laws.specs.Laws.{HoldsOfMore, IsDecided, IsLessOrGreater, IsPortOfBytes, IsReadBack};
-ghost use Rattle.packet_filter.specs.Packets.{Packet};
-ghost use Rattle.packet_filter.specs.Trees.{Expr, steps_of_text, tree_of};
+ghost use Rattle.filter_packets.specs.Packets.{Packet};
+ghost use Rattle.filter_expressions.specs.Trees.{Expr, steps_of_text, tree_of};
 
 /// Each text is a filter or has an error, in one way, and never both.
 pub fn texts()

@@ -2,16 +2,16 @@
 
 ghost use Rattle.std.specs.Prelude.{◌≡◌, ◌≤◌, ◌<◌, ◌+◌, ◌-◌, ◌⊎◌, ◌∷◌, ◌++◌, [], Bool, IfErr, IfOk, IsFalse, IsTrue, List, MatchOption, MatchResult, OnOk, Option, length, ℕ};
 ghost use Rattle.filter_tokens.specs.declared.filter_error.FilterErrorKind.{FilterErrorKind};
-ghost use Rattle.packet_filter.specs.Grammar.{most_levels};
+ghost use Rattle.filter_expressions.specs.Grammar.{most_levels};
 ghost use Rattle.packet_filter.specs.Parsing.{AreFrames, HasNoExpression, IsClosed, IsOperandOf, with_skip};
-ghost use Rattle.packet_filter.specs.States.{Frame, completed, expression, left_of_and, left_of_or, levels_in, negating, opened};
-ghost use Rattle.packet_filter.specs.Trees.{Expr, steps_of, test};
-ghost use Rattle.packet_filter.specs.declared.head.Head.{Head};
+ghost use Rattle.filter_expressions.specs.States.{Frame, completed, expression, left_of_and, left_of_or, levels_in, negating, opened};
+ghost use Rattle.filter_expressions.specs.Trees.{Expr, test};
+ghost use Rattle.filter_expressions.specs.declared.head.Head.{Head};
 ghost use Rattle.packet_filter.specs.declared.parser.stack.Level.{Level};
-ghost use Rattle.packet_filter.specs.declared.step.Step.{Step};
+ghost use Rattle.filter_expressions.specs.declared.step.Step.{Step};
 
-use crate::head::Head;
 use crate::step::Step;
+use filter_expressions::head::Head;
 use filter_tokens::filter_error::FilterErrorKind;
 use filter_tokens::primitive::Primitive;
 use std::alloc::Global;

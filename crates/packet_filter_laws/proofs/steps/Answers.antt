@@ -1,4 +1,4 @@
-use Rattle.packet_filter.proofs.TreeLemmas.{reads_back}
+use Rattle.filter_expressions.proofs.TreeLemmas.{reads_back}
 use Rattle.packet_filter_laws.proofs.steps.Goals as goal
 
 pub returns : goal.returns

@@ -4,9 +4,9 @@ use Rattle.ep_lax.specs.LaxViews.{lax_net_layer_of}
 use Rattle.ep_lax.specs.declared.lax_net_slice.LaxNetSlice.{LaxNetSlice}
 use Rattle.filter_tokens.specs.declared.primitive.Primitive.{Primitive}
 use Rattle.filter_tokens.specs.Networks.{is_within}
-use Rattle.packet_filter.specs.Meaning.{at_side_of, matches_primitive}
-use Rattle.packet_filter.specs.Packets.{addresses_of}
-use Rattle.packet_filter.specs.Shown.{shown_packet}
+use Rattle.filter_packets.specs.Meaning.{at_side_of, matches_primitive}
+use Rattle.filter_packets.specs.Packets.{addresses_of}
+use Rattle.filter_packets.specs.Shown.{shown_packet}
 use Rattle.packet_filter.proofs.matching.matches_primitive.Goals as goal
 
 pub returns-in-Some-net : goal.returns-in-Some-net

@@ -1,5 +1,5 @@
 use Rattle.std.proofs.Common.{◌≤◌, None, length, arith, rules}
-use Rattle.packet_filter.specs.Grammar.{most_bytes}
+use Rattle.filter_expressions.specs.Grammar.{most_bytes}
 use Rattle.packet_filter.proofs.ParseLemmas.{empty_filter, ends_early, none_read, read_more, refuses_token, whole_filter}
 use Rattle.packet_filter.proofs.parser.parse.Goals as goal
 

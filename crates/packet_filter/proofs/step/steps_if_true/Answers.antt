@@ -1,7 +1,7 @@
 use Rattle.std.proofs.Common.{◌≡◌, ◌+◌, List, true, drop, refl, ap, ◌∙◌}
 use Rattle.std.proofs.lemmas.List.{drop-drop, take_rest}
-use Rattle.packet_filter.specs.declared.step.Step.{Step}
-use Rattle.packet_filter.specs.Running.{value_after}
+use Rattle.filter_expressions.specs.declared.step.Step.{Step}
+use Rattle.filter_packets.specs.Running.{value_after}
 use Rattle.packet_filter.proofs.StepLemmas.{skips_if_true}
 use Rattle.packet_filter.proofs.step.steps_if_true.Goals as goal
 

@@ -1,6 +1,6 @@
 use Rattle.std.proofs.Common.{◌≡◌, ℕ, true, drop, length}
-use Rattle.packet_filter.specs.Packets.{Packet}
-use Rattle.packet_filter.specs.Running.{value_after}
+use Rattle.filter_packets.specs.Packets.{Packet}
+use Rattle.filter_packets.specs.Running.{value_after}
 use Rattle.packet_filter.proofs.step.steps_if_true.Given as goal
 
 -- The later steps lead to the value of all of them.

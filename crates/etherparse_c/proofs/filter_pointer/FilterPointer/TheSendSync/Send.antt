@@ -9,7 +9,7 @@ use Rattle.std.specs.declared.alloc.Global.{Global}
 use Rattle.etherparse_c.specs.FilterOwnership.{owns_filter}
 use Rattle.etherparse_c.specs.contracts.filter_pointer.FilterPointer.{the_row, the_type}
 use Rattle.packet_filter.specs.contracts.filter.Filter.{the_row as filter_row}
-use Rattle.packet_filter.specs.declared.step.Step.{Step}
+use Rattle.packet_filter.specs.Step.{Step}
 use Rattle.packet_filter.proofs.filter.Filter.TheSendSync as filter
 use Rattle.etherparse_c.proofs.SentLemmas.{box_keyless}
 

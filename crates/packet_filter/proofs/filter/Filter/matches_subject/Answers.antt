@@ -1,16 +1,39 @@
-use Rattle.std.proofs.Common.{◌≡◌, ◌+◌, Bool, true, List, drop, refl, ap, sym, ◌∙◌}
+use Rattle.std.proofs.Common.{◌≡◌, ◌+◌, Bool, true, not, List, drop, refl, ap, sym, ◌∙◌}
 use Rattle.std.proofs.lemmas.List.{drop-drop, take_rest}
-use Rattle.packet_filter.specs.declared.step.Step.{Step}
-use Rattle.packet_filter.specs.Running.{value_after}
-use Rattle.packet_filter.specs.Shown.{shown_packet}
+use Rattle.filter_expressions.specs.declared.step.Step.{Step}
+use Rattle.filter_packets.specs.Running.{value_after}
+use Rattle.filter_packets.specs.Shown.{shown_packet}
 use Rattle.packet_filter.proofs.FilterLemmas.{goes_on, set_ends, set_goes_on}
-use Rattle.packet_filter.proofs.StepLemmas.{compiled_means, skips_if_false, skips_if_true, stays_if_false}
+use Rattle.packet_filter.proofs.StepLemmas.{compiled_means, first_runs, skips_if_false, skips_if_true, stays_if_false}
 use Rattle.packet_filter.proofs.filter.Filter.matches_subject.Goals as goal
 
 pub loop-steps-init : goal.loop-steps-init
 loop-steps-init c =
     rw (c.as_slice-steps.ensures.value, c.as_slice-sets.ensures.value, ← c.self.view_is)
     (compiled_means _ _ c.self.invariant.0, (0, refl), c.self.invariant.1)
+
+pub loop-steps-preserved-in-Test : goal.loop-steps-preserved-in-Test
+loop-steps-preserved-in-Test c =
+    let packet = shown_packet c.args.subject.now in
+    let steps : List Step = c.loop-steps.steps.now in
+    goes_on c.args.self.now steps _ c.loop-steps.sets.now c.loop-steps.sets.now packet c.loop-steps.holds
+    c.matches_primitive-holds.result 1 (take_rest steps 1) (0, refl)
+    (ap (λ (list : List Step). value_after list 0 c.matches_primitive-holds.result packet) (take_rest steps 1)
+    ∙ first_runs steps c.step-item.result _ c.loop-steps.holds c.matches_primitive-holds.result packet
+    c.in-len1-up.len_at_least c.step-item.is c.in-Test.is
+    (λ later. ap (λ (value : Bool). value_after later 0 value packet) c.matches_primitive-holds.ensures))
+    c.loop-steps.invariant
+
+pub loop-steps-preserved-in-Negate : goal.loop-steps-preserved-in-Negate
+loop-steps-preserved-in-Negate c =
+    let packet = shown_packet c.args.subject.now in
+    let steps : List Step = c.loop-steps.steps.now in
+    goes_on c.args.self.now steps _ c.loop-steps.sets.now c.loop-steps.sets.now packet c.loop-steps.holds
+    (not c.loop-steps.holds) 1 (take_rest steps 1) (0, refl)
+    (ap (λ (list : List Step). value_after list 0 (not c.loop-steps.holds) packet) (take_rest steps 1)
+    ∙ first_runs steps c.step-item.result _ c.loop-steps.holds (not c.loop-steps.holds) packet
+    c.in-len1-up.len_at_least c.step-item.is c.in-Negate.is (λ later. refl))
+    c.loop-steps.invariant
 
 pub loop-steps-preserved-else-holds : goal.loop-steps-preserved-else-holds
 loop-steps-preserved-else-holds c =

@@ -1,5 +1,5 @@
 use Rattle.filter_tokens.specs.ShownTokens.{shown_token}
-use Rattle.packet_filter.specs.Grammar.{most_levels}
+use Rattle.filter_expressions.specs.Grammar.{most_levels}
 use Rattle.packet_filter.specs.Parsing.{state_of}
 use Rattle.packet_filter.proofs.AcceptLemmas.{accepted}
 use Rattle.packet_filter.proofs.parser.Parser.accept.Goals as goal

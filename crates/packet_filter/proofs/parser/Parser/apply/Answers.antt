@@ -1,8 +1,9 @@
 use Rattle.std.proofs.Common.{ap, subst}
 use Rattle.filter_tokens.specs.ShownTokens.{shown_token}
-use Rattle.packet_filter.specs.declared.parser.change.Change.{Change}
-use Rattle.packet_filter.specs.Grammar.{most_levels}
-use Rattle.packet_filter.specs.Parsing.{IsAptIn, changed, state_of}
+use Rattle.filter_expressions.specs.declared.change.Change.{Change}
+use Rattle.filter_expressions.specs.Grammar.{most_levels}
+use Rattle.filter_expressions.specs.Changes.{IsAptIn, changed}
+use Rattle.packet_filter.specs.Parsing.{state_of}
 use Rattle.packet_filter.proofs.ParserLemmas.{frames_within, within_frames}
 use Rattle.packet_filter.proofs.parser.Parser.apply.Goals as goal
 

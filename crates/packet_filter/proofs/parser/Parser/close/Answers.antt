@@ -1,5 +1,5 @@
 use Rattle.std.proofs.Common.{subst}
-use Rattle.packet_filter.specs.declared.mode.Mode.{Mode}
+use Rattle.filter_expressions.specs.declared.mode.Mode.{Mode}
 use Rattle.packet_filter.specs.Parsing.{IsFrames}
 use Rattle.packet_filter.proofs.CloseLemmas.{closed_frames}
 use Rattle.packet_filter.proofs.parser.Parser.close.Goals as goal

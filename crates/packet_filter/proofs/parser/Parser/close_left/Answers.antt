@@ -1,6 +1,6 @@
 use Rattle.std.proofs.Common.{List, ap, subst, sym, ◌∙◌, arith}
 use Rattle.packet_filter.specs.Parsing.{HasNoExpression, state_of, steps_before}
-use Rattle.packet_filter.specs.States.{Frame, close_left, levels_in}
+use Rattle.filter_expressions.specs.States.{Frame, close_left, levels_in}
 use Rattle.packet_filter.proofs.ParserLemmas.{frames_within}
 use Rattle.packet_filter.proofs.StackLemmas.{group_on_top}
 use Rattle.packet_filter.proofs.parser.Parser.close_left.Goals as goal

@@ -1,9 +1,10 @@
 use Rattle.std.proofs.Common.{None, Some, ap, subst}
-use Rattle.packet_filter.specs.declared.parser.change.Change.TheVariants as change
-use Rattle.packet_filter.specs.declared.parser.change.Completion.{Completion}
-use Rattle.packet_filter.specs.Parsing.{IsAptIn, settled_by, state_of}
-use Rattle.packet_filter.specs.States.{completed}
-use Rattle.packet_filter.specs.Trees.{test}
+use Rattle.filter_expressions.specs.declared.change.Change.TheVariants as change
+use Rattle.filter_expressions.specs.declared.change.Completion.{Completion}
+use Rattle.filter_expressions.specs.Changes.{IsAptIn, settled_by}
+use Rattle.packet_filter.specs.Parsing.{state_of}
+use Rattle.filter_expressions.specs.States.{completed}
+use Rattle.filter_expressions.specs.Trees.{test}
 use Rattle.packet_filter.proofs.AcceptLemmas.{appended_frames, completed_parser}
 use Rattle.packet_filter.proofs.parser.Parser.complete.Goals as goal
 use Rattle.packet_filter.proofs.parser.Parser.complete.Goals.{in-Bare+in_ok-append-in-Bare, in-InForce+in_ok-append-in-InForce, in-Value+in_ok-append-in-Value}

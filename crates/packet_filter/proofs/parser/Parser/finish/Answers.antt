@@ -1,8 +1,8 @@
 use Rattle.std.proofs.Common.{Some, ap, subst, sym, ◌∙◌, eqb-true, vec_len}
 use Rattle.std.proofs.lemmas.List.{nil_from_length}
-use Rattle.packet_filter.specs.declared.mode.Mode.{Mode}
+use Rattle.filter_expressions.specs.declared.mode.Mode.{Mode}
 use Rattle.packet_filter.specs.Parsing.{IsFrames, state_of}
-use Rattle.packet_filter.specs.States.{State, expression_of}
+use Rattle.filter_expressions.specs.States.{State, expression_of}
 use Rattle.packet_filter.proofs.AcceptLemmas.{ended_frames}
 use Rattle.packet_filter.proofs.parser.Parser.finish.Goals as goal
 

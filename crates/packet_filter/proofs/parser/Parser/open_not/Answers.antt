@@ -1,7 +1,7 @@
 use Rattle.std.proofs.Common.{◌∷◌}
-use Rattle.packet_filter.specs.Grammar.{most_levels}
+use Rattle.filter_expressions.specs.Grammar.{most_levels}
 use Rattle.packet_filter.specs.Parsing.{state_of}
-use Rattle.packet_filter.specs.States.{negating}
+use Rattle.filter_expressions.specs.States.{negating}
 use Rattle.packet_filter.proofs.ParserLemmas.{frames_within, level_opened}
 use Rattle.packet_filter.proofs.parser.Parser.open_not.Goals as goal
 

@@ -1,9 +1,9 @@
 use Rattle.std.proofs.Common.{Some, ap, subst, ◌∙◌}
 use Rattle.filter_tokens.specs.declared.token.TokenKind.{TokenKind}
 use Rattle.filter_tokens.specs.ShownTokens.{shown_token}
-use Rattle.packet_filter.specs.declared.mode.Mode.{Mode}
+use Rattle.filter_expressions.specs.declared.mode.Mode.{Mode}
 use Rattle.packet_filter.specs.Parsing.{IsFrames, state_of}
-use Rattle.packet_filter.specs.States.{left_of_and, left_of_or, read_after}
+use Rattle.filter_expressions.specs.States.{left_of_and, left_of_or, read_after}
 use Rattle.packet_filter.proofs.AcceptLemmas.{joined_frames}
 use Rattle.packet_filter.proofs.parser.Parser.read_after.Goals as goal
 

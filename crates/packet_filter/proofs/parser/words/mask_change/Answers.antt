@@ -1,4 +1,4 @@
-use Rattle.packet_filter.proofs.ChangeLemmas.{mask_words}
+use Rattle.filter_expressions.proofs.ChangeLemmas.{mask_words}
 use Rattle.packet_filter.proofs.parser.words.mask_change.Goals as goal
 
 pub returns-in-Some-clause-ok : goal.returns-in-Some-clause-ok

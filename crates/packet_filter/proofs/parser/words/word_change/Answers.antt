@@ -1,8 +1,8 @@
 use Rattle.std.proofs.Common.{sym, subst}
-use Rattle.packet_filter.specs.declared.mode.Mode.{Mode}
-use Rattle.packet_filter.specs.declared.mode.Mode.TheVariants as mode
-use Rattle.packet_filter.specs.Parsing.{IsApt}
-use Rattle.packet_filter.proofs.ChangeLemmas.{mode_stops, mode_words, operand_stops, operand_words, side_stops, side_words}
+use Rattle.filter_expressions.specs.declared.mode.Mode.{Mode}
+use Rattle.filter_expressions.specs.declared.mode.Mode.TheVariants as mode
+use Rattle.filter_expressions.specs.Changes.{IsApt}
+use Rattle.filter_expressions.proofs.ChangeLemmas.{mode_stops, mode_words, operand_stops, operand_words, side_stops, side_words}
 use Rattle.packet_filter.proofs.parser.words.word_change.Goals as goal
 
 pub returns-in-Operand : goal.returns-in-Operand

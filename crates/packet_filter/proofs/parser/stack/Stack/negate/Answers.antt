@@ -1,7 +1,7 @@
 use Rattle.std.proofs.Common.{List, ◌∷◌, ◌++◌, [], ap, ◌∙◌, rules}
-use Rattle.packet_filter.specs.declared.step.Step.{Step}
-use Rattle.packet_filter.specs.declared.step.Step.TheVariants as step
-use Rattle.packet_filter.specs.Trees.{negated}
+use Rattle.filter_expressions.specs.declared.step.Step.{Step}
+use Rattle.filter_expressions.specs.declared.step.Step.TheVariants as step
+use Rattle.filter_expressions.specs.Trees.{negated}
 use Rattle.packet_filter.proofs.StackLemmas.{negated_once}
 use Rattle.packet_filter.proofs.parser.stack.Stack.negate.Goals as goal
 

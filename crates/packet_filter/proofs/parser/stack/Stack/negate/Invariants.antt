@@ -1,7 +1,7 @@
 use Rattle.std.proofs.Common.{◌≡◌, List, length}
 use Rattle.packet_filter.specs.Parsing.{IsOperandOf}
-use Rattle.packet_filter.specs.States.{Frame, completed}
-use Rattle.packet_filter.specs.Trees.{Expr}
+use Rattle.filter_expressions.specs.States.{Frame, completed}
+use Rattle.filter_expressions.specs.Trees.{Expr}
 use Rattle.packet_filter.proofs.parser.stack.Stack.negate.Given as goal
 
 -- The operand that is left is completed to the same frames.

@@ -1,0 +1,2 @@
+pub mod HostLemmas
+pub mod TagLemmas

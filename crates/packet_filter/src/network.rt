@@ -1,0 +1,3 @@
+//! Networks of IP addresses.
+
+pub use filter_tokens::network::Network;
