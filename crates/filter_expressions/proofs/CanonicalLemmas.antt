@@ -7,7 +7,7 @@ use Rattle.filter_tokens.specs.declared.primitive.Primitive.{Primitive}
 use Rattle.filter_tokens.specs.PrimitiveTexts.{primitive_text}
 use Rattle.filter_expressions.specs.Printing.{canonical, canonical_text, nots_in, start_text, starts_text, right_text}
 use Rattle.filter_expressions.specs.Trees.{Expr, test, negated, both, either, steps_of, steps_of_text}
-use Rattle.filter_expressions.proofs.PrintingLemmas.{piece_appended}
+use Rattle.filter_expressions.proofs.PrintingLemmas.{part_appended}
 
 -- ---- the parentheses before the first primitive
 
@@ -192,7 +192,7 @@ test_appended left rest next p out new total left_is next_is new_is known =
     let form : IsForm (step.Test p ∷ rest) 0 known.0 = IsForm-at left _ known.0 left_is known.1 in (
       form.0,
       IsForm-at rest next form.0 (sym next_is) form.1,
-      piece_appended (primitive_text p) out new form.0 known.0 total new_is form.2 known.2,
+      part_appended (primitive_text p) out new form.0 known.0 total new_is form.2 known.2,
     )
 
 -- The parenthesis after `not` and its operand is appended.
@@ -204,7 +204,7 @@ negate_appended left rest next out new total left_is next_is new_is known =
     let form : IsForm (step.Negate ∷ rest) 0 known.0 = IsForm-at left _ known.0 left_is known.1 in (
       form.0,
       IsForm-at rest next form.0 (sym next_is) form.1,
-      piece_appended (codes ")") out new form.0 known.0 total new_is form.2 known.2,
+      part_appended (codes ")") out new form.0 known.0 total new_is form.2 known.2,
     )
 
 pub and_appended : (left rest first next : List Step) (skipped : ℕ) (out new total : List ℕ)

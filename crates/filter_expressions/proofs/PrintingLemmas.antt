@@ -287,11 +287,11 @@ right_appended right first out middle new word later text total middle_is new_is
     ∙ ap (λ (list : List ℕ). (list ++ group) ++ later) middle_is ∙ append_assoc (out ++ word) group later
     ∙ append_assoc out word (group ++ later) ∙ ap (λ (list : List ℕ). out ++ list) (sym text_is) ∙ total_is
 
--- A piece of text is appended.
-pub piece_appended : (piece out new later text total : List ℕ) → new ≡ out ++ piece → text ≡ piece ++ later
+-- After a part of a text is appended, the later parts lead to the same total.
+pub part_appended : (part out new later text total : List ℕ) → new ≡ out ++ part → text ≡ part ++ later
     → out ++ text ≡ total → new ++ later ≡ total
-piece_appended piece out new later text total new_is text_is total_is =
-    ap (λ (list : List ℕ). list ++ later) new_is ∙ append_assoc out piece later
+part_appended part out new later text total new_is text_is total_is =
+    ap (λ (list : List ℕ). list ++ later) new_is ∙ append_assoc out part later
     ∙ ap (λ (list : List ℕ). out ++ list) (sym text_is) ∙ total_is
 
 IsBody-at : (left same : List Step) (ended : Bool) (text : List ℕ) → left ≡ same → IsBody left 0 ended text
@@ -307,7 +307,7 @@ test_appended left rest next p ended out new total left_is next_is new_is known 
     let body : IsBody (step.Test p ∷ rest) 0 ended known.0 = IsBody-at left _ ended known.0 left_is known.1 in (
       body.0,
       IsBody-at rest next false body.0 (sym next_is) body.1,
-      piece_appended (primitive_text p) out new body.0 known.0 total new_is body.2 known.2,
+      part_appended (primitive_text p) out new body.0 known.0 total new_is body.2 known.2,
     )
 
 -- The parenthesis after the operand of `not` is appended, if there is one.
@@ -319,7 +319,7 @@ negate_appended left rest next ended out new total left_is next_is new_is known 
     let body : IsBody (step.Negate ∷ rest) 0 ended known.0 = IsBody-at left _ ended known.0 left_is known.1 in (
       body.0,
       IsBody-at rest next false body.0 (sym next_is) body.1,
-      piece_appended (closing ended) out new body.0 known.0 total new_is body.2 known.2,
+      part_appended (closing ended) out new body.0 known.0 total new_is body.2 known.2,
     )
 
 pub and_appended : (left rest first next : List Step) (skipped : ℕ) (ended : Bool) (out middle new total : List ℕ)

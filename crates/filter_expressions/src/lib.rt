@@ -1,5 +1,5 @@
 //! Filter expressions: their grammar, what each token changes in the state of a parser, the steps of an expression, and
-//! its text. The parser and the filters are in `packet_filter`, whose edits are tried without proving this crate again.
+//! its text. What a must-fail edit changes is in `filter_parser`, so that the edits do not prove this crate again.
 #![tactic(auto)]
 
 pub mod canonical;

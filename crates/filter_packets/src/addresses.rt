@@ -34,7 +34,7 @@ impl HasAddress for Network {
     }
 }
 
-/// Returns true if the source, the destination, one or both addresses of a network layer are in a network.
+/// Returns true if the source, the destination, one or both addresses of a network layer are in a set.
 pub fn has_address<A: HasAddress>(
     layer: AddressLayer,
     side: Side,
@@ -58,7 +58,7 @@ pub fn has_address<A: HasAddress>(
     }
 }
 
-/// Returns true if the source, the destination, one or both addresses of an IPv4 packet are in a network.
+/// Returns true if the source, the destination, one or both addresses of an IPv4 packet are in a set.
 fn has_ipv4_address<A: HasAddress>(side: Side, addresses: &A, packet: &LaxIpv4Slice<'_>) -> bool
     ensures { let header = lax_ipv4_slice_header packet.now in result
         ≡ at_side_of side (A.holds addresses.now) (header.source ∷ header.destination ∷ []) }
@@ -67,7 +67,7 @@ fn has_ipv4_address<A: HasAddress>(side: Side, addresses: &A, packet: &LaxIpv4Sl
     is_at_side(side, addresses, &header.source(), &header.destination())
 }
 
-/// Returns true if the source, the destination, one or both addresses of an IPv6 packet are in a network.
+/// Returns true if the source, the destination, one or both addresses of an IPv6 packet are in a set.
 fn has_ipv6_address<A: HasAddress>(side: Side, addresses: &A, packet: &LaxIpv6Slice<'_>) -> bool
     ensures { let header = lax_ipv6_slice_header packet.now in result
         ≡ at_side_of side (A.holds addresses.now) (header.source ∷ header.destination ∷ []) }
@@ -76,7 +76,7 @@ fn has_ipv6_address<A: HasAddress>(side: Side, addresses: &A, packet: &LaxIpv6Sl
     is_at_side(side, addresses, &header.source(), &header.destination())
 }
 
-/// Returns true if the sender, the target, one or both addresses of an ARP packet for IPv4 are in a network.
+/// Returns true if the sender, the target, one or both addresses of an ARP packet for IPv4 are in a set.
 fn has_arp_address<A: HasAddress>(side: Side, addresses: &A, packet: &ArpPacketSlice<'_>) -> bool
     ensures { result
         ≡ at_side_of side (A.holds addresses.now) (arp_addresses (arp_slice_packet packet.now)) }
@@ -97,7 +97,7 @@ fn is_for_ipv4(packet: &ArpPacketSlice<'_>) -> bool
     packet.proto_addr_type().0 == 0x0800 && packet.protocol_addr_size() == 4
 }
 
-/// Returns true if the source, the destination, one or both of two addresses are in a network.
+/// Returns true if the source, the destination, one or both of two addresses are in a set.
 fn is_at_side<A: HasAddress>(side: Side, addresses: &A, source: &[u8], destination: &[u8]) -> bool
     ensures { result ≡ at_side_of side (A.holds addresses.now) (source.now ∷ destination.now ∷ []) }
 {

@@ -27,13 +27,13 @@ pub struct HostSet {
     /// Number of steps of all pairs.
     pub len: usize,
     /// Network layer of the addresses.
-    pub layer: AddressLayer,
+    layer: AddressLayer,
     /// Which address of a packet is searched for: the source, the destination or either.
-    pub side: Side,
+    side: Side,
     /// Length of each address in bytes: 4 or 16.
-    pub width: usize,
+    width: usize,
     /// Addresses as big-endian numbers, in ascending order.
-    pub numbers: Vec<u128>,
+    numbers: Vec<u128>,
     ghost wide: { ((width == 4) || (width == 16)) ≡ true },
     ghost sorted: { IsSorted nat_cmp numbers.items },
 }
@@ -129,7 +129,7 @@ fn host_at(steps: &[Step], layer: AddressLayer, side: Side, width: usize) -> Opt
 {
     match steps {
         [Step::SkipIfTrue(1), Step::Test(primitive), ..] => {
-            host_number(primitive, layer, side, width)
+            tested_host(primitive, layer, side, width)
         }
         _ => None,
     }
@@ -137,7 +137,7 @@ fn host_at(steps: &[Step], layer: AddressLayer, side: Side, width: usize) -> Opt
 
 /// Returns the number of the host that a primitive tests for; `None` if it tests for something else, or for a host of
 /// another layer, side or length in bytes.
-fn host_number(primitive: &Primitive, layer: AddressLayer, side: Side, width: usize) -> Option<u128>
+fn tested_host(primitive: &Primitive, layer: AddressLayer, side: Side, width: usize) -> Option<u128>
     ensures { IfSome result (λ number. (host : Network) × (primitive.now ≡ Address layer side host)
         × IsHost width host × (number ≡ host_number host)) }
 {

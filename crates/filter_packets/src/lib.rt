@@ -1,5 +1,5 @@
-//! Packets that filters are matched against: their fields, the meaning of filter expressions, and sets of hosts. The
-//! filters are in `packet_filter`, whose edits are tried without proving this crate again.
+//! Packets that filters are matched against: their fields, the meaning of filter expressions, and sets of hosts. What
+//! a must-fail edit changes is in `filter_matching`, so that the edits do not prove this crate again.
 #![tactic(auto)]
 
 pub mod addresses;

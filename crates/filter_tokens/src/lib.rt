@@ -1,5 +1,4 @@
-//! Tokens, values, primitives and errors of filter expressions, and the text of primitives. The parser and the filters
-//! are in `packet_filter`.
+//! Tokens, values, primitives and errors of filter expressions, and the text of primitives.
 #![tactic(auto)]
 
 pub mod filter_error;

@@ -35,7 +35,7 @@ pub fn append_primitive(output: &mut Vec<u8>, primitive: &Primitive) -> Result<(
         Primitive::Address(layer, side, network) => append_address(output, *layer, *side, network),
         Primitive::Station(side, station) => append_ether_host(output, *side, *station),
         Primitive::Port(ports, side, low, high) => {
-            append_port_range(output, *ports, *side, *low, *high)
+            append_port_test(output, *ports, *side, *low, *high)
         }
         Primitive::Vlan(id) => append_vlan(output, id),
         Primitive::Number(operand, mask, relation, number) => {
@@ -92,7 +92,7 @@ fn append_ether_host(output: &mut Vec<u8>, side: Side, station: [u8; 6]) -> Resu
 }
 
 /// Appends the words of a transport protocol and a side, and a port or a range.
-fn append_port_range(
+fn append_port_test(
     output: &mut Vec<u8>,
     ports: PortProtocol,
     side: Side,
@@ -123,7 +123,7 @@ fn append_comparison(
     append_number(output, number)
 }
 
-/// Appends `&` and a mask, if it leaves a bit out.
+/// Appends `&` and a mask, unless all its bits are set.
 fn append_mask(output: &mut Vec<u8>, mask: u32) -> Result<(), AllocError>
     ensures { OnOk result (output.new.items ≡ output.old.items ++ mask_text mask) }
 {
@@ -239,7 +239,7 @@ fn append_operand(output: &mut Vec<u8>, operand: &Operand) -> Result<(), AllocEr
     }
 }
 
-/// Returns the size of a number, with a colon before it and a bracket after it.
+/// Returns the end of a byte test's operand: `:`, the size in bytes, and `]`.
 fn width_word(width: Width) -> &'static str
     ensures { result.now ≡ width_text width }
 {

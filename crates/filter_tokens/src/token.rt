@@ -80,6 +80,7 @@ static SYMBOLS: [(&str, TokenKind); 25] = [
     (")", TokenKind::Close),
     ("[", TokenKind::LeftBracket),
     ("]", TokenKind::RightBracket),
+    // `colon_token` reads a `:` before this row can; it is here as it is in the definition.
     (":", TokenKind::Colon),
     ("/", TokenKind::Slash),
     ("&", TokenKind::Ampersand),

@@ -1,4 +1,3 @@
-pub mod Parsing
 -- Definitions and types of the `filter_` crates that contracts use
 pub use Rattle.filter_tokens.specs.KindTexts
 pub use Rattle.filter_tokens.specs.Networks

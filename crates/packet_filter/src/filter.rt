@@ -11,16 +11,17 @@ ghost use Rattle.filter_packets.specs.Shown.{shown_packet};
 ghost use Rattle.filter_expressions.specs.Trees.{both_of, tree_of};
 ghost use Rattle.filter_expressions.specs.declared.step.Step.TheVariants as step;
 
-use crate::matching::matches_primitive;
-use crate::parser;
-use crate::step::{Step, later_steps, steps_if_true};
 use ep_base::{IpNumber, LaxIpPayloadSlice, LenSource};
 use ep_lax::LaxSlicedPacket;
 use filter_expressions::canonical::append_canonical;
 use filter_expressions::printing::append_expression;
+use filter_expressions::step::Step;
+use filter_matching::matching::matches_primitive;
+use filter_matching::step::{later_steps, steps_if_true};
 use filter_packets::host_set::HostSet;
 use filter_packets::host_sets::{host_sets, later_sets};
 use filter_packets::subject::Subject;
+use filter_parser::parser;
 use filter_tokens::filter_error::{FilterError, FilterErrorKind};
 use std::alloc::{AllocError, Global};
 use std::marker::Model;
@@ -159,7 +160,7 @@ impl Filter {
     }
 
     /// Returns true if the filter matches a packet.
-    #[tactic(auto, using(crate::proofs::StepLemmas::skips))]
+    #[tactic(auto, using(filter_packets::proofs::StepLemmas::skips))]
     fn matches_subject(&self, subject: &Subject<'_, '_>) -> bool
         ensures { result ≡ meaning (tree_of self.now) (shown_packet subject.now) }
     {

@@ -64,11 +64,8 @@
 #![tactic(auto)]
 
 pub mod filter;
-mod matching;
 pub mod network;
-mod parser;
 pub mod step;
-mod subject;
 
 pub use crate::filter::Filter;
 pub use crate::network::Network;

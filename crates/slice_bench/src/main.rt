@@ -24,6 +24,7 @@ use crate::corpus::ip_packets_of;
 use crate::files::frames_of;
 use crate::filtering::{Filters, sliced_frames_of};
 use crate::measure::{Corpus, Measurement, mean_tenths, measure};
+use std::alloc::Global;
 use std::process::ExitCode;
 use std::rt::{Clock, Env, Files};
 use std::{env, fs};
@@ -42,8 +43,30 @@ fn main(rt: HostRuntime) -> ExitCode {
     }
 }
 
+/// Selection made by the command line arguments.
+#[derive(Drop)]
+struct Selection {
+    /// Path of the file with frames.
+    path: String,
+    /// Number of timed rounds of each measurement; `None` for rounds until a second has passed.
+    rounds: Option<u64>,
+    /// The only measurement to make; `None` for all.
+    only: Option<Measurement>,
+}
+
 /// Reads the file with frames, makes the measurements that the command line arguments select, and prints the results.
 fn run<R: Files + Env + Clock + Print + AllocGlobal>(rt: &R) -> Result<(), BenchError> {
+    let selection = selection_in(rt)?;
+    let Ok(bytes) = fs::read(rt, selection.path.as_str()) else {
+        return Err(BenchError::File);
+    };
+    let corpus = corpus_of(rt.alloc(), bytes.as_slice())?;
+    print_heading(rt)?;
+    print_selected(rt, selection.only, selection.rounds, &corpus)
+}
+
+/// Parses the command line arguments: FILE [ROUNDS [MEASUREMENT]].
+fn selection_in<R: Env + AllocGlobal>(rt: &R) -> Result<Selection, BenchError> {
     let Ok(mut args) = env::args(rt) else {
         return Err(BenchError::Usage);
     };
@@ -59,26 +82,36 @@ fn run<R: Files + Env + Clock + Print + AllocGlobal>(rt: &R) -> Result<(), Bench
         Some(text) => Some(measurement_named(text.as_str())?),
         None => None,
     };
-    let Ok(bytes) = fs::read(rt, path.as_str()) else {
-        return Err(BenchError::File);
-    };
-    let frames = frames_of(rt.alloc(), bytes.as_slice())?;
-    let ip_packets = ip_packets_of(rt.alloc(), frames.as_slice())?;
+    Ok(Selection { path, rounds, only })
+}
+
+/// Returns the input of the benchmarks, given the bytes of the file with frames.
+fn corpus_of(alloc: Global, bytes: &[u8]) -> Result<Corpus<'_>, BenchError> {
+    let frames = frames_of(alloc, bytes)?;
+    let ip_packets = ip_packets_of(alloc, frames.as_slice())?;
     let first_frames = &frames.as_slice()[..frames.len().min(MOST_BUILT)];
-    let frame_parts = frame_parts_of(rt.alloc(), first_frames)?;
-    let sliced_frames = sliced_frames_of(rt.alloc(), first_frames)?;
-    let filters = Filters::new(rt.alloc())?;
-    let corpus = Corpus {
+    let frame_parts = frame_parts_of(alloc, first_frames)?;
+    let sliced_frames = sliced_frames_of(alloc, first_frames)?;
+    let filters = Filters::new(alloc)?;
+    Ok(Corpus {
         frames,
         ip_packets,
         frame_parts,
         sliced_frames,
         filters,
-    };
-    print_heading(rt)?;
+    })
+}
+
+/// Makes one measurement or, if `only` is `None`, all of them, and prints the results.
+fn print_selected<R: Clock + Print + AllocGlobal>(
+    rt: &R,
+    only: Option<Measurement>,
+    rounds: Option<u64>,
+    corpus: &Corpus<'_>,
+) -> Result<(), BenchError> {
     for measurement in Measurement::ALL {
         if only.is_none_or(|wanted| wanted == measurement) {
-            print_measured(rt, measurement, &corpus, rounds)?;
+            print_measured(rt, measurement, corpus, rounds)?;
         }
     }
     Ok(())

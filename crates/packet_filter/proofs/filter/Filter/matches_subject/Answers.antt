@@ -4,7 +4,7 @@ use Rattle.filter_expressions.specs.declared.step.Step.{Step}
 use Rattle.filter_packets.specs.Running.{value_after}
 use Rattle.filter_packets.specs.Shown.{shown_packet}
 use Rattle.packet_filter.proofs.FilterLemmas.{goes_on, set_ends, set_goes_on}
-use Rattle.packet_filter.proofs.StepLemmas.{compiled_means, first_runs, skips_if_false, skips_if_true, stays_if_false}
+use Rattle.filter_packets.proofs.StepLemmas.{compiled_means, first_runs, skips_if_false, skips_if_true, stays_if_false}
 use Rattle.packet_filter.proofs.filter.Filter.matches_subject.Goals as goal
 
 pub loop-steps-init : goal.loop-steps-init

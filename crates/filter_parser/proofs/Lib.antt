@@ -1,0 +1,5 @@
+pub mod AcceptLemmas
+pub mod CloseLemmas
+pub mod ParseLemmas
+pub mod ParserLemmas
+pub mod StackLemmas
