@@ -27,7 +27,7 @@ def parts(name):
 
 
 def names(text, sample):
-    """Whether some name in a text has the words of the sample, one behind the other."""
+    """Whether some name in a text has the words of the sample, one after the other."""
     for name in re.findall(r"\w+", text):
         words = parts(name)
         if any(words[at : at + len(sample)] == sample for at in range(len(words))):
@@ -36,7 +36,7 @@ def names(text, sample):
 
 
 def around(path, sample):
-    """The items of a file of which some line names the sample, in order."""
+    """The items of a file with a line that names the sample, in order."""
     head = HEADS.get(os.path.splitext(path)[1])
     found, item = [], ""
     with open(path, errors="replace") as file:

@@ -84,6 +84,6 @@ fi
 "$CC" "${flags[@]}" "$here/tests/statuses.c" -I"$prefix/include" "$prefix/lib/libetherparse_c.a" -o "$work/statuses"
 "$work/statuses" | cmp - "$here/tests/statuses.out"
 make -s -C "$release" uninstall PREFIX="$prefix"
-[ -z "$(find "$prefix" -type f -o -type l)" ] || { echo "left behind:"; find "$prefix" -type f; exit 1; }
+[ -z "$(find "$prefix" -type f -o -type l)" ] || { echo "not removed:"; find "$prefix" -type f; exit 1; }
 echo "bindings: a release was installed; examples built by make, $ways and with the shared object are right"
 "$here/../clean_test.sh" "$work"/etherparse-c-*-x86_64-linux.tar.gz

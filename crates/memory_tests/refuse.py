@@ -1,14 +1,15 @@
 #!/usr/bin/env python3
 """Makes each allocation fail in turn, of built tests and of the built program: python3 refuse.py [--write]
 
-    rt test && (cd ../frame_bench && rt test && rt run < stdin)      # builds them, and so does rt ci
+    rt test && (cd ../frame_bench && rt run < stdin)      # builds them, and so does rt ci
 
-Runs each test of this crate except those of `ample`, and each memory test of frame_bench, with its first allocation
-failing, then with its second, until none fails (refuse.c, preloaded). Each run has to pass, and has to name exactly
-one call for the failed allocation. The allocations of each call have to match the file `requests`; --write writes
-that file. Then the program frame_bench is run in the same way on its file `stdin`, and on random lines with many
-limits: a run with a failed allocation ends with status 1 and `frame_bench: out of memory`, and its output is a start of
-its answers. The status is 1 at the first difference.
+Runs each test of this crate except those of `ample`, with its first allocation failing, then with its second, until
+none fails (refuse.c, preloaded). Each run has to pass, and has to name exactly one call for the failed allocation. Then
+the program frame_bench is run in the same way: on lines that are read one at a time (short_io.c of frame_bench,
+preloaded), on its file `stdin`, and on random lines with many limits. A run with a failed allocation ends with status 1
+and `frame_bench: out of memory`, its output is a start of its answers, and the last run, where none fails, has all of
+them. The allocations of each call, and of the program on the lines that are read singly, have to match the file
+`requests`; --write writes that file. The status is 1 at the first difference.
 """
 import collections
 import difflib
@@ -23,10 +24,22 @@ import tempfile
 
 HERE = pathlib.Path(__file__).resolve().parent
 BENCH = HERE.parent / "frame_bench"
-# Folders of tests, the prefix of the names of tests that pass whichever allocation fails, and the prefix of those among
-# them that allocate too often to try it.
-TESTS = [(HERE, "", "ample::"), (BENCH, "tests::memory::", None)]
+# Prefix of the names of tests that allocate too often to let each allocation fail.
+AMPLE = "ample::"
 MOST = 100_000
+# A line of frame_bench, and its answer.
+FRAME = (
+    b"slice eth 0708090a0b0c0102030405060800"
+    b"45000024000040001411e375c0a80101c0a80102001504d20010677f0102030405060708\n"
+)
+FRAME_ANSWER = b"ok eth - ipv4 udp 0102030405060708\n"
+# Lines that are read singly, and their answers. After the first answer the buffers are large enough for the next three.
+# A line with a limit replaces the pool, and the new pool allocates its own memory.
+SINGLE_LINES = [
+    ("one_frame", FRAME, FRAME_ANSWER),
+    ("four_frames", 4 * FRAME, 4 * FRAME_ANSWER),
+    ("limit_lines", (BENCH / "cases/limit").read_bytes(), (BENCH / "cases/limit.stdout").read_bytes()),
+]
 # Number of random lines, and number of lines `limit` among them.
 LINES, LIMITS = 2000, 50
 
@@ -48,18 +61,23 @@ class Refusing:
     """Runs with one failing allocation."""
 
     def __init__(self, folder):
-        self.library = str(folder / "refuse.so")
+        self.libraries = []
         self.met = folder / "met"
         compiler = next(filter(shutil.which, ["cc", "gcc", "clang"]), None)
         if compiler is None:
             sys.exit("no C compiler")
-        command = [compiler, "-O2", "-shared", "-fPIC", "-o", self.library, str(HERE / "refuse.c")]
-        subprocess.run(command, check=True)
+        for source in (HERE / "refuse.c", BENCH / "compare/short_io.c"):
+            library = folder / f"{source.stem}.so"
+            subprocess.run([compiler, "-O2", "-shared", "-fPIC", "-o", library, source], check=True)
+            self.libraries.append(str(library))
 
-    def run(self, command, nth, given=b""):
-        """Runs a program; returns its output and status, and whether it made `nth` allocations."""
+    def run(self, command, nth, given=b"", reads=None):
+        """Runs a program, whose reads return the numbers of bytes in `reads`, if given. Returns its output and status,
+        and whether it made `nth` allocations."""
         self.met.unlink(missing_ok=True)
-        variables = dict(os.environ, LD_PRELOAD=self.library, REFUSE=str(nth), REFUSED=str(self.met))
+        variables = dict(os.environ, LD_PRELOAD=" ".join(self.libraries), REFUSE=str(nth), REFUSED=str(self.met))
+        if reads:
+            variables["READS"] = " ".join(map(str, reads))
         done = subprocess.run(command, input=given, env=variables, capture_output=True, check=False)
         return done, self.met.exists()
 
@@ -92,18 +110,21 @@ def ranges(numbers):
 
 
 def table_of(refusing):
-    """Returns the allocations of each call, in a line for each call of each test."""
+    """Returns the allocations of each call, in a line for each call of each test, and those of the program."""
     rows = []
-    for folder, begin, often in TESTS:
-        program = built(folder, f"{folder.name}_tests")
-        listed = subprocess.run([program, "--list"], capture_output=True, text=True, check=True).stdout
-        for test in re.findall(r"^(\S+): test$", listed, re.MULTILINE):
-            if not test.startswith(begin) or (often and test.startswith(often)):
-                continue
-            numbers = collections.defaultdict(list)
-            for nth, call in enumerate(requests_of(refusing, program, test), 1):
-                numbers[call].append(nth)
-            rows += [(folder.name, test, asked, call) for call, asked in numbers.items()]
+    program = built(HERE, "memory_tests_tests")
+    listed = subprocess.run([program, "--list"], capture_output=True, text=True, check=True).stdout
+    for test in re.findall(r"^(\S+): test$", listed, re.MULTILINE):
+        if test.startswith(AMPLE):
+            continue
+        numbers = collections.defaultdict(list)
+        for nth, call in enumerate(requests_of(refusing, program, test), 1):
+            numbers[call].append(nth)
+        rows += [("memory_tests", test, asked, call) for call, asked in numbers.items()]
+    for name, given, wanted in SINGLE_LINES:
+        reads = [len(line) for line in given.splitlines(keepends=True)]
+        count = program_refused(refusing, name, given, wanted, reads)
+        rows.append(("frame_bench", name, list(range(1, count + 1)), "run"))
     return "".join(f"{name}: {test}: {call}: {ranges(asked)}\n" for name, test, asked, call in sorted(rows))
 
 
@@ -113,11 +134,12 @@ def requests_in(table):
     return sum(int(last or first) - int(first) + 1 for first, last in spans)
 
 
-def program_refused(refusing, name, given, wanted):
-    """Checks that the program reports the failure after a start of its answers, whichever allocation fails."""
+def program_refused(refusing, name, given, wanted, reads=None):
+    """Checks that the program reports the failure after a start of its answers, whichever allocation fails. Returns the
+    number of its allocations."""
     program = built(BENCH, "frame_bench")
     for nth in range(1, MOST):
-        done, is_met = refusing.run([program], nth, given)
+        done, is_met = refusing.run([program], nth, given, reads)
         says = done.stderr == b"frame_bench: out of memory\n"
         whole = done.stdout == wanted and done.stderr == b""
         if is_met and not (done.returncode == 1 and says and wanted.startswith(done.stdout)):
@@ -126,7 +148,7 @@ def program_refused(refusing, name, given, wanted):
             if done.returncode != 0 or not whole:
                 sys.exit(f"{name}: other answers where no request is refused")
             print(f"frame_bench, {name}: {nth - 1} requests refused in turn")
-            return
+            return nth - 1
     sys.exit(f"{name}: there is no end")
 
 

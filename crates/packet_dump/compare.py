@@ -99,7 +99,7 @@ def number(text):
 
 
 def len_of(found, at):
-    """Returns the full length of a payload, some bytes of which may be missing."""
+    """Returns the full length of a payload, also if some of its bytes are missing."""
     return int(found[at + 1] or found[at])
 
 
@@ -573,7 +573,7 @@ def compare(tally, program, path):
     tally.counted["packets"] += len(mine)
     if run.returncode != 0:
         tally.reasons["status 1: " + re.sub(r"\d+", "N", run.stderr.strip().splitlines()[-1].replace(path, ""))] += 1
-        tally.counted["packets behind what packet_dump refuses"] += max(0, len(other) - len(mine))
+        tally.counted["packets after what packet_dump refuses"] += max(0, len(other) - len(mine))
         print(f"{path}: {run.stderr.strip()}; tshark has {len(other)} packets")
     for reader, told, ended in (("tshark", other, by_tshark), ("tcpdump", texts, by_tcpdump)):
         tally.counted[f"packets that {reader} reads too"] += min(len(mine), len(told))

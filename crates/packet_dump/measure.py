@@ -5,7 +5,7 @@ FOLDER is one of slice_bench's corpora.py. Of a million packets of each kind (64
 --reassemble; mixed ones cut at 96 bytes) and of 200,000 as on an office's uplink, whose captures are written there, it
 prints the user's processor time in seconds, the least and the median of five runs in turns (of tshark one), and the
 greatest resident size in MiB, with the lines thrown away.
-With GIGABYTES it then prints both of a capture of so many, which a pipe brings. It needs tcpdump, tshark and GNU time.
+With GIGABYTES it then prints both of a capture of that size, read from a pipe. It needs tcpdump, tshark and GNU time.
 """
 import os
 import random

@@ -8,7 +8,7 @@ packets, lax_lines, strict_lines = [], [], []
 
 
 def row(link, data, text, more=None, kept=None, strict=None):
-    """Adds a packet of which `kept` bytes are captured, with its text, the line that --reassemble adds after it, and its
+    """Adds a packet with `kept` captured bytes, its text, the line that --reassemble adds after it, and its
     text with --strict, if different."""
     shown = data[:kept]
     cut = f" cut {len(shown)} of {len(data)}" if len(shown) < len(data) else ""

@@ -67,8 +67,8 @@ def frames():
         if ether_type in (0x0800, 0x86dd):
             yield IP, 0, packet
     for first in (0x00, 0x20, 0x04, 0x0c):  # MACsec: with and without an SCI, modified, encrypted
-        behind = (bytes(8) if first & 0x20 else b"") + (word(0x0800) if not first & 0x0c else b"")
-        yield ETHERNET, 0, ADDRESSES + word(0x88e5) + bytes([first, 0, 0, 0, 0, 1]) + behind + ipv4(17, udp(text))
+        after_tag = (bytes(8) if first & 0x20 else b"") + (word(0x0800) if not first & 0x0c else b"")
+        yield ETHERNET, 0, ADDRESSES + word(0x88e5) + bytes([first, 0, 0, 0, 0, 1]) + after_tag + ipv4(17, udp(text))
 
 
 def fragments(order, version):

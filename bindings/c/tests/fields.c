@@ -497,6 +497,6 @@ int main(void) {
     if (etherparse_slice(ETHERPARSE_ENTRY_IP, 0, NULL, 0, &packet) != ETHERPARSE_REFUSED
         || etherparse_fields(&packet, NULL, 0, &fields) != ETHERPARSE_OK || fields.ip.version != 0)
         failed++;
-    printf("etherparse_fields: null, where there are no bytes\n");
+    printf("etherparse_fields: null without bytes\n");
     return failed != 0;
 }

@@ -182,7 +182,7 @@ static void tags(void) {
     WANT(packet.ip.version == 6 && packet.ip.fragmented == 1 && packet.ip.fragment_offset == 65528);
     WANT(packet.ip.more_fragments == 1 && packet.ip.identification == 0x12345678 && packet.ip.number == 17);
     WANT(packet.payload.len == 8 && blocks == 0);
-    printf("tags, options, fragments: no other numbers; a fragment behind two tags is sliced as it was built\n");
+    printf("tags, options, fragments: no other numbers; a fragment after two tags is sliced as it was built\n");
 }
 
 /* ---- calls that do not allocate */

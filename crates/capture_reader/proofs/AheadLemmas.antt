@@ -74,10 +74,10 @@ record_ahead reader n first one known few records long known_is is =
     let bytes = slice_range rest 16 (16 + one.kept) in
     let it = kept_packet one bytes in
     let len : length it.bytes ≡ one.kept = (range_split rest one.kept long).0 in
-    let Behind : ℕ → Type 0 = λ k. IsRecord first.order rest (it, drop (16 + k) rest) in
+    let After : ℕ → Type 0 = λ k. IsRecord first.order rest (it, drop (16 + k) rest) in
     let step = steps_record (moved reader n few) (moved reader m within) first it records
     (refl {A = State}) (refl {A = List ℕ}) (omega (arith, len))
-    (omega (arith, len)) (omega (arith, long, len)) (subst Behind (sym len) is) in
+    (omega (arith, len)) (omega (arith, long, len)) (subst After (sym len) is) in
     let stage : reader_stage reader ≡ in_records first = ap (λ s. stage_of s reader.interfaces.items) records in (
       next_shows reader n m few within (packet it) (known_shown known bytes) step
           (ap (λ s. shown_in s (packet it)) stage ∙ ap (λ (p : PlainShown). Some p) (sym (known_is bytes))),
@@ -114,19 +114,19 @@ keeps_section section interfaces (simple one) shown shows = refl
 keeps_section section interfaces (other one) shown shows = absurd (none-some shown shows)
 
 -- A complete block with a packet shows it.
-pub block_ahead : (reader : CaptureReader) (n : ℕ) (order : ByteOrder) (len : ℕ) (said : Content)
+pub block_ahead : (reader : CaptureReader) (n : ℕ) (order : ByteOrder) (len : ℕ) (stated : Content)
     (packet_in : BlockPacket)
     → n ≤ reader_unread reader → reader.state ≡ Blocks order → begins_long order (rest_after reader n) ≡ false
     → let section = section_of order reader.interfaces.items in
     IsBlock section (rest_after reader n) (block_in section (rest_after reader n), drop len (rest_after reader n))
-    → len ≤ length (rest_after reader n) → 12 ≤ len → FitsLen said len
+    → len ≤ length (rest_after reader n) → 12 ≤ len → FitsLen stated len
     → block_shown reader.interfaces.items (block_in section (rest_after reader n))
-    ≡ content_shown (slice_range (rest_after reader n) 8 (len - 4)) said
-    → said ≡ content.Packet packet_in
+    ≡ content_shown (slice_range (rest_after reader n) 8 (len - 4)) stated
+    → stated ≡ content.Packet packet_in
     → ShowsAhead reader n (n + len) (known_shown packet_in.known
     (slice_range (rest_after reader n) (8 + packet_in.start) (8 + packet_in.start + packet_in.kept)))
     × (n < n + len) × (n + len ≤ reader_unread reader)
-block_ahead reader n order len said packet_in few blocks short is long least fits shows content_is =
+block_ahead reader n order len stated packet_in few blocks short is long least fits shows content_is =
     let rest = rest_after reader n in
     let section = section_of order reader.interfaces.items in
     let within : n + len ≤ reader_unread reader =
@@ -179,19 +179,19 @@ other_block_in section bytes none (block one) rest fits parts =
 other_block_in section bytes none (part one) rest fits parts = refl
 
 -- Another content is no packet.
-pub no_packet_content : (body : List ℕ) (said : Content)
-    → (said ≡ content.Section) ⊎ ((about : Interface) × (said ≡ content.Interface about)) ⊎ (said ≡ content.Other)
-    → content_shown body said ≡ None
-no_packet_content body said (inl is) = ap (content_shown body) is
-no_packet_content body said (inr (inl is)) = ap (content_shown body) is.1
-no_packet_content body said (inr (inr is)) = ap (content_shown body) is
+pub no_packet_content : (body : List ℕ) (stated : Content)
+    → (stated ≡ content.Section) ⊎ ((about : Interface) × (stated ≡ content.Interface about)) ⊎ (stated ≡ content.Other)
+    → content_shown body stated ≡ None
+no_packet_content body stated (inl is) = ap (content_shown body) is
+no_packet_content body stated (inr (inl is)) = ap (content_shown body) is.1
+no_packet_content body stated (inr (inr is)) = ap (content_shown body) is
 
 -- Where a block with another content starts, no packet starts.
-pub no_packet_block : (reader : CaptureReader) (order : ByteOrder) (bytes body : List ℕ) (said : Content)
+pub no_packet_block : (reader : CaptureReader) (order : ByteOrder) (bytes body : List ℕ) (stated : Content)
     → reader.state ≡ Blocks order
     → block_shown reader.interfaces.items (block_in (section_of order reader.interfaces.items) bytes)
-    ≡ content_shown body said
-    → content_shown body said ≡ None → HasNoPacket (reader_stage reader) bytes
-no_packet_block reader order bytes body said blocks shows none =
+    ≡ content_shown body stated
+    → content_shown body stated ≡ None → HasNoPacket (reader_stage reader) bytes
+no_packet_block reader order bytes body stated blocks shows none =
     subst (λ s. HasNoPacket s bytes) (sym (ap (λ s. stage_of s reader.interfaces.items) blocks))
     (other_block_in (section_of order reader.interfaces.items) bytes (shows ∙ none))

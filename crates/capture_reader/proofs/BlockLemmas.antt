@@ -27,9 +27,9 @@ use Rattle.capture_reader.specs.declared.byte_order.ByteOrder.TheVariants.{Big, 
 use Rattle.capture_reader.specs.declared.interface.Interface.{Interface}
 use Rattle.capture_reader.specs.declared.refusal.Refusal.{Refusal}
 use Rattle.capture_reader.specs.declared.refusal.Refusal.TheVariants as refusal
-use Rattle.capture_reader.proofs.NumberLemmas.{length-word32, range_front, range_read, word32_at-drop, word32_at-fits}
+use Rattle.capture_reader.proofs.NumberLemmas.{length-word32, range_prefix, range_read, word32_at-drop, word32_at-fits}
 use Rattle.capture_reader.proofs.NumberLemmas.{word32_at-more}
-use Rattle.capture_reader.proofs.NumberLemmas.{word32_front, word32_read}
+use Rattle.capture_reader.proofs.NumberLemmas.{word32_prefix, word32_read}
 use Rattle.capture_reader.proofs.BodyLemmas.{enhanced_is_read, enhanced_reads, header_is_read, header_reads}
 use Rattle.capture_reader.proofs.BodyLemmas.{interface_is_read, interface_reads, obsolete_is_read, obsolete_reads}
 use Rattle.capture_reader.proofs.BodyLemmas.{row_none, row_pass}
@@ -72,11 +72,11 @@ little_written : word32 Big 0x4d3c2b1a ≡ word32 Little 0x1a2b3c4d
 unfolding word32
 little_written = refl
 
-said_written : (before : ByteOrder) (magic : ℕ) (said : Option ByteOrder) → byte_order_of_magic magic ≡ said
-    → not (is_some said) ≡ false → word32 Big magic ≡ word32 (order_or before said) 0x1a2b3c4d
-said_written before magic None is known = absurd (true≢false known)
-said_written before magic (Some Big) is known = ap (word32 Big) (magic_big magic is)
-said_written before magic (Some Little) is known = ap (word32 Big) (magic_little magic is) ∙ little_written
+stated_written : (before : ByteOrder) (magic : ℕ) (stated : Option ByteOrder) → byte_order_of_magic magic ≡ stated
+    → not (is_some stated) ≡ false → word32 Big magic ≡ word32 (order_or before stated) 0x1a2b3c4d
+stated_written before magic None is known = absurd (true≢false known)
+stated_written before magic (Some Big) is known = ap (word32 Big) (magic_big magic is)
+stated_written before magic (Some Little) is known = ap (word32 Big) (magic_little magic is) ∙ little_written
 
 -- A byte-order magic is read as the byte order in which it was written.
 magic_read : (order : ByteOrder) (rest : List ℕ)
@@ -96,27 +96,27 @@ block_parts : (before : ByteOrder) (block : PlainBlock) (rest : List ℕ)
 block_parts before block rest = simp append_assoc
 
 -- Bytes with the same length field before and after a body are the parts of a block.
-frame_front : (before order : ByteOrder) (bytes : List ℕ) (len : ℕ) → AreBytes bytes → 12 ≤ len → len ≤ length bytes
+frame_prefix : (before order : ByteOrder) (bytes : List ℕ) (len : ℕ) → AreBytes bytes → 12 ≤ len → len ≤ length bytes
     → word32_at order bytes 4 ≡ len → word32_at order bytes (len - 4) ≡ len
     → (length (slice_range bytes 8 (len - 4)) ≡ len - 12)
     × (drop 8 bytes ≡ slice_range bytes 8 (len - 4) ++ drop (len - 4) bytes)
     × (bytes ≡ word32 before (word32_at before bytes 0) ++ (word32 order len ++ (slice_range bytes 8 (len - 4)
     ++ (word32 order len ++ drop len bytes))))
-frame_front before order bytes len fits long within said trailing =
+frame_prefix before order bytes len fits long within stated trailing =
     let size : 8 + (len - 12) ≡ len - 4 = omega arith in
-    let body = range_front bytes 8 (len - 12) (omega arith) in
+    let body = range_prefix bytes 8 (len - 12) (omega arith) in
     let Body : ℕ → List ℕ = λ n. slice_range bytes 8 n in
     let second : drop 4 bytes ≡ word32 order len ++ drop 8 bytes =
-    word32_front order bytes 4 fits (omega arith) ∙ ap (λ (n : ℕ). word32 order n ++ drop 8 bytes) said in
+    word32_prefix order bytes 4 fits (omega arith) ∙ ap (λ (n : ℕ). word32 order n ++ drop 8 bytes) stated in
     let third : drop 8 bytes ≡ slice_range bytes 8 (len - 4) ++ drop (len - 4) bytes =
     body.1 ∙ ap (λ (n : ℕ). slice_range bytes 8 n ++ drop n bytes) size in
     let last : drop (len - 4) bytes ≡ word32 order len ++ drop len bytes =
-    word32_front order bytes (len - 4) fits (omega arith)
+    word32_prefix order bytes (len - 4) fits (omega arith)
     ∙ ap (λ (n : ℕ). word32 order n ++ drop (len - 4 + 4) bytes) trailing
     ∙ ap (λ (n : ℕ). word32 order len ++ drop n bytes) (omega arith) in (
       sym (ap (λ (n : ℕ). length (Body n)) size) ∙ body.0,
       third,
-      word32_front before bytes 0 fits (omega arith)
+      word32_prefix before bytes 0 fits (omega arith)
           ∙ ap (λ (s : List ℕ). word32 before (word32_at before bytes 0) ++ s)
           (second ∙ ap (λ (s : List ℕ). word32 order len ++ s)
           (third ∙ ap (λ (s : List ℕ). slice_range bytes 8 (len - 4) ++ s) last)),
@@ -254,7 +254,7 @@ holds_with section SectionHeader bytes len fits is body_fits size split passed =
     let same : word32_at Big body 0 ≡ magic =
     sym (word32_at-more Big body (drop (len - 4) bytes) 0 (omega (arith, size, passed.least)))
     ∙ ap (λ (s : List ℕ). word32_at Big s 0) (sym split) ∙ word32_at-drop Big bytes 8 in
-    let written = ap (word32 Big) same ∙ said_written before magic (byte_order_of_magic magic) refl passed.known in
+    let written = ap (word32 Big) same ∙ stated_written before magic (byte_order_of_magic magic) refl passed.known in
     let read = header_reads order order len (slice_range bytes 8 (len - 4)) body_fits
     (omega (arith, size, passed.least)) written passed.body in
     record {
@@ -320,12 +320,12 @@ reads_with section kind bytes fits is passed =
     let len = word32_at order bytes 4 in
     let body = slice_range bytes 8 (len - 4) in
     let long : 12 ≤ len = omega (arith, least_12 kind, passed.least) in
-    let front = frame_front section.order order bytes len fits long passed.within refl passed.trailing in
+    let prefix = frame_prefix section.order order bytes len fits long passed.within refl passed.trailing in
     let body_fits = AreBytes-take (len - 4 - 8) (drop 8 bytes) (AreBytes-drop 8 bytes fits) in
     holds_block section order (word32_at section.order bytes 0) len bytes body (drop len bytes)
     (block_of section.interfaces order kind (word32_at section.order bytes 0) body)
-    (holds_with section kind bytes len fits is body_fits front.0 front.1 passed)
-    (omega (arith, front.0, long)) passed.most passed.aligned front.2
+    (holds_with section kind bytes len fits is body_fits prefix.0 prefix.1 passed)
+    (omega (arith, prefix.0, long)) passed.most passed.aligned prefix.2
 
 block_reads : (section : Section) (bytes : List ℕ) → AreBytes bytes → first_row (block_rows section bytes) ≡ None
     → IsBlock section bytes (block_read section bytes)
@@ -372,51 +372,51 @@ number_written before (simple plain) = refl
 number_written before (other plain) = refl
 
 -- The byte order of a block is read from its bytes.
-order_read : (section : Section) (block : PlainBlock) (bytes behind : List ℕ)
-    → drop 8 bytes ≡ block_body (block_order section.order block) block ++ behind
+order_read : (section : Section) (block : PlainBlock) (bytes after : List ℕ)
+    → drop 8 bytes ≡ block_body (block_order section.order block) block ++ after
     → (order_of section.order (block_kind block) (word32_at Big bytes 8) ≡ block_order section.order block)
     × (has_no_order section.order (block_kind block) (word32_at Big bytes 8) ≡ false)
-order_read section (header plain) bytes behind parts =
+order_read section (header plain) bytes after parts =
     let order = plain.order in
-    let rest = word16 order 1 ++ word16 order plain.minor ++ plain.rest ++ behind in
+    let rest = word16 order 1 ++ word16 order plain.minor ++ plain.rest ++ after in
     let all : drop 8 bytes ≡ word32 order 0x1a2b3c4d ++ rest = parts ∙ simp append_assoc in
     let magic : word32_at Big bytes 8 ≡ word32_at Big (word32 order 0x1a2b3c4d ++ rest) 0 =
     sym (word32_at-drop Big bytes 8) ∙ ap (λ (s : List ℕ). word32_at Big s 0) all in
-    let said : byte_order_of_magic (word32_at Big bytes 8) ≡ Some order = ap byte_order_of_magic magic ∙ magic_read order rest in (
-      ap (order_or section.order) said,
-      ap (λ (o : Option ByteOrder). not (is_some o)) said,
+    let stated : byte_order_of_magic (word32_at Big bytes 8) ≡ Some order = ap byte_order_of_magic magic ∙ magic_read order rest in (
+      ap (order_or section.order) stated,
+      ap (λ (o : Option ByteOrder). not (is_some o)) stated,
     )
-order_read section (interface plain) bytes behind parts = (refl, refl)
-order_read section (enhanced plain) bytes behind parts = (refl, refl)
-order_read section (obsolete plain) bytes behind parts = (refl, refl)
-order_read section (simple plain) bytes behind parts = (refl, refl)
-order_read section (other plain) bytes behind parts = (refl, refl)
+order_read section (interface plain) bytes after parts = (refl, refl)
+order_read section (enhanced plain) bytes after parts = (refl, refl)
+order_read section (obsolete plain) bytes after parts = (refl, refl)
+order_read section (simple plain) bytes after parts = (refl, refl)
+order_read section (other plain) bytes after parts = (refl, refl)
 
 -- The body of the block is not rejected, and is read as the block.
-record IsHeld (section : Section) (block : PlainBlock) (number len : ℕ) (body : List ℕ) : Type 0 where
+record IsKept (section : Section) (block : PlainBlock) (number len : ℕ) (body : List ℕ) : Type 0 where
   none : first_row (body_rows section.interfaces (block_order section.order block) (block_kind block) len body) ≡ None
   is : block_of section.interfaces (block_order section.order block) (block_kind block) number body ≡ block
   least : min_len (block_kind block) ≤ 12 + length body
 
-held : (section : Section) (block : PlainBlock) (len : ℕ) (body : List ℕ) → FitsContent section block
+kept : (section : Section) (block : PlainBlock) (len : ℕ) (body : List ℕ) → FitsContent section block
     → body ≡ block_body (block_order section.order block) block
-    → IsHeld section block (block_number block) len body
-held section (header plain) len body fits is =
+    → IsKept section block (block_number block) len body
+kept section (header plain) len body fits is =
     let read = header_is_read plain.order len section.interfaces plain body fits is in
     record { none = read.0; is = ap (λ p. header p) read.1; least = omega (arith, read.2) }
-held section (interface plain) len body fits is =
+kept section (interface plain) len body fits is =
     let read = interface_is_read section len plain body fits is in
     record { none = read.0; is = ap (λ p. interface p) read.1; least = omega (arith, read.2) }
-held section (enhanced plain) len body fits is =
+kept section (enhanced plain) len body fits is =
     let read = enhanced_is_read section len plain body fits is in
     record { none = read.0; is = ap (λ p. enhanced p) read.1; least = omega (arith, read.2) }
-held section (obsolete plain) len body fits is =
+kept section (obsolete plain) len body fits is =
     let read = obsolete_is_read section len plain body fits is in
     record { none = read.0; is = ap (λ p. obsolete p) read.1; least = omega (arith, read.2) }
-held section (simple plain) len body fits is =
+kept section (simple plain) len body fits is =
     let read = simple_is_read section len plain body fits is in
     record { none = read.0; is = ap (λ p. simple p) read.1; least = omega (arith, read.2) }
-held section (other plain) len body fits is = record {
+kept section (other plain) len body fits is = record {
   none = refl;
   is = ap (λ (s : List ℕ). other (record { kind = plain.kind; body = s })) is;
   least = omega arith;
@@ -433,7 +433,7 @@ record Framed (section : Section) (block : PlainBlock) (bytes rest : List ℕ) :
       ≡ block_body (block_order section.order block) block
   trailing : word32_at (block_order section.order block) bytes (block_len (block_order section.order block) block - 4)
       ≡ block_len (block_order section.order block) block
-  behind : drop (block_len (block_order section.order block) block) bytes ≡ rest
+  after : drop (block_len (block_order section.order block) block) bytes ≡ rest
   long : length bytes ≡ block_len (block_order section.order block) block + length rest
 
 framed : (section : Section) (block : PlainBlock) (bytes rest : List ℕ) → IsBlock section bytes (block, rest)
@@ -456,7 +456,7 @@ framed section block bytes rest is =
     let last = word32_read order len (8 + length body) bytes rest len_fits third.1 in
     let kind : kind_in before bytes ≡ block_kind block =
     ap kind_of first.0 ∙ kind_of_block section block is.fits.content in
-    let said = order_read section block bytes (word32 order len ++ rest) second.1 in
+    let stated = order_read section block bytes (word32 order len ++ rest) second.1 in
     let size : length bytes ≡ 4 + (4 + (length body + (4 + length rest))) =
     ap length parts ∙ length-append (word32 order number) tail
     ∙ ap (λ (n : ℕ). n + length tail) (length-word32 order number)
@@ -467,13 +467,13 @@ framed section block bytes rest is =
     ∙ ap (λ (n : ℕ). n + length rest) (length-word32 order len)))) in
     record {
       number = first.0;
-      order = ap (λ k. order_of before k (word32_at Big bytes 8)) kind ∙ said.0;
+      order = ap (λ k. order_of before k (word32_at Big bytes 8)) kind ∙ stated.0;
       kind = kind;
-      known = said.1;
+      known = stated.1;
       len = second.0;
       body = ap (slice_range bytes 8) place ∙ third.0;
       trailing = ap (word32_at order bytes) place ∙ last.0;
-      behind = ap (λ (n : ℕ). drop n bytes) end ∙ last.1;
+      after = ap (λ (n : ℕ). drop n bytes) end ∙ last.1;
       long = omega (arith, size);
     }
 
@@ -486,7 +486,7 @@ block_is_read section bytes (block, rest) is =
     let len = block_len order block in
     let magic = word32_at Big bytes 8 in
     let found = framed section block bytes rest is in
-    let content = held section block len (slice_range bytes 8 (len - 4)) is.fits.content found.body in
+    let content = kept section block len (slice_range bytes 8 (len - 4)) is.fits.content found.body in
     let body_len = ap length found.body in
     let len_is : word32_at (order_in section.order bytes) bytes 4 ≡ len =
     ap (λ o. word32_at o bytes 4) found.order ∙ found.len in
@@ -511,7 +511,7 @@ block_is_read section bytes (block, rest) is =
     (slice_range bytes 8 (len_is i - 4)) in (
       ap first_row rows
           ∙ none_of section.order interfaces order kind magic len bytes passed,
-      λ i. (sym (read ∙ same) i, sym (ap (λ (n : ℕ). drop n bytes) len_is ∙ found.behind) i),
+      λ i. (sym (read ∙ same) i, sym (ap (λ (n : ℕ). drop n bytes) len_is ∙ found.after) i),
     )
 
 -- A block begins with its block type.

@@ -49,18 +49,18 @@ not_few false required len rows e final refused = (refl, refused)
 
 -- Rows before and after a row for too few bytes: if that row does not apply with more bytes either, and the rows after
 -- it decide alike, then the table reports the same final error with more bytes.
-past_front : (front : List (Bool × Refusal)) (short other_short : Bool) (len n m : ℕ)
+past_prefix : (prefix : List (Bool × Refusal)) (short other_short : Bool) (len n m : ℕ)
     (last other_last : List (Bool × Refusal)) (e : Refusal) → IsFinal e
     → (short ≡ false → (other_short ≡ false) × (first_row other_last ≡ first_row last))
-    → first_row (front ++ (short, refusal.Cut len n) ∷ last) ≡ Some e
-    → first_row (front ++ (other_short, refusal.Cut len m) ∷ other_last) ≡ Some e
-past_front [] short other_short len n m last other_last e final more refused =
+    → first_row (prefix ++ (short, refusal.Cut len n) ∷ last) ≡ Some e
+    → first_row (prefix ++ (other_short, refusal.Cut len m) ∷ other_last) ≡ Some e
+past_prefix [] short other_short len n m last other_last e final more refused =
     let is = not_few short len n last e final refused in
     let same = more is.0 in
     row_pass other_short (refusal.Cut len m) (first_row other_last) same.0 ∙ same.1 ∙ is.1
-past_front ((true, error) ∷ front) short other_short len n m last other_last e final more refused = refused
-past_front ((false, error) ∷ front) short other_short len n m last other_last e final more refused =
-    past_front front short other_short len n m last other_last e final more refused
+past_prefix ((true, error) ∷ prefix) short other_short len n m last other_last e final more refused = refused
+past_prefix ((false, error) ∷ prefix) short other_short len n m last other_last e final more refused =
+    past_prefix prefix short other_short len n m last other_last e final more refused
 
 -- ---- with more bytes
 
@@ -81,8 +81,8 @@ rows_by before interfaces order kind magic len n trailing body =
     ∷ body_rows interfaces order kind len body
 
 -- the rows after the first one, which applies if the bytes are too few for the block's length
-abbrev rows_behind : Section → List ℕ → List (Bool × Refusal)
-rows_behind section bytes =
+abbrev rows_after : Section → List ℕ → List (Bool × Refusal)
+rows_after section bytes =
     let kind = kind_in section.order bytes in
     let order = order_in section.order bytes in
     let len = word32_at order bytes 4 in
@@ -102,7 +102,7 @@ block_more section bytes more e final refused =
     let n = length bytes in
     let m = length (bytes ++ more) in
     let size = length-append bytes more in
-    let is = not_few (nat_lt n 12) 12 n (rows_behind section bytes) e final refused in
+    let is = not_few (nat_lt n 12) 12 n (rows_after section bytes) e final refused in
     let long : 12 ≤ n = ltb-false n 12 is.0 in
     let same_kind : kind_in before (bytes ++ more) ≡ kind =
     ap kind_of (word32_at-more before bytes more 0 (omega arith)) in
@@ -135,7 +135,7 @@ block_more section bytes more e final refused =
     ≡ first_row (rows_by before interfaces order kind magic len m other_trailing other_body) =
     ap first_row same_rows in
     same ∙ row_pass (nat_lt m 12) (refusal.Cut 12 m) _ (le-ltb m 12 (omega (arith, size)))
-    ∙ past_front (framing_rows before kind magic len) (nat_lt n len) (nat_lt m len) len n m last other_last e final
+    ∙ past_prefix (framing_rows before kind magic len) (nat_lt n len) (nat_lt m len) len n m last other_last e final
     goes_on is.1
 
 -- A final error of a block requires its first 12 bytes.
@@ -143,23 +143,23 @@ pub block_long : (section : Section) (bytes : List ℕ) (e : Refusal) → IsFina
     → first_row (block_rows section bytes) ≡ Some e → 12 ≤ length bytes
 block_long section bytes e final refused =
     ltb-false (length bytes) 12
-    (not_few (nat_lt (length bytes) 12) 12 (length bytes) (rows_behind section bytes) e final refused).0
+    (not_few (nat_lt (length bytes) 12) 12 (length bytes) (rows_after section bytes) e final refused).0
 
 -- ---- too few bytes
 
 -- If the table reports too few bytes, no row before applies, and this one does.
-pub cut_behind : (front : List (Bool × Refusal)) (short : Bool) (len n required there : ℕ)
+pub cut_after : (prefix : List (Bool × Refusal)) (short : Bool) (len n required present : ℕ)
     (last : List (Bool × Refusal))
-    → AllErrors IsFinal front → AllErrors IsFinal last
-    → first_row (front ++ (short, refusal.Cut len n) ∷ last) ≡ Some (refusal.Cut required there)
-    → (first_row front ≡ None) × (short ≡ true)
-cut_behind [] true len n required there last all all_last refused = (refl, refl)
-cut_behind [] false len n required there last all all_last refused =
-    absurd (refusal_is IsFinal last all_last (refusal.Cut required there) refused)
-cut_behind ((true, error) ∷ front) short len n required there last all all_last refused =
-    absurd (not_final error required there all.0 (sym refused))
-cut_behind ((false, error) ∷ front) short len n required there last all all_last refused =
-    cut_behind front short len n required there last all.1 all_last refused
+    → AllErrors IsFinal prefix → AllErrors IsFinal last
+    → first_row (prefix ++ (short, refusal.Cut len n) ∷ last) ≡ Some (refusal.Cut required present)
+    → (first_row prefix ≡ None) × (short ≡ true)
+cut_after [] true len n required present last all all_last refused = (refl, refl)
+cut_after [] false len n required present last all all_last refused =
+    absurd (refusal_is IsFinal last all_last (refusal.Cut required present) refused)
+cut_after ((true, error) ∷ prefix) short len n required present last all all_last refused =
+    absurd (not_final error required present all.0 (sym refused))
+cut_after ((false, error) ∷ prefix) short len n required present last all all_last refused =
+    cut_after prefix short len n required present last all.1 all_last refused
 
 body_final : (interfaces : List Interface) (order : ByteOrder) (kind : BlockKind) (len : ℕ) (body : List ℕ)
     → AllErrors IsFinal (body_rows interfaces order kind len body)
@@ -175,20 +175,20 @@ few_or_cut : (few : Bool) (len : ℕ) (rows : List (Bool × Refusal)) (e : Refus
 few_or_cut true len rows e refused = inl refl
 few_or_cut false len rows e refused = inr refused
 
-pub block_few : (section : Section) (bytes : List ℕ) (required there : ℕ)
-    → first_row (block_rows section bytes) ≡ Some (refusal.Cut required there) → length bytes < most_block
-block_few section bytes required there refused =
+pub block_few : (section : Section) (bytes : List ℕ) (required present : ℕ)
+    → first_row (block_rows section bytes) ≡ Some (refusal.Cut required present) → length bytes < most_block
+block_few section bytes required present refused =
     let kind = kind_in section.order bytes in
     let order = order_in section.order bytes in
     let len = word32_at order bytes 4 in
     let n = length bytes in
-    elim (few_or_cut (nat_lt n 12) n (rows_behind section bytes) (refusal.Cut required there) refused) [
+    elim (few_or_cut (nat_lt n 12) n (rows_after section bytes) (refusal.Cut required present) refused) [
       | inl few ↦ let below : n < 12 = ltb-true n 12 few in omega arith
-      | inr behind ↦
+      | inr after ↦
           let magic = word32_at Big bytes 8 in
-          let cut = cut_behind (framing_rows section.order kind magic len) (nat_lt n len) len n required there
+          let cut = cut_after (framing_rows section.order kind magic len) (nat_lt n len) len n required present
           (complete_rows section.interfaces order kind len bytes) (tt, (tt, (tt, tt)))
-          (tt, body_final section.interfaces order kind len (slice_range bytes 8 (len - 4))) behind in
+          (tt, body_final section.interfaces order kind len (slice_range bytes 8 (len - 4))) after in
           let a = row_none (has_no_order section.order kind magic) _ _ cut.0 in
           let b = row_none (nat_lt len (min_len kind) || not (len % 4 == 0)) _ _ a.1 in
           let c = row_none (nat_lt most_block len) _ _ b.1 in

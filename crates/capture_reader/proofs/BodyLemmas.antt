@@ -31,9 +31,9 @@ use Rattle.capture_reader.specs.declared.byte_order.ByteOrder.TheVariants.{Big}
 use Rattle.capture_reader.specs.declared.interface.Interface.{Interface}
 use Rattle.capture_reader.specs.declared.refusal.Refusal.{Refusal}
 use Rattle.capture_reader.specs.declared.refusal.Refusal.TheVariants as refusal
-use Rattle.capture_reader.proofs.NumberLemmas.{length-word16, length-word32, length-words_then, range_front}
-use Rattle.capture_reader.proofs.NumberLemmas.{range_read, word16_at-fits, word16_front, word16_read, word32_at-fits}
-use Rattle.capture_reader.proofs.NumberLemmas.{word32_front, word32_read, words_front, words_read, words_then}
+use Rattle.capture_reader.proofs.NumberLemmas.{length-word16, length-word32, length-words_then, range_prefix}
+use Rattle.capture_reader.proofs.NumberLemmas.{range_read, word16_at-fits, word16_prefix, word16_read, word32_at-fits}
+use Rattle.capture_reader.proofs.NumberLemmas.{word32_prefix, word32_read, words_prefix, words_read, words_then}
 use Rattle.capture_reader.proofs.OptionLemmas.{ends_stuck, one_parse, parsed}
 
 -- ---- single rows
@@ -52,14 +52,14 @@ row_pass condition error others pass = ap (λ (c : Bool). if c then Some error e
 -- ---- captured bytes and their padding
 
 -- From index i on, the body is the captured bytes, their padding, and the remaining bytes.
-pub kept_front : (body : List ℕ) (i kept : ℕ) → i + kept + padding_of kept ≤ length body
+pub kept_prefix : (body : List ℕ) (i kept : ℕ) → i + kept + padding_of kept ≤ length body
     → (length (slice_range body i (i + kept)) ≡ kept)
     × (length (slice_range body (i + kept) (i + kept + padding_of kept)) ≡ padding_of kept)
     × (drop i body ≡ slice_range body i (i + kept) ++ (slice_range body (i + kept) (i + kept + padding_of kept)
     ++ drop (i + kept + padding_of kept) body))
-kept_front body i kept within =
-    let bytes = range_front body i kept (omega (arith, within)) in
-    let padding = range_front body (i + kept) (padding_of kept) within in (
+kept_prefix body i kept within =
+    let bytes = range_prefix body i kept (omega (arith, within)) in
+    let padding = range_prefix body (i + kept) (padding_of kept) within in (
       bytes.0,
       padding.0,
       bytes.1 ∙ ap (λ (s : List ℕ). slice_range body i (i + kept) ++ s) padding.1,
@@ -90,19 +90,19 @@ kept_read body bytes padding after i kept long parts len filled =
     }
 
 -- If no row of a packet applies, at most 256 KiB are captured, and they fit in the body with their padding.
-pub kept_facts : (len before kept there : ℕ) → first_row (kept_rows len before kept there) ≡ None
-    → (kept ≤ most_kept) × (before + kept + padding_of kept ≤ there)
-kept_facts len before kept there none =
+pub kept_facts : (len before kept present : ℕ) → first_row (kept_rows len before kept present) ≡ None
+    → (kept ≤ most_kept) × (before + kept + padding_of kept ≤ present)
+kept_facts len before kept present none =
     let long = row_none (nat_lt most_kept kept) (refusal.PacketTooLong kept) _ none in
-    let past = row_none (nat_lt there (before + kept + padding_of kept)) (refusal.BlockLength len) _ long.1 in
-    (ltb-false most_kept kept long.0, ltb-false there (before + kept + padding_of kept) past.0)
+    let past = row_none (nat_lt present (before + kept + padding_of kept)) (refusal.BlockLength len) _ long.1 in
+    (ltb-false most_kept kept long.0, ltb-false present (before + kept + padding_of kept) past.0)
 
-pub kept_none : (len before kept there : ℕ) → kept ≤ most_kept → before + kept + padding_of kept ≤ there
-    → first_row (kept_rows len before kept there) ≡ None
-kept_none len before kept there few within =
+pub kept_none : (len before kept present : ℕ) → kept ≤ most_kept → before + kept + padding_of kept ≤ present
+    → first_row (kept_rows len before kept present) ≡ None
+kept_none len before kept present few within =
     row_pass (nat_lt most_kept kept) (refusal.PacketTooLong kept) _ (le-ltb most_kept kept few)
-    ∙ row_pass (nat_lt there (before + kept + padding_of kept)) (refusal.BlockLength len) _
-    (le-ltb there (before + kept + padding_of kept) within)
+    ∙ row_pass (nat_lt present (before + kept + padding_of kept)) (refusal.BlockLength len) _
+    (le-ltb present (before + kept + padding_of kept) within)
 
 -- ---- section headers
 
@@ -138,10 +138,10 @@ header_reads before order len body fits long magic none =
     let version = version_facts (word16_at order body 4) (word16_at order body 6) none in
     let major = version.0 in
     let second : drop 4 body ≡ word16 order 1 ++ drop 6 body =
-    word16_front order body 4 fits (omega arith) ∙ ap (λ (n : ℕ). word16 order n ++ drop 6 body) major in
-    let third : drop 6 body ≡ word16 order plain.minor ++ drop 8 body = word16_front order body 6 fits (omega arith) in (
+    word16_prefix order body 4 fits (omega arith) ∙ ap (λ (n : ℕ). word16 order n ++ drop 6 body) major in
+    let third : drop 6 body ≡ word16 order plain.minor ++ drop 8 body = word16_prefix order body 6 fits (omega arith) in (
       record { minor = version.1; rest = omega (arith, length-drop 8 body) },
-      word32_front Big body 0 fits (omega arith)
+      word32_prefix Big body 0 fits (omega arith)
           ∙ ap (λ (s : List ℕ). s ++ drop 4 body) magic
           ∙ ap (λ (s : List ℕ). word32 order 0x1a2b3c4d ++ s)
           (second ∙ ap (λ (s : List ℕ). word16 order 1 ++ s) third)
@@ -179,16 +179,16 @@ interface_reads section len body fits long none =
     let order = section.order in
     let plain = interface_read order body in
     let options = parsed order (drop 8 body) (AreBytes-drop 8 body fits) in
-    let said = value_of 9 plain.options in
+    let stated = value_of 9 plain.options in
     let few = nat_lt (length section.interfaces) most_interfaces in
     let count = row_none (not few) _ _ none in
     let ends = row_none (not (ends_options order plain.ending)) _ _ count.1 in
-    let first_len = row_none (not (has_len 1 said)) _ _ ends.1 in
+    let first_len = row_none (not (has_len 1 stated)) _ _ ends.1 in
     let second_len = row_none (not (has_len 8 (value_of 14 plain.options))) _ _ first_len.1 in
-    let known = row_none (not (knows_resolution (resolution_or_default said))) _ _ second_len.1 in
-    let second : drop 2 body ≡ word16 order plain.reserved ++ drop 4 body = word16_front order body 2 fits (omega arith)
+    let known = row_none (not (knows_resolution (resolution_or_default stated))) _ _ second_len.1 in
+    let second : drop 2 body ≡ word16 order plain.reserved ++ drop 4 body = word16_prefix order body 2 fits (omega arith)
     in
-    let third : drop 4 body ≡ word32 order plain.snap_len ++ drop 8 body = word32_front order body 4 fits
+    let third : drop 4 body ≡ word32 order plain.snap_len ++ drop 8 body = word32_prefix order body 4 fits
     (omega arith) in (
       record {
         count = ltb-true (length section.interfaces) most_interfaces (not-false few count.0);
@@ -197,11 +197,11 @@ interface_reads section len body fits long none =
         snap_len = word32_at-fits order body 4 fits;
         options = options.are;
         ending = not-false (ends_options order plain.ending) ends.0;
-        resolution_len = not-false (has_len 1 said) first_len.0;
-        resolution = not-false (knows_resolution (resolution_or_default said)) known.0;
+        resolution_len = not-false (has_len 1 stated) first_len.0;
+        resolution = not-false (knows_resolution (resolution_or_default stated)) known.0;
         offset_len = not-false (has_len 8 (value_of 14 plain.options)) second_len.0;
       },
-      word16_front order body 0 fits (omega arith)
+      word16_prefix order body 0 fits (omega arith)
           ∙ ap (λ (s : List ℕ). word16 order plain.link_type ++ s)
           (second ∙ ap (λ (s : List ℕ). word16 order plain.reserved ++ s)
           (third ∙ ap (λ (s : List ℕ). word32 order plain.snap_len ++ s) options.parts))
@@ -225,14 +225,14 @@ interface_is_read section len plain body fits is =
     }) in
     let rows = option_value_rows (ends_options order plain.ending) (value_of 9 plain.options)
     (value_of 14 plain.options) in
-    let said = value_of 9 plain.options in
+    let stated = value_of 9 plain.options in
     let none : first_row rows ≡ None =
     row_pass (not (ends_options order plain.ending)) _ _ (not_from_true (ends_options order plain.ending) fits.ending)
-    ∙ row_pass (not (has_len 1 said)) _ _ (not_from_true (has_len 1 said) fits.resolution_len)
+    ∙ row_pass (not (has_len 1 stated)) _ _ (not_from_true (has_len 1 stated) fits.resolution_len)
     ∙ row_pass (not (has_len 8 (value_of 14 plain.options))) _ _
     (not_from_true (has_len 8 (value_of 14 plain.options)) fits.offset_len)
-    ∙ row_pass (not (knows_resolution (resolution_or_default said))) _ _
-    (not_from_true (knows_resolution (resolution_or_default said)) fits.resolution) in
+    ∙ row_pass (not (knows_resolution (resolution_or_default stated))) _ _
+    (not_from_true (knows_resolution (resolution_or_default stated)) fits.resolution) in
     let same_rows : options_rows order (drop 8 body) ≡ rows =
     λ i. option_value_rows (ends_options order (options.1 i)) (value_of 9 (options.0 i)) (value_of 14 (options.0 i)) in
     let size : length body
@@ -285,7 +285,7 @@ packet_reads section number len body fits long numbered none =
     let kept = word32_at order body 12 in
     let described = row_none (not (nat_lt number (length section.interfaces))) _ _ none in
     let facts = kept_facts len 20 kept (length body) described.1 in
-    let front = kept_front body 20 kept facts.1 in
+    let prefix = kept_prefix body 20 kept facts.1 in
     let Words : ℕ → List ℕ → List ℕ = λ n s.
     words_then order (plain.high ∷ plain.low ∷ n ∷ plain.original_len ∷ []) s in (
       record {
@@ -295,11 +295,11 @@ packet_reads section number len body fits long numbered none =
         high = word32_at-fits order body 4 fits;
         low = word32_at-fits order body 8 fits;
         original_len = word32_at-fits order body 16 fits;
-        kept = omega (arith, front.0, facts.0);
-        padding = front.1 ∙ ap padding_of (sym front.0);
+        kept = omega (arith, prefix.0, facts.0);
+        padding = prefix.1 ∙ ap padding_of (sym prefix.0);
       },
-      words_front order 4 4 body fits long ∙ ap (Words kept) front.2
-          ∙ ap (λ (n : ℕ). Words n (plain.bytes ++ (plain.padding ++ plain.options))) (sym front.0)
+      words_prefix order 4 4 body fits long ∙ ap (Words kept) prefix.2
+          ∙ ap (λ (n : ℕ). Words n (plain.bytes ++ (plain.padding ++ plain.options))) (sym prefix.0)
           ∙ sym (packet_parts order plain),
     )
 
@@ -349,7 +349,7 @@ enhanced_reads section len body fits long none =
     let number = word32_at order body 0 in
     let read = packet_reads section number len body fits long (word32_at-fits order body 0 fits) none in (
       read.0,
-      word32_front order body 0 fits (omega (arith, long))
+      word32_prefix order body 0 fits (omega (arith, long))
           ∙ ap (λ (s : List ℕ). word32 order number ++ s) read.1,
     )
 
@@ -379,10 +379,10 @@ obsolete_reads section len body fits long none =
     let drops = word16_at order body 2 in
     let small : number < 2 ^ 16 = word16_at-fits order body 0 fits in
     let read = packet_reads section number len body fits long (omega (arith, small)) none in
-    let second : drop 2 body ≡ word16 order drops ++ drop 4 body = word16_front order body 2 fits
+    let second : drop 2 body ≡ word16 order drops ++ drop 4 body = word16_prefix order body 2 fits
     (omega (arith, long)) in (
       record { numbered = small; drops = word16_at-fits order body 2 fits; packet = read.0 },
-      word16_front order body 0 fits (omega (arith, long))
+      word16_prefix order body 0 fits (omega (arith, long))
           ∙ ap (λ (s : List ℕ). word16 order number ++ s)
           (second ∙ ap (λ (s : List ℕ). word16 order drops ++ s) read.1),
     )
@@ -424,16 +424,16 @@ simple_reads section len body fits long none =
     let kept = captured_len_of_simple section.interfaces (word32_at order body 0) in
     let described = row_none (not (nat_lt 0 (length section.interfaces))) _ _ none in
     let facts = kept_facts len 4 kept (length body) described.1 in
-    let front = kept_front body 4 kept facts.1 in (
+    let prefix = kept_prefix body 4 kept facts.1 in (
       record {
         described = ltb-true 0 (length section.interfaces)
             (not-false (nat_lt 0 (length section.interfaces)) described.0);
         original_len = word32_at-fits order body 0 fits;
-        bytes = front.0;
-        kept = omega (arith, front.0, facts.0);
-        padding = front.1 ∙ ap padding_of (sym front.0);
+        bytes = prefix.0;
+        kept = omega (arith, prefix.0, facts.0);
+        padding = prefix.1 ∙ ap padding_of (sym prefix.0);
       },
-      word32_front order body 0 fits long ∙ ap (λ (s : List ℕ). word32 order plain.original_len ++ s) front.2
+      word32_prefix order body 0 fits long ∙ ap (λ (s : List ℕ). word32 order plain.original_len ++ s) prefix.2
           ∙ sym (simple_parts order plain),
     )
 

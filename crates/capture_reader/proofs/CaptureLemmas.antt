@@ -40,7 +40,7 @@ use Rattle.capture_reader.proofs.BlockLemmas.{block_is_read_by, block_not_long, 
 use Rattle.capture_reader.proofs.BlockLemmas.{section_block}
 use Rattle.capture_reader.proofs.BodyLemmas.{row_none, row_pass}
 use Rattle.capture_reader.proofs.ClassicLemmas.{heading_is_read_by, heading_read, record_is_read_by, record_read}
-use Rattle.capture_reader.proofs.NumberLemmas.{length-word32, word32_at-fits, word32_front, word32_read}
+use Rattle.capture_reader.proofs.NumberLemmas.{length-word32, word32_at-fits, word32_prefix, word32_read}
 
 -- ---- one item
 
@@ -152,7 +152,7 @@ long_header_fits order bytes fits long aligned =
     let facts = long_facts order bytes long in
     let number = word32 order (word32_at order bytes 0) in
     let len = word32 order (word32_at order bytes 4) in
-    let second : drop 4 bytes ≡ len ++ drop 8 bytes = word32_front order bytes 4 fits facts.0 in (
+    let second : drop 4 bytes ≡ len ++ drop 8 bytes = word32_prefix order bytes 4 fits facts.0 in (
       record {
         numbered = word32_at-fits order bytes 0 fits;
         kind = facts.1;
@@ -160,7 +160,7 @@ long_header_fits order bytes fits long aligned =
         within = word32_at-fits order bytes 4 fits;
         aligned = aligned;
       },
-      word32_front order bytes 0 fits (omega (arith, facts.0)) ∙ ap (λ (s : List ℕ). number ++ s) second
+      word32_prefix order bytes 0 fits (omega (arith, facts.0)) ∙ ap (λ (s : List ℕ). number ++ s) second
           ∙ sym (append_assoc number len (drop 8 bytes)),
     )
 
@@ -189,13 +189,13 @@ inside_reads : (done : Bool) (section : Section) (len left : ℕ) (bytes : List 
 inside_reads true section len left bytes fits is none =
     let order = section.order in
     let n = length bytes in
-    let said = word32_at order bytes 0 in
+    let stated = word32_at order bytes 0 in
     let few = row_none (nat_lt n 4) (refusal.Cut 4 n) _ none in
-    let other = row_none (not (said == len)) (refusal.TrailingLength len said) None few.1 in
-    let same : said ≡ len = eqb-true said len (not-false (said == len) other.0) in
+    let other = row_none (not (stated == len)) (refusal.TrailingLength len stated) None few.1 in
+    let same : stated ≡ len = eqb-true stated len (not-false (stated == len) other.0) in
     record {
       fits = (eqb-true left 0 is, omega (arith, same, word32_at-fits order bytes 0 fits));
-      parts = word32_front order bytes 0 fits (ltb-false n 4 few.0)
+      parts = word32_prefix order bytes 0 fits (ltb-false n 4 few.0)
           ∙ ap (λ (k : ℕ). word32 order k ++ drop 4 bytes) same;
     }
 inside_reads false section len left bytes fits is none =
@@ -218,9 +218,9 @@ step_reads (inside section len left) bytes fits none = inside_reads (left == 0) 
 not_begins_long : (section : Section) (bytes : List ℕ) (one : PlainBlock) (rest : List ℕ)
     → IsBlock section bytes (one, rest) → begins_long section.order bytes ≡ false
 not_begins_long section bytes one rest is =
-    let there = le-leb 8 (length bytes) (omega (arith, (number_of_block section one bytes rest is).1)) in
+    let present = le-leb 8 (length bytes) (omega (arith, (number_of_block section one bytes rest is).1)) in
     let short = block_not_long section one bytes rest is in
-    λ i. there i && short i
+    λ i. present i && short i
 
 step_is_read : (stage : Stage) (bytes : List ℕ) (step : Item × List ℕ) → IsStep stage bytes step
     → (first_row (item_rows stage bytes) ≡ None) × (step ≡ step_read stage bytes)
@@ -276,14 +276,14 @@ step_is_read (in_section section) bytes (part (long_header number len), rest) is
       length-word32 order len,
     ) in
     let kind : kind_in order bytes ≡ Other = ap kind_of first.0 ∙ is.fits.kind in
-    let there = le-leb 8 (length bytes) size in
+    let present = le-leb 8 (length bytes) size in
     let more = lt-ltb most_block (word32_at order bytes 4) (omega (arith, second.0, is.fits.long)) in
-    let long : begins_long order bytes ≡ true = λ i. there i && (is_other (kind i) && more i) in
-    let said = word32_at order bytes 4 in
-    let aligned : said % 4 ≡ 0 = ap (λ (n : ℕ). n % 4) second.0 ∙ is.fits.aligned in
+    let long : begins_long order bytes ≡ true = λ i. present i && (is_other (kind i) && more i) in
+    let stated = word32_at order bytes 4 in
+    let aligned : stated % 4 ≡ 0 = ap (λ (n : ℕ). n % 4) second.0 ∙ is.fits.aligned in
     let none : first_row (section_rows true section bytes) ≡ None =
-    row_pass (not (said % 4 == 0)) (refusal.BlockLength said) None
-    (not_from_true (said % 4 == 0) (eq-eqb (said % 4) 0 aligned)) in
+    row_pass (not (stated % 4 == 0)) (refusal.BlockLength stated) None
+    (not_from_true (stated % 4 == 0) (eq-eqb (stated % 4) 0 aligned)) in
     let step : Item × List ℕ = (part (long_header number len), rest) in
     let same : step ≡ section_read true section bytes =
     λ i. (part (long_header (sym first.0 i) (sym second.0 i)), sym second.1 i) in (
@@ -304,9 +304,9 @@ step_is_read (inside section len left) bytes (part (stretch some), rest) is =
     let none : first_row (inside_rows false section.order len left bytes) ≡ None =
     row_pass (nat_lt n k) (refusal.Cut k n) None (le-ltb n k size) in
     let first : take k bytes ≡ some = ap (take k) is.parts ∙ take_at some rest k (omega (arith, is.fits.1)) in
-    let behind : drop k bytes ≡ rest = ap (drop k) is.parts ∙ drop_at some rest k is.fits.1 in
+    let after : drop k bytes ≡ rest = ap (drop k) is.parts ∙ drop_at some rest k is.fits.1 in
     let step : Item × List ℕ = (part (stretch some), rest) in
-    let same : step ≡ inside_read false left bytes = λ i. (part (stretch (sym first i)), sym behind i) in (
+    let same : step ≡ inside_read false left bytes = λ i. (part (stretch (sym first i)), sym after i) in (
       ap (λ (b : Bool). first_row (inside_rows b section.order len left bytes)) more ∙ none,
       same ∙ ap (λ (b : Bool). inside_read b left bytes) (sym more),
     )
@@ -317,11 +317,11 @@ step_is_read (inside section len left) bytes (part trailing_len, rest) is =
     let read = word32_read order len 0 bytes rest is.fits.1 is.parts in
     let size : 4 ≤ n =
     omega (arith, ap length is.parts, length-append (word32 order len) rest, length-word32 order len) in
-    let said = word32_at order bytes 0 in
+    let stated = word32_at order bytes 0 in
     let none : first_row (inside_rows true order len left bytes) ≡ None =
     row_pass (nat_lt n 4) (refusal.Cut 4 n) _ (le-ltb n 4 size)
-    ∙ row_pass (not (said == len)) (refusal.TrailingLength len said) None
-    (not_from_true (said == len) (eq-eqb said len read.0)) in
+    ∙ row_pass (not (stated == len)) (refusal.TrailingLength len stated) None
+    (not_from_true (stated == len) (eq-eqb stated len read.0)) in
     let step : Item × List ℕ = (part trailing_len, rest) in
     let same : step ≡ inside_read true left bytes = λ i. (part trailing_len, sym read.1 i) in (
       ap (λ (b : Bool). first_row (inside_rows b order len left bytes)) done ∙ none,
@@ -435,9 +435,9 @@ one_run (item ∷ items) [] stage bytes e f a b =
 one_run (item ∷ items) (other ∷ others) stage bytes e f a b =
     let same = one_value (step_is_read_by stage) bytes _ _ (first_step stage bytes other others f b)
     (first_step stage bytes item items e a) in
-    let Behind : Item × List ℕ → Type 0 = λ step. Runs (stage_after stage step.0) step.1 others f in
+    let After : Item × List ℕ → Type 0 = λ step. Runs (stage_after stage step.0) step.1 others f in
     let next = one_run items others (stage_after stage item) _ e f (other_steps stage bytes item items e a)
-    (subst Behind same (other_steps stage bytes other others f b)) in
+    (subst After same (other_steps stage bytes other others f b)) in
     ((λ i. (sym same i).0 ∷ next.0 i), next.1)
 
 -- A refusal table reports an error or none.

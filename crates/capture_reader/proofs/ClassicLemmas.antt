@@ -20,8 +20,8 @@ use Rattle.capture_reader.specs.Numbers.{word16, word32, word16_at, word32_at}
 use Rattle.capture_reader.specs.Classic.{PlainPacket, IsRecord, most_kept, record_bytes, record_of, record_rows}
 use Rattle.capture_reader.specs.Classic.{IsHeading, heading_bytes, heading_of, heading_rows}
 use Rattle.capture_reader.specs.Classic.{magic_of, style_in, style_of, style_order, style_resolution}
-use Rattle.capture_reader.proofs.NumberLemmas.{length-words_then, word16_front, word16_read, word32_at-fits}
-use Rattle.capture_reader.proofs.NumberLemmas.{length-word32, words_front, words_read, words_then}
+use Rattle.capture_reader.proofs.NumberLemmas.{length-words_then, word16_prefix, word16_read, word32_at-fits}
+use Rattle.capture_reader.proofs.NumberLemmas.{length-word32, words_prefix, words_read, words_then}
 
 -- ---- records
 
@@ -43,23 +43,23 @@ pub range_split : (bytes : List ℕ) (n : ℕ) → 16 + n ≤ length bytes
     × (drop 16 bytes ≡ slice_range bytes 16 (16 + n) ++ drop (16 + n) bytes)
 range_split bytes n within =
     let size : 16 + n - 16 ≡ n = omega arith in
-    let behind : drop (16 + n - 16) (drop 16 bytes) ≡ drop (16 + n) bytes =
+    let after : drop (16 + n - 16) (drop 16 bytes) ≡ drop (16 + n) bytes =
     ap (λ (k : ℕ). drop k (drop 16 bytes)) size ∙ drop-drop n 16 bytes in (
       length-take-le (16 + n - 16) (drop 16 bytes) (omega (arith, length-drop 16 bytes)) ∙ size,
       sym (take-append-drop (16 + n - 16) (drop 16 bytes))
-          ∙ ap (λ (s : List ℕ). slice_range bytes 16 (16 + n) ++ s) behind,
+          ∙ ap (λ (s : List ℕ). slice_range bytes 16 (16 + n) ++ s) after,
     )
 
-record_front : (order : ByteOrder) (bytes : List ℕ) → AreBytes bytes → 16 + word32_at order bytes 8 ≤ length bytes
+record_prefix : (order : ByteOrder) (bytes : List ℕ) → AreBytes bytes → 16 + word32_at order bytes 8 ≤ length bytes
     → bytes ≡ record_bytes order (record_of order bytes) ++ drop (16 + word32_at order bytes 8) bytes
-record_front order bytes fits within =
+record_prefix order bytes fits within =
     let kept = word32_at order bytes 8 in
     let packet = record_of order bytes in
     let rest = drop (16 + kept) bytes in
     let split = range_split bytes kept within in
     let Words : ℕ → List ℕ → List ℕ = λ n s.
     words_then order (packet.seconds ∷ packet.fraction ∷ n ∷ packet.original_len ∷ []) s in
-    words_front order 4 0 bytes fits (omega arith) ∙ ap (Words kept) split.1
+    words_prefix order 4 0 bytes fits (omega arith) ∙ ap (Words kept) split.1
     ∙ ap (λ (n : ℕ). Words n (packet.bytes ++ rest)) (sym split.0) ∙ sym (record_parts order packet rest)
 
 record_reads : (order : ByteOrder) (bytes : List ℕ) → AreBytes bytes → first_row (record_rows order bytes) ≡ None
@@ -74,7 +74,7 @@ record_reads order bytes fits none =
         original_len = word32_at-fits order bytes 12 fits;
         kept = omega (arith, facts.1, (range_split bytes kept facts.0).0);
       };
-      parts = record_front order bytes fits facts.0;
+      parts = record_prefix order bytes fits facts.0;
     }
 
 record_none : (order : ByteOrder) (bytes : List ℕ) → 16 + word32_at order bytes 8 ≤ length bytes
@@ -99,7 +99,7 @@ record_is_read order bytes value is =
     let shown : packet.bytes ≡ slice_range bytes 16 (16 + word32_at order bytes 8) =
     sym (ap (take (16 + word32_at order bytes 8 - 16)) read.1
     ∙ take_at packet.bytes rest (16 + word32_at order bytes 8 - 16) (omega (arith, kept))) in
-    let behind : rest ≡ drop (16 + word32_at order bytes 8) bytes =
+    let after : rest ≡ drop (16 + word32_at order bytes 8) bytes =
     sym (sym (drop-drop (word32_at order bytes 8) 16 bytes) ∙ ap (drop (word32_at order bytes 8)) read.1
     ∙ drop_at packet.bytes rest (word32_at order bytes 8) (sym kept)) in (
       record_none order bytes within (omega (arith, kept, fits.kept)),
@@ -110,7 +110,7 @@ record_is_read order bytes value is =
           original_len = get_or (sym read.0 i) 3 0;
           bytes = shown i;
         },
-        behind i,
+        after i,
       ),
     )
 
@@ -222,20 +222,20 @@ none_refuses style bytes passed =
 no_style : (bytes : List ℕ) → first_row (rows_with None bytes) ≡ None → ⊥
 no_style bytes none = grind (arith, common_steps)
 
-heading_front : (style : ByteOrder × Resolution) (bytes : List ℕ) → AreBytes bytes → style_in bytes ≡ Some style
+heading_prefix : (style : ByteOrder × Resolution) (bytes : List ℕ) → AreBytes bytes → style_in bytes ≡ Some style
     → Passes style bytes → bytes ≡ heading_bytes (heading_with (Some style) bytes) ++ drop 24 bytes
-heading_front style bytes fits is passed =
+heading_prefix style bytes fits is passed =
     let order = style.0 in
     let heading = heading_with (Some style) bytes in
     let long = passed.long in
     let magic : word32 Big (word32_at Big bytes 0) ≡ word32 order (magic_of style.1) =
     ap (word32 Big) (number_of_style (word32_at Big bytes 0) order style.1 is) ∙ style_written order style.1 in
     let major : drop 4 bytes ≡ word16 order 2 ++ drop 6 bytes =
-    word16_front order bytes 4 fits (omega arith) ∙ ap (λ (n : ℕ). word16 order n ++ drop 6 bytes) passed.major in
+    word16_prefix order bytes 4 fits (omega arith) ∙ ap (λ (n : ℕ). word16 order n ++ drop 6 bytes) passed.major in
     let minor : drop 6 bytes ≡ word16 order 4 ++ drop 8 bytes =
-    word16_front order bytes 6 fits (omega arith) ∙ ap (λ (n : ℕ). word16 order n ++ drop 8 bytes) passed.minor in
-    let words = words_front order 4 8 bytes fits long in
-    words_front Big 1 0 bytes fits (omega arith)
+    word16_prefix order bytes 6 fits (omega arith) ∙ ap (λ (n : ℕ). word16 order n ++ drop 8 bytes) passed.minor in
+    let words = words_prefix order 4 8 bytes fits long in
+    words_prefix Big 1 0 bytes fits (omega arith)
     ∙ ap (λ (s : List ℕ). s ++ drop 4 bytes) magic
     ∙ ap (λ (s : List ℕ). word32 order (magic_of style.1) ++ s)
     (major ∙ ap (λ (s : List ℕ). word16 order 2 ++ s) (minor ∙ ap (λ (s : List ℕ). word16 order 4 ++ s) words))
@@ -250,7 +250,7 @@ read_with style bytes fits is passed = record {
     snap_len = word32_at-fits style.0 bytes 16 fits;
     network = word32_at-fits style.0 bytes 20 fits;
   };
-  parts = heading_front style bytes fits is passed;
+  parts = heading_prefix style bytes fits is passed;
 }
 
 reads_with : (style : Option (ByteOrder × Resolution)) (bytes : List ℕ) → AreBytes bytes → style_in bytes ≡ style
@@ -269,14 +269,14 @@ heading_is_read bytes value is =
     let rest = value.1 in
     let order = heading.order in
     let fits = is.fits in
-    let behind = words_then order (heading_words heading) rest in
+    let after = words_then order (heading_words heading) rest in
     let parts = is.parts ∙ heading_parts heading rest in
     let style : style_in bytes ≡ Some (order, heading.resolution) =
-    ap style_in parts ∙ style_read order heading.resolution (word16 order 2 ++ (word16 order 4 ++ behind)) in
+    ap style_in parts ∙ style_read order heading.resolution (word16 order 2 ++ (word16 order 4 ++ after)) in
     let version = ap (drop 4) parts ∙ drop_at (word32 order (magic_of heading.resolution))
-    (word16 order 2 ++ (word16 order 4 ++ behind)) 4 (length-word32 order (magic_of heading.resolution)) in
-    let major = word16_read order 2 4 bytes (word16 order 4 ++ behind) (omega arith) version in
-    let minor = word16_read order 4 6 bytes behind (omega arith) major.1 in
+    (word16 order 2 ++ (word16 order 4 ++ after)) 4 (length-word32 order (magic_of heading.resolution)) in
+    let major = word16_read order 2 4 bytes (word16 order 4 ++ after) (omega arith) version in
+    let minor = word16_read order 4 6 bytes after (omega arith) major.1 in
     let read = words_read order (heading_words heading) 8 bytes rest
     (fits.zone, (fits.accuracy, (fits.snap_len, (fits.network, tt)))) minor.1 in
     let long : 24 ≤ length bytes =

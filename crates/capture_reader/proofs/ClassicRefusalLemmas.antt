@@ -35,13 +35,13 @@ pick_3 : (few long short : Bool) (len kept : ℕ) → few ≡ false → long ≡
 pick_3 few long short len kept no_few is_long = rw (no_few, is_long) refl
 
 -- Too few bytes for a record are reported by one of two rows.
-cut_3 : (few long short : Bool) (len kept required there : ℕ)
-    → first_row (rows_3 few long short len kept) ≡ Some (refusal.Cut required there)
+cut_3 : (few long short : Bool) (len kept required present : ℕ)
+    → first_row (rows_3 few long short len kept) ≡ Some (refusal.Cut required present)
     → (few ≡ true) ⊎ ((long ≡ false) × (short ≡ true))
-cut_3 true long short len kept required there refused = inl refl
-cut_3 false true short len kept required there refused = absurd (cc)
-cut_3 false false true len kept required there refused = inr (refl, refl)
-cut_3 false false false len kept required there refused = absurd (none-some (refusal.Cut required there) refused)
+cut_3 true long short len kept required present refused = inl refl
+cut_3 false true short len kept required present refused = absurd (cc)
+cut_3 false false true len kept required present refused = inr (refl, refl)
+cut_3 false false false len kept required present refused = absurd (none-some (refusal.Cut required present) refused)
 
 pub record_more : (order : ByteOrder) (bytes more : List ℕ) (e : Refusal) → IsFinal e
     → first_row (record_rows order bytes) ≡ Some e → first_row (record_rows order (bytes ++ more)) ≡ Some e
@@ -58,12 +58,12 @@ record_more order bytes more e final refused =
     ∙ ap (λ (k : ℕ). Some (refusal.PacketTooLong k)) same
     ∙ sym (pick_3 (nat_lt n 16) (nat_lt most_kept kept) (nat_lt n (16 + kept)) n kept is.0 is.1) ∙ refused
 
-pub record_few : (order : ByteOrder) (bytes : List ℕ) (required there : ℕ)
-    → first_row (record_rows order bytes) ≡ Some (refusal.Cut required there) → length bytes < 16 + most_kept
-record_few order bytes required there refused =
+pub record_few : (order : ByteOrder) (bytes : List ℕ) (required present : ℕ)
+    → first_row (record_rows order bytes) ≡ Some (refusal.Cut required present) → length bytes < 16 + most_kept
+record_few order bytes required present refused =
     let n = length bytes in
     let kept = word32_at order bytes 8 in
-    elim (cut_3 (nat_lt n 16) (nat_lt most_kept kept) (nat_lt n (16 + kept)) n kept required there refused) [
+    elim (cut_3 (nat_lt n 16) (nat_lt most_kept kept) (nat_lt n (16 + kept)) n kept required present refused) [
       | inl few ↦ let below : n < 16 = ltb-true n 16 few in omega arith
       | inr cut ↦
           let below : n < 16 + kept = ltb-true n (16 + kept) cut.1 in
@@ -134,40 +134,40 @@ heading_more bytes more e final refused =
           ∙ ap (λ (k : ℕ). Some (refusal.UnknownMagic k)) same
           ∙ sym (pick_magic (nat_lt n 4) unknown (nat_lt n 24) n magic last is.0 unknown_is) ∙ refused
       | inr known ↦
-          let whole : 24 ≤ n = ltb-false n 24 known.1 in
+          let complete : 24 ≤ n = ltb-false n 24 known.1 in
           pick_last (nat_lt m 4) (not (is_some other_style)) (nat_lt m 24) m other other_last no_few
           (other_unknown ∙ known.0) (le-ltb m 24 (omega (arith, len)))
           ∙ ap (λ s. first_row (last_rows s (bytes ++ more))) same_style
-          ∙ ap first_row (last_same style bytes more whole)
+          ∙ ap first_row (last_same style bytes more complete)
           ∙ sym (pick_last (nat_lt n 4) unknown (nat_lt n 24) n magic last is.0 known.0 known.1) ∙ refused
     ]
 
 -- The last rows don't report too few bytes.
-last_not_cut : (version : Bool) (major minor required there : ℕ)
-    → first_row ((version, refusal.UnsupportedVersion major minor) ∷ []) ≡ Some (refusal.Cut required there) → ⊥
-last_not_cut true major minor required there refused = cc
-last_not_cut false major minor required there refused = none-some (refusal.Cut required there) refused
+last_not_cut : (version : Bool) (major minor required present : ℕ)
+    → first_row ((version, refusal.UnsupportedVersion major minor) ∷ []) ≡ Some (refusal.Cut required present) → ⊥
+last_not_cut true major minor required present refused = cc
+last_not_cut false major minor required present refused = none-some (refusal.Cut required present) refused
 
-cut_5 : (few unknown short : Bool) (len magic required there : ℕ) (last : List (Bool × Refusal))
-    → (first_row last ≡ Some (refusal.Cut required there) → ⊥)
-    → first_row (rows_5 few unknown short len magic last) ≡ Some (refusal.Cut required there)
+cut_5 : (few unknown short : Bool) (len magic required present : ℕ) (last : List (Bool × Refusal))
+    → (first_row last ≡ Some (refusal.Cut required present) → ⊥)
+    → first_row (rows_5 few unknown short len magic last) ≡ Some (refusal.Cut required present)
     → (few ≡ true) ⊎ (short ≡ true)
-cut_5 true unknown short len magic required there last not_last refused = inl refl
-cut_5 false true short len magic required there last not_last refused = absurd (cc)
-cut_5 false false true len magic required there last not_last refused = inr refl
-cut_5 false false false len magic required there last not_last refused = absurd (not_last refused)
+cut_5 true unknown short len magic required present last not_last refused = inl refl
+cut_5 false true short len magic required present last not_last refused = absurd (cc)
+cut_5 false false true len magic required present last not_last refused = inr refl
+cut_5 false false false len magic required present last not_last refused = absurd (not_last refused)
 
-pub heading_few : (bytes : List ℕ) (required there : ℕ)
-    → first_row (heading_rows bytes) ≡ Some (refusal.Cut required there) → length bytes < most_block
-heading_few bytes required there refused =
+pub heading_few : (bytes : List ℕ) (required present : ℕ)
+    → first_row (heading_rows bytes) ≡ Some (refusal.Cut required present) → length bytes < most_block
+heading_few bytes required present refused =
     let n = length bytes in
     let style = style_in bytes in
     let order = style_order style in
     let major = word16_at order bytes 4 in
     let minor = word16_at order bytes 6 in
-    elim (cut_5 (nat_lt n 4) (not (is_some style)) (nat_lt n 24) n (word32_at Big bytes 0) required there
+    elim (cut_5 (nat_lt n 4) (not (is_some style)) (nat_lt n 24) n (word32_at Big bytes 0) required present
     (last_rows style bytes)
-    (last_not_cut (not ((major == 2) && (minor == 4))) major minor required there)
+    (last_not_cut (not ((major == 2) && (minor == 4))) major minor required present)
     refused) [
       | inl few ↦ let below : n < 4 = ltb-true n 4 few in omega arith
       | inr short ↦ let below : n < 24 = ltb-true n 24 short in omega arith

@@ -16,11 +16,11 @@ pub interface_content : (interfaces : List Interface) (order : ByteOrder) (len :
     → 8 ≤ length body → length interfaces < most_interfaces → first_row (options_rows order (drop 8 body)) ≡ None
     → about ≡ interface_of order (interface_read order body)
     → HasContent interfaces order InterfaceDescription len body (content.Interface about)
-interface_content interfaces order len body about long room none is =
+interface_content interfaces order len body about long space none is =
     let plain = interface_read order body in
     record {
       none = row_pass (not (nat_lt (length interfaces) most_interfaces)) _ _ (not_from_true
-          (nat_lt (length interfaces) most_interfaces) (lt-ltb (length interfaces) most_interfaces room))
+          (nat_lt (length interfaces) most_interfaces) (lt-ltb (length interfaces) most_interfaces space))
           ∙ none;
       after = λ before number same_order.
           let same : interface_of before plain ≡ about = ap (λ o. interface_of o plain) (sym same_order) ∙ sym is in

@@ -67,19 +67,19 @@ framed_block before bytes frame interfaces is =
     λ i. block_of interfaces (sym is.order_is i) (sym is.kind i) (word32_at before bytes 0)
     (slice_range bytes 8 (lens i - 4))
 
-stands_as : (before order : ByteOrder) (kind : BlockKind) (magic : ℕ) → order ≡ order_of before kind magic
+holds_as : (before order : ByteOrder) (kind : BlockKind) (magic : ℕ) → order ≡ order_of before kind magic
     → FitsSectionOrder kind order before
-stands_as before order SectionHeader magic is = tt
-stands_as before order InterfaceDescription magic is = is
-stands_as before order SimplePacket magic is = is
-stands_as before order EnhancedPacket magic is = is
-stands_as before order ObsoletePacket magic is = is
-stands_as before order Other magic is = is
+holds_as before order SectionHeader magic is = tt
+holds_as before order InterfaceDescription magic is = is
+holds_as before order SimplePacket magic is = is
+holds_as before order EnhancedPacket magic is = is
+holds_as before order ObsoletePacket magic is = is
+holds_as before order Other magic is = is
 
-pub framed_stands : (before : ByteOrder) (bytes : List ℕ) (frame : Framing) → IsFramed before bytes frame
+pub framed_holds : (before : ByteOrder) (bytes : List ℕ) (frame : Framing) → IsFramed before bytes frame
     → FitsSectionOrder frame.kind frame.order before
-framed_stands before bytes frame is =
-    stands_as before frame.order frame.kind (word32_at Big bytes 8)
+framed_holds before bytes frame is =
+    holds_as before frame.order frame.kind (word32_at Big bytes 8)
     (is.order_is ∙ ap (λ k. order_of before k (word32_at Big bytes 8)) (sym is.kind))
 
 -- A block with valid framing and this content is read as a block of that content.
@@ -103,7 +103,7 @@ complete_block before bytes frame interfaces content fits is says =
     let read = (block_is_read_by section).reads bytes fits (framed_none before bytes frame interfaces is says.none) in
     let One : ℕ → Type 0 = λ n. IsBlock section bytes (block_in section bytes, drop n bytes) in (
       subst One (framed_len before bytes frame is) read,
-      ap (section_after section) block ∙ says.after before number (framed_stands before bytes frame is),
+      ap (section_after section) block ∙ says.after before number (framed_holds before bytes frame is),
       ap (block_shown interfaces) block ∙ says.shown number,
       subst (FitsLen content) size says.fits,
     )

@@ -28,11 +28,11 @@ word32_at-fits Big bytes i fits = omega (arith, fits i, fits (i + 1), fits (i + 
 word32_at-fits Little bytes i fits = omega (arith, fits i, fits (i + 1), fits (i + 2), fits (i + 3))
 
 -- A number that was written is read back.
-word32_at-front : (order : ByteOrder) (n : ℕ) (rest : List ℕ) → n < 2 ^ 32
+word32_at-prefix : (order : ByteOrder) (n : ℕ) (rest : List ℕ) → n < 2 ^ 32
     → word32_at order (word32 order n ++ rest) 0 ≡ n
 unfolding word32 word32_at
-word32_at-front Big n rest fits = from_be_bytes-to_be_bytes_4 n fits
-word32_at-front Little n rest fits = from_le_bytes-to_le_bytes_4 n fits
+word32_at-prefix Big n rest fits = from_be_bytes-to_be_bytes_4 n fits
+word32_at-prefix Little n rest fits = from_le_bytes-to_le_bytes_4 n fits
 
 -- Each of the four bytes at index i is a byte.
 four_fit : (bytes : List ℕ) (i : ℕ) → AreBytes bytes → AreBytes (four_at bytes i)
@@ -83,11 +83,11 @@ unfolding word16
 length-word16 Big n = refl
 length-word16 Little n = refl
 
-word16_at-front : (order : ByteOrder) (n : ℕ) (rest : List ℕ) → n < 2 ^ 16
+word16_at-prefix : (order : ByteOrder) (n : ℕ) (rest : List ℕ) → n < 2 ^ 16
     → word16_at order (word16 order n ++ rest) 0 ≡ n
 unfolding word16 word16_at
-word16_at-front Big n rest fits = from_be_bytes-to_be_bytes_2 n fits
-word16_at-front Little n rest fits = from_le_bytes-to_le_bytes_2 n fits
+word16_at-prefix Big n rest fits = from_be_bytes-to_be_bytes_2 n fits
+word16_at-prefix Little n rest fits = from_le_bytes-to_le_bytes_2 n fits
 
 two_fit : (bytes : List ℕ) (i : ℕ) → AreBytes bytes → AreBytes (two_at bytes i)
 two_fit bytes i fits zero = fits i
@@ -116,10 +116,10 @@ word16_at-more Big bytes more i within = grind (arith, common_steps)
 word16_at-more Little bytes more i within = grind (arith, common_steps)
 
 -- The bytes from index i on are the number of two bytes that is read there, and the bytes after it.
-pub word16_front : (order : ByteOrder) (bytes : List ℕ) (i : ℕ) → AreBytes bytes → i + 2 ≤ length bytes
+pub word16_prefix : (order : ByteOrder) (bytes : List ℕ) (i : ℕ) → AreBytes bytes → i + 2 ≤ length bytes
     → drop i bytes ≡ word16 order (word16_at order bytes i) ++ drop (i + 2) bytes
 unfolding elements
-word16_front order bytes i fits within =
+word16_prefix order bytes i fits within =
     drop-elements 2 i bytes within
     ∙ ap (λ (s : List ℕ). s ++ drop (i + 2) bytes) (sym (word16_of_read order bytes i fits))
 
@@ -128,7 +128,7 @@ pub word16_read : (order : ByteOrder) (n i : ℕ) (bytes rest : List ℕ) → n 
     → drop i bytes ≡ word16 order n ++ rest → (word16_at order bytes i ≡ n) × (drop (i + 2) bytes ≡ rest)
 word16_read order n i bytes rest fits parts = (
   sym (word16_at-drop order bytes i) ∙ ap (λ (s : List ℕ). word16_at order s 0) parts
-      ∙ word16_at-front order n rest fits,
+      ∙ word16_at-prefix order n rest fits,
   sym (drop-drop 2 i bytes) ∙ ap (drop 2) parts ∙ drop_at (word16 order n) rest 2 (length-word16 order n),
 )
 
@@ -137,14 +137,14 @@ pub word32_read : (order : ByteOrder) (n i : ℕ) (bytes rest : List ℕ) → n 
     → drop i bytes ≡ word32 order n ++ rest → (word32_at order bytes i ≡ n) × (drop (i + 4) bytes ≡ rest)
 word32_read order n i bytes rest fits parts = (
   sym (word32_at-drop order bytes i) ∙ ap (λ (s : List ℕ). word32_at order s 0) parts
-      ∙ word32_at-front order n rest fits,
+      ∙ word32_at-prefix order n rest fits,
   sym (drop-drop 4 i bytes) ∙ ap (drop 4) parts ∙ drop_at (word32 order n) rest 4 (length-word32 order n),
 )
 
 -- The bytes from index i on are the number of four bytes that is read there, and the bytes after it.
-pub word32_front : (order : ByteOrder) (bytes : List ℕ) (i : ℕ) → AreBytes bytes → i + 4 ≤ length bytes
+pub word32_prefix : (order : ByteOrder) (bytes : List ℕ) (i : ℕ) → AreBytes bytes → i + 4 ≤ length bytes
     → drop i bytes ≡ word32 order (word32_at order bytes i) ++ drop (i + 4) bytes
-word32_front order bytes i fits within =
+word32_prefix order bytes i fits within =
     drop-four bytes i within ∙ ap (λ (s : List ℕ). s ++ drop (i + 4) bytes) (sym (word32_of_read order bytes i fits))
 
 -- A number that is read from two bytes is below 2^16.
@@ -156,24 +156,24 @@ word16_at-fits Little bytes i fits = omega (arith, fits i, fits (i + 1))
 -- ---- ranges of bytes
 
 -- The bytes from index i on are the next n bytes and the bytes after them.
-pub range_front : (bytes : List ℕ) (i n : ℕ) → i + n ≤ length bytes
+pub range_prefix : (bytes : List ℕ) (i n : ℕ) → i + n ≤ length bytes
     → (length (slice_range bytes i (i + n)) ≡ n)
     × (drop i bytes ≡ slice_range bytes i (i + n) ++ drop (i + n) bytes)
-range_front bytes i n within =
+range_prefix bytes i n within =
     let size : i + n - i ≡ n = omega arith in
-    let behind : drop (i + n - i) (drop i bytes) ≡ drop (i + n) bytes =
+    let after : drop (i + n - i) (drop i bytes) ≡ drop (i + n) bytes =
     ap (λ (k : ℕ). drop k (drop i bytes)) size ∙ drop-drop n i bytes in (
       length-take-le (i + n - i) (drop i bytes) (omega (arith, length-drop i bytes)) ∙ size,
       sym (take-append-drop (i + n - i) (drop i bytes))
-          ∙ ap (λ (s : List ℕ). slice_range bytes i (i + n) ++ s) behind,
+          ∙ ap (λ (s : List ℕ). slice_range bytes i (i + n) ++ s) after,
     )
 
 -- Bytes that were written at index i are found there, and the bytes after them.
-pub range_read : (bytes front rest : List ℕ) (i n : ℕ) → drop i bytes ≡ front ++ rest → n ≡ length front
-    → (slice_range bytes i (i + n) ≡ front) × (drop (i + n) bytes ≡ rest)
-range_read bytes front rest i n parts len = (
-  ap (take (i + n - i)) parts ∙ take_at front rest (i + n - i) (omega (arith, len)),
-  sym (drop-drop n i bytes) ∙ ap (drop n) parts ∙ drop_at front rest n (sym len),
+pub range_read : (bytes prefix rest : List ℕ) (i n : ℕ) → drop i bytes ≡ prefix ++ rest → n ≡ length prefix
+    → (slice_range bytes i (i + n) ≡ prefix) × (drop (i + n) bytes ≡ rest)
+range_read bytes prefix rest i n parts len = (
+  ap (take (i + n - i)) parts ∙ take_at prefix rest (i + n - i) (omega (arith, len)),
+  sym (drop-drop n i bytes) ∙ ap (drop n) parts ∙ drop_at prefix rest n (sym len),
 )
 
 -- A range of a range is a range.
@@ -181,10 +181,10 @@ pub range_within : (bytes : List ℕ) (i j a b : ℕ) → a ≤ b → i + b ≤ 
     → slice_range (slice_range bytes i j) a b ≡ slice_range bytes (i + a) (i + b)
 range_within bytes i j a b ordered within =
     let m = j - i - a in
-    let whole : j - i ≡ a + m = omega arith in
+    let complete : j - i ≡ a + m = omega arith in
     let fits : b - a ≤ m = omega arith in
     let size : b - a ≡ i + b - (i + a) = omega arith in
-    ap (λ (k : ℕ). take (b - a) (drop a (take k (drop i bytes)))) whole
+    ap (λ (k : ℕ). take (b - a) (drop a (take k (drop i bytes)))) complete
     ∙ ap (take (b - a)) (drop-take a m (drop i bytes))
     ∙ take-take (b - a) m (drop a (drop i bytes)) fits
     ∙ ap (take (b - a)) (drop-drop a i bytes)
@@ -226,22 +226,22 @@ words_read order [] i bytes rest fits parts = (refl, ap (λ (k : ℕ). drop k by
 words_read order (n ∷ ns) i bytes rest fits parts =
     let first : word32_at order bytes i ≡ n =
     sym (word32_at-drop order bytes i) ∙ ap (λ (s : List ℕ). word32_at order s 0) parts
-    ∙ word32_at-front order n (words_then order ns rest) fits.0 in
-    let behind : drop (i + 4) bytes ≡ words_then order ns rest =
+    ∙ word32_at-prefix order n (words_then order ns rest) fits.0 in
+    let after : drop (i + 4) bytes ≡ words_then order ns rest =
     sym (drop-drop 4 i bytes) ∙ ap (drop 4) parts
     ∙ drop_at (word32 order n) (words_then order ns rest) 4 (length-word32 order n) in
-    let others = words_read order ns (i + 4) bytes rest fits.1 behind in (
+    let others = words_read order ns (i + 4) bytes rest fits.1 after in (
       λ j. first j ∷ others.0 j,
       ap (λ (k : ℕ). drop k bytes) (omega arith) ∙ others.1,
     )
 
 -- The bytes from index i on are the k numbers that are read there, and the bytes after them.
-pub words_front : (order : ByteOrder) (k i : ℕ) (bytes : List ℕ) → AreBytes bytes → i + 4 * k ≤ length bytes
+pub words_prefix : (order : ByteOrder) (k i : ℕ) (bytes : List ℕ) → AreBytes bytes → i + 4 * k ≤ length bytes
     → drop i bytes ≡ words_then order (words_at order k i bytes) (drop (i + 4 * k) bytes)
-words_front order zero i bytes fits within = ap (λ (k : ℕ). drop k bytes) (omega arith)
-words_front order (suc k) i bytes fits within =
+words_prefix order zero i bytes fits within = ap (λ (k : ℕ). drop k bytes) (omega arith)
+words_prefix order (suc k) i bytes fits within =
     let others : drop (i + 4) bytes ≡ words_then order (words_at order k (i + 4) bytes) (drop (i + 4 + 4 * k) bytes) =
-    words_front order k (i + 4) bytes fits (omega arith) in
+    words_prefix order k (i + 4) bytes fits (omega arith) in
     drop-four bytes i (omega arith)
     ∙ ap (λ (s : List ℕ). s ++ drop (i + 4) bytes) (sym (word32_of_read order bytes i fits))
     ∙ ap (λ (s : List ℕ). word32 order (word32_at order bytes i) ++ s) others

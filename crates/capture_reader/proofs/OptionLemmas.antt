@@ -12,7 +12,7 @@ use Rattle.capture_reader.specs.Options.{has_option}
 use Rattle.capture_reader.specs.Options.{option_bytes, option_len, option_of, options_bytes, options_end, options_in}
 use Rattle.capture_reader.specs.Options.{options_of, padding_of, value_of}
 use Rattle.capture_reader.specs.declared.byte_order.ByteOrder.{ByteOrder}
-use Rattle.capture_reader.proofs.NumberLemmas.{length-word16, range_front, range_read, word16_at-fits, word16_front}
+use Rattle.capture_reader.proofs.NumberLemmas.{length-word16, range_prefix, range_read, word16_at-fits, word16_prefix}
 use Rattle.capture_reader.proofs.NumberLemmas.{word16_read}
 
 -- ---- one option
@@ -50,10 +50,10 @@ length-option order option =
     (omega (arith, length-word16 order option.code, length-word16 order (length option.value)))
 
 -- The bytes begin with the option that is read from them.
-option_front : (order : ByteOrder) (bytes : List ℕ) → AreBytes bytes → has_option order bytes ≡ true
+option_prefix : (order : ByteOrder) (bytes : List ℕ) → AreBytes bytes → has_option order bytes ≡ true
     → FitsOption (option_of order bytes)
     × (bytes ≡ option_bytes order (option_of order bytes) ++ drop (option_len order bytes) bytes)
-option_front order bytes fits has =
+option_prefix order bytes fits has =
     let code = word16_at order bytes 0 in
     let len = word16_at order bytes 2 in
     let option = option_of order bytes in
@@ -61,12 +61,12 @@ option_front order bytes fits has =
     let facts = has_facts (length bytes) code (option_len order bytes) has in
     let long : 4 ≤ length bytes = facts.0 in
     let within : 4 + len + padding_of len ≤ length bytes = facts.2 in
-    let value = range_front bytes 4 len (omega (arith, within)) in
-    let padding = range_front bytes (4 + len) (padding_of len) within in
+    let value = range_prefix bytes 4 len (omega (arith, within)) in
+    let padding = range_prefix bytes (4 + len) (padding_of len) within in
     let parts : drop 4 bytes ≡ option.value ++ (option.padding ++ rest) =
     value.1 ∙ ap (λ (s : List ℕ). option.value ++ s) padding.1 in
     let second : drop 2 bytes ≡ word16 order (length option.value) ++ drop 4 bytes =
-    word16_front order bytes 2 fits (omega arith)
+    word16_prefix order bytes 2 fits (omega arith)
     ∙ ap (λ (n : ℕ). word16 order n ++ drop 4 bytes) (sym value.0) in (
       record {
         code = word16_at-fits order bytes 0 fits;
@@ -74,7 +74,7 @@ option_front order bytes fits has =
         value = omega (arith, value.0, word16_at-fits order bytes 2 fits);
         padding = padding.0 ∙ ap padding_of (sym value.0);
       },
-      word16_front order bytes 0 fits (omega arith)
+      word16_prefix order bytes 0 fits (omega arith)
           ∙ ap (λ (s : List ℕ). word16 order code ++ s)
           (second ∙ ap (λ (s : List ℕ). word16 order (length option.value) ++ s) parts)
           ∙ sym (option_parts order option rest),
@@ -84,7 +84,7 @@ option_front order bytes fits has =
 record Finds (order : ByteOrder) (bytes : List ℕ) (option : PlainOption) (rest : List ℕ) : Type 0 where
   has : has_option order bytes ≡ true
   is : option_of order bytes ≡ option
-  behind : drop (option_len order bytes) bytes ≡ rest
+  after : drop (option_len order bytes) bytes ≡ rest
 
 option_read : (order : ByteOrder) (bytes : List ℕ) (option : PlainOption) (rest : List ℕ) → FitsOption option
     → bytes ≡ option_bytes order option ++ rest → Finds order bytes option rest
@@ -106,7 +106,7 @@ option_read order bytes option rest fits is =
       has = has_from (length bytes) (word16_at order bytes 0) (option_len order bytes) (omega (arith, size)) some
           within;
       is = λ i. record { code = code.0 i; value = value.0 i; padding = padding.0 i };
-      behind = padding.1;
+      after = padding.1;
     }
 
 -- ---- sequences of options
@@ -176,7 +176,7 @@ parsed_by (suc most) order bytes fits within =
       | inl has ↦
           let facts = has_facts (length bytes) (word16_at order bytes 0) (option_len order bytes) has in
           let next = drop (option_len order bytes) bytes in
-          let front = option_front order bytes fits has in
+          let prefix = option_prefix order bytes fits has in
           let others = parsed_by most order next (AreBytes-drop (option_len order bytes) bytes fits)
           (omega (arith, facts.0, within, length-drop (option_len order bytes) bytes)) in
           let more = options_more most order bytes has in
@@ -185,8 +185,8 @@ parsed_by (suc most) order bytes fits within =
           let ending = after_options most order next in
           subst (λ os. Parses order bytes os (after_options (suc most) order bytes)) (sym more.0)
           (subst (Parses order bytes (option_of order bytes ∷ options)) (sym more.1) (record {
-            are = (front.0, others.are);
-            parts = front.1 ∙ ap (λ (s : List ℕ). first ++ s) others.parts
+            are = (prefix.0, others.are);
+            parts = prefix.1 ∙ ap (λ (s : List ℕ). first ++ s) others.parts
                 ∙ sym (append_assoc first (options_bytes order options) ending);
             stuck = others.stuck;
           }))
@@ -209,7 +209,7 @@ parses_so (option ∷ options) most order bytes ending is within =
     (is.parts ∙ append_assoc (option_bytes order option) (options_bytes order options) ending) in
     let go = options_go most order bytes found.has within in
     let others = parses_so options (most - 1) order (drop (option_len order bytes) bytes) ending
-    (record { are = is.are.1; parts = found.behind; stuck = is.stuck }) go.0 in (
+    (record { are = is.are.1; parts = found.after; stuck = is.stuck }) go.0 in (
       go.1 ∙ (λ i. found.is i ∷ others.0 i),
       go.2 ∙ others.1,
     )
@@ -227,8 +227,8 @@ end_cases n code len ends =
       | inl none ↦
           let is : n ≡ 0 = eqb-true n 0 none in
           and_left (nat_le 4 n) (not (code == 0) && nat_le len n) (lt-leb 4 n (omega (arith, is)))
-      | inr said ↦
-          let zero_code = (and_parts (nat_le 2 n) (code == 0) said).1 in
+      | inr stated ↦
+          let zero_code = (and_parts (nat_le 2 n) (code == 0) stated).1 in
           and_right (nat_le 4 n) (not (code == 0) && nat_le len n)
           (and_left (not (code == 0)) (nat_le len n) (not_from_true (code == 0) zero_code))
     ]
@@ -239,7 +239,7 @@ ends_stuck order bytes ends = end_cases (length bytes) (word16_at order bytes 0)
 -- ---- values of options, as they are read
 
 -- The rest of the bytes is not yet read, and these values of the options 9 and 14 were found before it.
-pub record Told (order : ByteOrder) (bytes rest : List ℕ) (resolution offset : Option (List ℕ)) : Type 0 where
+pub record Reported (order : ByteOrder) (bytes rest : List ℕ) (resolution offset : Option (List ℕ)) : Type 0 where
   pub most : ℕ
   pub within : length rest ≤ most
   pub resolution_is : first_value resolution (value_of 9 (options_in most order rest))
@@ -247,8 +247,8 @@ pub record Told (order : ByteOrder) (bytes rest : List ℕ) (resolution offset :
   pub offset_is : first_value offset (value_of 14 (options_in most order rest)) ≡ value_of 14 (options_of order bytes)
   pub ending_is : after_options most order rest ≡ options_end order bytes
 
-pub told_start : (order : ByteOrder) (bytes : List ℕ) → Told order bytes bytes None None
-told_start order bytes =
+pub reported_start : (order : ByteOrder) (bytes : List ℕ) → Reported order bytes bytes None None
+reported_start order bytes =
     record { most = length bytes; within = omega arith; resolution_is = refl; offset_is = refl; ending_is = refl }
 
 -- A value is kept if it is the first one with its code.
@@ -266,45 +266,45 @@ value_more wanted code None value others =
           ∙ sym (ap (λ (b : Bool). if b then Some value else others) other)
     ]
 
-pub told_more : (order : ByteOrder) (bytes rest : List ℕ) (resolution offset : Option (List ℕ))
-    → Told order bytes rest resolution offset → has_option order rest ≡ true
+pub reported_more : (order : ByteOrder) (bytes rest : List ℕ) (resolution offset : Option (List ℕ))
+    → Reported order bytes rest resolution offset → has_option order rest ≡ true
     → let option = option_of order rest in
-    Told order bytes (drop (option_len order rest) rest)
+    Reported order bytes (drop (option_len order rest) rest)
     (first_value resolution (if option.code == 9 then Some option.value else None))
     (first_value offset (if option.code == 14 then Some option.value else None))
-told_more order bytes rest resolution offset told has =
+reported_more order bytes rest resolution offset reported has =
     let option = option_of order rest in
-    let go = options_go told.most order rest has told.within in
-    let others = options_in (told.most - 1) order (drop (option_len order rest) rest) in
+    let go = options_go reported.most order rest has reported.within in
+    let others = options_in (reported.most - 1) order (drop (option_len order rest) rest) in
     let Found : ℕ → Option (List ℕ) → List PlainOption → Option (List ℕ) = λ code found options.
     first_value found (value_of code options) in
     record {
-      most = told.most - 1;
+      most = reported.most - 1;
       within = go.0;
       resolution_is = value_more 9 option.code resolution option.value (value_of 9 others)
-          ∙ sym (ap (Found 9 resolution) go.1) ∙ told.resolution_is;
+          ∙ sym (ap (Found 9 resolution) go.1) ∙ reported.resolution_is;
       offset_is = value_more 14 option.code offset option.value (value_of 14 others)
-          ∙ sym (ap (Found 14 offset) go.1) ∙ told.offset_is;
-      ending_is = sym go.2 ∙ told.ending_is;
+          ∙ sym (ap (Found 14 offset) go.1) ∙ reported.offset_is;
+      ending_is = sym go.2 ∙ reported.ending_is;
     }
 
 -- Another option was read.
-pub told_step : (order : ByteOrder) (bytes rest : List ℕ)
+pub reported_step : (order : ByteOrder) (bytes rest : List ℕ)
     (resolution offset now_resolution now_offset : Option (List ℕ))
-    (code len filled : ℕ) (value next : List ℕ) → Told order bytes rest resolution offset
+    (code len filled : ℕ) (value next : List ℕ) → Reported order bytes rest resolution offset
     → has_option order rest ≡ true → code ≡ word16_at order rest 0 → len ≡ word16_at order rest 2
     → filled ≡ padding_of len → value ≡ slice_range rest 4 (4 + len) → next ≡ drop (4 + len + filled) rest
     → now_resolution ≡ first_value resolution (if code == 9 then Some value else None)
     → now_offset ≡ first_value offset (if code == 14 then Some value else None)
-    → Told order bytes next now_resolution now_offset
-told_step order bytes rest resolution offset now_resolution now_offset code len filled value next told has code_is
+    → Reported order bytes next now_resolution now_offset
+reported_step order bytes rest resolution offset now_resolution now_offset code len filled value next reported has code_is
     len_is
     filled_is value_is next_is resolution_is offset_is =
     let option = option_of order rest in
-    let whole : option_len order rest ≡ 4 + len + filled =
+    let complete : option_len order rest ≡ 4 + len + filled =
     (λ i. 4 + sym len_is i + padding_of (sym len_is i)) ∙ ap (λ (n : ℕ). 4 + len + n) (sym filled_is) in
-    let behind : drop (option_len order rest) rest ≡ next =
-    ap (λ (n : ℕ). drop n rest) whole ∙ sym next_is in
+    let after : drop (option_len order rest) rest ≡ next =
+    ap (λ (n : ℕ). drop n rest) complete ∙ sym next_is in
     let shown : option.value ≡ value =
     ap (λ (n : ℕ). slice_range rest 4 (4 + n)) (sym len_is) ∙ sym value_is in
     let Choice : ℕ → ℕ → List ℕ → Option (List ℕ) = λ wanted n v. if n == wanted then Some v else None in
@@ -312,26 +312,26 @@ told_step order bytes rest resolution offset now_resolution now_offset code len 
     (λ i. first_value resolution (Choice 9 (sym code_is i) (shown i))) ∙ sym resolution_is in
     let second : first_value offset (Choice 14 option.code option.value) ≡ now_offset =
     (λ i. first_value offset (Choice 14 (sym code_is i) (shown i))) ∙ sym offset_is in
-    subst (λ s. Told order bytes s now_resolution now_offset) behind
-    (subst (λ v. Told order bytes (drop (option_len order rest) rest) v now_offset) first
-    (subst (Told order bytes (drop (option_len order rest) rest)
+    subst (λ s. Reported order bytes s now_resolution now_offset) after
+    (subst (λ v. Reported order bytes (drop (option_len order rest) rest) v now_offset) first
+    (subst (Reported order bytes (drop (option_len order rest) rest)
     (first_value resolution (Choice 9 option.code option.value))) second
-    (told_more order bytes rest resolution offset told has)))
+    (reported_more order bytes rest resolution offset reported has)))
 
 -- If no option is left, the values found are final.
 value_none : (found : Option (List ℕ)) → first_value found None ≡ found
 value_none None = refl
 value_none (Some value) = refl
 
-pub told_end : (order : ByteOrder) (bytes rest : List ℕ) (resolution offset : Option (List ℕ))
-    → Told order bytes rest resolution offset → has_option order rest ≡ false
+pub reported_end : (order : ByteOrder) (bytes rest : List ℕ) (resolution offset : Option (List ℕ))
+    → Reported order bytes rest resolution offset → has_option order rest ≡ false
     → (resolution ≡ value_of 9 (options_of order bytes)) × (offset ≡ value_of 14 (options_of order bytes))
     × (rest ≡ options_end order bytes)
-told_end order bytes rest resolution offset told stuck =
-    let stop = options_stop told.most order rest stuck in
+reported_end order bytes rest resolution offset reported stuck =
+    let stop = options_stop reported.most order rest stuck in
     let Found : ℕ → Option (List ℕ) → List PlainOption → Option (List ℕ) = λ code found options.
     first_value found (value_of code options) in (
-      sym (value_none resolution) ∙ sym (ap (Found 9 resolution) stop.0) ∙ told.resolution_is,
-      sym (value_none offset) ∙ sym (ap (Found 14 offset) stop.0) ∙ told.offset_is,
-      sym stop.1 ∙ told.ending_is,
+      sym (value_none resolution) ∙ sym (ap (Found 9 resolution) stop.0) ∙ reported.resolution_is,
+      sym (value_none offset) ∙ sym (ap (Found 14 offset) stop.0) ∙ reported.offset_is,
+      sym stop.1 ∙ reported.ending_is,
     )

@@ -37,7 +37,7 @@ use Rattle.capture_reader.specs.declared.reader.State.TheVariants.{Start, Record
 use Rattle.capture_reader.specs.declared.refusal.CaptureError.{CaptureError}
 use Rattle.capture_reader.specs.declared.refusal.Refusal.{Refusal}
 use Rattle.capture_reader.specs.declared.refusal.Refusal.TheVariants as refusal
-use Rattle.capture_reader.proofs.BlockRefusalLemmas.{IsFinal, block_few, block_long, block_more, cut_behind, not_few}
+use Rattle.capture_reader.proofs.BlockRefusalLemmas.{IsFinal, block_few, block_long, block_more, cut_after, not_few}
 use Rattle.capture_reader.proofs.BodyLemmas.{row_pass}
 use Rattle.capture_reader.proofs.CaptureLemmas.{ended_empty, item_some, long_facts, start_rows}
 use Rattle.capture_reader.proofs.NumberLemmas.{word32_at-more}
@@ -250,9 +250,9 @@ holds_few reader next (Err error) step waits = absurd waits
 begins_more : (bytes more : List ℕ) → 4 ≤ length bytes → begins_section (bytes ++ more) ≡ begins_section bytes
 begins_more bytes more long =
     let size = length-append bytes more in
-    let there : nat_le 4 (length bytes) ≡ true = le-leb 4 (length bytes) long in
+    let present : nat_le 4 (length bytes) ≡ true = le-leb 4 (length bytes) long in
     let still : nat_le 4 (length (bytes ++ more)) ≡ true = le-leb 4 (length (bytes ++ more)) (omega (arith, size)) in
-    λ i. (still ∙ sym there) i && (word32_at-more Big bytes more 0 long i == 0x0a0d0d0a)
+    λ i. (still ∙ sym present) i && (word32_at-more Big bytes more 0 long i == 0x0a0d0d0a)
 
 -- A final error at the start of a capture stays the same with more bytes.
 start_more : (begins : Bool) (bytes more : List ℕ) (e : Refusal) → IsFinal e
@@ -272,21 +272,21 @@ start_long false bytes e final begins refused =
     ltb-false n 4 (final_5 (nat_lt n 4) (not (is_some style)) (nat_lt n 24) n (word32_at Big bytes 0)
     (last_rows style bytes) e final refused).0
 
-start_few : (begins : Bool) (bytes : List ℕ) (required there : ℕ)
-    → first_row (start_rows begins bytes) ≡ Some (refusal.Cut required there) → length bytes < most_block
-start_few true bytes required there refused = block_few no_section bytes required there refused
-start_few false bytes required there refused = heading_few bytes required there refused
+start_few : (begins : Bool) (bytes : List ℕ) (required present : ℕ)
+    → first_row (start_rows begins bytes) ≡ Some (refusal.Cut required present) → length bytes < most_block
+start_few true bytes required present refused = block_few no_section bytes required present refused
+start_few false bytes required present refused = heading_few bytes required present refused
 
 -- The first eight bytes decide whether a block is a long one.
 long_more : (order : ByteOrder) (bytes more : List ℕ) → 8 ≤ length bytes
     → begins_long order (bytes ++ more) ≡ begins_long order bytes
 long_more order bytes more long =
     let size = length-append bytes more in
-    let there : nat_le 8 (length bytes) ≡ true = le-leb 8 (length bytes) long in
+    let present : nat_le 8 (length bytes) ≡ true = le-leb 8 (length bytes) long in
     let still : nat_le 8 (length (bytes ++ more)) ≡ true = le-leb 8 (length (bytes ++ more)) (omega (arith, size)) in
     let number = word32_at-more order bytes more 0 (omega arith) in
     let len = word32_at-more order bytes more 4 long in
-    λ i. (still ∙ sym there) i && (is_other (kind_of (number i)) && nat_lt most_block (len i))
+    λ i. (still ∙ sym present) i && (is_other (kind_of (number i)) && nat_lt most_block (len i))
 
 -- A final error of a block requires eight bytes.
 section_long : (long : Bool) (section : Section) (bytes : List ℕ) (e : Refusal) → IsFinal e
@@ -304,11 +304,11 @@ section_more true section bytes more e long final refused =
     ∙ refused
 section_more false section bytes more e long final refused = block_more section bytes more e final refused
 
-section_few : (long : Bool) (section : Section) (bytes : List ℕ) (required there : ℕ)
-    → first_row (section_rows long section bytes) ≡ Some (refusal.Cut required there) → length bytes < most_block
-section_few true section bytes required there refused =
-    absurd (refusal_is IsFinal (section_rows true section bytes) (tt, tt) (refusal.Cut required there) refused)
-section_few false section bytes required there refused = block_few section bytes required there refused
+section_few : (long : Bool) (section : Section) (bytes : List ℕ) (required present : ℕ)
+    → first_row (section_rows long section bytes) ≡ Some (refusal.Cut required present) → length bytes < most_block
+section_few true section bytes required present refused =
+    absurd (refusal_is IsFinal (section_rows true section bytes) (tt, tt) (refusal.Cut required present) refused)
+section_few false section bytes required present refused = block_few section bytes required present refused
 
 inside_more : (done : Bool) (order : ByteOrder) (len left : ℕ) (bytes more : List ℕ) (e : Refusal) → IsFinal e
     → first_row (inside_rows done order len left bytes) ≡ Some e
@@ -316,8 +316,8 @@ inside_more : (done : Bool) (order : ByteOrder) (len left : ℕ) (bytes more : L
 inside_more true order len left bytes more e final refused =
     let n = length bytes in
     let m = length (bytes ++ more) in
-    let said = word32_at order bytes 0 in
-    let is = not_few (nat_lt n 4) 4 n ((not (said == len), refusal.TrailingLength len said) ∷ []) e final refused in
+    let stated = word32_at order bytes 0 in
+    let is = not_few (nat_lt n 4) 4 n ((not (stated == len), refusal.TrailingLength len stated) ∷ []) e final refused in
     let enough : 4 ≤ n = ltb-false n 4 is.0 in
     row_pass (nat_lt m 4) (refusal.Cut 4 m) _ (le-ltb m 4 (omega (arith, length-append bytes more)))
     ∙ ap (λ (k : ℕ). first_row ((not (k == len), refusal.TrailingLength len k) ∷ []))
@@ -327,18 +327,18 @@ inside_more false order len left bytes more e final refused =
     let k = min left most_stretch in
     absurd (none-some e (not_few (nat_lt (length bytes) k) k (length bytes) [] e final refused).1)
 
-inside_few : (done : Bool) (order : ByteOrder) (len left : ℕ) (bytes : List ℕ) (required there : ℕ)
-    → first_row (inside_rows done order len left bytes) ≡ Some (refusal.Cut required there) → length bytes < most_block
-inside_few true order len left bytes required there refused =
+inside_few : (done : Bool) (order : ByteOrder) (len left : ℕ) (bytes : List ℕ) (required present : ℕ)
+    → first_row (inside_rows done order len left bytes) ≡ Some (refusal.Cut required present) → length bytes < most_block
+inside_few true order len left bytes required present refused =
     let n = length bytes in
-    let said = word32_at order bytes 0 in
-    let below = ltb-true n 4 (cut_behind [] (nat_lt n 4) 4 n required there
-    ((not (said == len), refusal.TrailingLength len said) ∷ []) tt (tt, tt) refused).1 in
+    let stated = word32_at order bytes 0 in
+    let below = ltb-true n 4 (cut_after [] (nat_lt n 4) 4 n required present
+    ((not (stated == len), refusal.TrailingLength len stated) ∷ []) tt (tt, tt) refused).1 in
     omega (arith, below)
-inside_few false order len left bytes required there refused =
+inside_few false order len left bytes required present refused =
     let n = length bytes in
     let k = min left most_stretch in
-    let below = ltb-true n k (cut_behind [] (nat_lt n k) k n required there [] tt tt refused).1 in
+    let below = ltb-true n k (cut_after [] (nat_lt n k) k n required present [] tt tt refused).1 in
     omega (arith, below, min-le_right left most_stretch)
 
 item_more : (stage : Stage) (bytes more : List ℕ) (e : Refusal) → IsFinal e
@@ -357,14 +357,14 @@ item_more (in_section section) bytes more e final refused =
 item_more (inside section len left) bytes more e final refused =
     inside_more (left == 0) section.order len left bytes more e final refused
 
-item_few : (stage : Stage) (bytes : List ℕ) (required there : ℕ)
-    → first_row (item_rows stage bytes) ≡ Some (refusal.Cut required there) → length bytes < most_unread stage
-item_few at_start bytes required there refused = start_few (begins_section bytes) bytes required there refused
-item_few (in_records first) bytes required there refused = record_few first.order bytes required there refused
-item_few (in_section section) bytes required there refused =
-    section_few (begins_long section.order bytes) section bytes required there refused
-item_few (inside section len left) bytes required there refused =
-    inside_few (left == 0) section.order len left bytes required there refused
+item_few : (stage : Stage) (bytes : List ℕ) (required present : ℕ)
+    → first_row (item_rows stage bytes) ≡ Some (refusal.Cut required present) → length bytes < most_unread stage
+item_few at_start bytes required present refused = start_few (begins_section bytes) bytes required present refused
+item_few (in_records first) bytes required present refused = record_few first.order bytes required present refused
+item_few (in_section section) bytes required present refused =
+    section_few (begins_long section.order bytes) section bytes required present refused
+item_few (inside section len left) bytes required present refused =
+    inside_few (left == 0) section.order len left bytes required present refused
 
 -- If a capture may not end here, it may not with more bytes.
 ends_not_more : (stage : Stage) (bytes more : List ℕ) → may_end stage bytes ≡ false → may_end stage (bytes ++ more)
@@ -495,10 +495,10 @@ refused_part reader stage e at_stage goes_on refused =
     (ap (λ s. first_row (item_rows s (reader_rest reader))) at_stage ∙ refused)
 
 -- If the start of a long block is rejected, a reader of blocks reports that error.
-pub front_refused : (section : Section) (bytes : List ℕ) (e : Refusal) → begins_long section.order bytes ≡ true
+pub prefix_refused : (section : Section) (bytes : List ℕ) (e : Refusal) → begins_long section.order bytes ≡ true
     → first_row (long_rows section.order bytes) ≡ Some e
     → (may_end (in_section section) bytes ≡ false) × (first_row (item_rows (in_section section) bytes) ≡ Some e)
-front_refused section bytes e long refused = (
+prefix_refused section bytes e long refused = (
   some_left (in_section section) bytes (omega (arith, (long_facts section.order bytes long).0)),
   ap (λ (b : Bool). first_row (section_rows b section bytes)) long ∙ refused,
 )

@@ -131,8 +131,8 @@ steps_packet reader next first kept records state buffer start last end offset l
     let len : length one.bytes ≡ kept = (range_split (reader_rest reader) kept long).0 in
     let end_is : next.end ≡ reader.end + 16 + length one.bytes = omega (arith, end, len) in
     let last_is : next.last ≡ reader.end + 16 + length one.bytes = omega (arith, last, len) in
-    let Behind : ℕ → Type 0 = λ n. IsRecord order (reader_rest reader) (one, drop (16 + n) (reader_rest reader)) in
-    let is_one = subst Behind (sym len) is in
+    let After : ℕ → Type 0 = λ n. IsRecord order (reader_rest reader) (one, drop (16 + n) (reader_rest reader)) in
+    let is_one = subst After (sym len) is in
     let bytes = shown reader next order one _ is buffer start last_is in
     let stage : reader_stage reader ≡ in_records first = ap (λ s. stage_of s reader.interfaces.items) records in (
       packet (reader_packet next),
@@ -149,39 +149,39 @@ steps_packet reader next first kept records state buffer start last end offset l
 -- ---- blocks
 
 -- The next block is valid at the reader's stage.
-record Steps (state : State) (interfaces : List Interface) (order : ByteOrder) (bytes behind : List ℕ)
+record Steps (state : State) (interfaces : List Interface) (order : ByteOrder) (bytes following : List ℕ)
     (one : PlainBlock) : Type 0 where
   fits : Fits (stage_of state interfaces) (block one)
-  parts : bytes ≡ item_bytes (stage_of state interfaces) (block one) ++ behind
+  parts : bytes ≡ item_bytes (stage_of state interfaces) (block one) ++ following
   after : stage_after (stage_of state interfaces) (block one)
       ≡ in_section (section_after (section_of order interfaces) one)
   shows : shown_in (stage_of state interfaces) (block one) ≡ block_shown interfaces one
 
-block_steps : (state : State) (interfaces : List Interface) (order : ByteOrder) (bytes behind : List ℕ)
+block_steps : (state : State) (interfaces : List Interface) (order : ByteOrder) (bytes following : List ℕ)
     → NextIsBlock state interfaces order bytes
-    → IsBlock (section_of order interfaces) bytes (block_in (section_of order interfaces) bytes, behind)
-    → Steps state interfaces order bytes behind (block_in (section_of order interfaces) bytes)
-block_steps Start interfaces order bytes behind is_next is =
+    → IsBlock (section_of order interfaces) bytes (block_in (section_of order interfaces) bytes, following)
+    → Steps state interfaces order bytes following (block_in (section_of order interfaces) bytes)
+block_steps Start interfaces order bytes following is_next is =
     let same : no_section ≡ section_of order interfaces = λ i. section_of (sym is_next.0 i) (sym is_next.1 i) in
     let one = block_in (section_of order interfaces) bytes in
     let begins : BeginsSection one =
     subst (λ s. BeginsSection (block_in s bytes)) same (begins_header bytes is_next.2) in
-    let is_block : IsBlock no_section bytes (one, behind) =
-    subst (λ s. IsBlock s bytes (one, behind)) (sym same) is in
+    let is_block : IsBlock no_section bytes (one, following) =
+    subst (λ s. IsBlock s bytes (one, following)) (sym same) is in
     record {
       fits = (begins, is_block.fits);
       parts = is_block.parts;
       after = ap (λ s. in_section (section_after s one)) same;
       shows = sym (shows_none interfaces one begins);
     }
-block_steps (Records first) interfaces order bytes behind is_next is = absurd is_next
-block_steps (Inside before len left) interfaces order bytes behind is_next is = absurd is_next
-block_steps (Blocks before) interfaces order bytes behind is_next is =
+block_steps (Records first) interfaces order bytes following is_next is = absurd is_next
+block_steps (Inside before len left) interfaces order bytes following is_next is = absurd is_next
+block_steps (Blocks before) interfaces order bytes following is_next is =
     let same : section_of before interfaces ≡ section_of order interfaces =
     ap (λ o. section_of o interfaces) (sym is_next.0) in
     let one = block_in (section_of order interfaces) bytes in
-    let is_block : IsBlock (section_of before interfaces) bytes (one, behind) =
-    subst (λ s. IsBlock s bytes (one, behind)) (sym same) is in
+    let is_block : IsBlock (section_of before interfaces) bytes (one, following) =
+    subst (λ s. IsBlock s bytes (one, following)) (sym same) is in
     record {
       fits = is_block.fits;
       parts = is_block.parts;
@@ -190,20 +190,20 @@ block_steps (Blocks before) interfaces order bytes behind is_next is =
     }
 
 -- The reader steps over a complete block.
-pub steps_block : (reader next : CaptureReader) (order next_order : ByteOrder) (len : ℕ) (said : Content)
+pub steps_block : (reader next : CaptureReader) (order next_order : ByteOrder) (len : ℕ) (stated : Content)
     → ReadsBlocks reader order → next.state ≡ Blocks next_order → next.buffer.items ≡ reader.buffer.items
     → next.end ≡ reader.end + len → next.offset ≡ reader.offset + len → len ≤ length (reader_rest reader)
-    → next.interfaces.items ≡ content_interfaces reader.interfaces.items said
+    → next.interfaces.items ≡ content_interfaces reader.interfaces.items stated
     → let section = section_of order reader.interfaces.items in
     IsBlock section (reader_rest reader) (block_in section (reader_rest reader), drop len (reader_rest reader))
     → section_after section (block_in section (reader_rest reader))
-    ≡ section_of next_order (content_interfaces reader.interfaces.items said)
+    ≡ section_of next_order (content_interfaces reader.interfaces.items stated)
     → StepsOver reader next (block (block_in section (reader_rest reader)))
-steps_block reader next order next_order len said is_next state buffer end offset within interfaces is after =
+steps_block reader next order next_order len stated is_next state buffer end offset within interfaces is after =
     let rest = reader_rest reader in
     let section = section_of order reader.interfaces.items in
     let one = block_in section rest in
-    let behind : drop len rest ≡ reader_rest next =
+    let following : drop len rest ≡ reader_rest next =
     drop-drop len reader.end reader.buffer.items ∙ ap (λ (k : ℕ). drop k reader.buffer.items) (sym end)
     ∙ ap (drop next.end) (sym buffer) in
     let steps = block_steps reader.state reader.interfaces.items order rest (drop len rest) is_next is in
@@ -212,7 +212,7 @@ steps_block reader next order next_order len said is_next state buffer end offse
     omega (arith, within, ap length steps.parts, length-append bytes (drop len rest), length-drop len rest) in
     record {
       fits = steps.fits;
-      parts = steps.parts ∙ ap (λ (s : List ℕ). bytes ++ s) behind;
+      parts = steps.parts ∙ ap (λ (s : List ℕ). bytes ++ s) following;
       stage = (λ i. stage_of (state i) (interfaces i)) ∙ ap in_section (sym after) ∙ sym steps.after;
       offset = omega (arith, offset, size);
     }
@@ -257,8 +257,8 @@ blocks_first reader start none begins =
 -- Another block may follow a block.
 pub blocks_next : (reader : CaptureReader) (order : ByteOrder) → reader.state ≡ Blocks order
     → 0 < length (reader_rest reader) → begins_long order (reader_rest reader) ≡ false → ReadsBlocks reader order
-blocks_next reader order blocks some whole =
-    subst (λ s. NextIsBlock s reader.interfaces.items order (reader_rest reader)) (sym blocks) (refl, some, whole)
+blocks_next reader order blocks some complete =
+    subst (λ s. NextIsBlock s reader.interfaces.items order (reader_rest reader)) (sym blocks) (refl, some, complete)
 
 -- A capture may end after a block.
 pub ends_blocks : (reader : CaptureReader) (order : ByteOrder) → reader.state ≡ Blocks order
@@ -290,19 +290,19 @@ moved_past reader next one state buffer end offset interfaces =
 stepped : (reader next : CaptureReader) (order : ByteOrder) (one : Block) → ReadsBlock reader order one
     → MovedPast reader next one
     → StepsOver reader next (block (block_in (section_of order reader.interfaces.items) (reader_rest reader)))
-stepped reader next order one read behind =
-    steps_block reader next order one.order one.len one.content read.next_is_block behind.state behind.buffer behind.end
-    behind.offset read.within behind.interfaces read.is read.after
+stepped reader next order one read following =
+    steps_block reader next order one.order one.len one.content read.next_is_block following.state following.buffer following.end
+    following.offset read.within following.interfaces read.is read.after
 
 -- A block without a packet is an item that is no packet.
 pub other_block : (reader next : CaptureReader) (order : ByteOrder) (one : Block) → ReadsBlock reader order one
     → MovedPast reader next one
     → content_shown (slice_range (reader_rest reader) 8 (one.len - 4)) one.content ≡ None
     → Answers reader next (Ok Other)
-other_block reader next order one read behind nothing_shown = (
+other_block reader next order one read following nothing_shown = (
   block (block_in (section_of order reader.interfaces.items) (reader_rest reader)),
   block_shows reader order one.len None read.next_is_block read.is (read.shown ∙ nothing_shown),
-  stepped reader next order one read behind,
+  stepped reader next order one read following,
 )
 
 -- A block with a packet becomes the reader's last packet.
@@ -310,15 +310,15 @@ pub packet_block : (reader next : CaptureReader) (order : ByteOrder) (one : Bloc
     → ReadsBlock reader order one → MovedPast reader next one → one.content ≡ content.Packet packet_in
     → next.start ≡ reader.end + 8 + packet_in.start → next.last ≡ reader.end + 8 + packet_in.start + packet_in.kept
     → next.known ≡ packet_in.known → Answers reader next (Ok Packet)
-packet_block reader next order one packet_in read behind content_is start last known =
+packet_block reader next order one packet_in read following content_is start last known =
     let body = slice_range (reader_rest reader) 8 (one.len - 4) in
     let within : packet_in.start + packet_in.kept + 12 ≤ one.len =
     subst (λ c. FitsLen c one.len) content_is read.fits in
-    let bytes = block_bytes_at reader next one.len packet_in.start packet_in.kept behind.buffer start last within in
+    let bytes = block_bytes_at reader next one.len packet_in.start packet_in.kept following.buffer start last within in
     let shows : known_shown packet_in.known (slice_range body packet_in.start (packet_in.start + packet_in.kept))
     ≡ reader_shown next = λ i. known_shown (sym known i) (bytes i) in (
       block (block_in (section_of order reader.interfaces.items) (reader_rest reader)),
-      stepped reader next order one read behind,
+      stepped reader next order one read following,
       record {
         shown = block_shows reader order one.len (Some (reader_shown next)) read.next_is_block read.is
             (read.shown ∙ ap (content_shown body) content_is ∙ ap (λ (s : PlainShown). Some s) shows);
@@ -336,9 +336,9 @@ pub part_steps : (reader next : CaptureReader) (stage after : Stage) (one : Part
     → len ≤ length (reader_rest reader) → next.buffer.items ≡ reader.buffer.items → next.end ≡ reader.end + len
     → next.offset ≡ reader.offset + len → stage_after stage (part one) ≡ after → reader_stage next ≡ after
     → Answers reader next (Ok Other)
-part_steps reader next stage after one len is_next fits nothing_shown parts within buffer end offset leads behind_is =
+part_steps reader next stage after one len is_next fits nothing_shown parts within buffer end offset leads after_is =
     let rest = reader_rest reader in
-    let behind : drop len rest ≡ reader_rest next =
+    let following : drop len rest ≡ reader_rest next =
     drop-drop len reader.end reader.buffer.items ∙ ap (λ (k : ℕ). drop k reader.buffer.items) (sym end)
     ∙ ap (drop next.end) (sym buffer) in
     let bytes = item_bytes stage (part one) in
@@ -349,9 +349,9 @@ part_steps reader next stage after one len is_next fits nothing_shown parts with
       ap (λ s. shown_in s (part one)) is_next ∙ nothing_shown,
       record {
         fits = subst (λ s. Fits s (part one)) (sym is_next) fits;
-        parts = parts ∙ ap (λ (s : List ℕ). bytes ++ s) behind
+        parts = parts ∙ ap (λ (s : List ℕ). bytes ++ s) following
             ∙ ap (λ (s : List ℕ). s ++ reader_rest next) (sym same);
-        stage = behind_is ∙ sym leads ∙ ap (λ s. stage_after s (part one)) (sym is_next);
+        stage = after_is ∙ sym leads ∙ ap (λ s. stage_after s (part one)) (sym is_next);
         offset = omega (arith, offset, size, ap length same);
       },
     )

@@ -22,20 +22,20 @@ use Rattle.capture_reader.proofs.CaptureLemmas.{same_some, start_rows}
 
 -- Holds if a row for too few bytes states that `left` bytes are present, and applies only if more are required.
 abbrev TellsWant : ℕ → Bool → Refusal → Type 0
-TellsWant left short (refusal.Cut required there) = (there ≡ left) × (short ≡ true → left < required)
+TellsWant left short (refusal.Cut required present) = (present ≡ left) × (short ≡ true → left < required)
 TellsWant left holds other = Unit {0}
 
 abbrev TellWants : ℕ → List (Bool × Refusal) → Type 0
 TellWants left [] = Unit {0}
 TellWants left (row ∷ rows) = TellsWant left row.0 row.1 × TellWants left rows
 
-row_wants : (left : ℕ) (rows : List (Bool × Refusal)) (required there : ℕ) → TellWants left rows
-    → first_row rows ≡ Some (refusal.Cut required there) → WantsBytes left (refusal.Cut required there)
-row_wants left [] required there tell refused = absurd (none-some (refusal.Cut required there) refused)
-row_wants left ((true, error) ∷ rows) required there tell refused =
-    let tells = subst (TellsWant left true) (same_some error (refusal.Cut required there) refused) tell.0 in
+row_wants : (left : ℕ) (rows : List (Bool × Refusal)) (required present : ℕ) → TellWants left rows
+    → first_row rows ≡ Some (refusal.Cut required present) → WantsBytes left (refusal.Cut required present)
+row_wants left [] required present tell refused = absurd (none-some (refusal.Cut required present) refused)
+row_wants left ((true, error) ∷ rows) required present tell refused =
+    let tells = subst (TellsWant left true) (same_some error (refusal.Cut required present) refused) tell.0 in
     (tells.0, tells.1 refl)
-row_wants left ((false, error) ∷ rows) required there tell refused = row_wants left rows required there tell.1 refused
+row_wants left ((false, error) ∷ rows) required present tell refused = row_wants left rows required present tell.1 refused
 
 body_wants : (left : ℕ) (interfaces : List Interface) (order : ByteOrder) (kind : BlockKind) (len : ℕ) (body : List ℕ)
     → TellWants left (body_rows interfaces order kind len body)
@@ -81,8 +81,8 @@ stage_wants (in_section section) bytes = section_wants (begins_long section.orde
 stage_wants (inside section len left) bytes = inside_wants (left == 0) section.order len left bytes
 
 -- An item that is rejected for too few bytes requires more than there are.
-pub item_wants : (stage : Stage) (bytes : List ℕ) (required there : ℕ)
-    → first_row (item_rows stage bytes) ≡ Some (refusal.Cut required there)
-    → WantsBytes (length bytes) (refusal.Cut required there)
-item_wants stage bytes required there refused =
-    row_wants (length bytes) (item_rows stage bytes) required there (stage_wants stage bytes) refused
+pub item_wants : (stage : Stage) (bytes : List ℕ) (required present : ℕ)
+    → first_row (item_rows stage bytes) ≡ Some (refusal.Cut required present)
+    → WantsBytes (length bytes) (refusal.Cut required present)
+item_wants stage bytes required present refused =
+    row_wants (length bytes) (item_rows stage bytes) required present (stage_wants stage bytes) refused

@@ -194,13 +194,13 @@ more_bytes byte bytes small fits (suc i) = fits i
 more : (byte : ℕ) (bytes : List ℕ) → byte < 256 → AllBytes bytes → AllBytes (byte ∷ bytes)
 more byte bytes small all = record { fits = more_bytes byte bytes small all.fits }
 
-both_bytes : (bytes behind : List ℕ) → AreBytes bytes → AreBytes behind → AreBytes (bytes ++ behind)
-both_bytes [] behind fits other = other
-both_bytes (byte ∷ bytes) behind fits other =
-    more_bytes byte (bytes ++ behind) (fits 0) (both_bytes bytes behind (λ i. fits (suc i)) other)
+both_bytes : (bytes after : List ℕ) → AreBytes bytes → AreBytes after → AreBytes (bytes ++ after)
+both_bytes [] after fits other = other
+both_bytes (byte ∷ bytes) after fits other =
+    more_bytes byte (bytes ++ after) (fits 0) (both_bytes bytes after (λ i. fits (suc i)) other)
 
-both : (bytes behind : List ℕ) → AllBytes bytes → AllBytes behind → AllBytes (bytes ++ behind)
-both bytes behind all others = record { fits = both_bytes bytes behind all.fits others.fits }
+both : (bytes after : List ℕ) → AllBytes bytes → AllBytes after → AllBytes (bytes ++ after)
+both bytes after all others = record { fits = both_bytes bytes after all.fits others.fits }
 
 short : (n : ℕ) → AllBytes (word16 Little n)
 unfolding word16
@@ -261,6 +261,6 @@ packets_more (first ∷ more) shown =
 pub capture_more : (link : ℕ) (packets : List PlainShown) (shown : PlainShown)
     → capture_bytes link (packets ++ shown ∷ []) ≡ capture_bytes link packets ++ packet_bytes shown
 capture_more link packets shown =
-    let front = heading_bytes (written_heading link) in
-    ap (λ (s : List ℕ). front ++ s) (packets_more packets shown)
-    ∙ sym (append_assoc front (packets_bytes packets) (packet_bytes shown))
+    let prefix = heading_bytes (written_heading link) in
+    ap (λ (s : List ℕ). prefix ++ s) (packets_more packets shown)
+    ∙ sym (append_assoc prefix (packets_bytes packets) (packet_bytes shown))

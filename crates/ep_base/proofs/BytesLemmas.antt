@@ -16,15 +16,15 @@ same_parts a b x y len same = (
 )
 
 -- Dropping the length of the first part leaves the second part.
-pub rest_of : (bytes front rest : List ℕ) (n : ℕ) → bytes ≡ front ++ rest → n ≡ length front
+pub rest_of : (bytes prefix rest : List ℕ) (n : ℕ) → bytes ≡ prefix ++ rest → n ≡ length prefix
     → take (length bytes - n) (drop n bytes) ≡ rest
-rest_of bytes front rest n parts len =
+rest_of bytes prefix rest n parts len =
     take_all (length bytes - n) (drop n bytes) (omega (arith, length-drop n bytes)) ∙ ap (drop n) parts
-    ∙ drop_at front rest n (sym len)
+    ∙ drop_at prefix rest n (sym len)
 
 -- The first part is not longer than the whole.
-pub front_within : (bytes front rest : List ℕ) (n : ℕ) → bytes ≡ front ++ rest → n ≡ length front → n ≤ length bytes
-front_within bytes front rest n parts len = omega (arith, ap length parts, length-append front rest, len)
+pub prefix_within : (bytes prefix rest : List ℕ) (n : ℕ) → bytes ≡ prefix ++ rest → n ≡ length prefix → n ≤ length bytes
+prefix_within bytes prefix rest n parts len = omega (arith, ap length parts, length-append prefix rest, len)
 
 -- A copy at the start of a zeroed array keeps the array's length and is followed by zeros.
 pub stored_copy : (copy : List ℕ) (n m width : ℕ) → length copy ≡ n → n ≤ width → m ≡ n
@@ -97,18 +97,18 @@ cells_6 (a ∷ b ∷ c ∷ d ∷ e ∷ f ∷ []) len = refl
 cells_6 _ len = absurd (omega arith)
 
 -- The first part of bytes is bytes.
-pub AreBytes-front : (a b : List ℕ) → AreBytes (a ++ b) → AreBytes a
-AreBytes-front a b fits = subst AreBytes (take-append_seam a b) (AreBytes-take (length a) (a ++ b) fits)
+pub AreBytes-prefix : (a b : List ℕ) → AreBytes (a ++ b) → AreBytes a
+AreBytes-prefix a b fits = subst AreBytes (take-append_seam a b) (AreBytes-take (length a) (a ++ b) fits)
 
 -- The second part of bytes is bytes.
 pub AreBytes-back : (a b : List ℕ) → AreBytes (a ++ b) → AreBytes b
 AreBytes-back a b fits = subst AreBytes (drop-append_seam a b) (AreBytes-drop (length a) (a ++ b) fits)
 
 -- A payload between its header and the trailing bytes is bytes.
-pub AreBytes-payload : (bytes front payload left : List ℕ) → AreBytes bytes → bytes ≡ (front ++ payload) ++ left
+pub AreBytes-payload : (bytes prefix payload left : List ℕ) → AreBytes bytes → bytes ≡ (prefix ++ payload) ++ left
     → AreBytes payload
-AreBytes-payload bytes front payload left fits parts =
-    AreBytes-back front payload (AreBytes-front (front ++ payload) left (subst AreBytes parts fits))
+AreBytes-payload bytes prefix payload left fits parts =
+    AreBytes-back prefix payload (AreBytes-prefix (prefix ++ payload) left (subst AreBytes parts fits))
 
 -- A flag as a bit is at most 1.
 pub bit_le : (flag : Bool) → bit flag ≤ 1

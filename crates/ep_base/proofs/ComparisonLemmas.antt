@@ -11,9 +11,9 @@ use Rattle.ep_base.specs.Padding.{padded}
 use Rattle.ep_base.proofs.BytesLemmas.{same_parts}
 
 -- A test that decides equality of two parts decides equality of the values made of them.
-pub of_part : {P W : Type 0} {r : Bool} {a b : P} (whole : P → W) → (whole a ≡ whole b → a ≡ b) → Decides r (a ≡ b)
-    → Decides r (whole a ≡ whole b)
-of_part {r = r} whole part one = Decides-like r (λ same. ap whole same) part one
+pub of_part : {P W : Type 0} {r : Bool} {a b : P} (complete : P → W) → (complete a ≡ complete b → a ≡ b) → Decides r (a ≡ b)
+    → Decides r (complete a ≡ complete b)
+of_part {r = r} complete part one = Decides-like r (λ same. ap complete same) part one
 
 -- The answer false decides a proposition that never holds.
 pub apart : {P : Type 0} → (P → ⊥) → Decides false P

@@ -5,14 +5,14 @@ use Rattle.ep_base.specs.Tables.{IsDecided, IsOne, RefusesAs}
 
 -- One relation holds exactly for the images of the values of another relation.
 pub record IsImage {V W : Type 0} (Of : V → Type 0) (Image : W → Type 0) (image : V → W) : Type 0 where
-  pub there : (value : V) → Of value → Image (image value)
+  pub present : (value : V) → Of value → Image (image value)
   pub back : (value : W) → Image value → (origin : V) × Of origin × (value ≡ image origin)
 
 -- A relation that holds for the same values is the image under the identity.
 pub same_image : {V : Type 0} {Of Image : V → Type 0} → ((value : V) → Of value → Image value)
     → ((value : V) → Image value → Of value)
     → IsImage Of Image (λ value. value)
-same_image there back = record { there = there; back = λ value holds. (value, back value holds, refl) }
+same_image present back = record { present = present; back = λ value holds. (value, back value holds, refl) }
 
 -- A single value without errors is decided.
 pub decided_by : {V E : Type 0} {Is : V → Type 0} {Refuses : E → Type 0} → (value : V) → Is value
@@ -33,8 +33,8 @@ pub decided_as : {V W E F : Type 0} {Is : V → Type 0} {Refuses : E → Type 0}
     → IsDecided IsImaged RefusesImaged
 decided_as value error decided values errors = record {
   some = elim decided.some [
-    | inl found ↦ inl (value found.0, values.there found.0 found.1)
-    | inr refused ↦ inr (error refused.0, errors.there refused.0 refused.1)
+    | inl found ↦ inl (value found.0, values.present found.0 found.1)
+    | inr refused ↦ inr (error refused.0, errors.present refused.0 refused.1)
   ];
   one_value = λ v w a b.
       let x = values.back v a in
@@ -55,7 +55,7 @@ pub refused_as : {V E F : Type 0} {Is : V → Type 0} {Refuses : E → Type 0} �
     → IsDecided Is (RefusesAs name Refuses)
 refused_as name decided =
     decided_as (λ value. value) name decided (same_image (λ value is. is) (λ value is. is))
-    (record { there = λ refusal refused. (refusal, refused, refl); back = λ error refused. refused })
+    (record { present = λ refusal refused. (refusal, refused, refl); back = λ error refused. refused })
 
 -- A first value, and a second value that depends on the first.
 abbrev pub IsBoth : {V W : Type 0} → (V → Type 0) → (V → W → Type 0) → V × W → Type 0
@@ -123,7 +123,7 @@ pub one_as : {V W : Type 0} {Is : V → Type 0} {IsImaged : W → Type 0} → (v
     → IsImage Is IsImaged value → IsOne IsImaged
 one_as value one image = record {
   value = value one.value;
-  is = image.there one.value one.is;
+  is = image.present one.value one.is;
   only = λ other is. let origin = image.back other is in origin.2 ∙ ap value (one.only origin.0 origin.1);
 }
 
@@ -137,24 +137,24 @@ one_then {V = V} {W = W} {Is = Is} {Next = Next} first next =
       is = (first.is, second.is);
       only = λ other is.
           let same : other.0 ≡ first.value = first.only other.0 is.0 in
-          let there : Next first.value other.1 = subst (λ (v : V). Next v other.1) same is.1 in
-          let last : other.1 ≡ second.value = second.only other.1 there in
+          let present : Next first.value other.1 = subst (λ (v : V). Next v other.1) same is.1 in
+          let last : other.1 ≡ second.value = second.only other.1 present in
           λ i. (same i, last i);
     }
 
 -- A decided step followed by a step with a unique value is decided.
-pub decided_behind : {V W E : Type 0} {Is : V → Type 0} {Refuses : E → Type 0} {Next : V → W → Type 0}
+pub decided_after : {V W E : Type 0} {Is : V → Type 0} {Refuses : E → Type 0} {Next : V → W → Type 0}
     → IsDecided Is Refuses → ((value : V) → Is value → IsOne (Next value)) → IsDecided (IsBoth Is Next) Refuses
-decided_behind {V = V} {W = W} {Next = Next} first next = record {
+decided_after {V = V} {W = W} {Next = Next} first next = record {
   some = elim first.some [
     | inl found ↦ let second = next found.0 found.1 in inl ((found.0, second.value), (found.1, second.is))
     | inr refused ↦ inr refused
   ];
   one_value = λ v w a b.
       let same : v.0 ≡ w.0 = first.one_value v.0 w.0 a.0 b.0 in
-      let there : Next w.0 v.1 = subst (λ (x : V). Next x v.1) same a.1 in
+      let present : Next w.0 v.1 = subst (λ (x : V). Next x v.1) same a.1 in
       let second = next w.0 b.0 in
-      let last : v.1 ≡ w.1 = second.only v.1 there ∙ sym (second.only w.1 b.1) in
+      let last : v.1 ≡ w.1 = second.only v.1 present ∙ sym (second.only w.1 b.1) in
       λ i. (same i, last i);
   one_error = first.one_error;
   not_both = λ v e a b. first.not_both v.0 e a.0 b;
@@ -162,20 +162,20 @@ decided_behind {V = V} {W = W} {Next = Next} first next = record {
 
 -- If a value is followed by a unique result, and an error is replaced by a unique result, there is exactly one result
 -- in total.
-pub one_either : {V E W : Type 0} {Is : V → Type 0} {Refuses : E → Type 0} {There : V → W → Type 0}
-    {Instead : E → W → Type 0} → IsDecided Is Refuses → ((value : V) → Is value → IsOne (There value))
+pub one_either : {V E W : Type 0} {Is : V → Type 0} {Refuses : E → Type 0} {Present : V → W → Type 0}
+    {Instead : E → W → Type 0} → IsDecided Is Refuses → ((value : V) → Is value → IsOne (Present value))
     → ((error : E) → Refuses error → IsOne (Instead error))
-    → IsOne (λ (w : W). ((error : E) × Refuses error × Instead error w) ⊎ ((value : V) × Is value × There value w))
-one_either {V = V} {E = E} {W = W} {There = There} {Instead = Instead} decided there instead =
+    → IsOne (λ (w : W). ((error : E) × Refuses error × Instead error w) ⊎ ((value : V) × Is value × Present value w))
+one_either {V = V} {E = E} {W = W} {Present = Present} {Instead = Instead} decided present instead =
     elim decided.some [
       | inl found ↦
-          let one = there found.0 found.1 in
+          let one = present found.0 found.1 in
           record {
             value = one.value;
             is = inr (found.0, found.1, one.is);
             only = λ other is. elim is [
               | inl refused ↦ absurd (decided.not_both found.0 refused.0 found.1 refused.1)
-              | inr other_is ↦ one.only other (subst (λ (v : V). There v other)
+              | inr other_is ↦ one.only other (subst (λ (v : V). Present v other)
                   (decided.one_value other_is.0 found.0 other_is.1 found.1) other_is.2)
             ];
           }

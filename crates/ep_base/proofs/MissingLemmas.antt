@@ -12,8 +12,8 @@ use Rattle.ep_base.specs.declared.len_source.LenSource.{LenSource}
 use Rattle.ep_base.specs.declared.len_source.LenSource.TheVariants as source
 
 -- An error of two concatenated tables is an error of one of them.
-pub first_row-either : {E : Type 0} (front back : List (Bool × E)) (error : E) → first_row (front ++ back) ≡ Some error
-    → (first_row front ≡ Some error) ⊎ (first_row back ≡ Some error)
+pub first_row-either : {E : Type 0} (prefix back : List (Bool × E)) (error : E) → first_row (prefix ++ back) ≡ Some error
+    → (first_row prefix ≡ Some error) ⊎ (first_row back ≡ Some error)
 first_row-either [] back error refused = inr refused
 first_row-either ((true, refusal) ∷ rows) back error refused = inl refused
 first_row-either ((false, refusal) ∷ rows) back error refused = first_row-either rows back error refused

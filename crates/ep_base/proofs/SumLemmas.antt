@@ -26,10 +26,10 @@ ones_sum-append a b p =
     ∙ sym (residue_last (residue (word_sum a)) (word_sum b))
 
 -- The sum of an even number of bytes, plus the sum of more bytes, is the sum of all of them.
-pub sum_more : (front back : List ℕ) (n m : ℕ) → n ≡ ones_sum front → length front % 2 ≡ 0
-    → m ≡ ones_add n (ones_sum back) → m ≡ ones_sum (front ++ back)
-sum_more front back n m sum even more =
-    more ∙ ap (λ (k : ℕ). ones_add k (ones_sum back)) sum ∙ sym (ones_sum-append front back even)
+pub sum_more : (prefix back : List ℕ) (n m : ℕ) → n ≡ ones_sum prefix → length prefix % 2 ≡ 0
+    → m ≡ ones_add n (ones_sum back) → m ≡ ones_sum (prefix ++ back)
+sum_more prefix back n m sum even more =
+    more ∙ ap (λ (k : ℕ). ones_add k (ones_sum back)) sum ∙ sym (ones_sum-append prefix back even)
 
 pub ones_add-comm : (a b : ℕ) → ones_add a b ≡ ones_add b a
 unfolding ones_add
@@ -81,7 +81,7 @@ low_half n =
 
 pub residue_halves : (n : ℕ) → residue (n / 18446744073709551616 + bit_and n 18446744073709551615) ≡ residue n
 residue_halves n =
-    let whole = low_half n in
+    let complete = low_half n in
     let carried = 281479271743489 * (n / 18446744073709551616) in
     residue_unique _ _ carried 0 (omega arith) (λ z. omega arith) (λ z. omega arith)
 
@@ -99,7 +99,7 @@ pub even_and_odd : (n : ℕ) → n < 2 ^ 64
 even_and_odd n fits =
     let mask : ℕ = 71777214294589695 in
     let upper = bit_and n 18374966859414961920 in
-    let whole : upper + bit_and n mask ≡ n =
+    let complete : upper + bit_and n mask ≡ n =
     rw (and_comm n 18374966859414961920, and_comm n mask) (and-not 64 mask n (omega arith) fits) in
     let shifted : upper / 256 ≡ bit_and (n / 256) mask = and_shr n 18374966859414961920 8 in
     let none : upper % 256 ≡ 0 = and_mod n 18374966859414961920 8 ∙ and_zero_r (n % 256) in
@@ -108,7 +108,7 @@ even_and_odd n fits =
 pub turned_even_and_odd : (n : ℕ) (bytes : List ℕ) → length bytes ≡ 8 → n ≡ from_le_bytes w64 bytes → n < 2 ^ 64
     → residue (256 * bit_and n 71777214294589695 + bit_and (n / 256) 71777214294589695) ≡ residue (word_sum bytes)
 turned_even_and_odd n bytes long e fits =
-    let whole = even_and_odd n fits in
+    let complete = even_and_odd n fits in
     residue_unique _ (256 * n) (bit_and (n / 256) 71777214294589695) 0 (omega arith) (λ z. omega arith)
     (λ z. omega arith)
     ∙ ap (λ x. residue (256 * x)) e ∙ turned_of_64 bytes long
@@ -148,8 +148,8 @@ pub sum_with_piece : (n sum word new : ℕ) (piece after rest : List ℕ) → n 
 sum_with_piece n sum word new piece after rest even cut e w =
     let within : n ≤ length rest = omega (arith, cut.2) in
     let long : length piece ≡ n = ap length cut.0 ∙ length-take-le n rest within in
-    let whole : piece ++ after ≡ rest = rw (cut.0, cut.1, take-append-drop) refl in
-    let words = sym (word_sum-append piece after (ap (λ x. x % 2) long ∙ even)) ∙ ap word_sum whole in
+    let complete : piece ++ after ≡ rest = rw (cut.0, cut.1, take-append-drop) refl in
+    let words = sym (word_sum-append piece after (ap (λ x. x % 2) long ∙ even)) ∙ ap word_sum complete in
     sum_with_word sum word new (word_sum after) (word_sum piece) e (w long) ∙ ap (λ x. residue (sum + x)) words
 
 -- The last bytes can be added to a sum as a number with their residue.
@@ -223,34 +223,34 @@ ones_sum-exchange a b back p q =
     ∙ sym (word_sum-append (b ++ a) back (even_append b a q p)))
 
 -- The word sum of two parts with a word between them.
-word_sum-between : (front back : List ℕ) (upper lower : ℕ) → length front % 2 ≡ 0
-    → word_sum ((front ++ upper ∷ lower ∷ []) ++ back) ≡ word_sum front + (256 * upper + lower) + word_sum back
-word_sum-between front back upper lower p =
+word_sum-between : (prefix back : List ℕ) (upper lower : ℕ) → length prefix % 2 ≡ 0
+    → word_sum ((prefix ++ upper ∷ lower ∷ []) ++ back) ≡ word_sum prefix + (256 * upper + lower) + word_sum back
+word_sum-between prefix back upper lower p =
     let word = upper ∷ lower ∷ [] in
-    omega (arith, word_sum-append (front ++ word) back (even_append front word p refl), word_sum-append front word p)
+    omega (arith, word_sum-append (prefix ++ word) back (even_append prefix word p refl), word_sum-append prefix word p)
 
-pub ones_sum-word : (front back : List ℕ) (upper lower : ℕ) → length front % 2 ≡ 0
-    → ones_sum ((front ++ upper ∷ lower ∷ []) ++ back)
-    ≡ ones_add (ones_sum ((front ++ 0 ∷ 0 ∷ []) ++ back)) (ones_sum (upper ∷ lower ∷ []))
+pub ones_sum-word : (prefix back : List ℕ) (upper lower : ℕ) → length prefix % 2 ≡ 0
+    → ones_sum ((prefix ++ upper ∷ lower ∷ []) ++ back)
+    ≡ ones_add (ones_sum ((prefix ++ 0 ∷ 0 ∷ []) ++ back)) (ones_sum (upper ∷ lower ∷ []))
 unfolding ones_sum
-ones_sum-word front back upper lower p =
-    ap residue (omega (arith, word_sum-between front back upper lower p, word_sum-between front back 0 0 p))
-    ∙ ones_add-words (word_sum ((front ++ 0 ∷ 0 ∷ []) ++ back)) (upper ∷ lower ∷ [])
+ones_sum-word prefix back upper lower p =
+    ap residue (omega (arith, word_sum-between prefix back upper lower p, word_sum-between prefix back 0 0 p))
+    ∙ ones_add-words (word_sum ((prefix ++ 0 ∷ 0 ∷ []) ++ back)) (upper ∷ lower ∷ [])
 
-pub ones_sum-checksum : (front back : List ℕ) → length front % 2 ≡ 0
-    → ones_sum ((front ++ to_be_bytes w16 (checksum_of ((front ++ 0 ∷ 0 ∷ []) ++ back))) ++ back) ≡ 65535
+pub ones_sum-checksum : (prefix back : List ℕ) → length prefix % 2 ≡ 0
+    → ones_sum ((prefix ++ to_be_bytes w16 (checksum_of ((prefix ++ 0 ∷ 0 ∷ []) ++ back))) ++ back) ≡ 65535
 unfolding ones_sum
-ones_sum-checksum front back p =
-    let zeros = (front ++ 0 ∷ 0 ∷ []) ++ back in
+ones_sum-checksum prefix back p =
+    let zeros = (prefix ++ 0 ∷ 0 ∷ []) ++ back in
     let sum = word_sum zeros in
     let checksum = 65535 - residue sum in
     let split = residue_split sum in
     let bound = residue_le sum in
-    let filled = word_sum-between front back (checksum / 256 % 256) (checksum % 256) p in
-    let empty = word_sum-between front back 0 0 p in
-    let whole : word_sum ((front ++ checksum / 256 % 256 ∷ checksum % 256 ∷ []) ++ back) ≡ sum + checksum =
+    let filled = word_sum-between prefix back (checksum / 256 % 256) (checksum % 256) p in
+    let empty = word_sum-between prefix back 0 0 p in
+    let complete : word_sum ((prefix ++ checksum / 256 % 256 ∷ checksum % 256 ∷ []) ++ back) ≡ sum + checksum =
     omega (arith, filled, empty) in
-    ap residue whole
+    ap residue complete
     ∙ residue_unique (sum + checksum) 65535 0 split.0 (omega (arith, split.1)) (λ z. omega (arith, split.1))
     (λ z. omega arith)
 

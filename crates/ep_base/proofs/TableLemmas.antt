@@ -53,9 +53,9 @@ decided {rows = rows} {read = read} layer bytes fits = record {
 pub cut_same : {V : Type 0} (len : List ℕ → ℕ) (shown : List ℕ → List ℕ → V) (bytes seen left : List ℕ)
     → bytes ≡ seen ++ left → length seen ≡ len bytes → shown seen left ≡ cut_at len shown bytes
 cut_same len shown bytes seen left parts same =
-    let front : take (len bytes) bytes ≡ seen = ap (take (len bytes)) parts ∙ take_at seen left (len bytes) same in
-    let behind : drop (len bytes) bytes ≡ left = ap (drop (len bytes)) parts ∙ drop_at seen left (len bytes) same in
-    sym (λ i. shown (front i) (behind i))
+    let prefix : take (len bytes) bytes ≡ seen = ap (take (len bytes)) parts ∙ take_at seen left (len bytes) same in
+    let after : drop (len bytes) bytes ≡ left = ap (drop (len bytes)) parts ∙ drop_at seen left (len bytes) same in
+    sym (λ i. shown (prefix i) (after i))
 
 -- Accepted bytes with a prefix of the right length are the value read from the prefix, and no other value.
 pub shown_is : {V E : Type 0} {Is : List ℕ → V → Type 0} {rows : List ℕ → List (Bool × E)}
@@ -70,20 +70,20 @@ shown_is {Is = Is} len shown layer bytes seen left fits none parts same =
     )
 
 -- An owned header and the bytes after it, which are the only ones for the input.
-pub record IsValue {H : Type 0} (Is : List ℕ → H × List ℕ → Type 0) (bytes : List ℕ) (value : H) (behind : List ℕ)
+pub record IsValue {H : Type 0} (Is : List ℕ → H × List ℕ → Type 0) (bytes : List ℕ) (value : H) (after : List ℕ)
     : Type 0 where
-  pub ok : Is bytes (value, behind)
-  pub only : (header : H) (rest : List ℕ) → Is bytes (header, rest) → (value ≡ header) × (behind ≡ rest)
+  pub ok : Is bytes (value, after)
+  pub only : (header : H) (rest : List ℕ) → Is bytes (header, rest) → (value ≡ header) × (after ≡ rest)
 
 -- The owned header of a slice is the only header of the bytes, and is followed by the bytes after its length.
 pub value_shown : {H E : Type 0} {Is : List ℕ → H × List ℕ → Type 0} {rows : List ℕ → List (Bool × E)}
-    {read : List ℕ → H × List ℕ} → IsReadBy Is rows read → (bytes front rest : List ℕ) (n : ℕ) (shown value : H)
-    → bytes ≡ front ++ rest → n ≡ length front → value ≡ shown → Is bytes (shown, rest)
+    {read : List ℕ → H × List ℕ} → IsReadBy Is rows read → (bytes prefix rest : List ℕ) (n : ℕ) (shown value : H)
+    → bytes ≡ prefix ++ rest → n ≡ length prefix → value ≡ shown → Is bytes (shown, rest)
     → IsValue Is bytes value (take (length bytes - n) (drop n bytes))
-value_shown {H = H} {Is = Is} layer bytes front rest n shown value parts len same is =
-    let behind = rest_of bytes front rest n parts len in
+value_shown {H = H} {Is = Is} layer bytes prefix rest n shown value parts len same is =
+    let after = rest_of bytes prefix rest n parts len in
     let read : H × List ℕ = (value, take (length bytes - n) (drop n bytes)) in
-    let here : Is bytes read = subst (Is bytes) (λ i. (sym same i, sym behind i)) is in
+    let here : Is bytes read = subst (Is bytes) (λ i. (sym same i, sym after i)) is in
     record {
       ok = here;
       only = λ header more other.
@@ -109,15 +109,15 @@ refusal_is Such ((false, row_error) ∷ rows) all error refused = refusal_is Suc
 -- ---- concatenated tables
 
 -- If the first table does not reject, the concatenation rejects exactly as the second table does.
-pub first_row-append_none : {E : Type 0} (front back : List (Bool × E)) → first_row front ≡ None
-    → first_row (front ++ back) ≡ first_row back
+pub first_row-append_none : {E : Type 0} (prefix back : List (Bool × E)) → first_row prefix ≡ None
+    → first_row (prefix ++ back) ≡ first_row back
 first_row-append_none [] back none = refl
 first_row-append_none ((true, error) ∷ rows) back none = absurd (none-some error (sym none))
 first_row-append_none ((false, error) ∷ rows) back none = first_row-append_none rows back none
 
 -- If the first table rejects, the concatenation rejects with its error.
-pub first_row-append_some : {E : Type 0} (front back : List (Bool × E)) (error : E) → first_row front ≡ Some error
-    → first_row (front ++ back) ≡ Some error
+pub first_row-append_some : {E : Type 0} (prefix back : List (Bool × E)) (error : E) → first_row prefix ≡ Some error
+    → first_row (prefix ++ back) ≡ Some error
 first_row-append_some [] back error some = absurd (none-some error some)
 first_row-append_some ((true, refusal) ∷ rows) back error some = some
 first_row-append_some ((false, refusal) ∷ rows) back error some = first_row-append_some rows back error some

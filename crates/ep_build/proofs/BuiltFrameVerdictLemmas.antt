@@ -73,7 +73,7 @@ use Rattle.ep_build.proofs.LengthLemmas.{between_len}
 use Rattle.ep_build.proofs.LinkReadBackLemmas.{frame_is}
 use Rattle.ep_build.proofs.NetFoundLemmas.{ip_in}
 use Rattle.ep_build.proofs.NetReadBackLemmas.{HasHeaders, fragments_linked, net_of}
-use Rattle.ep_build.proofs.ReadBackLemmas.{ends_there, ip_is_net}
+use Rattle.ep_build.proofs.ReadBackLemmas.{ends_present, ip_is_net}
 use Rattle.ep_build.proofs.TransportReadBackLemmas.{TransportOf, transport_of}
 use Rattle.ep_build.proofs.WritingLemmas.{transport_len}
 
@@ -114,8 +114,8 @@ some_mapped f (Some value) = refl
 -- A payload that is no fragment, and that a length field counts, is whole.
 not_partial : (payload : IpPayload) (counted : LenSource) → payload.fragmented ≡ false → payload.source ≡ counted
     → is_uncounted counted ≡ false → is_partial payload ≡ false
-not_partial payload counted whole is_counted limits =
-    ap (λ (f : Bool). f || is_uncounted payload.source) whole ∙ ap is_uncounted is_counted ∙ limits
+not_partial payload counted complete is_counted limits =
+    ap (λ (f : Bool). f || is_uncounted payload.source) complete ∙ ap is_uncounted is_counted ∙ limits
 
 -- The IP header of these headers, or a default for the other version.
 abbrev ipv4_of : IpHeaders → Ipv4Header
@@ -134,33 +134,33 @@ ipv4_len header source_len destination_len = grind (arith, common_steps)
 -- An IPv4 header with its checksum is valid at the start of bytes, where a header of its length is.
 first_is_valid : (header : Ipv4Header) (rest message : List ℕ) (len : ℕ) → length header.source ≡ 4
     → length header.destination ≡ 4 → len ≡ ipv4_header_len header
-    → let there = record header { header_checksum = ipv4_checksum header } in
-    sum_verdict (take len ((ipv4_bytes there ++ rest) ++ message)) ≡ Valid
+    → let present = record header { header_checksum = ipv4_checksum header } in
+    sum_verdict (take len ((ipv4_bytes present ++ rest) ++ message)) ≡ Valid
 first_is_valid header rest message len source_len destination_len is_len =
-    let there = record header { header_checksum = ipv4_checksum header } in
-    let front : take len ((ipv4_bytes there ++ rest) ++ message) ≡ ipv4_bytes there =
-    ap (λ (k : ℕ). take k ((ipv4_bytes there ++ rest) ++ message))
+    let present = record header { header_checksum = ipv4_checksum header } in
+    let prefix : take len ((ipv4_bytes present ++ rest) ++ message) ≡ ipv4_bytes present =
+    ap (λ (k : ℕ). take k ((ipv4_bytes present ++ rest) ++ message))
     (is_len ∙ sym (ipv4_len header source_len destination_len))
-    ∙ ap (take (length (ipv4_bytes there))) (append_assoc (ipv4_bytes there) rest message)
-    ∙ take-append_seam (ipv4_bytes there) (rest ++ message) in
-    ap sum_verdict front ∙ header_is_valid header
+    ∙ ap (take (length (ipv4_bytes present))) (append_assoc (ipv4_bytes present) rest message)
+    ∙ take-append_seam (ipv4_bytes present) (rest ++ message) in
+    ap sum_verdict prefix ∙ header_is_valid header
 
 -- The verdicts about an IPv4 header with its checksum, and about a message with a valid checksum.
 net_4 : (header : Ipv4Header) (these : Ipv4Extensions) (rest message : List ℕ) (layer : NetLayer) (payload : IpPayload)
     (found : TransportLayer) → FitsIpv4 header
-    → let there = record header { header_checksum = ipv4_checksum header } in
-    HasHeaders (version.Ipv4 there these) layer → net_payload layer ≡ Some payload → payload.fragmented ≡ false
+    → let present = record header { header_checksum = ipv4_checksum header } in
+    HasHeaders (version.Ipv4 present these) layer → net_payload layer ≡ Some payload → payload.fragmented ≡ false
     → payload.source ≡ source.Ipv4HeaderTotalLen → payload.bytes ≡ message
     → take (transport_header_len found.header + length found.payload) message ≡ message
     → verdict_ipv4 header.source header.destination found.header message ≡ Valid
-    → net_checksums ((ipv4_bytes there ++ rest) ++ message) (Some layer) false (Some found)
+    → net_checksums ((ipv4_bytes present ++ rest) ++ message) (Some layer) false (Some found)
     ≡ record {
       ipv4_header = Some Valid;
       transport = Some (if has_source_route header.options then Unknown else Valid);
     }
-net_4 header these rest message (ipv4_net seen parts p) payload found fits is has_payload whole counted is_message taken
+net_4 header these rest message (ipv4_net seen parts p) payload found fits is has_payload complete counted is_message taken
     valid =
-    let there = record header { header_checksum = ipv4_checksum header } in
+    let present = record header { header_checksum = ipv4_checksum header } in
     let n = transport_header_len found.header + length found.payload in
     let same : p ≡ payload = cc in
     let of_header = first_is_valid header rest message (ipv4_header_len seen) fits.source_len fits.destination_len
@@ -171,14 +171,14 @@ net_4 header these rest message (ipv4_net seen parts p) payload found fits is ha
     let of_message : message_verdict (ipv4_net seen parts p) false found.header (take n p.bytes)
     ≡ (if has_source_route header.options then Unknown else Valid) =
     ap (λ (h : Ipv4Header). message_verdict (ipv4_net h parts p) false found.header (take n p.bytes)) is
-    ∙ ap (λ (q : IpPayload). message_verdict (ipv4_net there parts q) false found.header (take n q.bytes)) same
-    ∙ ap (λ (partial : Bool). test partial (take n payload.bytes)) (not_partial payload _ whole counted refl)
+    ∙ ap (λ (q : IpPayload). message_verdict (ipv4_net present parts q) false found.header (take n q.bytes)) same
+    ∙ ap (λ (partial : Bool). test partial (take n payload.bytes)) (not_partial payload _ complete counted refl)
     ∙ ap (λ (m : List ℕ). test false m) (ap (take n) is_message ∙ taken)
     ∙ ap (λ (v : ChecksumVerdict). if has_source_route header.options then Unknown else v) valid in
     λ i. record { ipv4_header = Some (of_header i); transport = Some (of_message i) }
-net_4 header these rest message (ipv6_net seen parts p) payload found fits is has_payload whole counted is_message taken
+net_4 header these rest message (ipv6_net seen parts p) payload found fits is has_payload complete counted is_message taken
     valid = absurd is
-net_4 header these rest message (arp_net packet) payload found fits is has_payload whole counted is_message taken
+net_4 header these rest message (arp_net packet) payload found fits is has_payload complete counted is_message taken
     valid = absurd is
 
 net_6 : (header : Ipv6Header) (these : Ipv6Extensions) (bytes message : List ℕ) (layer : NetLayer)
@@ -189,7 +189,7 @@ net_6 : (header : Ipv6Header) (these : Ipv6Extensions) (bytes message : List ℕ
     → verdict_ipv6 header.source header.destination found.header message ≡ Valid
     → net_checksums bytes (Some layer) false (Some found)
     ≡ record { ipv4_header = None; transport = Some (if is_some these.routing then Unknown else Valid) }
-net_6 header these bytes message (ipv6_net seen parts p) payload found is has_payload whole counted is_message taken
+net_6 header these bytes message (ipv6_net seen parts p) payload found is has_payload complete counted is_message taken
     valid =
     let n = transport_header_len found.header + length found.payload in
     let same : p ≡ payload = cc in
@@ -203,22 +203,22 @@ net_6 header these bytes message (ipv6_net seen parts p) payload found is has_pa
     ap (λ (h : Ipv6Header). message_verdict (ipv6_net h parts p) false found.header (take n p.bytes)) is.0
     ∙ ap (λ (q : IpPayload). message_verdict (ipv6_net header parts q) false found.header (take n q.bytes)) same
     ∙ ap (λ (partial : Bool). test partial (has_routing parts) (take n payload.bytes))
-    (not_partial payload _ whole counted refl)
+    (not_partial payload _ complete counted refl)
     ∙ ap (λ (route : Bool). test false route (take n payload.bytes)) routed
     ∙ ap (λ (m : List ℕ). test false (is_some these.routing) m) (ap (take n) is_message ∙ taken)
     ∙ ap (λ (v : ChecksumVerdict). if is_some these.routing then Unknown else v) valid in
     λ i. record { ipv4_header = None; transport = Some (of_message i) }
-net_6 header these bytes message (ipv4_net seen parts p) payload found is has_payload whole counted is_message taken
+net_6 header these bytes message (ipv4_net seen parts p) payload found is has_payload complete counted is_message taken
     valid = absurd is
-net_6 header these bytes message (arp_net packet) payload found is has_payload whole counted is_message taken valid =
+net_6 header these bytes message (arp_net packet) payload found is has_payload complete counted is_message taken valid =
     absurd is
 
 -- The verdicts about a fragment.
 fragment_4 : (header : Ipv4Header) (these : Ipv4Extensions) (rest message : List ℕ) (layer : NetLayer)
     (payload : IpPayload) → FitsIpv4 header
-    → let there = record header { header_checksum = ipv4_checksum header } in
-    HasHeaders (version.Ipv4 there these) layer → net_payload layer ≡ Some payload → payload.fragmented ≡ true
-    → net_checksums ((ipv4_bytes there ++ rest) ++ message) (Some layer) false None
+    → let present = record header { header_checksum = ipv4_checksum header } in
+    HasHeaders (version.Ipv4 present these) layer → net_payload layer ≡ Some payload → payload.fragmented ≡ true
+    → net_checksums ((ipv4_bytes present ++ rest) ++ message) (Some layer) false None
     ≡ record { ipv4_header = Some Valid; transport = Some Unknown }
 fragment_4 header these rest message (ipv4_net seen parts p) payload fits is has_payload split =
     let same : p ≡ payload = cc in
@@ -278,17 +278,17 @@ number_fits (transport.Icmpv4 header) = omega arith
 number_fits (transport.Icmpv6 header) = omega arith
 
 -- The written headers fit their fields.
-written_fit : (part : LinkPart) (headers : IpHeaders) (upper : TransportHeader) (payload : List ℕ)
+pub written_fit : (part : LinkPart) (headers : IpHeaders) (upper : TransportHeader) (payload : List ℕ)
     → FitIpHeaders headers → FitsTransport (transport_between headers payload upper)
     → IsBuildable (transport_frame_headers part headers upper) (length payload)
     → FitIpHeaders (headers_for headers (last_of upper) (length (message_of headers upper payload)))
 written_fit part headers upper payload fit fits buildable =
-    let there = transport_between headers payload upper in
+    let present = transport_between headers payload upper in
     let len : length (message_of headers upper payload) ≡ transport_header_len upper + length payload = omega (
       arith,
-      transport_len there fits,
+      transport_len present fits,
       between_len headers payload upper,
-      length-append (transport_bytes there) payload,
+      length-append (transport_bytes present) payload,
     ) in
     let most = (bound part headers upper payload buildable).0 in
     let within : length (message_of headers upper payload) + ip_extensions_len headers ≤ most_after_header headers =
@@ -305,21 +305,21 @@ net_verdicts : (part : LinkPart) (headers : IpHeaders) (upper : TransportHeader)
     IsTransportAfterNet slices (Some (payload_of_headers written (last_of upper) message)) transport
     → checksums_of packet ≡ net_checksums
     (ip_frame headers (last_of upper) message)
-    (Some (net_of slices headers (last_of upper) message fit (ends_there headers upper)).layer)
+    (Some (net_of slices headers (last_of upper) message fit (ends_present headers upper)).layer)
     false
     transport
-net_verdicts part headers upper payload packet built fit transport there =
+net_verdicts part headers upper payload packet built fit transport present =
     let message = message_of headers upper payload in
     let inner = ip_frame headers (last_of upper) message in
-    let net = net_of slices headers (last_of upper) message fit (ends_there headers upper) in
+    let net = net_of slices headers (last_of upper) message fit (ends_present headers upper) in
     let any : IsNetPart slices (Some any_ip) inner (Some net.layer) transport = (
       net.layer,
       net.any,
       refl,
-      subst (λ (p : Option IpPayload). IsTransportAfterNet slices p transport) (sym net.has_payload) there,
+      subst (λ (p : Option IpPayload). IsTransportAfterNet slices p transport) (sym net.has_payload) present,
     ) in
     let frame = frame_is slices part (transport_packet headers upper) built.entry inner net.layer transport
-    built.fits_link built.of (ip_is_net slices headers _ _ _ transport net there) (λ is_ip. any) in
+    built.fits_link built.of (ip_is_net slices headers _ _ _ transport net present) (λ is_ip. any) in
     let bytes = built_frame (transport_frame_headers part headers upper) payload in
     let are_bytes : AreBytes bytes = ip_frame_is_bytes part headers (last_of upper) message built.fits_link fit
     built.bytes in
@@ -332,13 +332,13 @@ net_verdicts part headers upper payload packet built fit transport there =
     ∙ ap (net_checksums inner (Some net.layer) false) frame.has_transport
 
 -- The transport layer that is found has all bytes of the message.
-all_taken : (headers : IpHeaders) (upper written : TransportHeader) (message : List ℕ)
-    → (found : TransportOf slices (transport_number upper) headers written message)
+all_taken : (headers : IpHeaders) (upper : TransportHeader) (payload : List ℕ) (written : TransportHeader)
+    (message : List ℕ) → (found : TransportOf slices (transport_number upper) headers upper payload written message)
     → take (transport_header_len found.layer.header + length found.layer.payload) message ≡ message
-all_taken headers upper written message found =
-    let front = transport_encoded (Some found.layer) found.header found.encodes in
+all_taken headers upper payload written message found =
+    let prefix = transport_encoded (Some found.layer) found.header found.encodes in
     let len : transport_header_len found.layer.header + length found.layer.payload ≡ length message =
-    omega (arith, front, ap length found.parts, length-append found.header found.layer.payload) in
+    omega (arith, prefix, ap length found.parts, length-append found.header found.layer.payload) in
     ap (λ (n : ℕ). take n message) len ∙ take-length message
 
 -- ---- length of an ICMPv4 message
@@ -364,14 +364,14 @@ length_read (transport.Icmpv4 header) message None (inr none) = absurd (none.2 r
 its_length : (part : LinkPart) (headers : IpHeaders) (upper : TransportHeader) (payload : List ℕ)
     (packet : SlicedPacket) → IsBuiltAndSliced part headers upper payload packet → headers_fragment headers ≡ false
     → HasItsLength upper (message_of headers upper payload)
-its_length part headers upper payload packet built whole =
+its_length part headers upper payload packet built complete =
     let message = message_of headers upper payload in
     let written = headers_for headers (last_of upper) (length message) in
     let content = payload_of_headers written (last_of upper) message in
     let inner = ip_frame headers (last_of upper) message in
     let layers = layers_of packet in
     let fit = written_fit part headers upper payload built.fit built.fits built.buildable in
-    let net = net_of slices headers (last_of upper) message fit (ends_there headers upper) in
+    let net = net_of slices headers (last_of upper) message fit (ends_present headers upper) in
     let found = (ip_in part headers (transport_packet headers upper) built.entry inner layers refl built.fits_link
     built.of built.frame).part in
     let are_bytes : AreBytes inner =
@@ -381,59 +381,59 @@ its_length part headers upper payload packet built whole =
     (ip_decided slices inner are_bytes).one_value found.1.0 net.any.0 found.1.1 net.any.1 in
     let same_layer : found.0 ≡ net.layer = found.1.2 ∙ ap ip_layer same ∙ sym net.any.2 in
     let has_payload : net_payload found.0 ≡ Some content = ap net_payload same_layer ∙ net.has_payload in
-    let there : IsTransportIn slices content layers.transport =
+    let present : IsTransportIn slices content layers.transport =
     subst (λ (p : Option IpPayload). IsTransportAfterNet slices p layers.transport) has_payload found.3 in
     length_read upper message layers.transport
     (subst (λ (f : Bool). IsTransportPart slices (transport_number upper) f message layers.transport)
-    (fragments_linked headers (last_of upper) (length message) ∙ whole) there)
+    (fragments_linked headers (last_of upper) (length message) ∙ complete) present)
 
 -- ---- verdicts
 
-whole_verdicts : (part : LinkPart) (headers : IpHeaders) (upper : TransportHeader) (payload : List ℕ)
+complete_verdicts : (part : LinkPart) (headers : IpHeaders) (upper : TransportHeader) (payload : List ℕ)
     (packet : SlicedPacket) → IsBuiltAndSliced part headers upper payload packet
     → HasItsLength upper (message_of headers upper payload) → headers_fragment headers ≡ false
     → checksums_of packet ≡ built_verdicts headers
-whole_verdicts part (version.Ipv4 header extensions) upper payload packet built of_length whole =
+complete_verdicts part (version.Ipv4 header extensions) upper payload packet built of_length complete =
     let headers = version.Ipv4 header extensions in
     let message = message_of headers upper payload in
     let written = headers_for headers (last_of upper) (length message) in
     let content = payload_of_headers written (last_of upper) message in
     let fit = written_fit part headers upper payload built.fit built.fits built.buildable in
-    let net = net_of slices headers (last_of upper) message fit (ends_there headers upper) in
+    let net = net_of slices headers (last_of upper) message fit (ends_present headers upper) in
     let found = transport_of slices headers upper payload built.fits built.bytes of_length in
-    let there : IsTransportAfterNet slices (Some content) (Some found.layer) =
-    subst (λ f. IsTransportPart slices (transport_number upper) f message (Some found.layer)) (sym whole) found.part in
+    let present : IsTransportAfterNet slices (Some content) (Some found.layer) =
+    subst (λ f. IsTransportPart slices (transport_number upper) f message (Some found.layer)) (sym complete) found.part in
     let valid = found.same_ipv4 header.source header.destination
     ∙ message_is_valid part headers upper payload built.fit built.fits built.buildable in
-    net_verdicts part headers upper payload packet built fit (Some found.layer) there
+    net_verdicts part headers upper payload packet built fit (Some found.layer) present
     ∙ net_4 (ipv4_of written) (ipv4_linked extensions (last_of upper)) (parts_bytes (ip_headers_parts written)) message
-    net.layer content found.layer fit.0 net.has_headers net.has_payload whole refl refl
-    (all_taken headers upper _ message found) valid
+    net.layer content found.layer fit.0 net.has_headers net.has_payload complete refl refl
+    (all_taken headers upper payload _ message found) valid
     ∙ λ i. record {
       ipv4_header = Some Valid;
-      transport = Some (if sym whole i || has_source_route header.options then Unknown else Valid);
+      transport = Some (if sym complete i || has_source_route header.options then Unknown else Valid);
     }
-whole_verdicts part (version.Ipv6 header extensions) upper payload packet built of_length whole =
+complete_verdicts part (version.Ipv6 header extensions) upper payload packet built of_length complete =
     let headers = version.Ipv6 header extensions in
     let message = message_of headers upper payload in
     let written = headers_for headers (last_of upper) (length message) in
     let content = payload_of_headers written (last_of upper) message in
     let fit = written_fit part headers upper payload built.fit built.fits built.buildable in
-    let net = net_of slices headers (last_of upper) message fit (ends_there headers upper) in
+    let net = net_of slices headers (last_of upper) message fit (ends_present headers upper) in
     let found = transport_of slices headers upper payload built.fits built.bytes of_length in
-    let linked = fragments_linked headers (last_of upper) (length message) ∙ whole in
-    let there : IsTransportAfterNet slices (Some content) (Some found.layer) =
+    let linked = fragments_linked headers (last_of upper) (length message) ∙ complete in
+    let present : IsTransportAfterNet slices (Some content) (Some found.layer) =
     subst (λ f. IsTransportPart slices (transport_number upper) f message (Some found.layer)) (sym linked) found.part in
     let valid = found.same_ipv6 header.source header.destination
     ∙ message_is_valid part headers upper payload built.fit built.fits built.buildable in
     let routed = some_mapped _ extensions.routing in
-    net_verdicts part headers upper payload packet built fit (Some found.layer) there
+    net_verdicts part headers upper payload packet built fit (Some found.layer) present
     ∙ net_6 (ipv6_of written) (ipv6_linked extensions (last_of upper)) (ip_frame headers (last_of upper) message)
     message net.layer content found.layer net.has_headers net.has_payload linked refl refl
-    (all_taken headers upper _ message found) valid
+    (all_taken headers upper payload _ message found) valid
     ∙ λ i. record {
       ipv4_header = None;
-      transport = Some (if sym whole i || routed i then Unknown else Valid);
+      transport = Some (if sym complete i || routed i then Unknown else Valid);
     }
 
 split_verdicts : (part : LinkPart) (headers : IpHeaders) (upper : TransportHeader) (payload : List ℕ)
@@ -445,7 +445,7 @@ split_verdicts part (version.Ipv4 header extensions) upper payload packet built 
     let written = headers_for headers (last_of upper) (length message) in
     let content = payload_of_headers written (last_of upper) message in
     let fit = written_fit part headers upper payload built.fit built.fits built.buildable in
-    let net = net_of slices headers (last_of upper) message fit (ends_there headers upper) in
+    let net = net_of slices headers (last_of upper) message fit (ends_present headers upper) in
     net_verdicts part headers upper payload packet built fit None (inl split)
     ∙ fragment_4 (ipv4_of written) (ipv4_linked extensions (last_of upper)) (parts_bytes (ip_headers_parts written))
     message net.layer content fit.0 net.has_headers net.has_payload split
@@ -459,7 +459,7 @@ split_verdicts part (version.Ipv6 header extensions) upper payload packet built 
     let written = headers_for headers (last_of upper) (length message) in
     let content = payload_of_headers written (last_of upper) message in
     let fit = written_fit part headers upper payload built.fit built.fits built.buildable in
-    let net = net_of slices headers (last_of upper) message fit (ends_there headers upper) in
+    let net = net_of slices headers (last_of upper) message fit (ends_present headers upper) in
     let linked = fragments_linked headers (last_of upper) (length message) ∙ split in
     net_verdicts part headers upper payload packet built fit None (inl linked)
     ∙ fragment_6 (ipv6_of written) (ipv6_linked extensions (last_of upper))
@@ -474,9 +474,9 @@ by_fragment : (part : LinkPart) (headers : IpHeaders) (upper : TransportHeader) 
     → headers_fragment headers ≡ split → checksums_of packet ≡ built_verdicts headers
 by_fragment part headers upper payload packet built true split =
     split_verdicts part headers upper payload packet built split
-by_fragment part headers upper payload packet built false whole =
-    whole_verdicts part headers upper payload packet built
-    (its_length part headers upper payload packet built whole) whole
+by_fragment part headers upper payload packet built false complete =
+    complete_verdicts part headers upper payload packet built
+    (its_length part headers upper payload packet built complete) complete
 
 -- The verdicts about a packet of a built frame.
 pub frame_is_valid : (part : LinkPart) (headers : IpHeaders) (upper : TransportHeader) (payload : List ℕ)
@@ -503,15 +503,15 @@ frame_is_valid part headers upper payload fits_link fit fits bytes buildable ent
 
 -- A first byte with the same header length is of a header of that length.
 same_len : (a b : ℕ) → 2 ^ 4 * 4 + a / 4 ≡ 2 ^ 4 * 4 + b / 4 → a % 4 ≡ 0 → b % 4 ≡ 0 → a ≡ b
-same_len a b first whole_a whole_b = omega (arith, first, whole_a, whole_b)
+same_len a b first complete_a complete_b = omega (arith, first, complete_a, complete_b)
 
 words : (options : List ℕ) → length options % 4 ≡ 0 → (20 + length options) % 4 ≡ 0
-words options whole = omega (arith, whole)
+words options complete = omega (arith, complete)
 
 -- The header in bytes that begin with an IPv4 header is of its length.
 len_found : (header : Ipv4Header) (rest message : List ℕ) (packet : IpPacket Ipv4Header)
-    → length header.options % 4 ≡ 0 → let there = record header { header_checksum = ipv4_checksum header } in
-    IsIpv4 slices ((ipv4_bytes there ++ rest) ++ message) packet
+    → length header.options % 4 ≡ 0 → let present = record header { header_checksum = ipv4_checksum header } in
+    IsIpv4 slices ((ipv4_bytes present ++ rest) ++ message) packet
     → ipv4_header_len packet.header ≡ ipv4_header_len header
 len_found header rest message packet options_words is =
     let seen = is.cut.encodes in

@@ -92,11 +92,11 @@ not_absent (suc n) = grind (arith, common_steps)
 
 udp_4 : (source destination : List ℕ) (header : UdpHeader) (payload : List ℕ) → length source ≡ 4
     → length destination ≡ 4 → header.length ≤ 65535 → header.length ≡ 8 + length payload
-    → let there = record header { checksum = udp_checksum_ipv4 source destination header payload } in
-    verdict_ipv4 source destination (transport.Udp there) (udp_bytes there ++ payload) ≡ Valid
+    → let present = record header { checksum = udp_checksum_ipv4 source destination header payload } in
+    verdict_ipv4 source destination (transport.Udp present) (udp_bytes present ++ payload) ≡ Valid
 udp_4 source destination header payload is_source is_destination fits counts =
-    let there = record header { checksum = udp_checksum_ipv4 source destination header payload } in
-    let message = udp_bytes there ++ payload in
+    let present = record header { checksum = udp_checksum_ipv4 source destination header payload } in
+    let message = udp_bytes present ++ payload in
     let pseudo = pseudo_header_ipv4 source destination udp_number header.length in
     let head = to_be_bytes w16 header.source_port ++ to_be_bytes w16 header.destination_port
     ++ to_be_bytes w16 header.length in
@@ -113,11 +113,11 @@ udp_4 source destination header payload is_source is_destination fits counts =
 
 udp_6 : (source destination : List ℕ) (header : UdpHeader) (payload : List ℕ) → length source ≡ 16
     → length destination ≡ 16 → header.length ≤ 65535 → header.length ≡ 8 + length payload
-    → let there = record header { checksum = udp_checksum_ipv6 source destination header payload } in
-    verdict_ipv6 source destination (transport.Udp there) (udp_bytes there ++ payload) ≡ Valid
+    → let present = record header { checksum = udp_checksum_ipv6 source destination header payload } in
+    verdict_ipv6 source destination (transport.Udp present) (udp_bytes present ++ payload) ≡ Valid
 udp_6 source destination header payload is_source is_destination fits counts =
-    let there = record header { checksum = udp_checksum_ipv6 source destination header payload } in
-    let message = udp_bytes there ++ payload in
+    let present = record header { checksum = udp_checksum_ipv6 source destination header payload } in
+    let message = udp_bytes present ++ payload in
     let pseudo = pseudo_header_ipv6 source destination udp_number header.length in
     let head = to_be_bytes w16 header.source_port ++ to_be_bytes w16 header.destination_port
     ++ to_be_bytes w16 header.length in
@@ -135,33 +135,33 @@ udp_6 source destination header payload is_source is_destination fits counts =
 
 tcp_4 : (source destination : List ℕ) (header : TcpHeader) (payload : List ℕ) → length source ≡ 4
     → length destination ≡ 4 → tcp_header_len header + length payload ≤ 65535
-    → let there = record header { checksum = tcp_checksum_ipv4 source destination header payload } in
-    verdict_ipv4 source destination (transport.Tcp there) (tcp_bytes there ++ payload) ≡ Valid
+    → let present = record header { checksum = tcp_checksum_ipv4 source destination header payload } in
+    verdict_ipv4 source destination (transport.Tcp present) (tcp_bytes present ++ payload) ≡ Valid
 tcp_4 source destination header payload is_source is_destination fits =
-    let there = record header { checksum = tcp_checksum_ipv4 source destination header payload } in
-    let message = tcp_bytes there ++ payload in
+    let present = record header { checksum = tcp_checksum_ipv4 source destination header payload } in
+    let message = tcp_bytes present ++ payload in
     let len = tcp_header_len header + length payload in
     let pseudo = pseudo_header_ipv4 source destination tcp_number len in
     let even = even_4 source destination tcp_number len is_source is_destination in
     let sum : ones_sum (pseudo ++ message) ≡ 65535 =
     filled pseudo (take 16 (tcp_bytes header)) (drop 18 (tcp_bytes header ++ payload)) even refl in
-    ap (verdict_at_4 source destination tcp_number message) (tcp_len there payload)
+    ap (verdict_at_4 source destination tcp_number message) (tcp_len present payload)
     ∙ valid_within 65535 len (pseudo ++ message) fits sum
 
 tcp_6 : (source destination : List ℕ) (header : TcpHeader) (payload : List ℕ) → length source ≡ 16
     → length destination ≡ 16 → tcp_header_len header + length payload ≤ 65535
-    → let there = record header { checksum = tcp_checksum_ipv6 source destination header payload } in
-    verdict_ipv6 source destination (transport.Tcp there) (tcp_bytes there ++ payload) ≡ Valid
+    → let present = record header { checksum = tcp_checksum_ipv6 source destination header payload } in
+    verdict_ipv6 source destination (transport.Tcp present) (tcp_bytes present ++ payload) ≡ Valid
 tcp_6 source destination header payload is_source is_destination fits =
-    let there = record header { checksum = tcp_checksum_ipv6 source destination header payload } in
-    let message = tcp_bytes there ++ payload in
+    let present = record header { checksum = tcp_checksum_ipv6 source destination header payload } in
+    let message = tcp_bytes present ++ payload in
     let len = tcp_header_len header + length payload in
     let pseudo = pseudo_header_ipv6 source destination tcp_number len in
     let even = even_6 source destination tcp_number len is_source is_destination in
     let sum : ones_sum (pseudo ++ message) ≡ 65535 =
     filled pseudo (take 16 (tcp_bytes header)) (drop 18 (tcp_bytes header ++ payload)) even refl in
     let within : len ≤ 4294967295 = omega (arith, fits) in
-    ap (verdict_at_6 source destination tcp_number message) (tcp_len there payload)
+    ap (verdict_at_6 source destination tcp_number message) (tcp_len present payload)
     ∙ valid_within 4294967295 len (pseudo ++ message) within sum
 
 icmpv4_is_valid : (header : Icmpv4Header) (payload : List ℕ)
@@ -173,12 +173,12 @@ icmpv4_is_valid header payload = valid_sum _
 
 icmpv6_6 : (source destination : List ℕ) (header : Icmpv6Header) (payload : List ℕ) → length source ≡ 16
     → length destination ≡ 16 → 8 + length payload ≤ 65535
-    → let there = record header { checksum = icmpv6_checksum source destination header payload } in
-    length (icmpv6_bytes there) ≡ 8
-    → verdict_ipv6 source destination (transport.Icmpv6 there) (icmpv6_bytes there ++ payload) ≡ Valid
+    → let present = record header { checksum = icmpv6_checksum source destination header payload } in
+    length (icmpv6_bytes present) ≡ 8
+    → verdict_ipv6 source destination (transport.Icmpv6 present) (icmpv6_bytes present ++ payload) ≡ Valid
 icmpv6_6 source destination header payload is_source is_destination fits is_long =
-    let there = record header { checksum = icmpv6_checksum source destination header payload } in
-    let message = icmpv6_bytes there ++ payload in
+    let present = record header { checksum = icmpv6_checksum source destination header payload } in
+    let message = icmpv6_bytes present ++ payload in
     let len = 8 + length payload in
     let pseudo = pseudo_header_ipv6 source destination icmpv6_number len in
     let even = even_6 source destination icmpv6_number len is_source is_destination in
@@ -186,7 +186,7 @@ icmpv6_6 source destination header payload is_source is_destination fits is_long
     filled pseudo (icmpv6_type_u8 header.icmp_type ∷ icmpv6_code_u8 header.icmp_type ∷ [])
     (icmpv6_rest_with (0 ∷ 0 ∷ 0 ∷ 0 ∷ []) header.icmp_type ++ payload) even refl in
     let within : len ≤ 4294967295 = omega (arith, fits) in
-    let is_len : length message ≡ len = omega (arith, is_long, length-append (icmpv6_bytes there) payload) in
+    let is_len : length message ≡ len = omega (arith, is_long, length-append (icmpv6_bytes present) payload) in
     ap (verdict_at_6 source destination icmpv6_number message) is_len
     ∙ valid_within 4294967295 len (pseudo ++ message) within sum
 

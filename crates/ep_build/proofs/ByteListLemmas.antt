@@ -20,17 +20,17 @@ more_bytes byte bytes small fits (suc i) = fits i
 pub more : (byte : ℕ) (bytes : List ℕ) → byte < 256 → AllBytes bytes → AllBytes (byte ∷ bytes)
 more byte bytes small all = record { fits = more_bytes byte bytes small all.fits }
 
-pub both_bytes : (bytes behind : List ℕ) → AreBytes bytes → AreBytes behind → AreBytes (bytes ++ behind)
-both_bytes [] behind fits other = other
-both_bytes (byte ∷ bytes) behind fits other =
-    more_bytes byte (bytes ++ behind) (fits 0) (both_bytes bytes behind (λ i. fits (suc i)) other)
+pub both_bytes : (bytes after : List ℕ) → AreBytes bytes → AreBytes after → AreBytes (bytes ++ after)
+both_bytes [] after fits other = other
+both_bytes (byte ∷ bytes) after fits other =
+    more_bytes byte (bytes ++ after) (fits 0) (both_bytes bytes after (λ i. fits (suc i)) other)
 
-pub both : (bytes behind : List ℕ) → AreBytes bytes → AllBytes behind → AllBytes (bytes ++ behind)
-both bytes behind fits other = record { fits = both_bytes bytes behind fits other.fits }
+pub both : (bytes after : List ℕ) → AreBytes bytes → AllBytes after → AllBytes (bytes ++ after)
+both bytes after fits other = record { fits = both_bytes bytes after fits other.fits }
 
-pub word : (n : ℕ) (behind : List ℕ) → AllBytes behind → AllBytes (to_be_bytes w16 n ++ behind)
-word n behind all = more _ _ (omega arith) (more _ _ (omega arith) all)
+pub word : (n : ℕ) (after : List ℕ) → AllBytes after → AllBytes (to_be_bytes w16 n ++ after)
+word n after all = more _ _ (omega arith) (more _ _ (omega arith) all)
 
-pub long : (n : ℕ) (behind : List ℕ) → AllBytes behind → AllBytes (to_be_bytes w32 n ++ behind)
-long n behind all =
+pub long : (n : ℕ) (after : List ℕ) → AllBytes after → AllBytes (to_be_bytes w32 n ++ after)
+long n after all =
     more _ _ (omega arith) (more _ _ (omega arith) (more _ _ (omega arith) (more _ _ (omega arith) all)))

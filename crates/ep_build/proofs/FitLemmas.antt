@@ -35,8 +35,8 @@ use Rattle.ep_build.proofs.HeaderListLemmas.{header_lists}
 -- ---- next header values
 
 -- The next header value before an optional header is a byte.
-before_fits : {H : Type 0} (there : Option H) (number : ℕ) (next : IpNumber) → number < 2 ^ 8 → next.0 < 2 ^ 8
-    → (number_before there number next).0 < 2 ^ 8
+before_fits : {H : Type 0} (present : Option H) (number : ℕ) (next : IpNumber) → number < 2 ^ 8 → next.0 < 2 ^ 8
+    → (number_before present number next).0 < 2 ^ 8
 before_fits None number next small fits = fits
 before_fits (Some header) number next small fits = small
 
@@ -103,33 +103,33 @@ auth_fits next header small fits = record {
 }
 
 -- A change that keeps a header's fields fitting does so for an optional header.
-there_fits : {H : Type 0} (kind : H → ExtensionPart) (change : H → H)
-    → ((header : H) → FitsPart (kind header) → FitsPart (kind (change header))) → (there : Option H)
-    → FitParts (optional_part kind there) → FitParts (optional_part kind (option_map change there))
-there_fits kind change each None fit = tt
-there_fits kind change each (Some header) fit = (each header fit.0, tt)
+present_fits : {H : Type 0} (kind : H → ExtensionPart) (change : H → H)
+    → ((header : H) → FitsPart (kind header) → FitsPart (kind (change header))) → (present : Option H)
+    → FitParts (optional_part kind present) → FitParts (optional_part kind (option_map change present))
+present_fits kind change each None fit = tt
+present_fits kind change each (Some header) fit = (each header fit.0, tt)
 
-routing_fits : (next last : IpNumber) (behind : Option Ipv6RoutingExtensions) → next.0 < 2 ^ 8
-    → FitParts (optional_part routing (option_map routing_header behind))
-    → FitParts (optional_part routing (option_map routing_header (option_map (routing_leading_to next last) behind)))
+routing_fits : (next last : IpNumber) (after : Option Ipv6RoutingExtensions) → next.0 < 2 ^ 8
+    → FitParts (optional_part routing (option_map routing_header after))
+    → FitParts (optional_part routing (option_map routing_header (option_map (routing_leading_to next last) after)))
 routing_fits next last None small fit = tt
-routing_fits next last (Some behind) small fit = (raw_fits next behind.routing small fit.0, tt)
+routing_fits next last (Some after) small fit = (raw_fits next after.routing small fit.0, tt)
 
-final_fits : (next last : IpNumber) (behind : Option Ipv6RoutingExtensions) → last.0 < 2 ^ 8
-    → FitParts (optional_part destination_options (final_by behind))
-    → FitParts (optional_part destination_options (final_by (option_map (routing_leading_to next last) behind)))
+final_fits : (next last : IpNumber) (after : Option Ipv6RoutingExtensions) → last.0 < 2 ^ 8
+    → FitParts (optional_part destination_options (final_by after))
+    → FitParts (optional_part destination_options (final_by (option_map (routing_leading_to next last) after)))
 final_fits next last None small fit = tt
-final_fits next last (Some behind) small fit = there_fits destination_options (raw_leading_to last)
-    (λ header fits. raw_fits last header small fits) behind.final_destination_options fit
+final_fits next last (Some after) small fit = present_fits destination_options (raw_leading_to last)
+    (λ header fits. raw_fits last header small fits) after.final_destination_options fit
 
 -- The fields of two concatenated lists of headers fit.
 fit_append : (parts more : List ExtensionPart) → FitParts parts → FitParts more → FitParts (parts ++ more)
 fit_append [] more fit other = other
 fit_append (part ∷ parts) more fit other = (fit.0, fit_append parts more fit.1 other)
 
-fit_front : (parts more : List ExtensionPart) → FitParts (parts ++ more) → FitParts parts
-fit_front [] more fit = tt
-fit_front (part ∷ parts) more fit = (fit.0, fit_front parts more fit.1)
+fit_prefix : (parts more : List ExtensionPart) → FitParts (parts ++ more) → FitParts parts
+fit_prefix [] more fit = tt
+fit_prefix (part ∷ parts) more fit = (fit.0, fit_prefix parts more fit.1)
 
 fit_back : (parts more : List ExtensionPart) → FitParts (parts ++ more) → FitParts more
 fit_back [] more fit = fit
@@ -138,7 +138,7 @@ fit_back (part ∷ parts) more fit = fit_back parts more fit.1
 fit_both : (parts new more others : List ExtensionPart) → (FitParts parts → FitParts new)
     → (FitParts more → FitParts others) → FitParts (parts ++ more) → FitParts (new ++ others)
 fit_both parts new more others first second fit =
-    fit_append new others (first (fit_front parts more fit)) (second (fit_back parts more fit))
+    fit_append new others (first (fit_prefix parts more fit)) (second (fit_back parts more fit))
 
 parts_fit_6 : (extensions : Ipv6Extensions) (last : IpNumber) → last.0 < 2 ^ 8 → FitParts (ipv6_parts extensions)
     → FitParts (ipv6_parts (ipv6_linked extensions last))
@@ -147,24 +147,24 @@ parts_fit_6 extensions last small =
     let new = header_lists (ipv6_linked extensions last) in
     let numbers = numbers_fit extensions last small in
     let ab = fit_both old.hop new.hop old.destination new.destination
-    (there_fits hop_by_hop (raw_leading_to (after_hop_by_hop extensions last))
+    (present_fits hop_by_hop (raw_leading_to (after_hop_by_hop extensions last))
     (λ header fits. raw_fits (after_hop_by_hop extensions last) header numbers.hop_by_hop fits)
     extensions.hop_by_hop_options)
-    (there_fits destination_options (raw_leading_to (after_destination extensions last))
+    (present_fits destination_options (raw_leading_to (after_destination extensions last))
     (λ header fits. raw_fits (after_destination extensions last) header numbers.destination fits)
     extensions.destination_options) in
-    let abc = fit_both (old.hop ++ old.destination) (new.hop ++ new.destination) old.behind new.behind ab
+    let abc = fit_both (old.hop ++ old.destination) (new.hop ++ new.destination) old.after new.after ab
     (routing_fits (after_routing extensions last) last extensions.routing numbers.routing) in
-    let fit_before_auth = fit_both (old.hop ++ old.destination ++ old.behind) (new.hop ++ new.destination ++ new.behind)
+    let fit_before_auth = fit_both (old.hop ++ old.destination ++ old.after) (new.hop ++ new.destination ++ new.after)
     old.fragments new.fragments abc
-    (there_fits fragment (fragment_leading_to (after_fragment extensions last))
+    (present_fits fragment (fragment_leading_to (after_fragment extensions last))
     (λ header fits. fragment_fits (after_fragment extensions last) header numbers.fragment fits) extensions.fragment) in
-    let abcde = fit_both (old.hop ++ old.destination ++ old.behind ++ old.fragments)
-    (new.hop ++ new.destination ++ new.behind ++ new.fragments) old.auth new.auth fit_before_auth
-    (there_fits authentication (ip_auth_leading_to (after_auth extensions last))
+    let abcde = fit_both (old.hop ++ old.destination ++ old.after ++ old.fragments)
+    (new.hop ++ new.destination ++ new.after ++ new.fragments) old.auth new.auth fit_before_auth
+    (present_fits authentication (ip_auth_leading_to (after_auth extensions last))
     (λ header fits. auth_fits (after_auth extensions last) header numbers.auth fits) extensions.auth) in
-    fit_both (old.hop ++ old.destination ++ old.behind ++ old.fragments ++ old.auth)
-    (new.hop ++ new.destination ++ new.behind ++ new.fragments ++ new.auth) old.final new.final abcde
+    fit_both (old.hop ++ old.destination ++ old.after ++ old.fragments ++ old.auth)
+    (new.hop ++ new.destination ++ new.after ++ new.fragments ++ new.auth) old.final new.final abcde
     (final_fits (after_routing extensions last) last extensions.routing small)
 
 -- ---- length
@@ -206,7 +206,7 @@ linked_fit part (version.Ipv4 header extensions) last len fit small buildable = 
     options_words = fit.0.options_words;
     options = fit.0.options;
   },
-  there_fits authentication (ip_auth_leading_to last) (λ auth fits. auth_fits last auth small fits) extensions.auth
+  present_fits authentication (ip_auth_leading_to last) (λ auth fits. auth_fits last auth small fits) extensions.auth
       fit.1,
 )
 linked_fit part (version.Ipv6 header extensions) last len fit small buildable = (

@@ -20,6 +20,7 @@ use Rattle.ep_packet.specs.IpHeaders.{ip_headers_type, with_checksum, written_he
 use Rattle.ep_packet.specs.declared.ip_headers.IpHeaders.{IpHeaders}
 use Rattle.ep_packet.specs.declared.ip_headers.IpHeaders.TheVariants as version
 use Rattle.ep_build.specs.BuiltFrames.{as_ether_type, built_frame, ip_frame_headers, link_with_type, link_part_bytes}
+use Rattle.ep_build.specs.BuiltFrames.{tag_with_type}
 use Rattle.ep_build.specs.Fits.{FitsLink}
 use Rattle.ep_build.specs.declared.link_part.LinkPart.{LinkPart}
 use Rattle.ep_build.specs.declared.link_part.LinkPart.TheVariants as link
@@ -82,12 +83,12 @@ link_is_bytes link.Absent type fits = none
 link_is_bytes (link.Ethernet2 header) type fits = ethernet2_is_bytes header type fits
 link_is_bytes (link.Tagged header (tags.Single tag)) type fits =
     both (ethernet2_bytes (record header { ether_type = as_ether_type vlan_type })) _
-    (ethernet2_is_bytes header (as_ether_type vlan_type) fits.0).fits (vlan_is_bytes (record tag { ether_type = type }))
+    (ethernet2_is_bytes header (as_ether_type vlan_type) fits.0).fits (vlan_is_bytes (tag_with_type tag type))
 link_is_bytes (link.Tagged header (tags.Double inner)) type fits =
     let first = as_ether_type provider_bridging_type in
-    let second = record inner.outer { ether_type = as_ether_type vlan_type } in
+    let second = tag_with_type inner.outer (as_ether_type vlan_type) in
     both (ethernet2_bytes (record header { ether_type = first })) _ (ethernet2_is_bytes header first fits.0).fits
-    (both (vlan_bytes second) _ (vlan_is_bytes second).fits (vlan_is_bytes (record inner.inner { ether_type = type })))
+    (both (vlan_bytes second) _ (vlan_is_bytes second).fits (vlan_is_bytes (tag_with_type inner.inner type)))
 link_is_bytes (link.LinuxSll header) type fits =
     word _ _ (word ethernet_hardware _ (word header.sender_address_valid_length _
     (both header.sender_address _ fits.address (word type.0 [] none))))

@@ -9,7 +9,7 @@ use Rattle.ep_ext.specs.declared.ipv6_exts.Ipv6Extensions.{Ipv6Extensions}
 pub record HeaderLists : Type 0 where
   pub hop : List ExtensionPart
   pub destination : List ExtensionPart
-  pub behind : List ExtensionPart
+  pub after : List ExtensionPart
   pub fragments : List ExtensionPart
   pub auth : List ExtensionPart
   pub final : List ExtensionPart
@@ -18,7 +18,7 @@ abbrev pub header_lists : Ipv6Extensions → HeaderLists
 header_lists extensions = record {
   hop = optional_part hop_by_hop extensions.hop_by_hop_options;
   destination = optional_part destination_options extensions.destination_options;
-  behind = optional_part routing (option_map routing_header extensions.routing);
+  after = optional_part routing (option_map routing_header extensions.routing);
   fragments = optional_part fragment extensions.fragment;
   auth = optional_part authentication extensions.auth;
   final = optional_part destination_options (final_by extensions.routing);

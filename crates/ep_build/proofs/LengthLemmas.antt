@@ -32,17 +32,17 @@ raw_len : (next : IpNumber) (header : Option Ipv6RawExtHeader)
 raw_len next None = refl
 raw_len next (Some header) = refl
 
-routing_len : (next last : IpNumber) (behind : Option Ipv6RoutingExtensions)
-    → option_map_or raw_extension_len (option_map routing_header (option_map (routing_leading_to next last) behind)) 0
-    ≡ option_map_or raw_extension_len (option_map routing_header behind) 0
+routing_len : (next last : IpNumber) (after : Option Ipv6RoutingExtensions)
+    → option_map_or raw_extension_len (option_map routing_header (option_map (routing_leading_to next last) after)) 0
+    ≡ option_map_or raw_extension_len (option_map routing_header after) 0
 routing_len next last None = refl
-routing_len next last (Some behind) = refl
+routing_len next last (Some after) = refl
 
-final_len : (next last : IpNumber) (behind : Option Ipv6RoutingExtensions)
-    → option_map_or raw_extension_len (final_by (option_map (routing_leading_to next last) behind)) 0
-    ≡ option_map_or raw_extension_len (final_by behind) 0
+final_len : (next last : IpNumber) (after : Option Ipv6RoutingExtensions)
+    → option_map_or raw_extension_len (final_by (option_map (routing_leading_to next last) after)) 0
+    ≡ option_map_or raw_extension_len (final_by after) 0
 final_len next last None = refl
-final_len next last (Some behind) = raw_len last behind.final_destination_options
+final_len next last (Some after) = raw_len last after.final_destination_options
 
 abbrev eight : Ipv6FragmentHeader → ℕ
 eight header = 8

@@ -1,9 +1,11 @@
 pub mod LengthLemmas
+pub mod FlagLemmas
 pub mod SizeLemmas
 pub mod WritingLemmas
+pub mod HeaderListLemmas
 pub mod PlacingLemmas
 pub mod LinkReadBackLemmas
-pub mod HeaderListLemmas
+pub mod KeptPartsLemmas
 pub mod NetReadBackLemmas
 pub mod TransportReadBackLemmas
 pub mod ReadBackLemmas
@@ -13,3 +15,5 @@ pub mod FrameBytesLemmas
 pub mod NetFoundLemmas
 pub mod BuiltVerdictLemmas
 pub mod BuiltFrameVerdictLemmas
+pub mod KeptBytesLemmas
+pub mod KeptFieldsLemmas

@@ -31,7 +31,7 @@ use Rattle.ep_packet.specs.declared.entry.Entry.TheVariants.{Ethernet as etherne
 use Rattle.ep_packet.specs.declared.ip_headers.IpHeaders.{IpHeaders}
 use Rattle.ep_packet.specs.declared.ip_headers.IpHeaders.TheVariants as version
 use Rattle.ep_transport.specs.TransportParts.{TransportLayer}
-use Rattle.ep_build.specs.BuiltFrames.{Inside, as_ether_type, inside_type, link_part_bytes, link_with_type}
+use Rattle.ep_build.specs.BuiltFrames.{Inside, as_ether_type, inside_type, link_part_bytes, link_with_type, tag_with_type}
 use Rattle.ep_build.specs.Fits.{FitsCooked, FitsLink}
 use Rattle.ep_build.specs.ReadBack.{IsEntryOf}
 use Rattle.ep_build.specs.declared.link_part.LinkPart.{LinkPart}
@@ -140,14 +140,14 @@ after_header layers bytes inner last has is_payload after = record {
 
 has_cooked : (entry : Entry) (header : LinuxSllHeader) (type : EtherType) (payload : List ℕ) (layers : Layers)
     → FitsCooked header → header.packet_type.0 ≤ 7 → type.0 < 2 ^ 16 → 0x0600 ≤ type.0 → entry ≡ linux_sll
-    → let there = cooked_before header type in IsFrame entry (linux_sll_bytes there ++ payload) layers
-    → HasLink (sll there payload) type payload layers
+    → let present = cooked_before header type in IsFrame entry (linux_sll_bytes present ++ payload) layers
+    → HasLink (sll present payload) type payload layers
 has_cooked entry header type payload layers fits known small is_type is_entry frame =
-    let there = cooked_before header type in
-    let bytes = linux_sll_bytes there ++ payload in
+    let present = cooked_before header type in
+    let bytes = linux_sll_bytes present ++ payload in
     let is = subst (λ (e : Entry). IsFrame e bytes layers) is_entry frame in
-    let same : is.0 ≡ parts_of there payload [] =
-    one_value linux_sll_is_read bytes is.0 (parts_of there payload []) is.1
+    let same : is.0 ≡ parts_of present payload [] =
+    one_value linux_sll_is_read bytes is.0 (parts_of present payload []) is.1
     (is_cooked header type payload fits known small is_type) in
     record {
       same = is.2 ∙ ap (λ (p : Parts LinuxSllHeader). Some (sll p.header p.payload)) same;
@@ -184,7 +184,7 @@ net_in (link.Ethernet2 header) inside entry inner layers fits of small is_type n
 net_in (link.Tagged header (tags.Single tag)) inside entry inner layers fits of small is_type none frame =
     let type = as_ether_type (inside_type inside) in
     let first = record header { ether_type = as_ether_type vlan_type } in
-    let last = record tag { ether_type = type } in
+    let last = tag_with_type tag type in
     let bytes = (ethernet2_bytes first ++ vlan_bytes last) ++ inner in
     let has = has_ethernet2 entry first (vlan_bytes last ++ inner) bytes layers
     (typed header (as_ether_type vlan_type) fits.0 (omega arith))
@@ -195,8 +195,8 @@ net_in (link.Tagged header (tags.Single tag)) inside entry inner layers fits of 
 net_in (link.Tagged header (tags.Double both)) inside entry inner layers fits of small is_type none frame =
     let type = as_ether_type (inside_type inside) in
     let first = record header { ether_type = as_ether_type provider_bridging_type } in
-    let outer = record both.outer { ether_type = as_ether_type vlan_type } in
-    let last = record both.inner { ether_type = type } in
+    let outer = tag_with_type both.outer (as_ether_type vlan_type) in
+    let last = tag_with_type both.inner type in
     let rest = vlan_bytes last ++ inner in
     let bytes = (ethernet2_bytes first ++ (vlan_bytes outer ++ vlan_bytes last)) ++ inner in
     let has = has_ethernet2 entry first (vlan_bytes outer ++ rest) bytes layers
@@ -215,9 +215,9 @@ net_in (link.Tagged header (tags.Double both)) inside entry inner layers fits of
     })
 net_in (link.LinuxSll header) inside entry inner layers fits of small is_type none frame =
     let type = as_ether_type (inside_type inside) in
-    let there = cooked_before header type in
+    let present = cooked_before header type in
     let has = has_cooked entry header type inner layers fits of.0 small is_type of.1 frame in
-    after_header layers (linux_sll_bytes there ++ inner) inner type has refl
+    after_header layers (linux_sll_bytes present ++ inner) inner type has refl
     (no_tag 3 type inner layers.link_exts layers.net layers.transport none has.rest)
 
 -- ---- IP headers

@@ -69,9 +69,9 @@ ip_len headers last content fits =
     )
 
 -- Filling in a transport header keeps its length.
-between_bytes : (headers : IpHeaders) (payload : List ℕ) (behind : TransportHeader)
-    → length (transport_bytes behind) ≡ transport_header_len behind
-    → length (transport_bytes (transport_between headers payload behind)) ≡ transport_header_len behind
+between_bytes : (headers : IpHeaders) (payload : List ℕ) (after : TransportHeader)
+    → length (transport_bytes after) ≡ transport_header_len after
+    → length (transport_bytes (transport_between headers payload after)) ≡ transport_header_len after
 between_bytes (version.Ipv4 ip extensions) payload (transport.Udp header) len = len
 between_bytes (version.Ipv4 ip extensions) payload (transport.Tcp header) len = len
 between_bytes (version.Ipv4 ip extensions) payload (transport.Icmpv4 header) len = len
@@ -94,20 +94,20 @@ ip_size part headers last payload fits_link fits =
       ip_len headers last payload fits,
     )
 
-pub transport_size : (part : LinkPart) (headers : IpHeaders) (behind : TransportHeader) (payload : List ℕ)
-    → FitsLink part → FitsIpHeader headers → length (transport_bytes behind) ≡ transport_header_len behind
-    → length (built_frame (transport_frame_headers part headers behind) payload)
-    ≡ built_size (transport_frame_headers part headers behind) (length payload)
-transport_size part headers behind payload fits_link fits len =
-    let last : IpNumber = record { 0 = transport_number behind } in
-    let filled = transport_bytes (transport_between headers payload behind) in
+pub transport_size : (part : LinkPart) (headers : IpHeaders) (after : TransportHeader) (payload : List ℕ)
+    → FitsLink part → FitsIpHeader headers → length (transport_bytes after) ≡ transport_header_len after
+    → length (built_frame (transport_frame_headers part headers after) payload)
+    ≡ built_size (transport_frame_headers part headers after) (length payload)
+transport_size part headers after payload fits_link fits len =
+    let last : IpNumber = record { 0 = transport_number after } in
+    let filled = transport_bytes (transport_between headers payload after) in
     let type = as_ether_type (inside_type (ip_packet headers last)) in omega (
       arith,
       length-append (link_part_bytes (link_with_type part type)) (ip_frame headers last (filled ++ payload)),
       link_len part type fits_link,
       ip_len headers last (filled ++ payload) fits,
       length-append filled payload,
-      between_bytes headers payload behind len,
+      between_bytes headers payload after len,
     )
 
 pub arp_size : (part : LinkPart) (packet : Arp) → FitsLink part → length (arp_bytes packet) ≡ arp_len packet

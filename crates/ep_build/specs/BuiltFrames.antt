@@ -10,6 +10,7 @@ use Rattle.ep_link.specs.Ethernet2.{ethernet2_bytes, ethernet2_header_len}
 use Rattle.ep_link.specs.LinuxSll.{ethernet_hardware, linux_sll_bytes, linux_sll_header_len}
 use Rattle.ep_link.specs.Vlan.{vlan_tags_bytes}
 use Rattle.ep_link.specs.declared.link.linux_sll_protocol_type.LinuxSllProtocolType.TheVariants as protocol
+use Rattle.ep_link.specs.declared.link_ext.single_vlan_header.SingleVlanHeader.{SingleVlanHeader}
 use Rattle.ep_link.specs.declared.link_ext.vlan_header.VlanHeader.{VlanHeader}
 use Rattle.ep_link.specs.declared.link_ext.vlan_header.VlanHeader.TheVariants as tags
 use Rattle.ep_packet.specs.IpHeaders.{headers_for, ip_headers_len, ip_headers_parts, ip_headers_type}
@@ -61,13 +62,17 @@ abbrev pub tags_type : VlanHeader → ℕ
 tags_type (tags.Single tag) = vlan_type
 tags_type (tags.Double both) = provider_bridging_type
 
+-- A VLAN tag before a payload of this ether type.
+abbrev pub tag_with_type : SingleVlanHeader → EtherType → SingleVlanHeader
+tag_with_type tag type = record tag { ether_type = type }
+
 -- VLAN tags before a payload of this ether type. The outer one of two has the ether type of the inner one, a customer
 -- tag.
 abbrev pub tags_with_type : VlanHeader → EtherType → VlanHeader
-tags_with_type (tags.Single tag) type = tags.Single (record tag { ether_type = type })
+tags_with_type (tags.Single tag) type = tags.Single (tag_with_type tag type)
 tags_with_type (tags.Double both) type = tags.Double (record {
-  outer = record both.outer { ether_type = as_ether_type vlan_type };
-  inner = record both.inner { ether_type = type };
+  outer = tag_with_type both.outer (as_ether_type vlan_type);
+  inner = tag_with_type both.inner type;
 })
 
 -- The link part before a payload of this ether type, which is in its last header. A cooked capture is one of Ethernet.

@@ -3,6 +3,7 @@ pub mod Steps
 pub mod BuildErrors
 pub mod Fits
 pub mod ReadBack
+pub mod KeptFields
 pub mod BuiltVerdicts
 pub mod BuiltFragments
 pub mod AppendedFrames

@@ -1,5 +1,5 @@
 -- The headers of each builder step.
-use Rattle.std.specs.Prelude.{ℕ, ◌+◌, List, None, false}
+use Rattle.std.specs.Prelude.{◌≡◌, ℕ, ◌+◌, ◌-◌, ◌*◌, ◌/◌, ◌%◌, List, ◌∷◌, ◌++◌, drop, slice_index, take, None, false}
 use Rattle.ep_base.specs.declared.ether_type.EtherType.{EtherType}
 use Rattle.ep_base.specs.declared.ip_number.IpNumber.{IpNumber}
 use Rattle.ep_ext.specs.Ipv6Chains.{no_ipv6_extensions}
@@ -15,6 +15,8 @@ use Rattle.ep_link.specs.declared.link_ext.single_vlan_header.SingleVlanHeader.{
 use Rattle.ep_link.specs.declared.link_ext.vlan_header.VlanHeader.{VlanHeader}
 use Rattle.ep_packet.specs.declared.ip_headers.IpHeaders.{IpHeaders}
 use Rattle.ep_packet.specs.declared.ip_headers.IpHeaders.TheVariants as version
+use Rattle.ep_transport.specs.Tcp.{tcp_bytes}
+use Rattle.ep_transport.specs.declared.tcp_header.TcpHeader.{TcpHeader}
 use Rattle.ep_transport.specs.declared.transport_header.TransportHeader.{TransportHeader}
 use Rattle.ep_build.specs.BuiltFrames.{FrameHeaders, arp_frame_headers, ip_frame_headers, transport_frame_headers, link_part_len}
 use Rattle.ep_packet.specs.IpHeaders.{ip_headers_len}
@@ -100,6 +102,19 @@ frame_after step upper = transport_frame_headers (ip_link step) (ip_step_headers
 abbrev pub with_header : {H : Type 0} → PacketBuilderStep H (LinkPart × IpPart) H → H
     → PacketBuilderStep H (LinkPart × IpPart) H
 with_header step header = record step { last = header }
+
+-- ---- flags of a TCP header
+
+-- The number with this bit, a power of 2, set, and its other bits unchanged.
+abbrev pub with_bit : ℕ → ℕ → ℕ
+with_bit mask number = number + mask * (1 - number / mask % 2)
+
+-- The bytes of the second header are those of the first one, with this bit of the byte at this offset set: a flag (RFC
+-- 9293, 3.1).
+abbrev pub SetsFlag : ℕ → ℕ → TcpHeader → TcpHeader → Type 0
+SetsFlag at mask before after =
+    let bytes = tcp_bytes before in
+    tcp_bytes after ≡ take at bytes ++ with_bit mask (slice_index bytes at) ∷ drop (at + 1) bytes
 
 -- ---- step of an ARP packet
 

@@ -2,7 +2,8 @@
 
 ghost use Rattle.std.specs.Prelude.{◌≡◌, ◌+◌, ◌≤◌, ◌++◌, length, vec_len, vec_capacity};
 ghost use Rattle.ep_build.specs.Placing.{AreAt};
-ghost use Rattle.ep_build.specs.BuiltFrames.{link_with_type, link_part_bytes, link_part_len, tags_with_type, tags_len, tags_type};
+ghost use Rattle.ep_build.specs.BuiltFrames.{link_with_type, link_part_bytes, link_part_len, tag_with_type, tags_with_type};
+ghost use Rattle.ep_build.specs.BuiltFrames.{tags_len, tags_type};
 
 use crate::placing::put;
 use ep_base::EtherType;
@@ -201,7 +202,7 @@ fn tags_with_type(tags: &VlanHeader, ether_type: EtherType) -> VlanHeader
 /// Returns the VLAN tag with its ether type replaced by the given one.
 #[inline]
 fn tag_with_type(tag: &SingleVlanHeader, ether_type: EtherType) -> SingleVlanHeader
-    ensures { result ≡ record tag.now { ether_type = ether_type } }
+    ensures { result ≡ tag_with_type tag.now ether_type }
 {
     SingleVlanHeader {
         pcp: tag.pcp,

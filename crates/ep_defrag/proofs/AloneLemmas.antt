@@ -30,7 +30,7 @@ module _ (payload : List ℕ) where
       → IfPayloadReturned (answer_unless refusal name accepted) (λ handed. handed.bytes ≡ payload)
   handed_cuts (Some error) name accepted cuts = tt
   handed_cuts None name accepted cuts = elim (cases_Bool (is_complete accepted)) [
-    | inl whole ↦ rw whole (assembled-cuts payload accepted cuts whole)
+    | inl complete ↦ rw complete (assembled-cuts payload accepted cuts complete)
     | inr partly ↦ rw partly tt
   ]
 
@@ -59,19 +59,19 @@ module _ {T C V : Type 0} (limit : ℕ) (eq : C → C → Bool) (keep : V → T 
       ∙ ap (λ before. answer_to limit (table_after limit eq keep before) call)
       (append_assoc earlier (first ∷ []) (take at calls))
 
-  pub cuts_at : {X Y : Type 0} (shown : X → Call T C V) (said : Y → Answer) (calls : List X) (answers : List Y)
-      → map said answers ≡ answers_to limit eq keep (map shown calls) → (at : ℕ) (call : X) (answer : Y)
+  pub cuts_at : {X Y : Type 0} (shown : X → Call T C V) (stated : Y → Answer) (calls : List X) (answers : List Y)
+      → map stated answers ≡ answers_to limit eq keep (map shown calls) → (at : ℕ) (call : X) (answer : Y)
       → slice_get calls at ≡ Some call → slice_get answers at ≡ Some answer → (payload : List ℕ)
       → All (IsCut payload) (accepted_at (table_after limit eq keep (map shown (take at calls))) (shown call))
-      → IfPayloadReturned (said answer) (λ handed. handed.bytes ≡ payload)
-  cuts_at shown said calls answers same at call answer is_call is_answer payload cuts =
+      → IfPayloadReturned (stated answer) (λ handed. handed.bytes ≡ payload)
+  cuts_at shown stated calls answers same at call answer is_call is_answer payload cuts =
       let call_is : slice_get (map shown calls) at ≡ Some (shown call) =
       slice_get-map shown calls at ∙ ap (option_map shown) is_call in
-      let answer_is : slice_get (answers_to limit eq keep (map shown calls)) at ≡ Some (said answer) =
-      ap (λ xs. slice_get xs at) (sym same) ∙ slice_get-map said answers at ∙ ap (option_map said) is_answer in
-      let answered : said answer
+      let answer_is : slice_get (answers_to limit eq keep (map shown calls)) at ≡ Some (stated answer) =
+      ap (λ xs. slice_get xs at) (sym same) ∙ slice_get-map stated answers at ∙ ap (option_map stated) is_answer in
+      let answered : stated answer
       ≡ answer_to limit (table_after limit eq keep (take at (map shown calls))) (shown call) =
-      answer_at [] (map shown calls) at (shown call) (said answer) call_is answer_is in
+      answer_at [] (map shown calls) at (shown call) (stated answer) call_is answer_is in
       rw (answered, take-map shown at calls)
       (handed_at payload limit (table_after limit eq keep (map shown (take at calls))) (shown call)
       (recursion_from_All (IsCut payload) _ cuts))
@@ -156,14 +156,14 @@ module _ {T C V : Type 0} (limit : ℕ) (eq : C → C → Bool) (keep : V → T 
         → ReturnsAtMost payload (answer_unless refusal name accepted)
     answer_to_cut name accepted (Some error) fits cuts = absurd (cc)
     answer_to_cut name accepted None fits cuts = elim (cases_Bool (is_complete accepted)) [
-      | inl whole ↦ rw whole (assembled-cuts payload accepted cuts whole)
+      | inl complete ↦ rw complete (assembled-cuts payload accepted cuts complete)
       | inr partly ↦ rw partly tt
     ]
 
     pub kept_cuts : (accepted : List IpFragment) (timestamp : T) → AllByRecursion (IsCut payload) accepted
         → AllByRecursion (IsCut payload) (accepted_in (kept_of accepted timestamp))
     kept_cuts accepted timestamp cuts = elim (cases_Bool (is_complete accepted)) [
-      | inl whole ↦ rw whole tt
+      | inl complete ↦ rw complete tt
       | inr partly ↦ rw partly cuts
     ]
 
@@ -194,11 +194,11 @@ module _ {T C V : Type 0} (limit : ℕ) (eq : C → C → Bool) (keep : V → T 
         → is_complete (accepted_in kept) ≡ false
         → is_complete (accepted_in kept ++ fragments_of calls) ≡ true
         → Any (ReturnsPayload payload) (answers_alone kept calls)
-    comes_alone [] kept cuts gives stays partly whole =
-        absurd (false≢true (sym partly ∙ ap is_complete (sym (append-nil (accepted_in kept))) ∙ whole))
-    comes_alone (gives_frame None timestamp channel ∷ calls) kept cuts gives stays partly whole =
-        any_later (ReturnsPayload payload) _ _ (comes_alone calls kept cuts gives.1 stays partly whole)
-    comes_alone (gives_frame (Some carried) timestamp channel ∷ calls) kept cuts gives stays partly whole =
+    comes_alone [] kept cuts gives stays partly complete =
+        absurd (false≢true (sym partly ∙ ap is_complete (sym (append-nil (accepted_in kept))) ∙ complete))
+    comes_alone (gives_frame None timestamp channel ∷ calls) kept cuts gives stays partly complete =
+        any_later (ReturnsPayload payload) _ _ (comes_alone calls kept cuts gives.1 stays partly complete)
+    comes_alone (gives_frame (Some carried) timestamp channel ∷ calls) kept cuts gives stays partly complete =
         let fits : refusal_within limit (accepted_in kept) carried.fragment ≡ None =
         cut_fits_after payload limit (accepted_in kept) carried.fragment short cuts gives.0.0 gives.0.1 in
         let after = accepted_in kept ++ carried.fragment ∷ [] in
@@ -213,14 +213,14 @@ module _ {T C V : Type 0} (limit : ℕ) (eq : C → C → Bool) (keep : V → T 
               (rw same
               (comes_alone calls (Some (record { accepted = after; timestamp = timestamp })) more gives.1
               (rw same at stays) not_yet
-              (ap is_complete (append_assoc (accepted_in kept) (carried.fragment ∷ []) (fragments_of calls)) ∙ whole)))
+              (ap is_complete (append_assoc (accepted_in kept) (carried.fragment ∷ []) (fragments_of calls)) ∙ complete)))
         ]
-    comes_alone (drops_streams value ∷ calls) kept cuts gives stays partly whole =
+    comes_alone (drops_streams value ∷ calls) kept cuts gives stays partly complete =
         let same = drop_keeps (keep value) kept stays.0 in
         any_later (ReturnsPayload payload) _ _
-        (rw same (comes_alone calls kept cuts gives.1 (rw same at stays.1) partly whole))
-    comes_alone (returns_buffer ∷ calls) kept cuts gives stays partly whole =
-        any_later (ReturnsPayload payload) _ _ (comes_alone calls kept cuts gives.1 stays partly whole)
+        (rw same (comes_alone calls kept cuts gives.1 (rw same at stays.1) partly complete))
+    comes_alone (returns_buffer ∷ calls) kept cuts gives stays partly complete =
+        any_later (ReturnsPayload payload) _ _ (comes_alone calls kept cuts gives.1 stays partly complete)
 
     module _ (laws : IsEquivalence eq) (name : IpFragId C) (calls : List (Call T C V))
         (stays : StaysOpen limit eq keep name calls) (gives : All (GivesCut payload) (calls_of eq name calls)) where
@@ -233,10 +233,10 @@ module _ {T C V : Type 0} (limit : ℕ) (eq : C → C → Bool) (keep : V → T 
 
       pub cuts_come : is_complete (fragments_of (calls_of eq name calls)) ≡ true
           → Any (ReturnsPayload payload) (answers_of eq name calls (answers_to limit eq keep calls))
-      cuts_come whole =
+      cuts_come complete =
           rw (answers_of_stream laws name calls)
           (comes_alone (calls_of eq name calls) None tt (recursion_from_All (GivesCut payload) _ gives)
-          (stays_kept limit eq keep name calls stays) refl whole)
+          (stays_kept limit eq keep name calls stays) refl complete)
 
       -- The fragments of such calls are cuts.
       given_cuts : (given : List (Call T C V)) → AllByRecursion (GivesCut payload) given

@@ -12,68 +12,44 @@ use Rattle.ep_defrag.specs.declared.evicted_stream.EvictionCause.{EvictionCause}
 use Rattle.ep_defrag.specs.declared.evicted_stream.EvictionCause.TheVariants.{Expired}
 use Rattle.ep_defrag.specs.declared.departure.Departure.TheVariants.{Evicted}
 use Rattle.ep_defrag.specs.BoundedSteps.{Gone, is_open, is_expiry, is_overlap, is_for_streams, is_for_bytes}
-use Rattle.ep_defrag.specs.BoundedCounts.{AddUp, counted, count_gone, FitCounters, AnswerCounts, one_answer, with_answer}
+use Rattle.ep_defrag.specs.BoundedCounts.{AddUp, counted, count_gone, FitCounters, AnswerCounts, no_answers, one_answer, with_answer}
 use Rattle.ep_defrag.specs.BoundedHoldings.{after_departure, with_all_gone}
 use Rattle.ep_defrag.specs.BoundedAnswers.{plain_bounded}
 use Rattle.ep_defrag.proofs.CounterLemmas.{counted_none}
 
 -- ---- the answer
--- counters with these events, and with the answers that were counted
-abbrev pub answered : DefragStatistics → (begun completed discarded expired streams bytes : ℕ) → AnswerCounts
-    → DefragStatistics
-answered old begun completed discarded expired streams bytes answers = record {
+-- counters with these events of streams
+abbrev events : DefragStatistics → (begun completed discarded expired streams bytes : ℕ) → DefragStatistics
+events old begun completed discarded expired streams bytes = record old {
   begun = begun;
   completed = completed;
   discarded = discarded;
   expired = expired;
   evicted_for_streams = streams;
   evicted_for_bytes = bytes;
-  removed = counted old.removed 0;
-  accepted = counted old.accepted answers.accepted;
-  rejected_unaligned = counted old.rejected_unaligned answers.unaligned;
-  rejected_too_big = counted old.rejected_too_big answers.too_big;
-  rejected_conflicting_end = counted old.rejected_conflicting_end answers.conflicting_end;
-  rejected_out_of_memory = counted old.rejected_out_of_memory answers.out_of_memory;
-  rejected_discarded = counted old.rejected_discarded answers.discarded;
-  rejected_over_budget = counted old.rejected_over_budget answers.over_budget;
 }
 
-module _ (old : DefragStatistics) (fit : FitCounters old) (begun completed discarded expired streams bytes : ℕ) where
-  abbrev events : DefragStatistics
-  events = record old {
-    begun = begun;
-    completed = completed;
-    discarded = discarded;
-    expired = expired;
-    evicted_for_streams = streams;
-    evicted_for_bytes = bytes;
-  }
+-- counters with these events, and with the answers that were counted
+abbrev pub answered : DefragStatistics → (begun completed discarded expired streams bytes : ℕ) → AnswerCounts
+    → DefragStatistics
+answered old begun completed discarded expired streams bytes answers =
+    record (events old begun completed discarded expired streams bytes) {
+      removed = counted old.removed 0;
+      accepted = counted old.accepted answers.accepted;
+      rejected_unaligned = counted old.rejected_unaligned answers.unaligned;
+      rejected_too_big = counted old.rejected_too_big answers.too_big;
+      rejected_conflicting_end = counted old.rejected_conflicting_end answers.conflicting_end;
+      rejected_out_of_memory = counted old.rejected_out_of_memory answers.out_of_memory;
+      rejected_discarded = counted old.rejected_discarded answers.discarded;
+      rejected_over_budget = counted old.rejected_over_budget answers.over_budget;
+    }
 
-  none_answered : events ≡ record {
-    begun = begun;
-    completed = completed;
-    discarded = discarded;
-    expired = expired;
-    evicted_for_streams = streams;
-    evicted_for_bytes = bytes;
-    removed = counted old.removed 0;
-    accepted = counted old.accepted 0;
-    rejected_unaligned = counted old.rejected_unaligned 0;
-    rejected_too_big = counted old.rejected_too_big 0;
-    rejected_conflicting_end = counted old.rejected_conflicting_end 0;
-    rejected_out_of_memory = counted old.rejected_out_of_memory 0;
-    rejected_discarded = counted old.rejected_discarded 0;
-    rejected_over_budget = counted old.rejected_over_budget 0;
-  }
+module _ (old : DefragStatistics) (fit : FitCounters old) (begun completed discarded expired streams bytes : ℕ) where
+  none_answered : events old begun completed discarded expired streams bytes
+      ≡ answered old begun completed discarded expired streams bytes no_answers
   none_answered =
       let same : (count : ℕ) → count < 2 ^ 64 → count ≡ counted count 0 = λ count fits. sym (counted_none count fits) in
-      λ i. record {
-        begun = begun;
-        completed = completed;
-        discarded = discarded;
-        expired = expired;
-        evicted_for_streams = streams;
-        evicted_for_bytes = bytes;
+      λ i. record (events old begun completed discarded expired streams bytes) {
         removed = same old.removed fit.removed i;
         accepted = same old.accepted fit.accepted i;
         rejected_unaligned = same old.rejected_unaligned fit.rejected_unaligned i;
@@ -86,7 +62,7 @@ module _ (old : DefragStatistics) (fit : FitCounters old) (begun completed disca
 
   -- One counter counts the answer.
   pub answer_counted : (result : Result (Option IpDefragPayloadVec) BoundedDefragError)
-      → with_answer events result
+      → with_answer (events old begun completed discarded expired streams bytes) result
       ≡ answered old begun completed discarded expired streams bytes (one_answer (plain_bounded result))
   answer_counted (Ok None) = λ i. record (none_answered i) { accepted = counted old.accepted 1 }
   answer_counted (Ok (Some payload)) = λ i. record (none_answered i) { accepted = counted old.accepted 1 }
@@ -102,6 +78,30 @@ module _ (old : DefragStatistics) (fit : FitCounters old) (begun completed disca
       λ i. record (none_answered i) { rejected_discarded = counted old.rejected_discarded 1 }
   answer_counted (Err OverBudget) =
       λ i. record (none_answered i) { rejected_over_budget = counted old.rejected_over_budget 1 }
+
+-- The counters after a step that neither begins a stream nor answers a fragment.
+pub counters_of : (old : DefragStatistics) → FitCounters old → (discarded expired streams bytes removed : ℕ)
+    → discarded ≡ 0 → streams ≡ 0 → bytes ≡ 0
+    → record old { expired = counted old.expired expired; removed = counted old.removed removed }
+    ≡ record
+    (answered old (counted old.begun 0) (counted old.completed 0) (counted old.discarded discarded)
+    (counted old.expired expired) (counted old.evicted_for_streams streams) (counted old.evicted_for_bytes bytes)
+    no_answers) { removed = counted old.removed removed }
+counters_of old fit discarded expired streams bytes removed none_discarded none_streams none_bytes =
+    let same : (count : ℕ) → count < 2 ^ 64 → (more : ℕ) → more ≡ 0 → count ≡ counted count more =
+    λ count fits more none. sym (ap {B = ℕ} (counted count) none ∙ counted_none count fits) in
+    (λ i. record old {
+      begun = same old.begun fit.begun 0 refl i;
+      completed = same old.completed fit.completed 0 refl i;
+      discarded = same old.discarded fit.discarded discarded none_discarded i;
+      expired = counted old.expired expired;
+      evicted_for_streams = same old.evicted_for_streams fit.evicted_for_streams streams none_streams i;
+      evicted_for_bytes = same old.evicted_for_bytes fit.evicted_for_bytes bytes none_bytes i;
+      removed = counted old.removed removed;
+    })
+    ∙ ap (λ (counters : DefragStatistics). record counters { removed = counted old.removed removed })
+    (none_answered old fit (counted old.begun 0) (counted old.completed 0) (counted old.discarded discarded)
+    (counted old.expired expired) (counted old.evicted_for_streams streams) (counted old.evicted_for_bytes bytes))
 
 -- The counters of streams are as before.
 pub answer_adds_up : (old : DefragStatistics) (streams : ℕ)

@@ -22,7 +22,7 @@ from_first range [] apart = (leb-true _ _ apart, tt)
 from_first range (next ∷ later) apart =
     let parts = and_parts _ _ apart in
     let here = and_parts _ _ parts.0 in
-    let behind : range.end < next.start = ltb-true _ _ here.1 in
+    let following : range.end < next.start = ltb-true _ _ here.1 in
     let rest = from_first next later parts.1 in
     (leb-true _ _ here.0, (omega arith, rest.0, rest.1))
 
@@ -36,8 +36,8 @@ pub to_apart : (least : ℕ) (ranges : List IpFragRange) → AreApartFrom least 
 to_apart least [] apart = refl
 to_apart least (range ∷ []) apart = le-leb range.start range.end apart.1
 to_apart least (range ∷ next ∷ later) apart =
-    let behind : range.end < next.start = omega (arith, apart.2.0) in
-    and_from _ _ (and_from _ _ (le-leb _ _ apart.1) (lt-ltb _ _ behind))
+    let following : range.end < next.start = omega (arith, apart.2.0) in
+    and_from _ _ (and_from _ _ (le-leb _ _ apart.1) (lt-ltb _ _ following))
     (to_apart (range.end + 1) (next ∷ later) apart.2)
 
 pub ordered_from : (least : ℕ) (ranges : List IpFragRange) → AreApartFrom least ranges → AllByRecursion IsOrdered ranges
@@ -55,15 +55,15 @@ from_at least (range ∷ later) apart (suc k) d within =
     (omega (arith, rest.0, apart.0, apart.1), rest.1)
 
 -- A later range starts after the end of an earlier one.
-pub behind_earlier : (least : ℕ) (ranges : List IpFragRange) → AreApartFrom least ranges → (i j : ℕ) (d : IpFragRange)
+pub after_earlier : (least : ℕ) (ranges : List IpFragRange) → AreApartFrom least ranges → (i j : ℕ) (d : IpFragRange)
     → i < j → j < length ranges → (get_or ranges i d).end < (get_or ranges j d).start
-behind_earlier least [] apart i j d before within = absurd (omega arith)
-behind_earlier least (range ∷ later) apart i zero d before within = absurd (omega arith)
-behind_earlier least (range ∷ later) apart zero (suc j) d before within =
-    let there = from_at (range.end + 1) later apart.2 j d (omega arith) in
-    omega (arith, there.0)
-behind_earlier least (range ∷ later) apart (suc i) (suc j) d before within =
-    behind_earlier (range.end + 1) later apart.2 i j d (omega arith) (omega arith)
+after_earlier least [] apart i j d before within = absurd (omega arith)
+after_earlier least (range ∷ later) apart i zero d before within = absurd (omega arith)
+after_earlier least (range ∷ later) apart zero (suc j) d before within =
+    let bounds = from_at (range.end + 1) later apart.2 j d (omega arith) in
+    omega (arith, bounds.0)
+after_earlier least (range ∷ later) apart (suc i) (suc j) d before within =
+    after_earlier (range.end + 1) later apart.2 i j d (omega arith) (omega arith)
 
 module _ (ranges : List IpFragRange) (apart : AreSeparate ranges) where
   pub starts_rise : IsNonDecreasingBy (λ (range : IpFragRange). range.start) ranges
@@ -71,7 +71,7 @@ module _ (ranges : List IpFragRange) (apart : AreSeparate ranges) where
     | inl same ↦ rw same (omega arith)
     | inr other ↦ omega (
       arith,
-      behind_earlier 0 ranges (from_apart ranges apart) i j d (omega arith) within,
+      after_earlier 0 ranges (from_apart ranges apart) i j d (omega arith) within,
       (from_at 0 ranges (from_apart ranges apart) i d (omega arith)).1,
     )
   ]
@@ -81,7 +81,7 @@ module _ (ranges : List IpFragRange) (apart : AreSeparate ranges) where
     | inl same ↦ rw same (omega arith)
     | inr other ↦ omega (
       arith,
-      behind_earlier 0 ranges (from_apart ranges apart) i j d (omega arith) within,
+      after_earlier 0 ranges (from_apart ranges apart) i j d (omega arith) within,
       (from_at 0 ranges (from_apart ranges apart) j d within).1,
     )
   ]
@@ -94,28 +94,28 @@ raised least bound more [] apart all within = tt
 raised least bound more (range ∷ later) apart all within = (omega (arith, apart.0, all.0), apart.1, apart.2)
 
 -- least position at which a range after these may start
-abbrev pub least_behind : ℕ → List IpFragRange → ℕ
-least_behind least [] = least
-least_behind least (range ∷ later) = least_behind (range.end + 1) later
+abbrev pub least_after : ℕ → List IpFragRange → ℕ
+least_after least [] = least
+least_after least (range ∷ later) = least_after (range.end + 1) later
 
 pub apart_parts : (least : ℕ) (earlier later : List IpFragRange) → AreApartFrom least (earlier ++ later)
-    → AreApartFrom least earlier × AreApartFrom (least_behind least earlier) later
+    → AreApartFrom least earlier × AreApartFrom (least_after least earlier) later
 apart_parts least [] later apart = (tt, apart)
 apart_parts least (range ∷ earlier) later apart =
     let rest = apart_parts (range.end + 1) earlier later apart.2 in
     ((apart.0, apart.1, rest.0), rest.1)
 
 pub apart_append : (least : ℕ) (earlier later : List IpFragRange) → AreApartFrom least earlier
-    → AreApartFrom (least_behind least earlier) later → AreApartFrom least (earlier ++ later)
-apart_append least [] later apart behind = behind
-apart_append least (range ∷ earlier) later apart behind =
-    (apart.0, apart.1, apart_append (range.end + 1) earlier later apart.2 behind)
+    → AreApartFrom (least_after least earlier) later → AreApartFrom least (earlier ++ later)
+apart_append least [] later apart following = following
+apart_append least (range ∷ earlier) later apart following =
+    (apart.0, apart.1, apart_append (range.end + 1) earlier later apart.2 following)
 
-pub least_behind-le : (least bound : ℕ) (ranges : List IpFragRange) → least ≤ bound
-    → AllByRecursion (λ range. range.end < bound) ranges → least_behind least ranges ≤ bound
-least_behind-le least bound [] low all = low
-least_behind-le least bound (range ∷ later) low all =
-    least_behind-le (range.end + 1) bound later (omega (arith, all.0)) all.1
+pub least_after-le : (least bound : ℕ) (ranges : List IpFragRange) → least ≤ bound
+    → AllByRecursion (λ range. range.end < bound) ranges → least_after least ranges ≤ bound
+least_after-le least bound [] low all = low
+least_after-le least bound (range ∷ later) low all =
+    least_after-le (range.end + 1) bound later (omega (arith, all.0)) all.1
 
 -- ---- by position
 -- Holds if the test is false for ranges that start after the position, as `touches` and `has_byte` at it are.
@@ -204,8 +204,8 @@ rest_alike : (position : ℕ) (test : IpFragRange → Bool) → IsAt position te
     → (range.end < position → test range ≡ false)
     → list_any test (range ∷ later) ≡ list_any test (range ∷ others) → list_any test later ≡ list_any test others
 rest_alike position test here range later others apart apart' past alike = elim (cases_lt range.end position) [
-  | inl behind ↦
-      let away = past behind in
+  | inl following ↦
+      let away = past following in
       sym (ap (λ t. t || list_any test later) away) ∙ alike ∙ ap (λ t. t || list_any test others) away
   | inr within ↦
       none_before position test here (range.end + 1) later apart (omega arith)

@@ -27,7 +27,7 @@ use Rattle.ep_defrag.proofs.ApartLemmas.{AreApartFrom, from_apart, none_before, 
 use Rattle.ep_defrag.proofs.DataLemmas.{fits_at, refusal_at-fits, covered_below_reach, uncovered_from_reach, end_is_greatest}
 use Rattle.ep_defrag.proofs.DataLemmas.{get_or-assembled, get_or-append_zeros, length-extended, length-overwritten}
 use Rattle.ep_defrag.proofs.DataLemmas.{get_or-overwritten}
-use Rattle.ep_defrag.proofs.HeldLemmas.{data_len, HoldsFragments-push}
+use Rattle.ep_defrag.proofs.BufferLemmas.{data_len, HoldsFragments-push}
 
 -- ---- a fragment with the bytes of earlier ones
 -- byte at a position of a fragment that yields to accepted ones
@@ -86,7 +86,7 @@ data-missing : (buffer : IpDefragBuf) (accepted : List IpFragment) (fragment : I
     → HoldsFragments buffer accepted
     → data_with_missing (data_of buffer) (sections_of buffer) (range_of fragment) fragment.bytes
     ≡ data_after (data_of buffer) (yielding accepted fragment)
-data-missing buffer accepted fragment held =
+data-missing buffer accepted fragment holds =
     let contents = data_of buffer in
     let sections = sections_of buffer in
     let range = range_of fragment in
@@ -101,9 +101,9 @@ data-missing buffer accepted fragment held =
     let within : start + length first.bytes ≤ length longer = omega (arith, longer_len, same_end) in
     let old_byte : (position : ℕ) → is_covered accepted position ≡ true
     → get_or contents position 0 ≡ byte_at accepted position = λ position came.
-    ap (λ bytes. get_or bytes position 0) held.contents
+    ap (λ bytes. get_or bytes position 0) holds.contents
     ∙ get_or-assembled accepted position
-    (omega (arith, end_is_greatest 65535 accepted held.in_turn, covered_below_reach accepted position came)) in
+    (omega (arith, end_is_greatest 65535 accepted holds.in_turn, covered_below_reach accepted position came)) in
     sym
     (fill_by_all
     (λ position. cond (is_missing sections range position) (byte_of fragment position) (get_or contents position 0))
@@ -119,8 +119,8 @@ data-missing buffer accepted fragment held =
           rw here
           (get_or-yielding accepted fragment position inside.0 inside.1
           ∙ elim (cases_Bool (is_covered accepted position)) [
-            | inl came ↦ rw (held.bytes position, came) (sym (old_byte position came))
-            | inr missing ↦ rw (held.bytes position, missing) refl
+            | inl came ↦ rw (holds.bytes position, came) (sym (old_byte position came))
+            | inr missing ↦ rw (holds.bytes position, missing) refl
           ])
       | inr away ↦ rw away (get_or-append_zeros contents (fragment_end first - length contents) position)
     ]))
@@ -132,10 +132,10 @@ pub HoldsFragments-missing : (old new : IpDefragBuf) (accepted : List IpFragment
     → IsPermutation (sections_of new) (sections_after (range_of fragment) (sections_of old))
     → known_end_of new ≡ end_after (known_end_of old) fragment
     → HoldsFragments new (accepted ++ yielding accepted fragment ∷ [])
-HoldsFragments-missing old new accepted fragment held fits data_now sections_now end_now =
-    HoldsFragments-push old new accepted (yielding accepted fragment) held
+HoldsFragments-missing old new accepted fragment holds fits data_now sections_now end_now =
+    HoldsFragments-push old new accepted (yielding accepted fragment) holds
     (fits-yielding 65535 accepted fragment fits)
-    (data_now ∙ data-missing old accepted fragment held)
+    (data_now ∙ data-missing old accepted fragment holds)
     (subst (λ (range : IpFragRange). IsPermutation (sections_of new) (sections_after range (sections_of old)))
     (sym (range_of-yielding accepted fragment)) sections_now)
     (end_now ∙ sym (rw (length-yielding accepted fragment) refl))
@@ -231,15 +231,15 @@ covered_by_one range position low high (section ∷ later) one =
       | inl here ↦
           let inside : has_byte position section ≡ true = grind (arith, nat_tests, here, low, high) in
           ap (λ t. t || list_any (has_byte position) later) inside
-      | inr there ↦ or_right (has_byte position section) _ (covered_by_one range position low high later there)
+      | inr elsewhere ↦ or_right (has_byte position section) _ (covered_by_one range position low high later elsewhere)
     ]
 
 -- ---- a fragment against a buffer
 module _ (buffer : IpDefragBuf) (accepted : List IpFragment) (fragment : IpFragment)
-    (held : HoldsFragments buffer accepted) where
+    (holds : HoldsFragments buffer accepted) where
   shares-sections : shares_position accepted fragment ≡ list_any (overlap (range_of fragment)) (sections_of buffer)
   shares-sections =
-      ap (λ (test : ℕ → Bool). list_any test (positions_of fragment)) (λ i position. sym (held.bytes position) i)
+      ap (λ (test : ℕ → Bool). list_any test (positions_of fragment)) (λ i position. sym (holds.bytes position) i)
       ∙ shared_by_any (fragment_start fragment) (length fragment.bytes) (sections_of buffer)
 
   pub no_contradiction : list_any (overlap (range_of fragment)) (sections_of buffer) ≡ false
@@ -252,7 +252,7 @@ module _ (buffer : IpDefragBuf) (accepted : List IpFragment) (fragment : IpFragm
   no_contradiction-after after =
       rw (none_of_range (is_covered accepted) (fragment_start fragment) (length fragment.bytes)
       (λ position low high. uncovered_from_reach accepted position
-      (omega (arith, after, low, data_len buffer accepted held)))) refl
+      (omega (arith, after, low, data_len buffer accepted holds)))) refl
 
   module _ (some : list_any (overlap (range_of fragment)) (sections_of buffer) ≡ true) where
     against : repeats_bytes accepted fragment ≡ false → contradicts accepted fragment ≡ true
@@ -267,7 +267,7 @@ module _ (buffer : IpDefragBuf) (accepted : List IpFragment) (fragment : IpFragm
         overlap_some [] none = absurd (false≢true none)
         overlap_some (section ∷ later) some = elim (or_cases (overlap (range_of fragment) section) _ some) [
           | inl here ↦ grind (arith, nat_tests, here)
-          | inr there ↦ overlap_some later there
+          | inr elsewhere ↦ overlap_some later elsewhere
         ]
 
     pub contradicts-beyond : list_any (λ section. includes section (range_of fragment)) (sections_of buffer) ≡ false
@@ -278,7 +278,7 @@ module _ (buffer : IpDefragBuf) (accepted : List IpFragment) (fragment : IpFragm
         ∙ included_in_one (range_of fragment) (not_empty) 0 (sections_of buffer)
         (from_apart (sections_of buffer) buffer.in_order)
         (λ position low high.
-        held.bytes position
+        holds.bytes position
         ∙ (and_parts (is_covered accepted position) _
         (each_of_range _ (fragment_start fragment) (length fragment.bytes) repeats position low high)).0))))
 
@@ -286,7 +286,7 @@ module _ (buffer : IpDefragBuf) (accepted : List IpFragment) (fragment : IpFragm
       came : (position : ℕ) → fragment_start fragment ≤ position → position < fragment_end fragment
           → is_covered accepted position ≡ true
       came position low high =
-          sym (held.bytes position)
+          sym (holds.bytes position)
           ∙ covered_by_one (range_of fragment) position low high (sections_of buffer) one
 
       abbrev kept : List ℕ
@@ -300,11 +300,11 @@ module _ (buffer : IpDefragBuf) (accepted : List IpFragment) (fragment : IpFragm
           (get_or-between (data_of buffer) (fragment_start fragment) (fragment_end fragment)
           (position - fragment_start fragment) 0 (omega arith)
           ∙ ap (λ at. get_or (data_of buffer) at 0) place
-          ∙ ap (λ bytes. get_or bytes position 0) held.contents
+          ∙ ap (λ bytes. get_or bytes position 0) holds.contents
           ∙ get_or-assembled accepted position
           (omega (
             arith,
-            end_is_greatest 65535 accepted held.in_turn,
+            end_is_greatest 65535 accepted holds.in_turn,
             covered_below_reach accepted position (came position low high),
           )))
 
@@ -312,7 +312,7 @@ module _ (buffer : IpDefragBuf) (accepted : List IpFragment) (fragment : IpFragm
       within_data =
           let last = fragment_end fragment - 1 in
           let covered = came last (omega (arith, not_empty)) (omega (arith, not_empty)) in
-          omega (arith, data_len buffer accepted held, covered_below_reach accepted last covered, not_empty)
+          omega (arith, data_len buffer accepted holds, covered_below_reach accepted last covered, not_empty)
 
       kept_len : length kept ≡ length fragment.bytes
       kept_len =
@@ -387,8 +387,9 @@ module _ (range : IpFragRange) (sections : List IpFragRange) where
 
   has_byte_near : (position : ℕ) → has_byte position range ≡ true
       → list_any (has_byte position) (filter (merges range) sections) ≡ list_any (has_byte position) sections
-  has_byte_near position here =
-      any_of_filtered (has_byte position) (merges range) (λ section there. grind (arith, nat_tests, here, there))
+  has_byte_near position in_range =
+      any_of_filtered (has_byte position) (merges range)
+      (λ section in_section. grind (arith, nat_tests, in_range, in_section))
       sections
 
   -- The missing positions are those that no section that merges with the range has.
@@ -425,10 +426,16 @@ module _ (buffer : IpDefragBuf) (fragment : IpFragment) (start : ℕ) (at : star
       ∙ ap (λ (sections : List IpFragRange). list_any (overlap here) sections) (sym near_is)
       ∙ sym found
 
-  pub inclusion_found : (result : Bool) → result ≡ list_any (λ section. includes section here) near
+  inclusion_found : (result : Bool) → result ≡ list_any (λ section. includes section here) near
       → list_any (λ section. includes section (range_of fragment)) (sections_of buffer) ≡ result
   inclusion_found result found =
       ap (λ (range : IpFragRange). list_any (λ section. includes section range) (sections_of buffer)) (sym (same_range))
       ∙ sym (includes_near here (sections_of buffer) (omega arith))
       ∙ ap (λ (sections : List IpFragRange). list_any (λ section. includes section here) sections) (sym near_is)
       ∙ sym found
+
+  pub tests_found : (overlapped included : Bool) → overlapped ≡ list_any (overlap here) near
+      → included ≡ list_any (λ section. includes section here) near
+      → (list_any (overlap (range_of fragment)) (sections_of buffer) ≡ overlapped)
+      × (list_any (λ section. includes section (range_of fragment)) (sections_of buffer) ≡ included)
+  tests_found overlapped included first second = (overlap_found overlapped first, inclusion_found included second)

@@ -294,7 +294,7 @@ module _ {C : Type 0} (eq : C → C → Bool) (laws : IsEquivalence eq) where
           let differs : same_stream eq name other ≡ false =
           (named_alike).symm name other ∙ sym ((named_alike).congr row.id other name here) ∙ away in
           rw (here, differs) refl
-      | inr there ↦ rw there (others_named rows name other)
+      | inr elsewhere ↦ rw elsewhere (others_named rows name other)
     ])
   ]
 
@@ -319,7 +319,7 @@ module _ {C : Type 0} (eq : C → C → Bool) (laws : IsEquivalence eq) where
           let differs : same_stream eq name other ≡ false =
           (named_alike).symm name other ∙ sym ((named_alike).congr row.id other name here) ∙ away in
           rw (here, differs) refl
-      | inr there ↦ rw there (discarded_named rows name other)
+      | inr elsewhere ↦ rw elsewhere (discarded_named rows name other)
     ])
   ]
 
@@ -434,10 +434,10 @@ module _ {C : Type 0} (eq : C → C → Bool) (laws : IsEquivalence eq) where
       pub others_own : row_named eq name (others) ≡ None
       others_own = others_named rows name name ∙ rw ((named_alike).refl name) refl
 
-      module _ (now room : ℕ) where
+      module _ (now space : ℕ) where
         -- row of the fragment's name
         abbrev pub accepted_row : Row C
-        accepted_row = row_with (row_named eq name rows) name fragment now number room
+        accepted_row = row_with (row_named eq name rows) name fragment now number space
 
         -- rows with it
         abbrev pub appended_rows : List (Row C)

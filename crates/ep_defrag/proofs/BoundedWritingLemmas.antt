@@ -10,7 +10,7 @@ use Rattle.std.proofs.lemmas.List.FromFn.{fill_by_all}
 use Rattle.ep_defrag.specs.declared.ip_frag_range.IpFragRange.{IpFragRange}
 use Rattle.ep_defrag.specs.Ranges.{has_byte, AreSeparate}
 use Rattle.ep_defrag.specs.BoundedOverlaps.{is_missing, data_with_missing}
-use Rattle.ep_defrag.proofs.ApartLemmas.{from_apart, from_at, behind_earlier}
+use Rattle.ep_defrag.proofs.ApartLemmas.{from_apart, from_at, after_earlier}
 
 module _ (contents : List ℕ) (sections : List IpFragRange) (range : IpFragRange) (payload : List ℕ) where
   -- byte of the fragment at a position
@@ -50,7 +50,7 @@ module _ (contents : List ℕ) (sections : List IpFragRange) (range : IpFragRang
                     omega (
                       arith,
                       first,
-                      behind_earlier 0 sections (from_apart sections apart) count k d (omega arith) inside,
+                      after_earlier 0 sections (from_apart sections apart) count k d (omega arith) inside,
                       (from_at 0 sections (from_apart sections apart) count d place).1,
                     )
               ] in

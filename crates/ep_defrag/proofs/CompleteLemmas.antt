@@ -70,9 +70,9 @@ AllCovered : List IpFragment → Type 0
 AllCovered fragments = (position : ℕ) → position < reach_of fragments → is_covered fragments position ≡ true
 
 -- No section starts directly after a covered byte.
-no_start_behind : (sections : List IpFragRange) (fragments : List IpFragment) → Fill sections fragments → (before : ℕ)
+no_start_after : (sections : List IpFragRange) (fragments : List IpFragment) → Fill sections fragments → (before : ℕ)
     → is_covered fragments before ≡ true → list_any (starts_at (suc before)) sections ≡ true → ⊥
-no_start_behind sections fragments fill before covered starts =
+no_start_after sections fragments fill before covered starts =
     omega (
       arith,
       both_touch before sections fill.ordered,
@@ -89,7 +89,7 @@ unfolding AllCovered
 start_zero sections fragments fill covered zero end ordered starts touched = refl
 start_zero sections fragments fill covered (suc before) end ordered starts touched =
     let reached : end ≤ reach_of fragments = touched_to_reach fragments end (sym (fill.points end) ∙ touched) in
-    absurd (no_start_behind sections fragments fill before (covered before (omega arith)) starts)
+    absurd (no_start_after sections fragments fill before (covered before (omega arith)) starts)
 
 starts_itself : (section : IpFragRange) → starts_at section.start section ≡ true
 starts_itself section = eq-eqb section.start section.start refl
@@ -98,14 +98,14 @@ touches_end : (section : IpFragRange) → IsOrdered section → touches section.
 touches_end section ordered = grind (arith, nat_tests, ordered)
 
 -- If all positions are covered, there is one section and it starts at 0.
-whole_from_covered : (sections : List IpFragRange) (fragments : List IpFragment) → Fill sections fragments
+gapless_if_covered : (sections : List IpFragRange) (fragments : List IpFragment) → Fill sections fragments
     → AllCovered fragments → 0 < length sections → is_gapless sections ≡ true
-whole_from_covered [] fragments fill covered some = absurd (omega arith)
-whole_from_covered (section ∷ []) fragments fill covered some =
+gapless_if_covered [] fragments fill covered some = absurd (omega arith)
+gapless_if_covered (section ∷ []) fragments fill covered some =
     eq-eqb section.start 0
     (start_zero (section ∷ []) fragments fill covered section.start section.end fill.ordered.0
     (or_left _ _ (starts_itself section)) (or_left _ _ (touches_end section fill.ordered.0)))
-whole_from_covered (section ∷ other ∷ others) fragments fill covered some =
+gapless_if_covered (section ∷ other ∷ others) fragments fill covered some =
     let sections = section ∷ other ∷ others in
     let first = start_zero sections fragments fill covered section.start section.end fill.ordered.0
     (or_left _ _ (starts_itself section)) (or_left _ _ (touches_end section fill.ordered.0)) in
@@ -114,22 +114,22 @@ whole_from_covered (section ∷ other ∷ others) fragments fill covered some =
     (or_right (starts_at other.start section) _ (or_left _ _ (starts_itself other)))
     (or_right (touches other.end section) _ (or_left _ _ (touches_end other fill.ordered.1.0))) in
     let count : IpFragRange → ℕ = λ s. cond (touches 0 s) 1 0 in
-    let here : count section ≡ 1 = grind (arith, nat_tests, first) in
-    let there : count other ≡ 1 = grind (arith, nat_tests, second) in
+    let section_counts : count section ≡ 1 = grind (arith, nat_tests, first) in
+    let other_counts : count other ≡ 1 = grind (arith, nat_tests, second) in
     let counted = sum_by-cons count section (other ∷ others) in
-    absurd (omega (arith, fill.apart 0, counted, sum_by-cons count other others, here, there))
+    absurd (omega (arith, fill.apart 0, counted, sum_by-cons count other others, section_counts, other_counts))
 
 -- If there is one section and it starts at 0, all positions are covered.
-covered_from_whole : (sections : List IpFragRange) (fragments : List IpFragment) → Fill sections fragments
+covered_if_gapless : (sections : List IpFragRange) (fragments : List IpFragment) → Fill sections fragments
     → is_gapless sections ≡ true → AllCovered fragments
 unfolding AllCovered
-covered_from_whole [] fragments fill whole position below = absurd (false≢true whole)
-covered_from_whole (section ∷ []) fragments fill whole position below =
-    let zero_start : section.start ≡ 0 = eqb-true section.start 0 whole in
+covered_if_gapless [] fragments fill gapless position below = absurd (false≢true gapless)
+covered_if_gapless (section ∷ []) fragments fill gapless position below =
+    let zero_start : section.start ≡ 0 = eqb-true section.start 0 gapless in
     let reached : (touches (reach_of fragments) section || false) ≡ true =
     fill.points (reach_of fragments) ∙ reach_touched fragments (reach_of fragments) refl (omega arith) in
     sym (fill.bytes position) ∙ grind (arith, nat_tests, zero_start, reached, below)
-covered_from_whole (section ∷ other ∷ others) fragments fill whole position below = absurd (false≢true whole)
+covered_if_gapless (section ∷ other ∷ others) fragments fill gapless position below = absurd (false≢true gapless)
 
 -- There is a section if there is a fragment.
 some_section : (sections : List IpFragRange) (fragments : List IpFragment) → Fill sections fragments
@@ -154,9 +154,9 @@ pub complete_by_sections : (sections : List IpFragRange) (fragments : List IpFra
     → ((is_some (end_of fragments) && is_gapless sections) ≡ true) ↔ IsComplete fragments
 unfolding AllCovered
 complete_by_sections sections fragments fill greatest = (
-  λ whole.
-      let parts = and_parts (is_some (end_of fragments)) (is_gapless sections) whole in
-      let covered = covered_from_whole sections fragments fill parts.1 in
+  λ gapless.
+      let parts = and_parts (is_some (end_of fragments)) (is_gapless sections) gapless in
+      let covered = covered_if_gapless sections fragments fill parts.1 in
       let end = known_reach (end_of fragments) (reach_of fragments) greatest parts.0 in
       and_from _ _ parts.0
       (list_all-range (is_covered fragments) 0 (unwrap_or (end_of fragments) 0)
@@ -165,7 +165,7 @@ complete_by_sections sections fragments fill greatest = (
       let parts = and_parts (is_some (end_of fragments)) _ complete in
       let end = known_reach (end_of fragments) (reach_of fragments) greatest parts.0 in
       and_from _ _ parts.0
-      (whole_from_covered sections fragments fill
+      (gapless_if_covered sections fragments fill
       (λ position below. each_of_range (is_covered fragments) 0 (unwrap_or (end_of fragments) 0) parts.1 position
       (omega arith) (omega (arith, end, below)))
       (some_section sections fragments fill parts.0)),

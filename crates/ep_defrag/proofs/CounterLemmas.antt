@@ -1,6 +1,6 @@
 -- Counters of a bounded pool as names leave it.
 use Rattle.std.proofs.Common.{◌≡◌, ℕ, ◌+◌, ◌^◌, ◌<◌, Bool, true, false, ◌&&◌, cond, List, [], ◌∷◌, map, Option, Some, None, is_some}
-use Rattle.std.proofs.Common.{refl, sym, ap, ◌∙◌, arith}
+use Rattle.std.proofs.Common.{refl, sym, ap, arith}
 use Rattle.std.specs.List.{count_by}
 use Rattle.std.proofs.lemmas.List.Sums.{sum_by-cons}
 use Rattle.ep_defrag.specs.declared.ip_defrag_buf.IpDefragBuf.{IpDefragBuf}
@@ -40,45 +40,6 @@ counted_expired old (Some buffer) before =
     λ i. record old { expired = same i }
 
 -- ---- a step
--- The counters after a step that neither begins a stream nor answers a fragment.
-pub counters_of : (old : DefragStatistics) → FitCounters old → (discarded expired streams bytes removed : ℕ)
-    → discarded ≡ 0 → streams ≡ 0 → bytes ≡ 0
-    → record old { expired = counted old.expired expired; removed = counted old.removed removed } ≡ record {
-      begun = counted old.begun 0;
-      completed = counted old.completed 0;
-      discarded = counted old.discarded discarded;
-      expired = counted old.expired expired;
-      evicted_for_streams = counted old.evicted_for_streams streams;
-      evicted_for_bytes = counted old.evicted_for_bytes bytes;
-      removed = counted old.removed removed;
-      accepted = counted old.accepted 0;
-      rejected_unaligned = counted old.rejected_unaligned 0;
-      rejected_too_big = counted old.rejected_too_big 0;
-      rejected_conflicting_end = counted old.rejected_conflicting_end 0;
-      rejected_out_of_memory = counted old.rejected_out_of_memory 0;
-      rejected_discarded = counted old.rejected_discarded 0;
-      rejected_over_budget = counted old.rejected_over_budget 0;
-    }
-counters_of old fit discarded expired streams bytes removed none_discarded none_streams none_bytes =
-    let same : (count : ℕ) → count < 2 ^ 64 → (more : ℕ) → more ≡ 0 → count ≡ counted count more =
-    λ count fits more none. sym (ap {B = ℕ} (counted count) none ∙ counted_none count fits) in
-    λ i. record {
-      begun = same old.begun fit.begun 0 refl i;
-      completed = same old.completed fit.completed 0 refl i;
-      discarded = same old.discarded fit.discarded discarded none_discarded i;
-      expired = counted old.expired expired;
-      evicted_for_streams = same old.evicted_for_streams fit.evicted_for_streams streams none_streams i;
-      evicted_for_bytes = same old.evicted_for_bytes fit.evicted_for_bytes bytes none_bytes i;
-      removed = counted old.removed removed;
-      accepted = same old.accepted fit.accepted 0 refl i;
-      rejected_unaligned = same old.rejected_unaligned fit.rejected_unaligned 0 refl i;
-      rejected_too_big = same old.rejected_too_big fit.rejected_too_big 0 refl i;
-      rejected_conflicting_end = same old.rejected_conflicting_end fit.rejected_conflicting_end 0 refl i;
-      rejected_out_of_memory = same old.rejected_out_of_memory fit.rejected_out_of_memory 0 refl i;
-      rejected_discarded = same old.rejected_discarded fit.rejected_discarded 0 refl i;
-      rejected_over_budget = same old.rejected_over_budget fit.rejected_over_budget 0 refl i;
-    }
-
 pub removed_only : (old : DefragStatistics) → FitCounters old → (removed : ℕ)
     → record old { removed = removed } ≡ record old { expired = counted old.expired 0; removed = removed }
 removed_only old fit removed =

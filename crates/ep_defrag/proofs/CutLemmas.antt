@@ -101,12 +101,12 @@ module _ (payload : List ℕ) where
       | inl here ↦
           let inside : (fragment_start cut ≤ position) × (position < fragment_end cut) =
           grind (arith, nat_tests, here) in
-          let there : fragment_start cut + (position - fragment_start cut) ≡ position = omega arith in
+          let place : fragment_start cut + (position - fragment_start cut) ≡ position = omega arith in
           rw (not_later, here)
           (ap (λ bytes. get_or bytes (position - fragment_start cut) 0) all.0.same
           ∙ get_or-between payload (fragment_start cut) (fragment_end cut) (position - fragment_start cut) 0
           (omega arith)
-          ∙ ap (λ at. get_or payload at 0) there)
+          ∙ ap (λ at. get_or payload at 0) place)
     ]
   ]
 

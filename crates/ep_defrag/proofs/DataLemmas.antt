@@ -229,33 +229,33 @@ pub get_or-overwritten : (contents : List ℕ) (start : ℕ) (bytes : List ℕ) 
     ≡ cond (leb start position && ltb position (start + length bytes)) (get_or bytes (position - start) 0)
     (get_or contents position 0)
 get_or-overwritten contents start bytes position within =
-    let front = take start contents in
+    let prefix = take start contents in
     let back = drop (start + length bytes) contents in
-    let first_len : length front ≡ start = length-take-le start contents (omega arith) in
-    let both_len : length (front ++ bytes) ≡ start + length bytes =
-    omega (arith, length-append front bytes, first_len) in
+    let first_len : length prefix ≡ start = length-take-le start contents (omega arith) in
+    let both_len : length (prefix ++ bytes) ≡ start + length bytes =
+    omega (arith, length-append prefix bytes, first_len) in
     elim (cases_lt position start) [
       | inl before ↦
           let test : leb start position ≡ false = lt-leb start position before in
           rw test
-          (get_or_append_left (front ++ bytes) back 0 position (omega (arith, both_len))
-          ∙ get_or_append_left front bytes 0 position (omega (arith, first_len))
+          (get_or_append_left (prefix ++ bytes) back 0 position (omega (arith, both_len))
+          ∙ get_or_append_left prefix bytes 0 position (omega (arith, first_len))
           ∙ get_or-take start contents position 0 before)
       | inr from ↦ elim (cases_lt position (start + length bytes)) [
         | inl inside ↦
             let left : leb start position ≡ true = le-leb start position from in
             let right : ltb position (start + length bytes) ≡ true = lt-ltb position (start + length bytes) inside in
             rw (left, right)
-            (get_or_append_left (front ++ bytes) back 0 position (omega (arith, both_len))
-            ∙ get_or-append_right front bytes start position 0 first_len from)
-        | inr behind ↦
+            (get_or_append_left (prefix ++ bytes) back 0 position (omega (arith, both_len))
+            ∙ get_or-append_right prefix bytes start position 0 first_len from)
+        | inr after ↦
             let left : leb start position ≡ true = le-leb start position from in
-            let right : ltb position (start + length bytes) ≡ false = le-ltb position (start + length bytes) behind in
-            let there : (start + length bytes) + (position - (start + length bytes)) ≡ position = omega arith in
+            let right : ltb position (start + length bytes) ≡ false = le-ltb position (start + length bytes) after in
+            let place : (start + length bytes) + (position - (start + length bytes)) ≡ position = omega arith in
             rw (left, right)
-            (get_or-append_right (front ++ bytes) back (start + length bytes) position 0 both_len behind
+            (get_or-append_right (prefix ++ bytes) back (start + length bytes) position 0 both_len after
             ∙ get_or-drop (start + length bytes) contents (position - (start + length bytes)) 0
-            ∙ ap (λ at. get_or contents at 0) there)
+            ∙ ap (λ at. get_or contents at 0) place)
       ]
     ]
 

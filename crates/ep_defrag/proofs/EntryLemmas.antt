@@ -40,13 +40,13 @@ sum_by-map f g (x ∷ xs) =
     sum_by-cons f (g x) (map g xs) ∙ ap (λ n. f (g x) + n) (sum_by-map f g xs)
     ∙ sym (sum_by-cons (λ x. f (g x)) x xs)
 
-pub held_by_values : {T C : Type 0} (es : Entries T C) (shown : List (Bor (OpenStream T)))
+pub bytes_by_values : {T C : Type 0} (es : Entries T C) (shown : List (Bor (OpenStream T)))
     → map deref shown ≡ values_of es
     → sum_by (λ stream. length (data_of stream.now.buffer)) shown
     ≡ sum_by (λ stream. length (data_of stream.buffer)) (map stream_at es)
-held_by_values es shown all =
-    let held = λ (stream : OpenStream _). length (data_of stream.buffer) in
-    sym (sum_by-map held deref shown) ∙ ap (sum_by held) all ∙ sum_by-map held (λ e. e.1) es
+bytes_by_values es shown all =
+    let data_len = λ (stream : OpenStream _). length (data_of stream.buffer) in
+    sym (sum_by-map data_len deref shown) ∙ ap (sum_by data_len) all ∙ sum_by-map data_len (λ e. e.1) es
     ∙ sym (sum_by-map (λ stream. length (data_of stream.buffer)) stream_at es)
 
 module _ {T C : Type 0} (eq : C → C → Bool) (laws : IsEquivalence eq) where
@@ -174,6 +174,12 @@ module _ {T C : Type 0} (eq : C → C → Bool) (laws : IsEquivalence eq) where
     absent_stream limit pool id absent =
         named_none limit pool id (subst (λ test. lookup (test id) pool ≡ None) is absent)
 
+    pub absent_in : (limit : ℕ) (es : Entries T C) (pool : IpDefragPool T C) → (limit, es) ≡ pool → (id : IpFragId C)
+        → None ≡ lookup (key_eq id) es → stream_named eq id pool ≡ None
+    absent_in limit es pool view id absent =
+        ap (λ (shown : IpDefragPool T C). stream_named eq id shown) (sym view)
+        ∙ absent_stream limit es id (sym absent)
+
     pub present_stream : (limit : ℕ) (pool : Entries T C) (id : IpFragId C) (value : OpenStream T)
         → lookup (key_eq id) pool ≡ Some value → IsStreamOf limit pool id value
     present_stream limit pool id value found =
@@ -232,7 +238,7 @@ module _ {T C : Type 0} (eq : C → C → Bool) (laws : IsEquivalence eq) where
         limit = refl;
       }
 
-      pub removed_stream : lookup (key_eq id) new ≡ None → IsPermutation (remove_entry (key_eq id) old) new
+      removed_stream : lookup (key_eq id) new ≡ None → IsPermutation (remove_entry (key_eq id) old) new
           → ChangesStream eq (limit, old) (limit, new) id None
       removed_stream gone reordered =
           let left : IsPermutation (remove_entry (same_stream eq id) old) new =
@@ -244,3 +250,9 @@ module _ {T C : Type 0} (eq : C → C → Bool) (laws : IsEquivalence eq) where
             apart = differ;
             limit = refl;
           }
+
+      pub removed_from : (pool : IpDefragPool T C) → (limit, old) ≡ pool → lookup (key_eq id) new ≡ None
+          → IsPermutation (remove_entry (key_eq id) old) new → ChangesStream eq pool (limit, new) id None
+      removed_from pool view gone reordered =
+          subst (λ (shown : IpDefragPool T C). ChangesStream eq shown (limit, new) id None) view
+          (removed_stream gone reordered)

@@ -13,19 +13,19 @@ use Rattle.ep_defrag.proofs.ApartLemmas.{from_apart, same_from_positions}
 -- Buffers with equal contents hold lists that fill and touch the same positions.
 pub alike_from_same : (a b : IpDefragBuf) (fragments others : List IpFragment) → HoldsFragments a fragments
     → HoldsFragments b others → IsUnchanged a b → FillEqually fragments others × TouchSamePositions fragments others
-alike_from_same a b fragments others held held' same = (
+alike_from_same a b fragments others holds holds' same = (
   record {
     covered = λ position.
-        sym (held.bytes position)
+        sym (holds.bytes position)
         ∙ ap (list_any (has_byte position)) (sym same.sections)
-        ∙ held'.bytes position;
-    contents = sym held.contents ∙ sym same.contents ∙ held'.contents;
-    end = sym held.end ∙ sym same.end ∙ held'.end;
+        ∙ holds'.bytes position;
+    contents = sym holds.contents ∙ sym same.contents ∙ holds'.contents;
+    end = sym holds.end ∙ sym same.end ∙ holds'.end;
   },
   λ position.
-      sym (held.points position)
+      sym (holds.points position)
       ∙ ap (list_any (touches position)) (sym same.sections)
-      ∙ held'.points position,
+      ∙ holds'.points position,
 )
 
 -- Buffers that hold lists which fill and touch the same positions have equal contents, since the sections are in order.
@@ -33,16 +33,16 @@ pub same_from_alike : (a b : IpDefragBuf) (fragments others : List IpFragment) �
     → HoldsFragments a fragments → HoldsFragments b others → FillEqually fragments others
     → TouchSamePositions fragments others
     → IsUnchanged a b
-same_from_alike a b fragments others number held held' alike touched = record {
+same_from_alike a b fragments others number holds holds' alike touched = record {
   ip_number = sym number;
-  contents = held'.contents ∙ sym alike.contents ∙ sym held.contents;
+  contents = holds'.contents ∙ sym alike.contents ∙ sym holds.contents;
   sections =
       sym
       (same_from_positions 0 0 (sections_of a) (sections_of b) (from_apart (sections_of a) a.in_order)
       (from_apart (sections_of b) b.in_order)
-      (λ position. held.bytes position ∙ alike.covered position ∙ sym (held'.bytes position))
-      (λ position. held.points position ∙ touched position ∙ sym (held'.points position)));
-  end = held'.end ∙ sym alike.end ∙ sym held.end;
+      (λ position. holds.bytes position ∙ alike.covered position ∙ sym (holds'.bytes position))
+      (λ position. holds.points position ∙ touched position ∙ sym (holds'.points position)));
+  end = holds'.end ∙ sym alike.end ∙ sym holds.end;
 }
 
 -- ---- fragments that are not empty
@@ -63,15 +63,15 @@ touched_at_start (fragment ∷ fragments) all =
     ∙ ap (λ t. covers 0 fragment || t) (touched_at_start fragments all.1)
 
 -- Fragments that are not empty touch any other position exactly if they cover it or the position before it.
-touched_behind : (before : ℕ) (fragments : List IpFragment)
+touched_after : (before : ℕ) (fragments : List IpFragment)
     → AllByRecursion (λ fragment. 0 < length fragment.bytes) fragments
     → is_touched fragments (suc before) ≡ (is_covered fragments (suc before) || is_covered fragments before)
-touched_behind before [] all = refl
-touched_behind before (fragment ∷ fragments) all =
+touched_after before [] all = refl
+touched_after before (fragment ∷ fragments) all =
     let first : touches (suc before) (range_of fragment) ≡ (covers (suc before) fragment || covers before fragment) =
     grind (arith, nat_tests, all.0) in
     ap (λ t. t || is_touched fragments (suc before)) first
-    ∙ ap (λ t. (covers (suc before) fragment || covers before fragment) || t) (touched_behind before fragments all.1)
+    ∙ ap (λ t. (covers (suc before) fragment || covers before fragment) || t) (touched_after before fragments all.1)
     ∙ or_pairs (covers (suc before) fragment) (covers before fragment) (is_covered fragments (suc before))
     (is_covered fragments before)
 
@@ -82,10 +82,10 @@ touch_by_recursion : (fragments others : List IpFragment) → FillEqually fragme
 touch_by_recursion fragments others alike all all' zero =
     touched_at_start fragments all ∙ alike.covered 0 ∙ sym (touched_at_start others all')
 touch_by_recursion fragments others alike all all' (suc before) =
-    touched_behind before fragments all
+    touched_after before fragments all
     ∙ ap (λ t. t || is_covered fragments before) (alike.covered (suc before))
     ∙ ap (λ t. is_covered others (suc before) || t) (alike.covered before)
-    ∙ sym (touched_behind before others all')
+    ∙ sym (touched_after before others all')
 
 -- Lists of such fragments touch the same positions if they fill the same positions.
 pub touch_from_fill : (fragments others : List IpFragment) → FillEqually fragments others

@@ -35,7 +35,7 @@ use Rattle.ep_defrag.specs.BoundedAdding.{StreamRejects, StreamDiscards, StreamA
 use Rattle.ep_defrag.specs.BoundedHoldings.{names_held, DoesFragmentStep, TakesFragmentStep}
 use Rattle.ep_defrag.proofs.StreamLemmas.{same_stream_laws}
 use Rattle.ep_defrag.proofs.KeyedHashLemmas.{same_hash}
-use Rattle.ep_defrag.proofs.HeldNameLemmas.{HeldEntries}
+use Rattle.ep_defrag.proofs.HeldNameLemmas.{StreamEntries}
 use Rattle.ep_defrag.proofs.BoundedRowLemmas.{FateCase, by_test, by_error, by_none, fate_case}
 use Rattle.ep_defrag.proofs.RowHoldingLemmas.{HoldOthers, LacksName, lacks_name, others_beside, others_in}
 use Rattle.ep_defrag.proofs.FragmentStepLemmas.{reason, fed, granted_unless, granted_is, none_counted}
@@ -45,14 +45,14 @@ use Rattle.ep_defrag.proofs.FragmentStepLemmas.{rejected_step, starved_step, dis
 same_slot_itself : (slot : Slot) → same_slot slot slot ≡ true
 same_slot_itself slot = rw (eq-eqb slot.hash slot.hash refl, eq-eqb slot.number slot.number refl) refl
 
-module _ {C : Type 0} (slot : Slot) (held : HeldName C) where
+module _ {C : Type 0} (slot : Slot) (held_name : HeldName C) where
   -- A table with a new entry in a free slot.
-  pub record Pushed (entries : HeldEntries C) : Type 0 where
-    pub found : entry_at slot (entries ++ (slot, held) ∷ []) ≡ Some held
-    pub entry : lookup_entry (same_slot slot) (entries ++ (slot, held) ∷ []) ≡ Some (slot, held)
-    pub removed : without slot (entries ++ (slot, held) ∷ []) ≡ entries
+  pub record Pushed (entries : StreamEntries C) : Type 0 where
+    pub found : entry_at slot (entries ++ (slot, held_name) ∷ []) ≡ Some held_name
+    pub entry : lookup_entry (same_slot slot) (entries ++ (slot, held_name) ∷ []) ≡ Some (slot, held_name)
+    pub removed : without slot (entries ++ (slot, held_name) ∷ []) ≡ entries
 
-  pub pushed : (entries : HeldEntries C) → entry_at slot entries ≡ None → Pushed entries
+  pub pushed : (entries : StreamEntries C) → entry_at slot entries ≡ None → Pushed entries
   pushed [] free = record {
     found = rw (same_slot_itself slot) refl;
     entry = rw (same_slot_itself slot) refl;
@@ -65,26 +65,27 @@ module _ {C : Type 0} (slot : Slot) (held : HeldName C) where
         record {
           found = rw other rest.found;
           entry = rw other rest.entry;
-          removed = rw other (ap (λ (more : HeldEntries C). e ∷ more) rest.removed);
+          removed = rw other (ap (λ (more : StreamEntries C). e ∷ more) rest.removed);
         }
   ]
 
-  pub pushed_removed : (entries : HeldEntries C) → entry_at slot entries ≡ None
-      → names_of (without slot (entries ++ (slot, held) ∷ [])) ≡ names_of entries
-  pushed_removed entries free = ap (λ (entries : HeldEntries C). names_of entries) (pushed entries free).removed
+  pub pushed_removed : (entries : StreamEntries C) → entry_at slot entries ≡ None
+      → names_of (without slot (entries ++ (slot, held_name) ∷ [])) ≡ names_of entries
+  pushed_removed entries free = ap (λ (entries : StreamEntries C). names_of entries) (pushed entries free).removed
 
-  pub pushed_touched : (entries : HeldEntries C) → entry_at slot entries ≡ None
-      → names_of (with_newest slot (entries ++ (slot, held) ∷ [])) ≡ names_of entries ++ held ∷ []
+  pub pushed_touched : (entries : StreamEntries C) → entry_at slot entries ≡ None
+      → names_of (with_newest slot (entries ++ (slot, held_name) ∷ [])) ≡ names_of entries ++ held_name ∷ []
   pushed_touched entries free =
       let is = pushed entries free in
-      let newest : with_newest slot (entries ++ (slot, held) ∷ []) ≡ entries ++ (slot, held) ∷ [] =
-      rw (is.entry) (ap (λ (more : HeldEntries C). more ++ (slot, held) ∷ []) is.removed) in
-      ap (λ (entries : HeldEntries C). names_of entries) newest ∙ map-append (λ e. e.1) entries ((slot, held) ∷ [])
+      let newest : with_newest slot (entries ++ (slot, held_name) ∷ []) ≡ entries ++ (slot, held_name) ∷ [] =
+      rw (is.entry) (ap (λ (more : StreamEntries C). more ++ (slot, held_name) ∷ []) is.removed) in
+      ap (λ (entries : StreamEntries C). names_of entries) newest
+      ∙ map-append (λ e. e.1) entries ((slot, held_name) ∷ [])
 
 -- ---- absent names
 -- A table has none of the names that are equal to that of a vacant slot.
 pub absent_names : {C : Type 0} (eq : C → C → Bool) → IsEquivalence eq → (channel : C → HashWrites)
-    → ((x y : C) → eq x y ≡ true → channel x ≡ channel y) → (keys : RandomState) (entries : HeldEntries C)
+    → ((x y : C) → eq x y ≡ true → channel x ≡ channel y) → (keys : RandomState) (entries : StreamEntries C)
     → AreHashed channel keys entries → (slot : Slot) (name : IpFragId C) → slot.hash ≡ name_hash channel keys name
     → ((entry : Slot × HeldName C) → Contains entries entry → entry.0.hash ≡ slot.hash
     → same_stream eq name entry.1.0 ≡ false)
@@ -132,7 +133,8 @@ module _ {C : Type 0} {e : PartialEq.Ghosts C} {h : Hash.Ghosts C} (eq : C → C
   unchanged : (rows : List (Row C)) → HoldsNames eq limits (names_held old) rows → (error : BoundedDefragError)
       → DoesFragmentStep eq limits old new (Err error) (rejecting_step rows error)
   unchanged rows holds error = record {
-    names = subst (λ (entries : HeldEntries C). AllZip (HoldsRow limits) (names_of entries) rows) (sym same) holds.each;
+    names =
+        subst (λ (entries : StreamEntries C). AllZip (HoldsRow limits) (names_of entries) rows) (sym same) holds.each;
     evicted = λ earlier reports.
         subst (AllZip (Reports eq) new.evicted.items) (sym (append-nil earlier))
         (subst (λ items. AllZip (Reports eq) items earlier) (sym same_evicted) reports);
@@ -174,10 +176,10 @@ module _ {C : Type 0} {e : PartialEq.Ghosts C} {h : Hash.Ghosts C} (eq : C → C
   }
 
   -- An allocation for the table fails.
-  pub begins_starved : (stream : HeldStream) (whole : Bool) → StreamAccepts limits fresh stream fragment now whole
+  pub begins_starved : (stream : HeldStream) (complete : Bool) → StreamAccepts limits fresh stream fragment now complete
       → (error : BoundedDefragError) → error ≡ Rejected (AllocationFailure (fragment_end fragment))
       → TakesFragmentStep eq limits old new name fragment now (Err error)
-  begins_starved stream whole accepted error is = record {
+  begins_starved stream complete accepted error is = record {
     step = λ rows number holds.
         let lacks = lacks_name_in rows holds in (
           None,

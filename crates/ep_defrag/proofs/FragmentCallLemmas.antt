@@ -31,7 +31,7 @@ use Rattle.ep_defrag.specs.BoundedPools.{limits_in, names_in, evicted_in, statis
 use Rattle.ep_defrag.specs.BoundedCounts.{counted, count_gone, FitCounters, is_payload, one_answer, with_answer}
 use Rattle.ep_defrag.specs.BoundedAnswers.{plain_bounded}
 use Rattle.ep_defrag.proofs.KeyedHashLemmas.{same_hash}
-use Rattle.ep_defrag.proofs.HeldDifferLemmas.{names_differ}
+use Rattle.ep_defrag.proofs.HeldNamesDifferLemmas.{names_differ}
 use Rattle.ep_defrag.proofs.StreamLemmas.{same_stream_laws}
 use Rattle.ep_defrag.proofs.HeldNameLemmas.{open_once}
 use Rattle.ep_defrag.proofs.CounterLemmas.{all_gone, none_gone}
@@ -49,10 +49,10 @@ removes_none : {C : Type 0} (limits : DefragLimits) (eq : C → C → Bool) (row
 removes_none limits eq rows name fragment now number granted (is_rejected error) = record { removed = refl }
 removes_none limits eq rows name fragment now number granted discards = record { removed = refl }
 removes_none limits eq rows name fragment now number None is_accepted = record { removed = refl }
-removes_none {C} limits eq rows name fragment now number (Some room) is_accepted =
+removes_none {C} limits eq rows name fragment now number (Some space) is_accepted =
     let old = row_named eq name rows in
     choose (is_complete (accepted_before old ++ fragment ∷ []))
-    (nat_lt limits.bytes (row_with old name fragment now number room).room)
+    (nat_lt limits.bytes (row_with old name fragment now number space).room)
     (record { removed = refl })
     (record { removed = refl })
     (record { removed = refl })
@@ -97,27 +97,27 @@ module _ {X : Type 0} (p q : X → Bool) where
 -- ---- expiry of the fragment's own name
 module _ {C : Type 0} (eq : C → C → Bool) (limits : DefragLimits) (now : ℕ) (name : IpFragId C) where
   abbrev pub is_own : HeldName C → Bool
-  is_own held = same_stream eq held.0 name
+  is_own held_name = same_stream eq held_name.0 name
 
   abbrev pub is_old : HeldName C → Bool
-  is_old held = nat_lt (held.1.first + limits.age) now
+  is_old held_name = nat_lt (held_name.1.first + limits.age) now
 
   -- whether a fragment of the identifier evicts the name
   abbrev pub expires : HeldName C → Bool
-  expires held = is_own held && is_old held
+  expires held_name = is_own held_name && is_old held_name
 
-  expires_row : (held : HeldName C) (row : Row C) → HoldsRow limits held row
-      → expires held ≡ expires_for limits eq now name row
-  expires_row held row holds =
+  expires_row : (held_name : HeldName C) (row : Row C) → HoldsRow limits held_name row
+      → expires held_name ≡ expires_for limits eq now name row
+  expires_row held_name row holds =
       λ i. same_stream eq (holds.id i) name && nat_lt (holds.first i + limits.age) now
 
 -- Holds if of these names the fragment's own was evicted, if it had expired, with these counters before.
 pub record HasExpired {C : Type 0} {e : _} {h : _} (eq : C → C → Bool) (limits : DefragLimits) (now : ℕ)
     (name : IpFragId C)
     (names : List (HeldName C)) (counters : DefragStatistics) (start : Holdings C e h) : Type 0 where
-  pub left : names_of start.table ≡ filter (λ held. not (expires eq limits now name held)) names
+  pub left : names_of start.table ≡ filter (λ one. not (expires eq limits now name one)) names
   pub evicted : start.evicted.items
-      ≡ map (λ held. report_of held Expired) (filter (expires eq limits now name) names)
+      ≡ map (λ one. report_of one Expired) (filter (expires eq limits now name) names)
   pub statistics : start.statistics ≡ record counters {
     expired = counted counters.expired (open_names (filter (expires eq limits now name) names));
   }
@@ -125,7 +125,7 @@ pub record HasExpired {C : Type 0} {e : _} {h : _} (eq : C → C → Bool) (limi
 module _ {C : Type 0} {e : PartialEq.Ghosts C} {h : Hash.Ghosts C} (eq : C → C → Bool) (limits : DefragLimits) (now : ℕ)
     (name : IpFragId C) (names : List (HeldName C)) (counters : DefragStatistics) (fit : FitCounters counters)
     (start : Holdings C e h) where
-  none_expired : AllByRecursion (λ held. is_old eq limits now name held ≡ false)
+  none_expired : AllByRecursion (λ one. is_old eq limits now name one ≡ false)
       (filter (is_own eq limits now name) names)
       → names_of start.table ≡ names → start.evicted.items ≡ [] → start.statistics ≡ counters
       → HasExpired eq limits now name names counters start
@@ -134,7 +134,7 @@ module _ {C : Type 0} {e : PartialEq.Ghosts C} {h : Hash.Ghosts C} (eq : C → C
       record {
         left = left ∙ sym parts.1;
         evicted =
-            evicted ∙ ap (λ (all : List (HeldName C)). map (λ held. report_of held Expired) all) (sym parts.0);
+            evicted ∙ ap (λ (all : List (HeldName C)). map (λ one. report_of one Expired) all) (sym parts.0);
         statistics =
             statistics ∙ expired_once counters fit None
             ∙ (λ i. record counters { expired = counted counters.expired (open_names (sym parts.0 i)) });
@@ -145,7 +145,7 @@ module _ {C : Type 0} {e : PartialEq.Ghosts C} {h : Hash.Ghosts C} (eq : C → C
       → start.evicted.items ≡ [] → start.statistics ≡ counters → HasExpired eq limits now name names counters start
   own_absent none =
       none_expired
-      (subst (λ (all : List (HeldName C)). AllByRecursion (λ held. is_old eq limits now name held ≡ false) all)
+      (subst (λ (all : List (HeldName C)). AllByRecursion (λ one. is_old eq limits now name one ≡ false) all)
       (sym (none_pass (is_own eq limits now name) names none).1) tt)
 
   -- The fragment's name has not expired.
@@ -154,20 +154,20 @@ module _ {C : Type 0} {e : PartialEq.Ghosts C} {h : Hash.Ghosts C} (eq : C → C
       → start.statistics ≡ counters → HasExpired eq limits now name names counters start
   own_young own one young =
       none_expired
-      (subst (λ (all : List (HeldName C)). AllByRecursion (λ held. is_old eq limits now name held ≡ false) all)
+      (subst (λ (all : List (HeldName C)). AllByRecursion (λ one. is_old eq limits now name one ≡ false) all)
       (sym one)
       (young, tt))
 
   -- The fragment's name has expired.
   pub own_expired : (own : HeldName C) → filter (is_own eq limits now name) names ≡ own ∷ []
       → is_old eq limits now name own ≡ true
-      → names_of start.table ≡ filter (λ held. not (is_own eq limits now name held)) names
+      → names_of start.table ≡ filter (λ one. not (is_own eq limits now name one)) names
       → start.evicted.items ≡ report_of own Expired ∷ []
       → start.statistics ≡ after_departure counters own.1.buffer (Evicted Expired)
       → HasExpired eq limits now name names counters start
   own_expired own one old left evicted statistics =
       let parts = both_pass (is_own eq limits now name) (is_old eq limits now name) names
-      (subst (λ (all : List (HeldName C)). AllByRecursion (λ held. is_old eq limits now name held ≡ true) all) (sym one)
+      (subst (λ (all : List (HeldName C)). AllByRecursion (λ one. is_old eq limits now name one ≡ true) all) (sym one)
       (old, tt)) in
       let own_only : filter (expires eq limits now name) names ≡ own ∷ [] = parts.0 ∙ one in
       let many : open_once own.1 ≡ open_names (filter (expires eq limits now name) names) =
@@ -179,7 +179,7 @@ module _ {C : Type 0} {e : PartialEq.Ghosts C} {h : Hash.Ghosts C} (eq : C → C
       record {
         left = left ∙ sym parts.1;
         evicted =
-            evicted ∙ ap (λ (all : List (HeldName C)). map (λ held. report_of held Expired) all) (sym own_only);
+            evicted ∙ ap (λ (all : List (HeldName C)). map (λ one. report_of one Expired) all) (sym own_only);
         statistics =
             statistics ∙ expired_once counters fit own.1.buffer
             ∙ (λ i. record counters { expired = counted counters.expired (many i) });
@@ -217,25 +217,26 @@ module _ {C : Type 0} {e : PartialEq.Ghosts C} {h : Hash.Ghosts C} (eq : C → C
       (differ : HeldNamesDiffer eq (names_in new)) where
     left_names : (rows : List (Row C)) → HoldsNames eq (limits_in old) (names_in old) rows
         → HoldsNames eq (limits_in old) (names_of start.table) (young_rows rows)
-    left_names rows held =
-        rw ((expired held.differ).left)
+    left_names rows holds_names =
+        rw ((expired holds_names.differ).left)
         (filtered_names (limits_in old) eq (λ one. not (expires eq (limits_in old) now name one))
         (λ row. not (expires_for (limits_in old) eq now name row))
-        (λ one row holds. ap not (expires_row eq (limits_in old) now name one row holds)) (names_in old) rows held)
+        (λ one row holds. ap not (expires_row eq (limits_in old) now name one row holds))
+        (names_in old) rows holds_names)
 
     expired_names : (rows : List (Row C)) → HoldsNames eq (limits_in old) (names_in old) rows
         → AllZip (HoldsRow (limits_in old)) (filter (expires eq (limits_in old) now name) (names_in old))
         (filter (expires_for (limits_in old) eq now name) rows)
-    expired_names rows held =
+    expired_names rows holds_names =
         zip_filter (HoldsRow (limits_in old)) (expires eq (limits_in old) now name)
         (expires_for (limits_in old) eq now name) (expires_row eq (limits_in old) now name) (names_in old) rows
-        held.each
+        holds_names.each
 
     expired_reports : (rows : List (Row C)) → HoldsNames eq (limits_in old) (names_in old) rows
         → AllZip (Reports eq) start.evicted.items (expired_rows rows)
-    expired_reports rows held =
+    expired_reports rows holds_names =
         let same = same_stream_laws eq laws in
-        rw ((expired held.differ).evicted)
+        rw ((expired holds_names.differ).evicted)
         (zip_map (HoldsRow (limits_in old)) (Reports eq) (λ one. report_of one Expired) (gone_for Expired)
         (λ one row holds. record {
           id = rw (← holds.id) (same.refl one.0);
@@ -243,7 +244,7 @@ module _ {C : Type 0} {e : PartialEq.Ghosts C} {h : Hash.Ghosts C} (eq : C → C
           first = holds.first;
         })
         (filter (expires eq (limits_in old) now name) (names_in old))
-        (filter (expires_for (limits_in old) eq now name) rows) (expired_names rows held))
+        (filter (expires_for (limits_in old) eq now name) rows) (expired_names rows holds_names))
 
     -- The counters are those of the step.
     counters : (rows : List (Row C)) → HoldsNames eq (limits_in old) (names_in old) rows → (step : Step C)
@@ -259,17 +260,17 @@ module _ {C : Type 0} {e : PartialEq.Ghosts C} {h : Hash.Ghosts C} (eq : C → C
         (one_answer step.answer)) {
           removed = counted (statistics_in old).removed (count_by is_open step.removed);
         }
-    counters rows held step within answer removed =
+    counters rows holds_names step within answer removed =
         let before = statistics_in old in
         let own = filter (expires_for (limits_in old) eq now name) rows in
         let many : open_names (filter (expires eq (limits_in old) now name) (names_in old))
         ≡ count_gone is_expiry (expired_rows rows) =
         open_rows (limits_in old) (filter (expires eq (limits_in old) now name) (names_in old)) own
-        (expired_names rows held) ∙ sym (all_gone is_expiry refl own) in
+        (expired_names rows holds_names) ∙ sym (all_gone is_expiry refl own) in
         let started : start.statistics ≡ record before {
           expired = counted before.expired (count_gone is_expiry (expired_rows rows));
         } =
-        (expired held.differ).statistics
+        (expired holds_names.differ).statistics
         ∙ (λ i. record before { expired = counted before.expired (many i) }) in
         statistics
         ∙ (λ i. with_answer (within i) result)
@@ -298,18 +299,18 @@ module _ {C : Type 0} {e : PartialEq.Ghosts C} {h : Hash.Ghosts C} (eq : C → C
 
     takes_result : TakesBounded eq old new name fragment now result
     takes_result = record {
-      step = λ rows number held.
+      step = λ rows number holds_names.
           let left = young_rows rows in
-          let taken = takes.step left number (left_names rows held) in
+          let taken = takes.step left number (left_names rows holds_names) in
           let step = step_within (limits_in old) eq left name fragment now number taken.0 in (
             taken.0,
             record {
               holds = record { differ = differ; each = rows_in_new step.rows taken.1.names };
               evicted =
                   reports_in_new (expired_rows rows ++ step.gone)
-                  (taken.1.evicted (expired_rows rows) (expired_reports rows held));
+                  (taken.1.evicted (expired_rows rows) (expired_reports rows holds_names));
               statistics =
-                  counters rows held step taken.1.statistics taken.1.answer
+                  counters rows holds_names step taken.1.statistics taken.1.answer
                   (removes_none (limits_in old) eq left name fragment now number taken.0
                   (fate_at (limits_in old) (row_named eq name left) fragment)).removed;
               limits = limits;
@@ -317,7 +318,7 @@ module _ {C : Type 0} {e : PartialEq.Ghosts C} {h : Hash.Ghosts C} (eq : C → C
             taken.1.answer,
             taken.2,
           );
-      memory = λ starved rows held. takes.memory starved (young_rows rows) (left_names rows held);
+      memory = λ starved rows holds_names. takes.memory starved (young_rows rows) (left_names rows holds_names);
     }
 
     -- The pool processes the fragment as the step says, and returns this answer.

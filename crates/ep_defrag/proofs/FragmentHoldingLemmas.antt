@@ -33,16 +33,16 @@ use Rattle.ep_defrag.specs.BoundedAdding.{StreamRejects, StreamDiscards}
 use Rattle.ep_defrag.specs.BoundedHoldings.{names_held, report_of, EvictsForLimits, with_all_gone}
 use Rattle.ep_defrag.specs.BoundedHoldings.{step_within, DoesFragmentStep, TakesFragmentStep}
 use Rattle.ep_defrag.proofs.StreamLemmas.{same_stream_laws}
-use Rattle.ep_defrag.proofs.HeldNameLemmas.{HeldEntries, Placed}
+use Rattle.ep_defrag.proofs.HeldNameLemmas.{StreamEntries, Placed}
 use Rattle.ep_defrag.proofs.RowHoldingLemmas.{zip_append, has_name, FindsRow, finds_row}
 use Rattle.ep_defrag.proofs.FragmentStepLemmas.{reason, fed, granted_unless, granted_is, with_begun, none_counted}
 use Rattle.ep_defrag.proofs.FragmentStepLemmas.{discard_counted, completion_counted, over_budget_counted, evictions_counted}
 use Rattle.ep_defrag.proofs.FragmentStepLemmas.{payload_returned, rejected_step, starved_step, discards_step}
 use Rattle.ep_defrag.proofs.FragmentStepLemmas.{complete_step, over_budget_step, settled_step}
 
-pub names_between : {C : Type 0} (before after : HeldEntries C) (slot : Slot) (held : HeldName C)
-    → names_of (before ++ (slot, held) ∷ after) ≡ names_of before ++ held ∷ names_of after
-names_between before after slot held = map-append (λ e. e.1) before ((slot, held) ∷ after)
+pub names_between : {C : Type 0} (before after : StreamEntries C) (slot : Slot) (held_name : HeldName C)
+    → names_of (before ++ (slot, held_name) ∷ after) ≡ names_of before ++ held_name ∷ names_of after
+names_between before after slot held_name = map-append (λ e. e.1) before ((slot, held_name) ∷ after)
 
 -- An open stream has accepted fragments.
 pub record IsOpenWith (limits : DefragLimits) (buffer : Option IpDefragBuf) (accepted : Option (List IpFragment))
@@ -53,9 +53,10 @@ pub record IsOpenWith (limits : DefragLimits) (buffer : Option IpDefragBuf) (acc
 
 pub open_with : (limits : DefragLimits) (buffer : Option IpDefragBuf) (accepted : Option (List IpFragment))
     → HoldsState limits buffer accepted → is_some buffer ≡ true → IsOpenWith limits buffer accepted
-open_with limits None accepted held opens = absurd (false≢true opens)
-open_with limits (Some buffer) None held opens = absurd held
-open_with limits (Some buffer) (Some accepted) held opens = record { fragments = accepted; is = refl; holds = held }
+open_with limits None accepted holds_state opens = absurd (false≢true opens)
+open_with limits (Some buffer) None holds_state opens = absurd holds_state
+open_with limits (Some buffer) (Some accepted) holds_state opens =
+    record { fragments = accepted; is = refl; holds = holds_state }
 
 module _ {C : Type 0} {e : PartialEq.Ghosts C} {h : Hash.Ghosts C} (eq : C → C → Bool) (laws : IsEquivalence eq)
     (limits : DefragLimits) (old : Holdings C e h) (name : IpFragId C) (fragment : IpFragment) (now : ℕ) where
@@ -73,8 +74,8 @@ module _ {C : Type 0} {e : PartialEq.Ghosts C} {h : Hash.Ghosts C} (eq : C → C
       (zip_append (Reports eq) old.evicted.items (report ∷ []) earlier (gone ∷ []) reports (reported, tt))
 
   -- ---- a name that is in the table
-  module _ (slot : Slot) (held : HeldName C) (placed : Placed old.table slot held)
-      (alike : same_stream eq name held.0 ≡ true) where
+  module _ (slot : Slot) (held_name : HeldName C) (placed : Placed old.table slot held_name)
+      (alike : same_stream eq name held_name.0 ≡ true) where
     abbrev pub before : List (HeldName C)
     before = names_of placed.0
 
@@ -82,15 +83,16 @@ module _ {C : Type 0} {e : PartialEq.Ghosts C} {h : Hash.Ghosts C} (eq : C → C
     after = names_of placed.1
 
     pub finds : (rows : List (Row C)) → HoldsNames eq limits (names_held old) rows
-        → FindsRow eq name limits before held after rows
+        → FindsRow eq name limits before held_name after rows
     finds rows holds =
-        let whole : names_held old ≡ before ++ held ∷ after =
-        ap (λ (entries : HeldEntries C). names_of entries) placed.2.whole ∙ names_between placed.0 placed.1 slot held in
-        finds_row eq name limits before held after rows
-        (subst (λ (names : List (HeldName C)). HoldsNames eq limits names rows) whole holds)
-        ((same_stream_laws eq laws).symm held.0 name ∙ alike)
+        let split : names_held old ≡ before ++ held_name ∷ after =
+        ap (λ (entries : StreamEntries C). names_of entries) placed.2.whole
+        ∙ names_between placed.0 placed.1 slot held_name in
+        finds_row eq name limits before held_name after rows
+        (subst (λ (names : List (HeldName C)). HoldsNames eq limits names rows) split holds)
+        ((same_stream_laws eq laws).symm held_name.0 name ∙ alike)
 
-    pub named_row : (rows : List (Row C)) → (found : FindsRow eq name limits before held after rows)
+    pub named_row : (rows : List (Row C)) → (found : FindsRow eq name limits before held_name after rows)
         → row_named eq name rows ≡ Some found.at.own
     named_row rows found =
         ap (row_named eq name) found.at.whole
@@ -98,32 +100,32 @@ module _ {C : Type 0} {e : PartialEq.Ghosts C} {h : Hash.Ghosts C} (eq : C → C
 
     -- names after a stream was written
     names_written : (new : Holdings C e h) (stream : HeldStream) → new.table ≡ with_value slot stream old.table
-        → names_held new ≡ before ++ (held.0, stream) ∷ after
+        → names_held new ≡ before ++ (held_name.0, stream) ∷ after
     names_written new stream written =
-        ap (λ (entries : HeldEntries C). names_of entries) (written ∙ placed.2.written stream)
-        ∙ names_between placed.0 placed.1 slot (held.0, stream)
+        ap (λ (entries : StreamEntries C). names_of entries) (written ∙ placed.2.written stream)
+        ∙ names_between placed.0 placed.1 slot (held_name.0, stream)
 
     -- rows beside them
     rows_written : (new : Holdings C e h) (stream : HeldStream) → new.table ≡ with_value slot stream old.table
-        → (rows : List (Row C)) (found : FindsRow eq name limits before held after rows) (row : Row C)
-        → HoldsRow limits (held.0, stream) row
+        → (rows : List (Row C)) (found : FindsRow eq name limits before held_name after rows) (row : Row C)
+        → HoldsRow limits (held_name.0, stream) row
         → AllZip (HoldsRow limits) (names_held new) (found.at.before ++ row ∷ found.at.after)
     rows_written new stream written rows found row holds =
         subst (λ (names : List (HeldName C)). AllZip (HoldsRow limits) names (found.at.before ++ row ∷ found.at.after))
         (sym (names_written new stream written))
-        (zip_append (HoldsRow limits) before ((held.0, stream) ∷ after) found.at.before (row ∷ found.at.after)
+        (zip_append (HoldsRow limits) before ((held_name.0, stream) ∷ after) found.at.before (row ∷ found.at.after)
         found.at.first (holds, found.at.later))
 
     pub rejects : (new : Holdings C e h) (stream : HeldStream) → new.table ≡ with_value slot stream old.table
         → new.evicted.items ≡ old.evicted.items → new.statistics ≡ old.statistics → FitCounters old.statistics
-        → (error : BoundedDefragError) → StreamRejects limits held.1 stream fragment error
+        → (error : BoundedDefragError) → StreamRejects limits held_name.1 stream fragment error
         → TakesFragmentStep eq limits old new name fragment now (Err error)
     rejects new stream written same_evicted same_statistics fits error refused = record {
       step = λ rows number holds.
           let found = finds rows holds in
           let row = found.at.own in
           let named = named_row rows found in
-          let own : HoldsRow limits (held.0, stream) row = record {
+          let own : HoldsRow limits (held_name.0, stream) row = record {
             id = found.at.middle.id;
             state = refused.keeps row.accepted found.at.middle.state;
             room = refused.room ∙ found.at.middle.room;
@@ -169,15 +171,15 @@ module _ {C : Type 0} {e : PartialEq.Ghosts C} {h : Hash.Ghosts C} (eq : C → C
     pub discards : (new : Holdings C e h) (stream : HeldStream) → new.table ≡ with_value slot stream old.table
         → new.evicted.items ≡ old.evicted.items ++ record { id = name; cause = Overlap; first = stream.first } ∷ []
         → new.statistics ≡ with_gone old.statistics Overlap → FitCounters old.statistics
-        → StreamDiscards limits held.1 stream fragment
+        → StreamDiscards limits held_name.1 stream fragment
         → TakesFragmentStep eq limits old new name fragment now (Err Discarded)
     discards new stream written pushed counts fits discarded = record {
       step = λ rows number holds.
           let found = finds rows holds in
           let row = found.at.own in
           let has = has_name eq name found.at.before row found.at.after found.earlier found.alike found.later in
-          let opens = open_with limits held.1.buffer row.accepted found.at.middle.state discarded.was_open in
-          let own : HoldsRow limits (held.0, stream) (discarded_row row) = record {
+          let opens = open_with limits held_name.1.buffer row.accepted found.at.middle.state discarded.was_open in
+          let own : HoldsRow limits (held_name.0, stream) (discarded_row row) = record {
             id = found.at.middle.id;
             state = subst (λ (buffer : Option IpDefragBuf). HoldsState limits buffer None) (sym discarded.freed) tt;
             room = rw discarded.freed refl;
@@ -217,20 +219,22 @@ module _ {C : Type 0} {e : PartialEq.Ghosts C} {h : Hash.Ghosts C} (eq : C → C
     }
 
   -- ---- a name that accepts the fragment
-  -- The row of the name accepts the fragment. `names` are the names beside its own, `held` is its own.
+  -- The row of the name accepts the fragment. `names` are the names beside its own, `held_name` is its own.
   pub record Accepts (rows : List (Row C)) (number : ℕ) (found : Option (Row C)) (others : List (Row C))
-      (names : List (HeldName C)) (held : HeldName C) : Type 0 where
+      (names : List (HeldName C)) (held_name : HeldName C) : Type 0 where
     pub named : row_named eq name rows ≡ found
     pub apart : other_rows eq name rows ≡ others
     pub fate : fate_at limits found fragment ≡ is_accepted
     pub beside : AllZip (HoldsRow limits) names others
-    pub own : HoldsRow limits held (row_with found name fragment now number (held_room held.1))
-    pub opens : is_some held.1.buffer ≡ true
+    pub own : HoldsRow limits held_name (row_with found name fragment now number (held_room held_name.1))
+    pub opens : is_some held_name.1.buffer ≡ true
     -- The row that is reported if the stream uses too much memory.
-    pub alike : same_stream eq (unwrap_or found (row_with found name fragment now number (held_room held.1))).id held.0
+    pub alike : same_stream eq
+        (unwrap_or found (row_with found name fragment now number (held_room held_name.1))).id held_name.0
         ≡ true
-    pub was_open : is_open (unwrap_or found (row_with found name fragment now number (held_room held.1))) ≡ true
-    pub first : held.1.first ≡ (unwrap_or found (row_with found name fragment now number (held_room held.1))).first
+    pub was_open : is_open (unwrap_or found (row_with found name fragment now number (held_room held_name.1))) ≡ true
+    pub first : held_name.1.first
+        ≡ (unwrap_or found (row_with found name fragment now number (held_room held_name.1))).first
 
   -- The step, with some granted memory.
   abbrev pub DoesForSome : Holdings C e h → Result (Option IpDefragPayloadVec) BoundedDefragError → List (Row C) → ℕ
@@ -240,13 +244,13 @@ module _ {C : Type 0} {e : PartialEq.Ghosts C} {h : Hash.Ghosts C} (eq : C → C
       × (is_some granted ≡ not (is_starved result))
 
   module _ (rows : List (Row C)) (number : ℕ) (found : Option (Row C)) (others : List (Row C))
-      (names : List (HeldName C)) (held : HeldName C) (accepts : Accepts rows number found others names held)
+      (names : List (HeldName C)) (held_name : HeldName C) (accepts : Accepts rows number found others names held_name)
       (fits : FitCounters old.statistics) (new : Holdings C e h) where
-    abbrev room : ℕ
-    room = held_room held.1
+    abbrev space : ℕ
+    space = held_room held_name.1
 
     abbrev own_row : Row C
-    own_row = row_with found name fragment now number room
+    own_row = row_with found name fragment now number space
 
     abbrev all : List IpFragment
     all = accepted_before found ++ fragment ∷ []
@@ -255,22 +259,23 @@ module _ {C : Type 0} {e : PartialEq.Ghosts C} {h : Hash.Ghosts C} (eq : C → C
         → new.statistics ≡ record (with_begun old.statistics (not (is_some found))) {
           completed = counted old.statistics.completed 1;
         }
-        → (result : Option IpDefragPayloadVec) → ReturnsPayload held.0 held.1.buffer result
+        → (result : Option IpDefragPayloadVec) → ReturnsPayload held_name.0 held_name.1.buffer result
         → DoesForSome new (Ok result) rows number
-    completes whole left same counts result returned = (
-      Some room,
+    completes complete left same counts result returned = (
+      Some space,
       subst (DoesFragmentStep eq limits old new (Ok result))
           (complete_step eq limits rows name fragment now number found accepts.named accepts.fate others accepts.apart
-          room
-          whole)
+          space
+          complete)
           (record {
             names = subst (λ (names : List (HeldName C)). AllZip (HoldsRow limits) names others) (sym left)
                 accepts.beside;
             evicted = nothing_gone new same;
             statistics = counts ∙ completion_counted old.statistics fits others (not (is_some found))
                 (payload_by limits own_row.id all) all;
-            answer = payload_returned limits held.0 own_row.id held.1.buffer all result accepts.own.state accepts.own.id
-                returned;
+            answer =
+                payload_returned limits held_name.0 own_row.id held_name.1.buffer all result accepts.own.state
+                accepts.own.id returned;
           }),
       refl,
     )
@@ -279,21 +284,21 @@ module _ {C : Type 0} {e : PartialEq.Ghosts C} {h : Hash.Ghosts C} (eq : C → C
         (same : mid.evicted.items ≡ old.evicted.items)
         (begins : mid.statistics ≡ with_begun old.statistics (not (is_some found))) where
       -- The stream alone uses too much memory.
-      pub goes_over : limits.bytes < room → names_held new ≡ names
+      pub goes_over : limits.bytes < space → names_held new ≡ names
           → new.statistics ≡ with_gone mid.statistics Bytes
-          → new.evicted.items ≡ mid.evicted.items ++ report_of held Bytes ∷ []
+          → new.evicted.items ≡ mid.evicted.items ++ report_of held_name Bytes ∷ []
           → DoesForSome new (Err OverBudget) rows number
       goes_over over left counts pushed = (
-        Some room,
+        Some space,
         subst (DoesFragmentStep eq limits old new (Err OverBudget))
             (over_budget_step eq limits rows name fragment now number found accepts.named accepts.fate others
             accepts.apart
-            room part (lt-ltb limits.bytes room over))
+            space part (lt-ltb limits.bytes space over))
             (record {
               names = subst (λ (names : List (HeldName C)). AllZip (HoldsRow limits) names others) (sym left)
                   accepts.beside;
-              evicted = one_gone new (report_of held Bytes) (gone_for Bytes (unwrap_or found own_row))
-                  (pushed ∙ ap (λ (items : List (EvictedStream C)). items ++ report_of held Bytes ∷ []) same)
+              evicted = one_gone new (report_of held_name Bytes) (gone_for Bytes (unwrap_or found own_row))
+                  (pushed ∙ ap (λ (items : List (EvictedStream C)). items ++ report_of held_name Bytes ∷ []) same)
                   (record { id = accepts.alike; cause = refl; first = accepts.first });
               statistics = counts ∙ ap (λ counters. with_gone counters Bytes) begins
                   ∙ over_budget_counted old.statistics fits others (not (is_some found)) (unwrap_or found own_row)
@@ -304,16 +309,17 @@ module _ {C : Type 0} {e : PartialEq.Ghosts C} {h : Hash.Ghosts C} (eq : C → C
       )
 
       -- Others are evicted for it.
-      pub goes_on : room ≤ limits.bytes → EvictsForLimits eq limits (names ++ held ∷ []) mid new
+      pub goes_on : space ≤ limits.bytes → EvictsForLimits eq limits (names ++ held_name ∷ []) mid new
           → DoesForSome new (Ok None) rows number
       goes_on within evicts =
           let left = evicts (others ++ own_row ∷ [])
-          (zip_append (HoldsRow limits) names (held ∷ []) others (own_row ∷ []) accepts.beside (accepts.own, tt)) in (
-            Some room,
+          (zip_append (HoldsRow limits) names (held_name ∷ []) others (own_row ∷ []) accepts.beside
+          (accepts.own, tt)) in (
+            Some space,
             subst (DoesFragmentStep eq limits old new (Ok None))
                 (settled_step eq limits rows name fragment now number found accepts.named accepts.fate others
                 accepts.apart
-                room part (le-ltb limits.bytes room within))
+                space part (le-ltb limits.bytes space within))
                 (record {
                   names = left.names;
                   evicted = λ earlier reports.

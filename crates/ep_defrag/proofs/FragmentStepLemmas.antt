@@ -165,10 +165,10 @@ pub payload_returned : {C : Type 0} (limits : DefragLimits) (id own : IpFragId C
     (accepted : List IpFragment) (result : Option IpDefragPayloadVec) → HoldsState limits buffer (Some accepted)
     → id ≡ own → ReturnsPayload id buffer result
     → plain_bounded (Ok result) ≡ payload_complete (payload_by limits own accepted)
-payload_returned limits id own None accepted result held same returned = absurd held
-payload_returned limits id own (Some buffer) accepted result held same returned =
+payload_returned limits id own None accepted result holds same returned = absurd holds
+payload_returned limits id own (Some buffer) accepted result holds same returned =
     plain_of result (payload_held id buffer) returned
-    ∙ (λ i. payload_complete (record (payload_held (same i) buffer) { bytes = held.contents.contents i }))
+    ∙ (λ i. payload_complete (record (payload_held (same i) buffer) { bytes = holds.contents.contents i }))
 
 -- ---- steps
 module _ {C : Type 0} (eq : C → C → Bool) (limits : DefragLimits) (rows : List (Row C)) (name : IpFragId C)
@@ -190,10 +190,10 @@ module _ {C : Type 0} (eq : C → C → Bool) (limits : DefragLimits) (rows : Li
   discards_step granted fate = rw (named, fate) refl
 
   module _ (fate : fate_at limits found fragment ≡ is_accepted) (others : List (Row C))
-      (apart : other_rows eq name rows ≡ others) (room : ℕ) where
+      (apart : other_rows eq name rows ≡ others) (space : ℕ) where
     -- row of the name with the fragment
     abbrev pub own : Row C
-    own = row_with found name fragment now number room
+    own = row_with found name fragment now number space
 
     -- accepted fragments of the name with the fragment
     abbrev pub more : List IpFragment
@@ -205,21 +205,21 @@ module _ {C : Type 0} (eq : C → C → Bool) (limits : DefragLimits) (rows : Li
           answer = payload_complete (payload_by limits own.id more);
           completed = more;
         }
-        ≡ step_of (Some room)
-    complete_step whole = rw (named, fate, named, apart, whole) refl
+        ≡ step_of (Some space)
+    complete_step complete = rw (named, fate, named, apart, complete) refl
 
-    pub over_budget_step : is_complete more ≡ false → nat_lt limits.bytes room ≡ true
+    pub over_budget_step : is_complete more ≡ false → nat_lt limits.bytes space ≡ true
         → record (rejecting_step others OverBudget) {
           gone = gone_for Bytes (unwrap_or found own) ∷ [];
           begun = not (is_some found);
         }
-        ≡ step_of (Some room)
+        ≡ step_of (Some space)
     over_budget_step part over = rw (named, fate, named, apart, part, over) refl
 
-    pub settled_step : is_complete more ≡ false → nat_lt limits.bytes room ≡ false
+    pub settled_step : is_complete more ≡ false → nat_lt limits.bytes space ≡ false
         → record (quiet_step (remaining limits (others ++ own ∷ []))) {
           gone = evicted_for_limits limits (others ++ own ∷ []);
           begun = not (is_some found);
         }
-        ≡ step_of (Some room)
+        ≡ step_of (Some space)
     settled_step part within = rw (named, fate, named, apart, part, within) refl

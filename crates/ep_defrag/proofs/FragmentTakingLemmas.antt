@@ -30,7 +30,7 @@ use Rattle.ep_defrag.specs.BoundedAnswers.{ReturnsPayload}
 use Rattle.ep_defrag.specs.BoundedAdding.{StreamAccepts}
 use Rattle.ep_defrag.specs.BoundedHoldings.{names_held, after_departure, EvictsName, EvictsForLimits, TakesFragmentStep}
 use Rattle.ep_defrag.proofs.StreamLemmas.{same_stream_laws}
-use Rattle.ep_defrag.proofs.HeldNameLemmas.{HeldEntries, Placed}
+use Rattle.ep_defrag.proofs.HeldNameLemmas.{StreamEntries, Placed}
 use Rattle.ep_defrag.proofs.RowHoldingLemmas.{zip_append, has_name, HoldOthers, LacksName, lacks_name, others_beside}
 use Rattle.ep_defrag.proofs.FragmentStepLemmas.{with_begun}
 use Rattle.ep_defrag.proofs.FragmentHoldingLemmas.{open_with, finds, named_row, Accepts, completes, goes_over, goes_on}
@@ -44,26 +44,26 @@ open_departure old (Some buffer) departure opens = refl
 module _ {C : Type 0} {e : PartialEq.Ghosts C} {h : Hash.Ghosts C} (eq : C → C → Bool) (laws : IsEquivalence eq)
     (limits : DefragLimits) (old : Holdings C e h) (name : IpFragId C) (fragment : IpFragment) (now : ℕ) where
   -- A table with these rows accepts the fragment, which completes the payload or not, and begins the stream or not.
-  pub record AcceptsIn (names : List (HeldName C)) (held : HeldName C) (whole begins : Bool) (rows : List (Row C))
+  pub record AcceptsIn (names : List (HeldName C)) (held_name : HeldName C) (entire begins : Bool) (rows : List (Row C))
       (number : ℕ) : Type 0 where
     pub found : Option (Row C)
     pub others : List (Row C)
-    pub accepts : Accepts eq laws limits old name fragment now rows number found others names held
-    pub complete : is_complete (accepted_before found ++ fragment ∷ []) ≡ whole
+    pub accepts : Accepts eq laws limits old name fragment now rows number found others names held_name
+    pub complete : is_complete (accepted_before found ++ fragment ∷ []) ≡ entire
     pub begun : not (is_some found) ≡ begins
 
-  module _ (names : List (HeldName C)) (held : HeldName C) (begins : Bool) (fits : FitCounters old.statistics)
+  module _ (names : List (HeldName C)) (held_name : HeldName C) (begins : Bool) (fits : FitCounters old.statistics)
       (new : Holdings C e h) where
     pub takes_complete : ((rows : List (Row C)) (number : ℕ) → HoldsNames eq limits (names_held old) rows
-        → AcceptsIn names held true begins rows number)
+        → AcceptsIn names held_name true begins rows number)
         → names_held new ≡ names → new.evicted.items ≡ old.evicted.items
         → new.statistics ≡ record (with_begun old.statistics begins) { completed = counted old.statistics.completed 1 }
-        → (result : Option IpDefragPayloadVec) → ReturnsPayload held.0 held.1.buffer result
+        → (result : Option IpDefragPayloadVec) → ReturnsPayload held_name.0 held_name.1.buffer result
         → TakesFragmentStep eq limits old new name fragment now (Ok result)
     takes_complete accept left same counts result returned = record {
       step = λ rows number holds.
           let accepts = accept rows number holds in
-          completes eq laws limits old name fragment now rows number accepts.found accepts.others names held
+          completes eq laws limits old name fragment now rows number accepts.found accepts.others names held_name
           accepts.accepts fits new accepts.complete left same
           (counts ∙ ap (λ b. record (with_begun old.statistics b) { completed = counted old.statistics.completed 1 })
           (sym accepts.begun))
@@ -72,29 +72,30 @@ module _ {C : Type 0} {e : PartialEq.Ghosts C} {h : Hash.Ghosts C} (eq : C → C
     }
 
     pub takes_rest : ((rows : List (Row C)) (number : ℕ) → HoldsNames eq limits (names_held old) rows
-        → AcceptsIn names held false begins rows number)
+        → AcceptsIn names held_name false begins rows number)
         → (mid : Holdings C e h) → mid.evicted.items ≡ old.evicted.items
         → mid.statistics ≡ with_begun old.statistics begins → (slot : Slot)
         → names_of (without slot mid.table) ≡ names
-        → names_of (with_newest slot mid.table) ≡ names ++ held ∷ []
-        → is_some held.1.buffer ≡ true
+        → names_of (with_newest slot mid.table) ≡ names ++ held_name ∷ []
+        → is_some held_name.1.buffer ≡ true
         → (result : Result (Option IpDefragPayloadVec) BoundedDefragError)
-        → (limits.bytes < held_room held.1 → (result ≡ Err OverBudget) × EvictsName mid new slot Bytes held)
-        → (held_room held.1 ≤ limits.bytes
+        → (limits.bytes < held_room held_name.1 → (result ≡ Err OverBudget) × EvictsName mid new slot Bytes held_name)
+        → (held_room held_name.1 ≤ limits.bytes
         → (result ≡ Ok None) × EvictsForLimits eq limits (names_of (with_newest slot mid.table)) mid new)
         → TakesFragmentStep eq limits old new name fragment now result
     takes_rest accept mid same counts slot removed touched opens result over settled =
-        elim (cases_lt limits.bytes (held_room held.1)) [
+        elim (cases_lt limits.bytes (held_room held_name.1)) [
           | inl above ↦
               let evicts = (over above).1 in
               subst (TakesFragmentStep eq limits old new name fragment now) (sym (over above).0) (record {
                 step = λ rows number holds.
                     let accepts = accept rows number holds in
-                    goes_over eq laws limits old name fragment now rows number accepts.found accepts.others names held
+                    goes_over eq laws limits old name fragment now rows number accepts.found accepts.others
+                    names held_name
                     accepts.accepts fits new accepts.complete mid same
                     (counts ∙ ap (with_begun old.statistics) (sym accepts.begun)) above
-                    (ap (λ (entries : HeldEntries C). names_of entries) evicts.table ∙ removed)
-                    (evicts.statistics ∙ open_departure mid.statistics held.1.buffer (Evicted Bytes) opens)
+                    (ap (λ (entries : StreamEntries C). names_of entries) evicts.table ∙ removed)
+                    (evicts.statistics ∙ open_departure mid.statistics held_name.1.buffer (Evicted Bytes) opens)
                     evicts.evicted;
                 memory = λ starves rows holds. absurd (false≢true starves);
               })
@@ -102,7 +103,8 @@ module _ {C : Type 0} {e : PartialEq.Ghosts C} {h : Hash.Ghosts C} (eq : C → C
               subst (TakesFragmentStep eq limits old new name fragment now) (sym (settled below).0) (record {
                 step = λ rows number holds.
                     let accepts = accept rows number holds in
-                    goes_on eq laws limits old name fragment now rows number accepts.found accepts.others names held
+                    goes_on eq laws limits old name fragment now rows number accepts.found accepts.others
+                    names held_name
                     accepts.accepts fits new accepts.complete mid same
                     (counts ∙ ap (with_begun old.statistics) (sym accepts.begun)) below
                     (subst (λ (names : List (HeldName C)). EvictsForLimits eq limits names mid new) touched
@@ -112,37 +114,39 @@ module _ {C : Type 0} {e : PartialEq.Ghosts C} {h : Hash.Ghosts C} (eq : C → C
         ]
 
   -- ---- a name that is in the table
-  module _ (slot : Slot) (held : HeldName C) (placed : Placed old.table slot held)
-      (alike : same_stream eq name held.0 ≡ true) (stream : HeldStream) where
+  module _ (slot : Slot) (held_name : HeldName C) (placed : Placed old.table slot held_name)
+      (alike : same_stream eq name held_name.0 ≡ true) (stream : HeldStream) where
     -- names beside its own
     abbrev pub names_beside : List (HeldName C)
     names_beside = names_of placed.0 ++ names_of placed.1
 
-    pub removed_names : names_of (without slot (with_value slot stream old.table)) ≡ names_beside
+    removed_names : names_of (without slot (with_value slot stream old.table)) ≡ names_beside
     removed_names =
-        ap (λ (entries : HeldEntries C). names_of entries) (placed.3 stream).removed
+        ap (λ (entries : StreamEntries C). names_of entries) (placed.3 stream).removed
         ∙ map-append (λ e. e.1) placed.0 placed.1
 
-    pub touched_names : names_of (with_newest slot (with_value slot stream old.table))
-        ≡ names_beside ++ (held.0, stream) ∷ []
+    touched_names : names_of (with_newest slot (with_value slot stream old.table))
+        ≡ names_beside ++ (held_name.0, stream) ∷ []
     touched_names =
-        ap (λ (entries : HeldEntries C). names_of entries) (placed.3 stream).touched
-        ∙ map-append (λ e. e.1) (placed.0 ++ placed.1) ((slot, (held.0, stream)) ∷ [])
-        ∙ ap (λ (names : List (HeldName C)). names ++ (held.0, stream) ∷ []) (map-append (λ e. e.1) placed.0 placed.1)
+        ap (λ (entries : StreamEntries C). names_of entries) (placed.3 stream).touched
+        ∙ map-append (λ e. e.1) (placed.0 ++ placed.1) ((slot, (held_name.0, stream)) ∷ [])
+        ∙ ap (λ (names : List (HeldName C)). names ++ (held_name.0, stream) ∷ [])
+        (map-append (λ e. e.1) placed.0 placed.1)
 
-    pub accepts_present : (whole : Bool) → StreamAccepts limits held.1 stream fragment now whole → (rows : List (Row C))
+    accepts_present : (entire : Bool) → StreamAccepts limits held_name.1 stream fragment now entire
+        → (rows : List (Row C))
         (number : ℕ) → HoldsNames eq limits (names_held old) rows
-        → AcceptsIn names_beside (held.0, stream) whole false rows number
-    accepts_present whole accepted rows number holds =
-        let found = finds eq laws limits old name fragment now slot held placed alike rows holds in
+        → AcceptsIn names_beside (held_name.0, stream) entire false rows number
+    accepts_present entire accepted rows number holds =
+        let found = finds eq laws limits old name fragment now slot held_name placed alike rows holds in
         let at = found.at in
         let row = at.own in
-        let opens = open_with limits held.1.buffer row.accepted at.middle.state accepted.was_open in
+        let opens = open_with limits held_name.1.buffer row.accepted at.middle.state accepted.was_open in
         record {
           found = Some row;
           others = at.before ++ at.after;
           accepts = record {
-            named = named_row eq laws limits old name fragment now slot held placed alike rows found;
+            named = named_row eq laws limits old name fragment now slot held_name placed alike rows found;
             apart = ap (other_rows eq name) at.whole
                 ∙ (has_name eq name at.before row at.after found.earlier found.alike found.later).others;
             fate = ap (λ kept. fate_in limits kept fragment) opens.is ∙ accepted.why opens.fragments opens.holds;
@@ -157,8 +161,8 @@ module _ {C : Type 0} {e : PartialEq.Ghosts C} {h : Hash.Ghosts C} (eq : C → C
               last = accepted.last;
             };
             opens = accepted.is_open;
-            alike = subst (λ (id : IpFragId C). same_stream eq id held.0 ≡ true) at.middle.id
-                ((same_stream_laws eq laws).refl held.0);
+            alike = subst (λ (id : IpFragId C). same_stream eq id held_name.0 ≡ true) at.middle.id
+                ((same_stream_laws eq laws).refl held_name.0);
             was_open = ap is_some opens.is;
             first = accepted.first ∙ at.middle.first;
           };
@@ -167,16 +171,32 @@ module _ {C : Type 0} {e : PartialEq.Ghosts C} {h : Hash.Ghosts C} (eq : C → C
           begun = refl;
         }
 
+    -- The names after the stream was written, and the acceptance of the fragment.
+    pub record AcceptsPresent (entire : Bool) : Type 0 where
+      pub removed : names_of (without slot (with_value slot stream old.table)) ≡ names_beside
+      pub touched : names_of (with_newest slot (with_value slot stream old.table))
+          ≡ names_beside ++ (held_name.0, stream) ∷ []
+      pub accepts : (rows : List (Row C)) (number : ℕ) → HoldsNames eq limits (names_held old) rows
+          → AcceptsIn names_beside (held_name.0, stream) entire false rows number
+
+    pub accepted_present : (entire : Bool) → StreamAccepts limits held_name.1 stream fragment now entire
+        → AcceptsPresent entire
+    accepted_present entire accepted = record {
+      removed = removed_names;
+      touched = touched_names;
+      accepts = accepts_present entire accepted;
+    }
+
   -- ---- a name that is not in the table
   module _ (absent : HoldOthers eq name (names_held old)) (fresh : HeldStream) (stream : HeldStream)
       (first : fresh.first ≡ now) (empty : HoldsState limits fresh.buffer (Some [])) where
     pub lacks : (rows : List (Row C)) → HoldsNames eq limits (names_held old) rows → LacksName eq name rows
     lacks rows holds = lacks_name eq name rows (others_beside eq name limits (names_held old) rows holds.each absent)
 
-    pub accepts_absent : (whole : Bool) → StreamAccepts limits fresh stream fragment now whole → (rows : List (Row C))
+    pub accepts_absent : (entire : Bool) → StreamAccepts limits fresh stream fragment now entire → (rows : List (Row C))
         (number : ℕ) → HoldsNames eq limits (names_held old) rows
-        → AcceptsIn (names_held old) (name, stream) whole true rows number
-    accepts_absent whole accepted rows number holds =
+        → AcceptsIn (names_held old) (name, stream) entire true rows number
+    accepts_absent entire accepted rows number holds =
         let without = lacks rows holds in
         record {
           found = None;

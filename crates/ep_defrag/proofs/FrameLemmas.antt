@@ -202,13 +202,13 @@ module _ {T C V : Type 0} where
 abbrev pub pool_says : PoolAnswer → ReadAnswer
 pool_says answer = pool_answers (plain_answer answer)
 
-pool_answers_said : (answers : List PoolAnswer) → pool_answers_in (map pool_says answers) ≡ map plain_answer answers
-pool_answers_said [] = refl
-pool_answers_said (answer ∷ answers) = ap (λ said. plain_answer answer ∷ said) (pool_answers_said answers)
+pool_answers_stated : (answers : List PoolAnswer) → pool_answers_in (map pool_says answers) ≡ map plain_answer answers
+pool_answers_stated [] = refl
+pool_answers_stated (answer ∷ answers) = ap (λ stated. plain_answer answer ∷ stated) (pool_answers_stated answers)
 
 pub calls_answered : {T C V : Type 0} (limit : ℕ) (eq : C → C → Bool) (keep : V → T → Bool)
     (reads : List (ReadCall T C V)) (answers : List PoolAnswer)
     → map pool_says answers ≡ frame_answers_to limit eq keep reads
     → map plain_answer answers ≡ answers_to limit eq keep (pool_calls reads)
 calls_answered limit eq keep reads answers same =
-    sym (pool_answers_said answers) ∙ ap pool_answers_in same ∙ answers_in limit eq keep [] reads
+    sym (pool_answers_stated answers) ∙ ap pool_answers_in same ∙ answers_in limit eq keep [] reads

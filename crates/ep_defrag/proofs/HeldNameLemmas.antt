@@ -30,25 +30,25 @@ module _ {X Y : Type 0} (g : X → Y) (f : Y → ℕ) where
   total-one x = omega (arith, sum_by-cons f (g x) [])
 
 -- entries of a table of streams
-abbrev pub HeldEntries : Type 0 → Type 0
-HeldEntries C = Entries (IpFragId C) HeldStream
+abbrev pub StreamEntries : Type 0 → Type 0
+StreamEntries C = Entries (IpFragId C) HeldStream
 
 -- ---- the sums of a table
 module _ {C : Type 0} where
-  abbrev pub room_in : HeldEntries C → ℕ
-  room_in entries = room_of_names (names_of entries)
+  abbrev pub space_in : StreamEntries C → ℕ
+  space_in entries = room_of_names (names_of entries)
 
-  abbrev pub open_in : HeldEntries C → ℕ
+  abbrev pub open_in : StreamEntries C → ℕ
   open_in entries = open_names (names_of entries)
 
   -- The sums of a table are those of others, and a stream.
-  pub record HasBeside (entries : HeldEntries C) (stream : HeldStream) (others : HeldEntries C) : Type 0 where
-    pub room : room_in entries ≡ held_room stream + room_in others
+  pub record HasBeside (entries : StreamEntries C) (stream : HeldStream) (others : StreamEntries C) : Type 0 where
+    pub room : space_in entries ≡ held_room stream + space_in others
     pub streams : open_in entries ≡ open_once stream + open_in others
     pub len : length entries ≡ 1 + length others
     pub fit : open_in others ≤ length others
 
-  open-fit : (entries : HeldEntries C) → open_in entries ≤ length entries
+  open-fit : (entries : StreamEntries C) → open_in entries ≤ length entries
   open-fit entries =
       omega (
         arith,
@@ -57,7 +57,7 @@ module _ {C : Type 0} where
             (λ e. e.1),
       )
 
-  beside : (before after : HeldEntries C) (slot : Slot) (name : HeldName C)
+  beside : (before after : StreamEntries C) (slot : Slot) (name : HeldName C)
       → HasBeside (before ++ (slot, name) ∷ after) name.1 (before ++ after)
   beside before after slot name = record {
     room = omega (
@@ -75,12 +75,13 @@ module _ {C : Type 0} where
   }
 
   -- The law `places` of a table, for a slot with an entry.
-  abbrev pub Placed : HeldEntries C → Slot → HeldName C → Type 0
-  Placed entries slot name = (before : HeldEntries C) × (after : HeldEntries C) × IsAt slot before name after entries
+  abbrev pub Placed : StreamEntries C → Slot → HeldName C → Type 0
+  Placed entries slot name = (before : StreamEntries C) × (after : StreamEntries C)
+      × IsAt slot before name after entries
       × ((stream : HeldStream) → IsAt slot before (name.0, stream) after (with_value slot stream entries))
 
   -- sums of a table without an entry
-  pub has_without : (entries : HeldEntries C) (slot : Slot) (name : HeldName C) → Placed entries slot name
+  pub has_without : (entries : StreamEntries C) (slot : Slot) (name : HeldName C) → Placed entries slot name
       → HasBeside entries name.1 (without slot entries)
   has_without entries slot name placed =
       let at = placed.2 in
@@ -88,7 +89,7 @@ module _ {C : Type 0} where
       (beside placed.0 placed.1 slot name))
 
   -- sums of a table after a stream was written
-  pub has_written : (entries : HeldEntries C) (slot : Slot) (name : HeldName C) (stream : HeldStream)
+  pub has_written : (entries : StreamEntries C) (slot : Slot) (name : HeldName C) (stream : HeldStream)
       → Placed entries slot name
       → HasBeside (with_value slot stream entries) stream (without slot entries)
   has_written entries slot name stream placed =
@@ -96,12 +97,12 @@ module _ {C : Type 0} where
       rw (at.removed, at.written stream) (beside placed.0 placed.1 slot (name.0, stream))
 
   -- sums of a table after an entry became the newest
-  pub record HasSame (entries others : HeldEntries C) : Type 0 where
-    pub room : room_in entries ≡ room_in others
+  pub record HasSame (entries others : StreamEntries C) : Type 0 where
+    pub room : space_in entries ≡ space_in others
     pub streams : open_in entries ≡ open_in others
     pub len : length entries ≡ length others
 
-  pub has_touched : (entries : HeldEntries C) (slot : Slot) (name : HeldName C) → Placed entries slot name
+  pub has_touched : (entries : StreamEntries C) (slot : Slot) (name : HeldName C) → Placed entries slot name
       → HasSame (with_newest slot entries) entries
   has_touched entries slot name placed =
       let at = placed.2 in
@@ -131,7 +132,7 @@ module _ {C : Type 0} where
       }))
 
   -- sums of a table with a new entry
-  pub has_pushed : (entries : HeldEntries C) (slot : Slot) (name : HeldName C)
+  pub has_pushed : (entries : StreamEntries C) (slot : Slot) (name : HeldName C)
       → HasBeside (entries ++ (slot, name) ∷ []) name.1 entries
   has_pushed entries slot name = record {
     room = omega (

@@ -16,8 +16,8 @@ use Rattle.ep_defrag.specs.Buffers.{sections_after, AreNeighbours}
 use Rattle.ep_defrag.proofs.ListLemmas.{none_from_filter}
 use Rattle.ep_defrag.proofs.SectionLemmas.{IsOrdered}
 use Rattle.ep_defrag.proofs.ApartLemmas.{AreApartFrom, from_apart, to_apart, ordered_from, raised}
-use Rattle.ep_defrag.proofs.ApartLemmas.{least_behind, least_behind-le, apart_parts, apart_append}
-use Rattle.ep_defrag.proofs.ApartLemmas.{starts_rise, ends_rise, behind_earlier}
+use Rattle.ep_defrag.proofs.ApartLemmas.{least_after, least_after-le, apart_parts, apart_append}
+use Rattle.ep_defrag.proofs.ApartLemmas.{starts_rise, ends_rise, after_earlier}
 
 -- ---- from a property of indices to one of a sublist
 module _ {X : Type 0} (P : X → Type 0) (xs : List X) where
@@ -54,10 +54,10 @@ last_after least first (next ∷ later) apart =
     let rest = last_after (first.end + 1) next later apart.2 in
     (omega (arith, rest.0, apart.1, apart.2.0), omega (arith, rest.1, apart.2.0, apart.2.1))
 
-behind_last : (least : ℕ) (first : IpFragRange) (later : List IpFragRange)
-    → least_behind least (first ∷ later) ≡ (last_of first later).end + 1
-behind_last least first [] = refl
-behind_last least first (next ∷ later) = behind_last (first.end + 1) next later
+after_last : (least : ℕ) (first : IpFragRange) (later : List IpFragRange)
+    → least_after least (first ∷ later) ≡ (last_of first later).end + 1
+after_last least first [] = refl
+after_last least first (next ∷ later) = after_last (first.end + 1) next later
 
 -- Only the first and the last section determine the union.
 pub union_of_ends : (least : ℕ) (sofar first : IpFragRange) (later : List IpFragRange)
@@ -67,11 +67,11 @@ union_of_ends least sofar first [] apart =
     same_range (hull sofar first) (hull (hull sofar first) first) (omega arith) (omega arith)
 union_of_ends least sofar first (next ∷ later) apart =
     let last = last_of next later in
-    let behind = last_after (first.end + 1) next later apart.2 in
+    let after = last_after (first.end + 1) next later apart.2 in
     union_of_ends (first.end + 1) (hull sofar first) next later apart.2
     ∙ same_range (hull (hull (hull sofar first) next) last) (hull (hull sofar first) last)
     (omega (arith, apart.1, apart.2.0))
-    (omega (arith, behind.1))
+    (omega (arith, after.1))
 
 last_at : (first : IpFragRange) (later : List IpFragRange) (d : IpFragRange)
     → last_of first later ≡ get_or (first ∷ later) (length later) d
@@ -84,7 +84,7 @@ pub record AreParts (range : IpFragRange) (earlier between later : List IpFragRa
   pub apart : AreApartFrom 0 (earlier ++ (between ++ later))
   pub before : AllByRecursion (λ section. section.end < range.start) earlier
   pub sharing : AllByRecursion (λ section. (range.start ≤ section.end) × (section.start ≤ range.end)) between
-  pub behind : AllByRecursion (λ section. range.end < section.start) later
+  pub after : AllByRecursion (λ section. range.end < section.start) later
 
 module _ (range : IpFragRange) (ordered : IsOrdered range) where
   kept_before : (sections : List IpFragRange) → AllByRecursion IsOrdered sections
@@ -96,13 +96,13 @@ module _ (range : IpFragRange) (ordered : IsOrdered range) where
       let rest = kept_before sections all.1 before.1 in
       (rw away rest.0, rw away (ap (λ others. section ∷ others) rest.1))
 
-  kept_behind : (sections : List IpFragRange) → AllByRecursion IsOrdered sections
+  kept_after : (sections : List IpFragRange) → AllByRecursion IsOrdered sections
       → AllByRecursion (λ section. range.end < section.start) sections
       → (filter (merges range) sections ≡ []) × (filter (λ section. not (merges range section)) sections ≡ sections)
-  kept_behind [] all behind = (refl, refl)
-  kept_behind (section ∷ sections) all behind =
-      let away : merges range section ≡ false = grind (arith, nat_tests, ordered, all.0, behind.0) in
-      let rest = kept_behind sections all.1 behind.1 in
+  kept_after [] all after = (refl, refl)
+  kept_after (section ∷ sections) all after =
+      let away : merges range section ≡ false = grind (arith, nat_tests, ordered, all.0, after.0) in
+      let rest = kept_after sections all.1 after.1 in
       (rw away rest.0, rw away (ap (λ others. section ∷ others) rest.1))
 
   taken_between : (sections : List IpFragRange) → AllByRecursion IsOrdered sections
@@ -115,12 +115,12 @@ module _ (range : IpFragRange) (ordered : IsOrdered range) where
       (rw here (ap (λ others. section ∷ others) rest.0), rw here rest.1)
 
   module _ (earlier between later : List IpFragRange) (parts : AreParts range earlier between later) where
-    split_before : AreApartFrom 0 earlier × AreApartFrom (least_behind 0 earlier) (between ++ later)
+    split_before : AreApartFrom 0 earlier × AreApartFrom (least_after 0 earlier) (between ++ later)
     split_before = apart_parts 0 earlier (between ++ later) parts.apart
 
-    split_behind : AreApartFrom (least_behind 0 earlier) between
-        × AreApartFrom (least_behind (least_behind 0 earlier) between) later
-    split_behind = apart_parts (least_behind 0 earlier) between later (split_before).1
+    split_after : AreApartFrom (least_after 0 earlier) between
+        × AreApartFrom (least_after (least_after 0 earlier) between) later
+    split_after = apart_parts (least_after 0 earlier) between later (split_before).1
 
     taken : filter (merges range) (earlier ++ (between ++ later)) ≡ between
     taken =
@@ -129,10 +129,10 @@ module _ (range : IpFragRange) (ordered : IsOrdered range) where
         (kept_before earlier (ordered_from 0 earlier (split_before).0) parts.before).0
         ∙ filter-append (merges range) between later
         ∙ ap (λ found. found ++ filter (merges range) later)
-        (taken_between between (ordered_from (least_behind 0 earlier) between (split_behind).0) parts.sharing).0
+        (taken_between between (ordered_from (least_after 0 earlier) between (split_after).0) parts.sharing).0
         ∙ ap (λ found. between ++ found)
-        (kept_behind later (ordered_from (least_behind (least_behind 0 earlier) between) later (split_behind).1)
-        parts.behind).0
+        (kept_after later (ordered_from (least_after (least_after 0 earlier) between) later (split_after).1)
+        parts.after).0
         ∙ append-nil between
 
     others : filter (λ section. not (merges range section)) (earlier ++ (between ++ later)) ≡ earlier ++ later
@@ -144,9 +144,9 @@ module _ (range : IpFragRange) (ordered : IsOrdered range) where
         ∙ ap (λ found. earlier ++ found)
         (filter-append misses between later
         ∙ ap (λ found. found ++ filter misses later)
-        (taken_between between (ordered_from (least_behind 0 earlier) between (split_behind).0) parts.sharing).1
-        ∙ (kept_behind later (ordered_from (least_behind (least_behind 0 earlier) between) later (split_behind).1)
-        parts.behind).1)
+        (taken_between between (ordered_from (least_after 0 earlier) between (split_after).0) parts.sharing).1
+        ∙ (kept_after later (ordered_from (least_after (least_after 0 earlier) between) later (split_after).1)
+        parts.after).1)
 
     -- The sections after the merge are the union in its place, and the others.
     joined : IsPermutation (earlier ++ fold hull range between ∷ later)
@@ -161,28 +161,28 @@ module _ (range : IpFragRange) (ordered : IsOrdered range) where
 joined_apart : (range : IpFragRange) → IsOrdered range → (earlier between later : List IpFragRange)
     → AreParts range earlier between later → AreApartFrom 0 (earlier ++ fold hull range between ∷ later)
 joined_apart range ordered earlier [] later parts =
-    let least = least_behind 0 earlier in
+    let least = least_after 0 earlier in
     let split = apart_parts 0 earlier later parts.apart in
     apart_append 0 earlier (range ∷ later) split.0 (
-      least_behind-le 0 range.start earlier (omega arith) parts.before,
+      least_after-le 0 range.start earlier (omega arith) parts.before,
       ordered,
-      raised least range.end (range.end + 1) later split.1 parts.behind (omega arith),
+      raised least range.end (range.end + 1) later split.1 parts.after (omega arith),
     )
 joined_apart range ordered earlier (first ∷ between) later parts =
-    let least = least_behind 0 earlier in
+    let least = least_after 0 earlier in
     let split = apart_parts 0 earlier ((first ∷ between) ++ later) parts.apart in
     let rest = apart_parts least (first ∷ between) later split.1 in
     let last = last_of first between in
     let union = hull (hull range first) last in
-    let low = least_behind-le 0 range.start earlier (omega arith) parts.before in
+    let low = least_after-le 0 range.start earlier (omega arith) parts.before in
     let ends = last_after least first between rest.0 in
-    let behind : AreApartFrom (last.end + 1) later =
-    subst (λ least. AreApartFrom least later) (behind_last least first between) rest.1 in
+    let after : AreApartFrom (last.end + 1) later =
+    subst (λ least. AreApartFrom least later) (after_last least first between) rest.1 in
     rw (union_of_ends least range first between rest.0)
     (apart_append 0 earlier (union ∷ later) split.0 (
       omega (arith, low, rest.0.0, ends.0),
       omega (arith, ordered),
-      raised (last.end + 1) range.end (union.end + 1) later behind parts.behind (omega (arith, ends.1)),
+      raised (last.end + 1) range.end (union.end + 1) later after parts.after (omega (arith, ends.1)),
     ))
 
 -- ---- the parts by index
@@ -213,7 +213,7 @@ module _ (range : IpFragRange) (ordered : IsOrdered range) (sections : List IpFr
     sharing = recursion_from_All (λ section. (range.start ≤ section.end) × (section.start ≤ range.end)) between
         (all_of_slice (λ section. (range.start ≤ section.end) × (section.start ≤ range.end)) sections from to near.order
         near.within near.between);
-    behind = recursion_from_All (λ section. range.end < section.start) (drop to sections)
+    after = recursion_from_All (λ section. range.end < section.start) (drop to sections)
         (all_of_drop (λ section. range.end < section.start) sections to near.within near.later);
   }
 
@@ -234,8 +234,8 @@ module _ (range : IpFragRange) (ordered : IsOrdered range) (sections : List IpFr
 
   pub near_apart : AreSeparate (take (to - from) (drop from sections))
   near_apart =
-      to_apart (least_behind 0 (take from sections)) between
-      (split_behind range ordered (take from sections) between (drop to sections) parts).0
+      to_apart (least_after 0 (take from sections)) between
+      (split_after range ordered (take from sections) between (drop to sections) parts).0
 
   is_apart : AreSeparate (take from sections ++ fold hull range between ∷ drop to sections)
   is_apart =
@@ -283,9 +283,9 @@ module _ (range : IpFragRange) (ordered : IsOrdered range) (sections : List IpFr
       ∙ get_or-take (to - from) (drop from sections) count d (omega arith)
       ∙ get_or-drop from sections count d
       ∙ ap (λ place. get_or sections place d) place in
-      let least = least_behind 0 (take from sections) in
-      let whole = apart_parts 0 (take from sections) (between ++ drop to sections) (parts).apart in
-      let here = apart_parts least between (drop to sections) whole.1 in
+      let least = least_after 0 (take from sections) in
+      let complete = apart_parts 0 (take from sections) (between ++ drop to sections) (parts).apart in
+      let here = apart_parts least between (drop to sections) complete.1 in
       ap (fold hull range) opened
       ∙ union_of_ends least range first rest (subst (λ all. AreApartFrom least all) opened here.0)
       ∙ ap (λ last. hull (hull range first) last) last
@@ -339,7 +339,7 @@ pub near_from_place : (range : IpFragRange) → (sections : List IpFragRange) �
     → ((d : IpFragRange) → from < to → (get_or sections (to - 1) d).start ≤ range.end)
     → ((d : IpFragRange) → to < length sections → range.end < (get_or sections to d).start)
     → AreNeighbours range sections from to
-near_from_place range sections apart from to order within earlier rest starts behind = record {
+near_from_place range sections apart from to order within earlier rest starts after = record {
   order = order;
   within = within;
   earlier = earlier;
@@ -347,14 +347,14 @@ near_from_place range sections apart from to order within earlier rest starts be
     rest k d low (omega arith),
     omega (arith, starts_rise sections apart k (to - 1) d (omega arith) (omega arith), starts d (omega arith)),
   );
-  later = λ k d low high. omega (arith, starts_rise sections apart to k d low high, behind d (omega arith));
+  later = λ k d low high. omega (arith, starts_rise sections apart to k d low high, after d (omega arith));
 }
 
 -- A range that starts after the end of the last section has no neighbours.
 pub near_at_end : (range : IpFragRange) → (sections : List IpFragRange) → AreSeparate sections → (d : IpFragRange)
     → (length sections ≡ 0 → ⊥) → (get_or sections (length sections - 1) d).end < range.start
     → AreNeighbours range sections (length sections) (length sections)
-near_at_end range sections apart d some behind =
+near_at_end range sections apart d some after =
     let last = length sections - 1 in
     near_from_place range sections apart (length sections) (length sections) (omega arith) (omega arith)
     (λ k e low high.
@@ -372,7 +372,7 @@ pub near_in_last : (range : IpFragRange) → IsOrdered range → (sections : Lis
     → (d : IpFragRange) → (length sections ≡ 0 → ⊥) → range.start ≤ (get_or sections (length sections - 1) d).end
     → (get_or sections (length sections - 1) d).start ≤ range.start
     → AreNeighbours range sections (length sections - 1) (length sections)
-near_in_last range ordered sections apart d some within behind =
+near_in_last range ordered sections apart d some within after =
     let last = length sections - 1 in
     let is : (e : IpFragRange) → get_or sections last e ≡ get_or sections last d =
     λ e. get_or_default sections last e d (omega arith) in
@@ -380,7 +380,7 @@ near_in_last range ordered sections apart d some within behind =
     (λ k e low high.
     omega (
       arith,
-      behind_earlier 0 sections (from_apart sections apart) k last e high (omega arith),
+      after_earlier 0 sections (from_apart sections apart) k last e high (omega arith),
       ap (λ section. section.start) (is e),
     ))
     (λ k e low high.

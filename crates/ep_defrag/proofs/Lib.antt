@@ -1,45 +1,63 @@
-pub mod ListLemmas
+mod ListLemmas
 mod SectionLemmas
-pub mod ApartLemmas
+mod ApartLemmas
 mod JoiningLemmas
-pub mod DataLemmas
+mod DataLemmas
 mod WritingLemmas
-pub mod CompleteLemmas
-pub mod HeldLemmas
+mod CompleteLemmas
+mod BufferLemmas
 mod EqualLemmas
-pub mod CutLemmas
+mod CutLemmas
 mod RunLemmas
 mod LookupLemmas
-pub mod StreamLemmas
+mod StreamLemmas
 mod EntryLemmas
-pub mod OneFragmentLemmas
-mod HeldStreamLemmas
+mod OneFragmentLemmas
+mod PoolTableLemmas
 mod TakingLemmas
-pub mod CallLemmas
-pub mod OpenLemmas
-pub mod AloneLemmas
-pub mod FrameLemmas
+mod CallLemmas
+mod OpenLemmas
+mod AloneLemmas
+mod FrameLemmas
 mod LoopLemmas
 mod BoundedWritingLemmas
-pub mod BoundedOverlapLemmas
-pub mod BoundedRowLemmas
+mod BoundedOverlapLemmas
+mod BoundedRowLemmas
 mod BoundedAddingLemmas
 mod KeyedHashLemmas
 mod HeldNameLemmas
 mod DepartureLemmas
-mod HeldEntryLemmas
-mod HeldPoolLemmas
-mod HeldDifferLemmas
-mod HeldAddingLemmas
+mod StreamEntryLemmas
+mod HoldingsLemmas
+mod HeldNamesDifferLemmas
+mod StreamAddingLemmas
 mod RowHoldingLemmas
 mod FragmentStepLemmas
 mod FragmentHoldingLemmas
 mod FragmentTakingLemmas
 mod LimitHoldingLemmas
-mod HeldWrittenLemmas
+mod StreamWrittenLemmas
 mod FragmentBeginLemmas
 mod CounterLemmas
-mod HeldWalkLemmas
+mod StreamWalkLemmas
 mod RowRemovalLemmas
 mod AnswerCounterLemmas
 mod FragmentCallLemmas
+mod CompletingLemmas
+mod CarryingLemmas
+mod BuiltCutLemmas
+mod FramesCompleteLemmas
+mod SectionCountLemmas
+mod NameHashLemmas
+mod BoundedLimitLemmas
+mod BoundedKeptLemmas
+mod BoundedAgreeLemmas
+mod BoundedAloneLemmas
+mod BoundedOrderLemmas
+mod BoundedGivenLemmas
+mod BoundedSumLemmas
+mod BoundedStayLemmas
+mod BoundedFloodLemmas
+mod BoundedAnswerLemmas
+mod BoundedWithinLemmas
+mod BoundedAlikeLemmas

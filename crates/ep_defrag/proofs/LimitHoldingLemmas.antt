@@ -27,22 +27,22 @@ use Rattle.ep_defrag.specs.BoundedCounts.{FitCounters, counted, count_gone, with
 use Rattle.ep_defrag.specs.BoundedNames.{HeldName, names_of, held_room, room_of_names, HoldsState, HoldsRow, Reports}
 use Rattle.ep_defrag.specs.BoundedHoldings.{names_held, report_of, after_departure, with_all_gone, EvictsName, LeavesRows, EvictsForLimits}
 use Rattle.ep_defrag.proofs.StreamLemmas.{same_stream_laws}
-use Rattle.ep_defrag.proofs.HeldNameLemmas.{HeldEntries}
+use Rattle.ep_defrag.proofs.HeldNameLemmas.{StreamEntries}
 use Rattle.ep_defrag.proofs.RowHoldingLemmas.{zip_append}
 
 -- ---- sums of rows beside names
 module _ {C : Type 0} (limits : DefragLimits) where
-  pub room_beside : (names : List (HeldName C)) (rows : List (Row C)) → AllZip (HoldsRow limits) names rows
+  pub space_beside : (names : List (HeldName C)) (rows : List (Row C)) → AllZip (HoldsRow limits) names rows
       → room_held rows ≡ room_of_names names
-  room_beside [] [] all = refl
-  room_beside [] (row ∷ rows) all = absurd all
-  room_beside (held ∷ names) [] all = absurd all
-  room_beside (held ∷ names) (row ∷ rows) all =
+  space_beside [] [] all = refl
+  space_beside [] (row ∷ rows) all = absurd all
+  space_beside (held_name ∷ names) [] all = absurd all
+  space_beside (held_name ∷ names) (row ∷ rows) all =
       omega (
         arith,
-        room_beside names rows all.1,
+        space_beside names rows all.1,
         all.0.room,
-        sum_by-cons (λ (one : HeldName C). held_room one.1) held names,
+        sum_by-cons (λ (one : HeldName C). held_room one.1) held_name names,
         sum_by-cons (λ (one : Row C). one.room) row rows,
       )
 
@@ -50,8 +50,8 @@ module _ {C : Type 0} (limits : DefragLimits) where
       → length rows ≡ length names
   length_beside [] [] all = refl
   length_beside [] (row ∷ rows) all = absurd all
-  length_beside (held ∷ names) [] all = absurd all
-  length_beside (held ∷ names) (row ∷ rows) all = omega (arith, length_beside names rows all.1)
+  length_beside (held_name ∷ names) [] all = absurd all
+  length_beside (held_name ∷ names) (row ∷ rows) all = omega (arith, length_beside names rows all.1)
 
   -- ---- the cause
   module _ (names : List (HeldName C)) (rows : List (Row C)) (all : AllZip (HoldsRow limits) names rows) where
@@ -66,7 +66,7 @@ module _ {C : Type 0} (limits : DefragLimits) where
     pub cause_bytes : length names ≤ most_names limits → limits.bytes < room_of_names names → Some Bytes ≡ cause_of
     cause_bytes few over =
         let less : length rows ≤ most_names limits = omega (arith, few, length_beside names rows all) in
-        let large : limits.bytes < room_held rows = omega (arith, over, room_beside names rows all) in
+        let large : limits.bytes < room_held rows = omega (arith, over, space_beside names rows all) in
         rw (
           le-leb (length rows) (most_names limits) less,
           lt-leb (room_held rows) limits.bytes large,
@@ -76,15 +76,15 @@ module _ {C : Type 0} (limits : DefragLimits) where
     pub cause_none : length names ≤ most_names limits → room_of_names names ≤ limits.bytes → None ≡ cause_of
     cause_none few small =
         let less : length rows ≤ most_names limits = omega (arith, few, length_beside names rows all) in
-        let fits : room_held rows ≤ limits.bytes = omega (arith, small, room_beside names rows all) in
+        let fits : room_held rows ≤ limits.bytes = omega (arith, small, space_beside names rows all) in
         rw (le-leb (length rows) (most_names limits) less, le-leb (room_held rows) limits.bytes fits) refl
 
 -- ---- counters
 added : (x a b total : ℕ) → total ≡ a + b → counted (counted x a) b ≡ counted x total
 added x a b total sum = omega (arith, sum)
 
-kept : (x b total : ℕ) → total ≡ 0 + b → counted x b ≡ counted x total
-kept x b total sum = omega (arith, sum)
+counted_by_sum : (x b total : ℕ) → total ≡ 0 + b → counted x b ≡ counted x total
+counted_by_sum x b total sum = omega (arith, sum)
 
 module _ {C : Type 0} (old : DefragStatistics) (row : Row C) (later : List (Gone C)) where
   sum_of : (is_cause : EvictionCause → Bool) (cause : EvictionCause)
@@ -100,30 +100,30 @@ module _ {C : Type 0} (old : DefragStatistics) (row : Row C) (later : List (Gone
     pub one_evicted : (cause : EvictionCause)
         → with_all_gone (with_gone old cause) later ≡ with_all_gone old (gone_for cause row ∷ later)
     one_evicted Expired = λ i. record old {
-      discarded = kept old.discarded _ _ (sum_of is_overlap Expired) i;
+      discarded = counted_by_sum old.discarded _ _ (sum_of is_overlap Expired) i;
       expired = added old.expired 1 (count_gone is_expiry later) _
           (sum_of is_expiry Expired ∙ ap {B = ℕ} (λ n. n + count_gone is_expiry later) one) i;
-      evicted_for_streams = kept old.evicted_for_streams _ _ (sum_of is_for_streams Expired) i;
-      evicted_for_bytes = kept old.evicted_for_bytes _ _ (sum_of is_for_bytes Expired) i;
+      evicted_for_streams = counted_by_sum old.evicted_for_streams _ _ (sum_of is_for_streams Expired) i;
+      evicted_for_bytes = counted_by_sum old.evicted_for_bytes _ _ (sum_of is_for_bytes Expired) i;
     }
     one_evicted Overlap = λ i. record old {
       discarded = added old.discarded 1 (count_gone is_overlap later) _
           (sum_of is_overlap Overlap ∙ ap {B = ℕ} (λ n. n + count_gone is_overlap later) one) i;
-      expired = kept old.expired _ _ (sum_of is_expiry Overlap) i;
-      evicted_for_streams = kept old.evicted_for_streams _ _ (sum_of is_for_streams Overlap) i;
-      evicted_for_bytes = kept old.evicted_for_bytes _ _ (sum_of is_for_bytes Overlap) i;
+      expired = counted_by_sum old.expired _ _ (sum_of is_expiry Overlap) i;
+      evicted_for_streams = counted_by_sum old.evicted_for_streams _ _ (sum_of is_for_streams Overlap) i;
+      evicted_for_bytes = counted_by_sum old.evicted_for_bytes _ _ (sum_of is_for_bytes Overlap) i;
     }
     one_evicted Streams = λ i. record old {
-      discarded = kept old.discarded _ _ (sum_of is_overlap Streams) i;
-      expired = kept old.expired _ _ (sum_of is_expiry Streams) i;
+      discarded = counted_by_sum old.discarded _ _ (sum_of is_overlap Streams) i;
+      expired = counted_by_sum old.expired _ _ (sum_of is_expiry Streams) i;
       evicted_for_streams = added old.evicted_for_streams 1 (count_gone is_for_streams later) _
           (sum_of is_for_streams Streams ∙ ap {B = ℕ} (λ n. n + count_gone is_for_streams later) one) i;
-      evicted_for_bytes = kept old.evicted_for_bytes _ _ (sum_of is_for_bytes Streams) i;
+      evicted_for_bytes = counted_by_sum old.evicted_for_bytes _ _ (sum_of is_for_bytes Streams) i;
     }
     one_evicted Bytes = λ i. record old {
-      discarded = kept old.discarded _ _ (sum_of is_overlap Bytes) i;
-      expired = kept old.expired _ _ (sum_of is_expiry Bytes) i;
-      evicted_for_streams = kept old.evicted_for_streams _ _ (sum_of is_for_streams Bytes) i;
+      discarded = counted_by_sum old.discarded _ _ (sum_of is_overlap Bytes) i;
+      expired = counted_by_sum old.expired _ _ (sum_of is_expiry Bytes) i;
+      evicted_for_streams = counted_by_sum old.evicted_for_streams _ _ (sum_of is_for_streams Bytes) i;
       evicted_for_bytes = added old.evicted_for_bytes 1 (count_gone is_for_bytes later) _
           (sum_of is_for_bytes Bytes ∙ ap {B = ℕ} (λ n. n + count_gone is_for_bytes later) one) i;
     }
@@ -132,7 +132,7 @@ module _ {C : Type 0} (old : DefragStatistics) (row : Row C) (later : List (Gone
     uncounted : (is_cause : EvictionCause → Bool) (cause : EvictionCause) (x : ℕ)
         → counted x (count_gone is_cause later) ≡ counted x (count_gone is_cause (gone_for cause row ∷ later))
     uncounted is_cause cause x =
-        kept x (count_gone is_cause later) (count_gone is_cause (gone_for cause row ∷ later))
+        counted_by_sum x (count_gone is_cause later) (count_gone is_cause (gone_for cause row ∷ later))
         (sum_of is_cause cause ∙ ap {B = ℕ} (λ n. n + count_gone is_cause later) (none (is_cause cause)))
       where
         none : (b : Bool) → cond {A = ℕ} (b && is_open row) 1 0 ≡ 0
@@ -166,10 +166,11 @@ evicted_counted {C} limits old buffer row state cause later = by_state buffer ro
 
 -- ---- evictions
 pub reported : {C : Type 0} (eq : C → C → Bool) → IsEquivalence eq
-    → (limits : DefragLimits) (held : HeldName C) (row : Row C) (cause : EvictionCause) → HoldsRow limits held row
-    → Reports eq (report_of held cause) (gone_for cause row)
-reported eq laws limits held row cause holds = record {
-  id = subst (λ id. same_stream eq id held.0 ≡ true) holds.id ((same_stream_laws eq laws).refl held.0);
+    → (limits : DefragLimits) (held_name : HeldName C) (row : Row C) (cause : EvictionCause)
+    → HoldsRow limits held_name row
+    → Reports eq (report_of held_name cause) (gone_for cause row)
+reported eq laws limits held_name row cause holds = record {
+  id = subst (λ id. same_stream eq id held_name.0 ≡ true) holds.id ((same_stream_laws eq laws).refl held_name.0);
   cause = refl;
   first = holds.first;
 }
@@ -177,49 +178,51 @@ reported eq laws limits held row cause holds = record {
 module _ {C : Type 0} {e : PartialEq.Ghosts C} {h : Hash.Ghosts C} (eq : C → C → Bool) (laws : IsEquivalence eq)
     (limits : DefragLimits) where
   -- Nothing is evicted within the limits.
-  pub evicts_none : (held : Holdings C e h) → FitCounters held.statistics
-      → ((rows : List (Row C)) → AllZip (HoldsRow limits) (names_held held) rows
+  pub evicts_none : (holdings : Holdings C e h) → FitCounters holdings.statistics
+      → ((rows : List (Row C)) → AllZip (HoldsRow limits) (names_held holdings) rows
       → None ≡ cond (are_within limits rows) None (Some (limit_cause limits rows)))
-      → EvictsForLimits eq limits (names_held held) held held
-  evicts_none held fits within rows all =
+      → EvictsForLimits eq limits (names_held holdings) holdings holdings
+  evicts_none holdings fits within rows all =
       by_rows rows all (are_true (are_within limits rows) (limit_cause limits rows) (within rows all))
     where
       are_true : (test : Bool) (cause : EvictionCause) → None ≡ cond test None (Some cause) → test ≡ true
       are_true true cause is = refl
       are_true false cause is = absurd (cc)
 
-      nothing : (rows : List (Row C)) → AllZip (HoldsRow limits) (names_held held) rows
-          → LeavesRows eq limits held held rows []
+      nothing : (rows : List (Row C)) → AllZip (HoldsRow limits) (names_held holdings) rows
+          → LeavesRows eq limits holdings holdings rows []
       nothing rows all = record {
         names = all;
-        evicted = λ earlier reports. subst (AllZip (Reports eq) held.evicted.items) (sym (append-nil earlier)) reports;
-        statistics = λ i. record held.statistics {
-          discarded = fit held.statistics.discarded fits.discarded i;
-          expired = fit held.statistics.expired fits.expired i;
-          evicted_for_streams = fit held.statistics.evicted_for_streams fits.evicted_for_streams i;
-          evicted_for_bytes = fit held.statistics.evicted_for_bytes fits.evicted_for_bytes i;
+        evicted = λ earlier reports.
+            subst (AllZip (Reports eq) holdings.evicted.items) (sym (append-nil earlier)) reports;
+        statistics = λ i. record holdings.statistics {
+          discarded = fit holdings.statistics.discarded fits.discarded i;
+          expired = fit holdings.statistics.expired fits.expired i;
+          evicted_for_streams = fit holdings.statistics.evicted_for_streams fits.evicted_for_streams i;
+          evicted_for_bytes = fit holdings.statistics.evicted_for_bytes fits.evicted_for_bytes i;
         };
       }
         where
           fit : (n : ℕ) → n < 2 ^ 64 → n ≡ counted n 0
           fit n fits = omega (arith, fits)
 
-      by_rows : (rows : List (Row C)) → AllZip (HoldsRow limits) (names_held held) rows → are_within limits rows ≡ true
-          → LeavesRows eq limits held held (remaining limits rows) (evicted_for_limits limits rows)
+      by_rows : (rows : List (Row C)) → AllZip (HoldsRow limits) (names_held holdings) rows
+          → are_within limits rows ≡ true
+          → LeavesRows eq limits holdings holdings (remaining limits rows) (evicted_for_limits limits rows)
       by_rows [] all is = nothing [] all
       by_rows (row ∷ later) all is = rw is (nothing (row ∷ later) all)
 
   -- The oldest name is evicted, and then others as far as the limits require.
-  pub evicts_more : (held next final : Holdings C e h) (first : HeldName C) (names : List (HeldName C))
+  pub evicts_more : (old next final : Holdings C e h) (first : HeldName C) (names : List (HeldName C))
       (cause : EvictionCause)
-      → names_held held ≡ first ∷ names → names_held next ≡ names
-      → ((rows : List (Row C)) → AllZip (HoldsRow limits) (names_held held) rows
+      → names_held old ≡ first ∷ names → names_held next ≡ names
+      → ((rows : List (Row C)) → AllZip (HoldsRow limits) (names_held old) rows
       → Some cause ≡ cond (are_within limits rows) None (Some (limit_cause limits rows)))
-      → next.statistics ≡ after_departure held.statistics first.1.buffer (Evicted cause)
-      → next.evicted.items ≡ held.evicted.items ++ report_of first cause ∷ []
-      → EvictsForLimits eq limits (names_held next) next final → EvictsForLimits eq limits (names_held held) held final
-  evicts_more held next final first names cause whole left above counts pushed later rows all =
-      by_rows rows (subst (λ (names : List (HeldName C)). AllZip (HoldsRow limits) names rows) whole all)
+      → next.statistics ≡ after_departure old.statistics first.1.buffer (Evicted cause)
+      → next.evicted.items ≡ old.evicted.items ++ report_of first cause ∷ []
+      → EvictsForLimits eq limits (names_held next) next final → EvictsForLimits eq limits (names_held old) old final
+  evicts_more old next final first names cause complete left above counts pushed later rows all =
+      by_rows rows (subst (λ (names : List (HeldName C)). AllZip (HoldsRow limits) names rows) complete all)
       (above rows all)
     where
       split : (test : Bool) (own : EvictionCause) → Some cause ≡ cond test None (Some own)
@@ -229,7 +232,7 @@ module _ {C : Type 0} {e : PartialEq.Ghosts C} {h : Hash.Ghosts C} (eq : C → C
 
       by_rows : (rows : List (Row C)) → AllZip (HoldsRow limits) (first ∷ names) rows
           → Some cause ≡ cond (are_within limits rows) None (Some (limit_cause limits rows))
-          → LeavesRows eq limits held final (remaining limits rows) (evicted_for_limits limits rows)
+          → LeavesRows eq limits old final (remaining limits rows) (evicted_for_limits limits rows)
       by_rows [] all is = absurd all
       by_rows (row ∷ others) all is =
           let parts = split (are_within limits (row ∷ others)) (limit_cause limits (row ∷ others)) is in
@@ -245,30 +248,30 @@ module _ {C : Type 0} {e : PartialEq.Ghosts C} {h : Hash.Ghosts C} (eq : C → C
                 (rest.evicted (earlier ++ gone ∷ [])
                 (subst (λ (items : List (EvictedStream C)). AllZip (Reports eq) items (earlier ++ gone ∷ []))
                 (sym pushed)
-                (zip_append (Reports eq) held.evicted.items (report_of first cause ∷ []) earlier (gone ∷ []) reports
+                (zip_append (Reports eq) old.evicted.items (report_of first cause ∷ []) earlier (gone ∷ []) reports
                 (reported eq laws limits first row cause all.0, tt))));
             statistics = rest.statistics
                 ∙ ap (λ (counters : DefragStatistics). with_all_gone counters (evicted_for_limits limits others)) counts
-                ∙ evicted_counted limits held.statistics first.1.buffer row all.0.state cause
+                ∙ evicted_counted limits old.statistics first.1.buffer row all.0.state cause
                 (evicted_for_limits limits others);
           })
 
   -- as the table evicts the name in its oldest slot
-  pub oldest_evicted : (held next final : Holdings C e h) (slot : Slot) (first : HeldName C) (cause : EvictionCause)
-      → entry_at slot held.table ≡ Some first
-      → ((oldest : Slot × HeldName C) (rest : HeldEntries C) → entry_at oldest.0 (oldest ∷ rest) ≡ Some oldest.1)
-      → ((oldest : Slot × HeldName C) (rest : HeldEntries C) → without oldest.0 (oldest ∷ rest) ≡ rest)
-      → Some slot ≡ option_map (λ e. e.0) (slice_get held.table 0)
-      → ((rows : List (Row C)) → AllZip (HoldsRow limits) (names_held held) rows
+  pub oldest_evicted : (old next final : Holdings C e h) (slot : Slot) (first : HeldName C) (cause : EvictionCause)
+      → entry_at slot old.table ≡ Some first
+      → ((oldest : Slot × HeldName C) (rest : StreamEntries C) → entry_at oldest.0 (oldest ∷ rest) ≡ Some oldest.1)
+      → ((oldest : Slot × HeldName C) (rest : StreamEntries C) → without oldest.0 (oldest ∷ rest) ≡ rest)
+      → Some slot ≡ option_map (λ e. e.0) (slice_get old.table 0)
+      → ((rows : List (Row C)) → AllZip (HoldsRow limits) (names_held old) rows
       → Some cause ≡ cond (are_within limits rows) None (Some (limit_cause limits rows)))
-      → EvictsName held next slot cause first
-      → EvictsForLimits eq limits (names_held next) next final → EvictsForLimits eq limits (names_held held) held final
-  oldest_evicted held next final slot first cause at found removed oldest above gone later =
-      by_table held.table refl at oldest
+      → EvictsName old next slot cause first
+      → EvictsForLimits eq limits (names_held next) next final → EvictsForLimits eq limits (names_held old) old final
+  oldest_evicted old next final slot first cause at found removed oldest above gone later =
+      by_table old.table refl at oldest
     where
-      by_table : (entries : HeldEntries C) → held.table ≡ entries → entry_at slot entries ≡ Some first
+      by_table : (entries : StreamEntries C) → old.table ≡ entries → entry_at slot entries ≡ Some first
           → Some slot ≡ option_map (λ e. e.0) (slice_get entries 0)
-          → EvictsForLimits eq limits (names_held held) held final
+          → EvictsForLimits eq limits (names_held old) old final
       by_table [] is at oldest = absurd (cc)
       by_table (own ∷ rest) is at oldest =
           let slots : slot ≡ own.0 = cc in
@@ -277,8 +280,8 @@ module _ {C : Type 0} {e : PartialEq.Ghosts C} {h : Hash.Ghosts C} (eq : C → C
           let same : first ≡ own.1 = cc in
           let left : next.table ≡ rest =
           gone.table ∙ ap (without slot) is ∙ ap (λ (s : Slot). without s (own ∷ rest)) slots ∙ removed own rest in
-          evicts_more held next final first (names_of rest) cause
-          (ap (λ (entries : HeldEntries C). names_of entries) is
-          ∙ ap (λ (held : HeldName C). held ∷ names_of rest) (sym same))
-          (ap (λ (entries : HeldEntries C). names_of entries) left)
+          evicts_more old next final first (names_of rest) cause
+          (ap (λ (entries : StreamEntries C). names_of entries) is
+          ∙ ap (λ (held_name : HeldName C). held_name ∷ names_of rest) (sym same))
+          (ap (λ (entries : StreamEntries C). names_of entries) left)
           above gone.statistics gone.evicted later

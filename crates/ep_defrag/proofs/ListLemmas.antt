@@ -62,8 +62,8 @@ count_by-positive p (x ∷ xs) any = elim (cases_Bool (p x)) [
 
 -- If no element is left, all were taken.
 pub all_taken : {X : Type 0} (taken left all : List X) → taken ++ left ≡ all → length left ≡ 0 → taken ≡ all
-all_taken taken [] all whole none = sym (append-nil taken) ∙ whole
-all_taken taken (x ∷ left) all whole none = absurd (omega arith)
+all_taken taken [] all complete none = sym (append-nil taken) ∙ complete
+all_taken taken (x ∷ left) all complete none = absurd (omega arith)
 
 -- The elements before the next one are those taken, and the element at that index is the next one.
 pub before_and_at : {X : Type 0} (taken left : List X) (x d : X)

@@ -75,9 +75,9 @@ module _ {X : Type 0} (p : X → Bool) where
     | inl none ↦
         find_none ys (sum_by-IsPermutation counted xs ys moved ∙ count_none xs none) ∙ sym none
     | inr (x, found) ↦
-        let there = found_at xs x found in
-        let still = Contains-permutation xs ys x moved there.0 in
-        find_one ys still.0 x still.1 still.2 there.1 one ∙ sym found
+        let place = found_at xs x found in
+        let still = Contains-permutation xs ys x moved place.0 in
+        find_one ys still.0 x still.1 still.2 place.1 one ∙ sym found
   ]
     where
       cases_found : (found : Option X) → find p xs ≡ found → (find p xs ≡ None) ⊎ ((x : X) × (find p xs ≡ Some x))

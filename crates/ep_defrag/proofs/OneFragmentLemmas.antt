@@ -46,7 +46,7 @@ module _ {T : Type 0} (limit : ℕ) (kept : Option (Kept T)) (fragment : IpFragm
 
   pub kept_complete : FitsWithin limit (accepted_in kept) fragment → is_complete after ≡ true
       → kept_with limit kept fragment timestamp ≡ None
-  kept_complete fits whole = rw (fits, whole) refl
+  kept_complete fits complete = rw (fits, complete) refl
 
   pub kept_more : FitsWithin limit (accepted_in kept) fragment → is_complete after ≡ false
       → kept_with limit kept fragment timestamp ≡ Some (record { accepted = after; timestamp = timestamp })
@@ -60,7 +60,7 @@ module _ {T C : Type 0} (limit : ℕ) (name : IpFragId C) (kept : Option (Kept T
   pub answer_complete : FitsWithin limit (accepted_in kept) fragment
       → is_complete (accepted_in kept ++ fragment ∷ []) ≡ true
       → payload_returned (payload_of name (accepted_in kept ++ fragment ∷ [])) ≡ answer_with limit name kept fragment
-  answer_complete fits whole = rw (fits, whole) refl
+  answer_complete fits complete = rw (fits, complete) refl
 
   pub answer_nothing : FitsWithin limit (accepted_in kept) fragment
       → is_complete (accepted_in kept ++ fragment ∷ []) ≡ false
@@ -108,14 +108,14 @@ module _ {T C : Type 0} (limit : ℕ) (stream next : Stream T C) where
         })
 
     -- A stream that is complete has no new entry.
-    pub entry_whole : (kept : Option (Kept T)) → HoldsEntry limit (Some stream) kept
+    pub entry_complete : (kept : Option (Kept T)) → HoldsEntry limit (Some stream) kept
         → BufferTakes limit stream.buffer next.buffer fragment
         → IsWhetherComplete next.buffer true
         → kept_with limit kept fragment timestamp ≡ None
-    entry_whole None entry takes whole = absurd entry
-    entry_whole (Some kept) entry takes whole =
+    entry_complete None entry takes complete = absurd entry
+    entry_complete (Some kept) entry takes complete =
         kept_complete limit (Some kept) fragment timestamp (takes.fits kept.accepted entry.buffer)
-        (whole (kept.accepted ++ fragment ∷ []) (takes.holds kept.accepted entry.buffer))
+        (complete (kept.accepted ++ fragment ∷ []) (takes.holds kept.accepted entry.buffer))
 
     -- If the fragment is rejected, the entry is unchanged.
     pub entry_refused : (kept : Option (Kept T)) (error : IpDefragError) → HoldsEntry limit (Some stream) kept
@@ -147,12 +147,12 @@ module _ {T C : Type 0} (limit : ℕ) (stream next : Stream T C) where
         → BufferTakes limit stream.buffer next.buffer fragment
         → IsWhetherComplete next.buffer true
         → payload_returned (handed (data_of next.buffer)) ≡ answer_with limit name kept fragment
-    answered_payload None entry takes whole = absurd entry
-    answered_payload (Some kept) entry takes whole =
+    answered_payload None entry takes complete = absurd entry
+    answered_payload (Some kept) entry takes complete =
         let now = takes.holds kept.accepted entry.buffer in
         ap (λ bytes. payload_returned (handed bytes)) now.contents
         ∙ answer_complete limit name (Some kept) fragment (takes.fits kept.accepted entry.buffer)
-        (whole (kept.accepted ++ fragment ∷ []) now)
+        (complete (kept.accepted ++ fragment ∷ []) now)
 
     pub answered_refused : (kept : Option (Kept T)) (error : IpDefragError) → HoldsEntry limit (Some stream) kept
         → ((accepted : List IpFragment) → HoldsFragments stream.buffer accepted

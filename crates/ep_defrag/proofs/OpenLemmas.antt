@@ -90,7 +90,7 @@ module _ {T C V : Type 0} (limit : ℕ) (eq : C → C → Bool) (keep : V → T 
 
     time_of_kept : (accepted : List IpFragment) (timestamp : T) → P timestamp → IsKeptAt (kept_of accepted timestamp)
     time_of_kept accepted timestamp has = elim (cases_Bool (is_complete accepted)) [
-      | inl whole ↦ rw whole tt
+      | inl complete ↦ rw complete tt
       | inr partly ↦ rw partly has
     ]
 

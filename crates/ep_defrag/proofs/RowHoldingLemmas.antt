@@ -13,7 +13,7 @@ use Rattle.ep_defrag.specs.declared.bounded_limits.DefragLimits.{DefragLimits}
 use Rattle.ep_defrag.specs.Streams.{same_stream}
 use Rattle.ep_defrag.specs.BoundedSteps.{Row, row_named, other_rows, discarded_row, rows_discarding, is_expired, expires_for}
 use Rattle.ep_defrag.specs.BoundedNames.{HeldName, names_of, HoldsRow, HoldsNames}
-use Rattle.ep_defrag.proofs.HeldEntryLemmas.{first_is}
+use Rattle.ep_defrag.proofs.StreamEntryLemmas.{first_is}
 
 -- ---- two lists side by side
 module _ {X Y : Type 0} (R : X → Y → Type 0) where
@@ -153,49 +153,49 @@ module _ {C : Type 0} (eq : C → C → Bool) (name : IpFragId C) where
         record { stay = rw earlier.0 (ap (λ more. first ∷ more) rest.stay); gone = rw earlier.0 rest.gone }
 
   -- ---- rows beside names
-  abbrev pub is_held : HeldName C → Bool
-  is_held held = same_stream eq held.0 name
+  abbrev pub is_named : HeldName C → Bool
+  is_named held_name = same_stream eq held_name.0 name
 
   -- Holds if none of these names is the name.
   abbrev pub HoldOthers : List (HeldName C) → Type 0
-  HoldOthers names = AllByRecursion (λ held. same_stream eq held.0 name ≡ false) names
+  HoldOthers names = AllByRecursion (λ held_name. same_stream eq held_name.0 name ≡ false) names
 
   pub others_beside : (limits : DefragLimits) (names : List (HeldName C)) (rows : List (Row C))
       → AllZip (HoldsRow limits) names rows → HoldOthers names → AreOthers rows
   others_beside limits [] [] all others = tt
   others_beside limits [] (row ∷ rows) all others = absurd all
-  others_beside limits (held ∷ names) [] all others = absurd all
-  others_beside limits (held ∷ names) (row ∷ rows) all others = (
+  others_beside limits (held_name ∷ names) [] all others = absurd all
+  others_beside limits (held_name ∷ names) (row ∷ rows) all others = (
     subst (λ (id : IpFragId C). same_stream eq id name ≡ false) all.0.id others.0,
     others_beside limits names rows all.1 others.1,
   )
 
-  others_from_count : (names : List (HeldName C)) → count_by is_held names ≡ 0 → HoldOthers names
+  others_from_count : (names : List (HeldName C)) → count_by is_named names ≡ 0 → HoldOthers names
   others_from_count [] none = tt
-  others_from_count (held ∷ names) none =
-      let first = sum_by-cons (λ (one : HeldName C). cond (is_held one) 1 0) held names in
-      elim (cases_Bool (is_held held)) [
+  others_from_count (held_name ∷ names) none =
+      let first = sum_by-cons (λ (one : HeldName C). cond (is_named one) 1 0) held_name names in
+      elim (cases_Bool (is_named held_name)) [
         | inl alike ↦ absurd (omega (arith, none, first, ap {B = ℕ} (λ b. cond b 1 0) alike))
         | inr differs ↦
             (differs, others_from_count names (omega (arith, none, first, ap {B = ℕ} (λ b. cond b 1 0) differs)))
       ]
 
   -- The row of a name that is in the table, and the rows before and after it.
-  pub record FindsRow (limits : DefragLimits) (before : List (HeldName C)) (held : HeldName C)
+  pub record FindsRow (limits : DefragLimits) (before : List (HeldName C)) (held_name : HeldName C)
       (after : List (HeldName C)) (rows : List (Row C)) : Type 0 where
-    pub at : SplitsAt (HoldsRow limits) before held after rows
+    pub at : SplitsAt (HoldsRow limits) before held_name after rows
     pub earlier : AreOthers at.before
     pub alike : is_own at.own ≡ true
     pub later : AreOthers at.after
 
-  pub finds_row : (limits : DefragLimits) (before : List (HeldName C)) (held : HeldName C)
-      (after : List (HeldName C)) (rows : List (Row C)) → HoldsNames eq limits (before ++ held ∷ after) rows
-      → is_held held ≡ true → FindsRow limits before held after rows
-  finds_row limits before held after rows holds alike =
-      let at = zip_split (HoldsRow limits) before held after rows holds.each in
+  pub finds_row : (limits : DefragLimits) (before : List (HeldName C)) (held_name : HeldName C)
+      (after : List (HeldName C)) (rows : List (Row C)) → HoldsNames eq limits (before ++ held_name ∷ after) rows
+      → is_named held_name ≡ true → FindsRow limits before held_name after rows
+  finds_row limits before held_name after rows holds alike =
+      let at = zip_split (HoldsRow limits) before held_name after rows holds.each in
       let one = ap {B = ℕ} (λ b. cond b 1 0) alike in
-      let sum = sum_by-append (λ (one : HeldName C). cond (is_held one) 1 0) before (held ∷ after) in
-      let rest = sum_by-cons (λ (one : HeldName C). cond (is_held one) 1 0) held after in
+      let sum = sum_by-append (λ (one : HeldName C). cond (is_named one) 1 0) before (held_name ∷ after) in
+      let rest = sum_by-cons (λ (one : HeldName C). cond (is_named one) 1 0) held_name after in
       record {
         at = at;
         earlier = others_beside limits before at.before at.first
@@ -207,7 +207,8 @@ module _ {C : Type 0} (eq : C → C → Bool) (name : IpFragId C) where
 
   -- names of a table, none of whose entries has the name
   pub others_in : (entries : Entries (IpFragId C) HeldStream)
-      → ((entry : Slot × HeldName C) → Contains entries entry → is_held entry.1 ≡ false) → HoldOthers (names_of entries)
+      → ((entry : Slot × HeldName C) → Contains entries entry → is_named entry.1 ≡ false)
+      → HoldOthers (names_of entries)
   others_in [] other = tt
   others_in (e ∷ es) other = (
     other e (first_is e es),

@@ -25,11 +25,12 @@ use Rattle.ep_defrag.specs.BoundedNames.{HeldName, names_of, AreHashed, open_nam
 use Rattle.ep_defrag.specs.BoundedHoldings.{is_stream_due, due_in, not_due_in, report_of, after_departure}
 use Rattle.ep_defrag.specs.BoundedPools.{limits_in, names_in, evicted_in, statistics_in, HoldsRows, DoesStep}
 use Rattle.ep_defrag.specs.BoundedCounts.{counted, count_gone, FitCounters}
-use Rattle.ep_defrag.proofs.CounterLemmas.{counted_none, counters_of, removed_only, removed_once, expired_only, all_gone, none_gone}
+use Rattle.ep_defrag.proofs.CounterLemmas.{counted_none, removed_only, removed_once, expired_only, all_gone, none_gone}
+use Rattle.ep_defrag.proofs.AnswerCounterLemmas.{counters_of}
 use Rattle.ep_defrag.proofs.StreamLemmas.{same_stream_laws}
 use Rattle.ep_defrag.proofs.LookupLemmas.{find_none, count_filter}
-use Rattle.ep_defrag.proofs.HeldNameLemmas.{HeldEntries, Placed, open_once}
-use Rattle.ep_defrag.proofs.HeldDifferLemmas.{none_in}
+use Rattle.ep_defrag.proofs.HeldNameLemmas.{StreamEntries, Placed, open_once}
+use Rattle.ep_defrag.proofs.HeldNamesDifferLemmas.{none_in}
 use Rattle.ep_defrag.proofs.KeyedHashLemmas.{same_hash}
 
 -- ---- two lists whose elements belong together
@@ -98,10 +99,10 @@ module _ {X : Type 0} (p : X → Bool) where
 -- ---- states of names
 open_state : (limits : DefragLimits) (buffer : Option IpDefragBuf) (accepted : Option (List IpFragment))
     → HoldsState limits buffer accepted → is_some buffer ≡ is_some accepted
-open_state limits None None held = refl
-open_state limits None (Some accepted) held = absurd held
-open_state limits (Some buffer) None held = absurd held
-open_state limits (Some buffer) (Some accepted) held = refl
+open_state limits None None holds_state = refl
+open_state limits None (Some accepted) holds_state = absurd holds_state
+open_state limits (Some buffer) None holds_state = absurd holds_state
+open_state limits (Some buffer) (Some accepted) holds_state = refl
 
 module _ {C : Type 0} (limits : DefragLimits) where
   -- As many streams are open.
@@ -109,7 +110,7 @@ module _ {C : Type 0} (limits : DefragLimits) where
       → open_names names ≡ count_by is_open rows
   open_rows names rows all =
       zip_count (HoldsRow limits) (λ name. is_some name.1.buffer) (λ row. is_some row.accepted)
-      (λ name row held. open_state limits name.1.buffer row.accepted held.state) names rows all
+      (λ name row holds. open_state limits name.1.buffer row.accepted holds.state) names rows all
 
   module _ (eq : C → C → Bool) where
     -- Names that pass a test, and rows that do, still belong together.
@@ -117,19 +118,19 @@ module _ {C : Type 0} (limits : DefragLimits) where
         → ((name : HeldName C) (row : Row C) → HoldsRow limits name row → p name ≡ q row)
         → (names : List (HeldName C)) (rows : List (Row C)) → HoldsNames eq limits names rows
         → HoldsNames eq limits (filter p names) (filter q rows)
-    filtered_names p q agree names rows held = record {
+    filtered_names p q agree names rows holds_names = record {
       differ = λ name.
-          omega (arith, held.differ name, count_filter (λ one. same_stream eq one.0 name) p names);
-      each = zip_filter (HoldsRow limits) p q agree names rows held.each;
+          omega (arith, holds_names.differ name, count_filter (λ one. same_stream eq one.0 name) p names);
+      each = zip_filter (HoldsRow limits) p q agree names rows holds_names.each;
     }
 
-    same_row : (name : IpFragId C) (held : HeldName C) (row : Row C) → HoldsRow limits held row
-        → same_stream eq held.0 name ≡ same_stream eq row.id name
-    same_row name held row holds = ap (λ (id : IpFragId C). same_stream eq id name) holds.id
+    same_row : (name : IpFragId C) (held_name : HeldName C) (row : Row C) → HoldsRow limits held_name row
+        → same_stream eq held_name.0 name ≡ same_stream eq row.id name
+    same_row name held_name row holds = ap (λ (id : IpFragId C). same_stream eq id name) holds.id
 
-    due_row : (now idle : ℕ) (held : HeldName C) (row : Row C) → HoldsRow limits held row
-        → is_stream_due limits now idle held.1 ≡ is_due limits now idle row
-    due_row now idle held row holds = rw (holds.first, holds.last) refl
+    due_row : (now idle : ℕ) (held_name : HeldName C) (row : Row C) → HoldsRow limits held_name row
+        → is_stream_due limits now idle held_name.1 ≡ is_due limits now idle row
+    due_row now idle held_name row holds = rw (holds.first, holds.last) refl
 
 -- ---- names that leave
 module _ {C : Type 0} (eq : C → C → Bool) where
@@ -140,7 +141,7 @@ module _ {C : Type 0} (eq : C → C → Bool) where
         removed = counted (statistics_in old).removed (open_names (names_in old));
       }
       → DoesStep eq old new clears_names number None rows
-  cleared old new rows number held fit names evicted limits statistics =
+  cleared old new rows number holds_rows fit names evicted limits statistics =
       let counters = statistics_in old in
       record {
         holds = rw names (record { differ = λ name. omega arith; each = tt });
@@ -148,7 +149,7 @@ module _ {C : Type 0} (eq : C → C → Bool) where
         statistics =
             statistics
             ∙ (λ i. record counters {
-              removed = counted counters.removed (open_rows (limits_in old) (names_in old) rows held.each i);
+              removed = counted counters.removed (open_rows (limits_in old) (names_in old) rows holds_rows.each i);
             })
             ∙ removed_only counters fit (counted counters.removed (count_by is_open rows))
             ∙ counters_of counters fit 0 0 0 0 (count_by is_open rows) refl refl refl;
@@ -159,25 +160,25 @@ module _ {C : Type 0} (eq : C → C → Bool) where
   pub removed_step : (old new : BoundedDefragPool C) (rows : List (Row C)) (number : ℕ) (name : IpFragId C)
       (streams : ℕ)
       → HoldsRows eq old rows → FitCounters (statistics_in old)
-      → names_in new ≡ filter (λ held. not (same_stream eq held.0 name)) (names_in old)
-      → open_names (filter (λ held. same_stream eq held.0 name) (names_in old)) ≡ streams
+      → names_in new ≡ filter (λ one. not (same_stream eq one.0 name)) (names_in old)
+      → open_names (filter (λ one. same_stream eq one.0 name) (names_in old)) ≡ streams
       → evicted_in new ≡ [] → limits_in new ≡ limits_in old
       → statistics_in new
       ≡ record (statistics_in old) { removed = counted (statistics_in old).removed streams }
       → DoesStep eq old new (removes_name name) number None rows
-  removed_step old new rows number name streams held fit names many_open evicted limits statistics =
+  removed_step old new rows number name streams holds_rows fit names many_open evicted limits statistics =
       let counters = statistics_in old in
       let those = filter (λ row. same_stream eq row.id name) rows in
       let many : streams ≡ count_by is_open those =
       sym many_open
-      ∙ open_rows (limits_in old) (filter (λ held. same_stream eq held.0 name) (names_in old)) those
-      (zip_filter (HoldsRow (limits_in old)) (λ held. same_stream eq held.0 name) (λ row. same_stream eq row.id name)
-      (same_row (limits_in old) eq name) (names_in old) rows held.each) in
+      ∙ open_rows (limits_in old) (filter (λ one. same_stream eq one.0 name) (names_in old)) those
+      (zip_filter (HoldsRow (limits_in old)) (λ one. same_stream eq one.0 name) (λ row. same_stream eq row.id name)
+      (same_row (limits_in old) eq name) (names_in old) rows holds_rows.each) in
       record {
         holds = rw (names, limits)
-            (filtered_names (limits_in old) eq (λ held. not (same_stream eq held.0 name))
+            (filtered_names (limits_in old) eq (λ one. not (same_stream eq one.0 name))
             (λ row. not (same_stream eq row.id name))
-            (λ held row holds. ap not (same_row (limits_in old) eq name held row holds)) (names_in old) rows held);
+            (λ one row holds. ap not (same_row (limits_in old) eq name one row holds)) (names_in old) rows holds_rows);
         evicted = rw evicted tt;
         statistics =
             statistics ∙ (λ i. record counters { removed = counted counters.removed (many i) })
@@ -189,34 +190,35 @@ module _ {C : Type 0} (eq : C → C → Bool) where
   -- The names that are due are evicted.
   pub expired_step : IsEquivalence eq → (old new : BoundedDefragPool C) (rows : List (Row C)) (number now idle : ℕ)
       → HoldsRows eq old rows → FitCounters (statistics_in old)
-      → names_in new ≡ filter (λ held. not (is_stream_due (limits_in old) now idle held.1)) (names_in old)
-      → evicted_in new ≡ map (λ held. report_of held Expired)
-      (filter (λ held. is_stream_due (limits_in old) now idle held.1) (names_in old))
+      → names_in new ≡ filter (λ one. not (is_stream_due (limits_in old) now idle one.1)) (names_in old)
+      → evicted_in new ≡ map (λ one. report_of one Expired)
+      (filter (λ one. is_stream_due (limits_in old) now idle one.1) (names_in old))
       → limits_in new ≡ limits_in old
       → statistics_in new ≡ record (statistics_in old) {
         expired = counted (statistics_in old).expired
-            (open_names (filter (λ held. is_stream_due (limits_in old) now idle held.1) (names_in old)));
+            (open_names (filter (λ one. is_stream_due (limits_in old) now idle one.1) (names_in old)));
       }
       → DoesStep eq old new (expires_names now idle) number None rows
-  expired_step laws old new rows number now idle held fit names evicted limits statistics =
+  expired_step laws old new rows number now idle holds_rows fit names evicted limits statistics =
       let counters = statistics_in old in
       let same = same_stream_laws eq laws in
-      let due = filter (λ held. is_stream_due (limits_in old) now idle held.1) (names_in old) in
+      let due = filter (λ one. is_stream_due (limits_in old) now idle one.1) (names_in old) in
       let due_rows = filter (is_due (limits_in old) now idle) rows in
       let zip : AllZip (HoldsRow (limits_in old)) due due_rows =
-      zip_filter (HoldsRow (limits_in old)) (λ held. is_stream_due (limits_in old) now idle held.1)
-      (is_due (limits_in old) now idle) (due_row (limits_in old) eq now idle) (names_in old) rows held.each in
+      zip_filter (HoldsRow (limits_in old)) (λ one. is_stream_due (limits_in old) now idle one.1)
+      (is_due (limits_in old) now idle) (due_row (limits_in old) eq now idle) (names_in old) rows holds_rows.each in
       let many : open_names due ≡ count_gone is_expiry (map (gone_for Expired) due_rows) =
       open_rows (limits_in old) due due_rows zip ∙ sym (all_gone is_expiry refl due_rows) in
       record {
         holds = rw (names, limits)
-            (filtered_names (limits_in old) eq (λ held. not (is_stream_due (limits_in old) now idle held.1))
+            (filtered_names (limits_in old) eq (λ one. not (is_stream_due (limits_in old) now idle one.1))
             (λ row. not (is_due (limits_in old) now idle row))
-            (λ held row holds. ap not (due_row (limits_in old) eq now idle held row holds)) (names_in old) rows held);
+            (λ one row holds. ap not (due_row (limits_in old) eq now idle one row holds))
+            (names_in old) rows holds_rows);
         evicted = rw evicted
-            (zip_map (HoldsRow (limits_in old)) (Reports eq) (λ held. report_of held Expired) (gone_for Expired)
-            (λ held row holds. record {
-              id = rw (← holds.id) (same.refl held.0);
+            (zip_map (HoldsRow (limits_in old)) (Reports eq) (λ one. report_of one Expired) (gone_for Expired)
+            (λ one row holds. record {
+              id = rw (← holds.id) (same.refl one.0);
               cause = refl;
               first = holds.first;
             })
@@ -244,25 +246,25 @@ map_filter f p (x ∷ xs) = elim (cases_Bool (p (f x))) [
 ]
 
 module _ {C : Type 0} (limits : DefragLimits) (now idle : ℕ) where
-  pub names_due : (entries : HeldEntries C) → names_of (due_in limits now idle entries)
-      ≡ filter (λ held. is_stream_due limits now idle held.1) (names_of entries)
-  names_due entries = map_filter (λ entry. entry.1) (λ held. is_stream_due limits now idle held.1) entries
+  pub names_due : (entries : StreamEntries C) → names_of (due_in limits now idle entries)
+      ≡ filter (λ one. is_stream_due limits now idle one.1) (names_of entries)
+  names_due entries = map_filter (λ entry. entry.1) (λ one. is_stream_due limits now idle one.1) entries
 
-  pub names_not_due : (entries : HeldEntries C) → names_of (not_due_in limits now idle entries)
-      ≡ filter (λ held. not (is_stream_due limits now idle held.1)) (names_of entries)
-  names_not_due entries = map_filter (λ entry. entry.1) (λ held. not (is_stream_due limits now idle held.1)) entries
+  pub names_not_due : (entries : StreamEntries C) → names_of (not_due_in limits now idle entries)
+      ≡ filter (λ one. not (is_stream_due limits now idle one.1)) (names_of entries)
+  names_not_due entries = map_filter (λ entry. entry.1) (λ one. not (is_stream_due limits now idle one.1)) entries
 
-  reports_by_names : (entries : HeldEntries C)
-      → map (λ entry. report_of entry.1 Expired) entries ≡ map (λ held. report_of held Expired) (names_of entries)
+  reports_by_names : (entries : StreamEntries C)
+      → map (λ entry. report_of entry.1 Expired) entries ≡ map (λ one. report_of one Expired) (names_of entries)
   reports_by_names [] = refl
   reports_by_names (entry ∷ entries) = ap (λ others. report_of entry.1 Expired ∷ others) (reports_by_names entries)
 
-  pub reports_due : (entries : HeldEntries C)
+  pub reports_due : (entries : StreamEntries C)
       → map (λ entry. report_of entry.1 Expired) (due_in limits now idle entries)
-      ≡ map (λ held. report_of held Expired) (filter (λ held. is_stream_due limits now idle held.1) (names_of entries))
+      ≡ map (λ one. report_of one Expired) (filter (λ one. is_stream_due limits now idle one.1) (names_of entries))
   reports_due entries =
       reports_by_names (due_in limits now idle entries)
-      ∙ ap (λ (names : List (HeldName C)). map (λ held. report_of held Expired) names) (names_due entries)
+      ∙ ap (λ (names : List (HeldName C)). map (λ one. report_of one Expired) names) (names_due entries)
 
 -- ---- the name of an identifier
 find_passing : {X : Type 0} (p : X → Bool) (xs : List X) (x : X) → filter p xs ≡ x ∷ [] → is_some (find p xs) ≡ true
@@ -285,12 +287,12 @@ is_some_zip R p q agree (x ∷ xs) (y ∷ ys) all = elim (cases_Bool (p x)) [
 
 module _ {C : Type 0} (eq : C → C → Bool) (laws : IsEquivalence eq) (name : IpFragId C) where
   abbrev pub is_named : HeldName C → Bool
-  is_named held = same_stream eq held.0 name
+  is_named held_name = same_stream eq held_name.0 name
 
   -- The only entry of the identifier is in the slot.
-  pub one_name : (entries : HeldEntries C) (slot : Slot) (own : HeldName C) → Placed entries slot own
+  pub one_name : (entries : StreamEntries C) (slot : Slot) (own : HeldName C) → Placed entries slot own
       → same_stream eq name own.0 ≡ true → HeldNamesDiffer eq (names_of entries)
-      → (names_of (without slot entries) ≡ filter (λ held. not (is_named held)) (names_of entries))
+      → (names_of (without slot entries) ≡ filter (λ one. not (is_named one)) (names_of entries))
       × (filter is_named (names_of entries) ≡ own ∷ [])
   one_name entries slot own placed same differ =
       let at = placed.2 in
@@ -302,13 +304,13 @@ module _ {C : Type 0} (eq : C → C → Bool) (laws : IsEquivalence eq) (name : 
       let one = one_passes is_named (names_of before) (names_of after) own (equal.symm own.0 name ∙ same)
       (subst (λ (all : List (HeldName C)). count_by is_named all ≤ 1) names (differ name)) in (
         (λ i. names_of (at.removed i)) ∙ map-append (λ (e : Slot × HeldName C). e.1) before after ∙ sym one.0
-            ∙ ap (λ (all : List (HeldName C)). filter (λ held. not (is_named held)) all) (sym names),
+            ∙ ap (λ (all : List (HeldName C)). filter (λ one. not (is_named one)) all) (sym names),
         ap (λ (all : List (HeldName C)). filter is_named all) names ∙ one.1,
       )
 
   -- No entry has the identifier, if none with its hash does.
   pub no_name : (channel : C → HashWrites) → ((x y : C) → eq x y ≡ true → channel x ≡ channel y)
-      → (keys : RandomState) (entries : HeldEntries C) (slot : Slot) → AreHashed channel keys entries
+      → (keys : RandomState) (entries : StreamEntries C) (slot : Slot) → AreHashed channel keys entries
       → slot.hash ≡ name_hash channel keys name
       → ((entry : Slot × HeldName C) → Contains entries entry → entry.0.hash ≡ slot.hash
       → same_stream eq name entry.1.0 ≡ false)
@@ -324,11 +326,11 @@ module _ {C : Type 0} (eq : C → C → Bool) (laws : IsEquivalence eq) (name : 
       ])
 
   module _ (limits : DefragLimits) (names : List (HeldName C)) (rows : List (Row C))
-      (held : HoldsNames eq limits names rows) where
+      (holds_names : HoldsNames eq limits names rows) where
     named_row : is_some (find is_named names) ≡ is_some (row_named eq name rows)
     named_row =
         is_some_zip (HoldsRow limits) is_named (λ row. same_stream eq row.id name) (same_row limits eq name) names rows
-        held.each
+        holds_names.each
 
     pub is_present : (own : HeldName C) → filter is_named names ≡ own ∷ [] → true ≡ is_some (row_named eq name rows)
     is_present own one = sym (find_passing is_named names own one) ∙ named_row
@@ -336,15 +338,15 @@ module _ {C : Type 0} (eq : C → C → Bool) (laws : IsEquivalence eq) (name : 
     pub is_absent : count_by is_named names ≡ 0 → false ≡ is_some (row_named eq name rows)
     is_absent none = sym (ap is_some (find_none is_named names none)) ∙ named_row
 
-  module _ (old new : BoundedDefragPool C) (rows : List (Row C)) (held : HoldsRows eq old rows) where
+  module _ (old new : BoundedDefragPool C) (rows : List (Row C)) (holds_rows : HoldsRows eq old rows) where
     -- The name is removed.
     pub removes_present : (number : ℕ) (own : HeldName C) → FitCounters (statistics_in old)
-        → names_in new ≡ filter (λ held. not (is_named held)) (names_in old)
+        → names_in new ≡ filter (λ one. not (is_named one)) (names_in old)
         → filter is_named (names_in old) ≡ own ∷ [] → evicted_in new ≡ [] → limits_in new ≡ limits_in old
         → statistics_in new ≡ after_departure (statistics_in old) own.1.buffer Removed
         → DoesStep eq old new (removes_name name) number None rows
     removes_present number own fit names one evicted limits statistics =
-        removed_step eq old new rows number name (open_once own.1) held fit names
+        removed_step eq old new rows number name (open_once own.1) holds_rows fit names
         (omega (
           arith,
           ap {B = ℕ} (λ (all : List (HeldName C)). open_names all) one,
@@ -360,6 +362,6 @@ module _ {C : Type 0} (eq : C → C → Bool) (laws : IsEquivalence eq) (name : 
     removes_absent number fit none names evicted limits statistics =
         let counters = statistics_in old in
         let parts = none_pass is_named (names_in old) none in
-        removed_step eq old new rows number name 0 held fit (names ∙ sym parts.0)
+        removed_step eq old new rows number name 0 holds_rows fit (names ∙ sym parts.0)
         (ap (λ (all : List (HeldName C)). open_names all) parts.1) evicted limits
         (statistics ∙ (λ i. record counters { removed = sym (counted_none counters.removed fit.removed) i }))

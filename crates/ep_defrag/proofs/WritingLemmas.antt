@@ -61,11 +61,11 @@ put_in_parts contents payload start within split =
           let before : take start (padded ++ rest) ≡ take start (extended contents end) =
           take-append-le start padded rest (omega (arith, padded_len))
           ∙ take-extended contents start end (omega arith) in
-          let behind : drop (start + length (take within payload)) (padded ++ rest) ≡ rest =
+          let after : drop (start + length (take within payload)) (padded ++ rest) ≡ rest =
           ap (λ place. drop place (padded ++ rest)) seam ∙ drop-append_seam padded rest in
           let nothing : drop end (extended contents end) ≡ [] =
           drop_all end (extended contents end) (omega (arith, length-extended contents end)) in
-          rw (before, behind, nothing)
+          rw (before, after, nothing)
           (append_assoc (take start (extended contents end)) (take within payload) rest
           ∙ ap (λ part. take start (extended contents end) ++ part) (take-append-drop within payload)
           ∙ sym (append-nil (take start (extended contents end) ++ payload)))

@@ -25,6 +25,10 @@ pub mod BoundedPools
 pub mod Isolation
 pub mod FrameCalls
 pub mod NameHashes
+pub mod Completing
+pub mod BuiltCuts
+pub mod BoundedDiscards
+pub mod BoundedGiven
 -- definitions of lower crates that the contracts use
 pub use Rattle.ep_base.specs.Bytes
 pub use Rattle.ep_base.specs.Tables

@@ -1,5 +1,6 @@
-//! Laws of the types of reassembly: how they are compared and cloned, and the values of the constants. Each is the
-//! contract of a function that does nothing. The other laws of reassembly are in `ep_defrag_laws`.
+//! Laws of reassembly. Those of buffers, of pools and of bounded pools are theorems about the definitions in their
+//! contracts; those of their types state how these are compared and cloned, and the values of the constants. Each law is
+//! the contract of a function without effect.
 
 ghost use Rattle.std.specs.Prelude.{◌≡◌, ◌↔◌, ◌<◌, List, length, IsTrue};
 ghost use Rattle.std.specs.List.{All};
@@ -11,9 +12,10 @@ ghost use Rattle.ep_defrag.specs.Streams.{same_stream};
 ghost use Rattle.ep_defrag.specs.Pools.{plain_payload, plain_answer};
 ghost use Rattle.ep_defrag.specs.FrameCalls.{read_answer};
 
-pub use crate::bounded_laws::{
-    bounded_clones, bounded_clones_succeed, bounded_comparisons, bounded_constants,
-};
+mod bounded_pools;
+mod bounded_types;
+mod pools;
+
 use crate::frame_run::FrameAnswer;
 use crate::ip_defrag_buf::IpDefragBuf;
 use crate::ip_defrag_error::IpDefragError;
@@ -22,6 +24,20 @@ use crate::ip_frag_id::{IpFragId, IpFragVersionSpecId};
 use crate::ip_frag_range::IpFragRange;
 use crate::pool_run::PoolAnswer;
 use crate::run::RunStop;
+pub use bounded_pools::{
+    alone_until_evicted, counters_add_up, evicted_exactly, keys_change_nothing, no_ambiguity,
+    payloads_agree, within_limits,
+};
+pub use bounded_types::{
+    bounded_clones, bounded_clones_succeed, bounded_comparisons, bounded_constants,
+};
+pub use pools::{
+    built_cuts_are_reassembled, complete_cuts_are_the_payload, cut_fits, cuts_are_reassembled,
+    data_within_limit, frame_calls, known_end_is_greatest, merge_is_symmetric, merge_is_union,
+    name_hashes, one_fragment_completes, one_more_call, refused_frames_change_nothing,
+    sections_within_limit, small_limits_complete_nothing, streams_are_alone,
+    two_fragments_complete, two_frames_complete,
+};
 
 /// States that the constants `MAX_IP_DEFRAG_LEN_U16` and `MAX_IP_DEFRAG_LEN`, the greatest length of a reassembled
 /// payload, are both 65535, the greatest value of 16 bits.

@@ -3,7 +3,6 @@
 
 mod bounded_defrag_error;
 mod bounded_defrag_pool;
-mod bounded_laws;
 mod bounded_limits;
 mod carried_fragment;
 mod defrag_statistics;

@@ -6,17 +6,17 @@ use Rattle.ep_ext.specs.RawExtension.{raw_extension_bytes}
 use Rattle.ep_ext.specs.Chains.{IpVersion, ExtensionChain, IsChainAfter, IsExtensionChain, EncodesParts, parts_bytes}
 use Rattle.ep_ext.proofs.PartLemmas.{auth_len}
 
-part_encoded : (number : ℕ) (bytes : List ℕ) (part : ExtensionPart) (behind : List ℕ)
-    → IsExtensionPart number bytes part behind
-    → (front : List ℕ) × EncodesPart front part × (bytes ≡ front ++ behind)
-part_encoded number bytes (hop_by_hop header) behind is =
+part_encoded : (number : ℕ) (bytes : List ℕ) (part : ExtensionPart) (after : List ℕ)
+    → IsExtensionPart number bytes part after
+    → (prefix : List ℕ) × EncodesPart prefix part × (bytes ≡ prefix ++ after)
+part_encoded number bytes (hop_by_hop header) after is =
     (raw_extension_bytes header, (is.1.fits, refl), is.1.parts)
-part_encoded number bytes (destination_options header) behind is =
+part_encoded number bytes (destination_options header) after is =
     (raw_extension_bytes header, (is.1.fits, refl), is.1.parts)
-part_encoded number bytes (routing header) behind is =
+part_encoded number bytes (routing header) after is =
     (raw_extension_bytes header, (is.1.fits, refl), is.1.parts)
-part_encoded number bytes (fragment header) behind is = (is.1.encoded, is.1.encodes, is.1.parts)
-part_encoded number bytes (authentication header) behind is = (is.1.encoded, is.1.encodes, is.1.parts)
+part_encoded number bytes (fragment header) after is = (is.1.encoded, is.1.encodes, is.1.parts)
+part_encoded number bytes (authentication header) after is = (is.1.encoded, is.1.encodes, is.1.parts)
 
 -- Bytes that encode a header have the length of its wire format.
 encoded_len : (bytes : List ℕ) (part : ExtensionPart) → EncodesPart bytes part
@@ -40,14 +40,14 @@ encoded_lens bytes (part ∷ parts) encodes = omega (
   encoded_lens encodes.1 parts encodes.3,
 )
 
-behind_encoded : (version : IpVersion) (reading : Reading) (taken : List ℕ) (number : ℕ) (bytes : List ℕ)
+after_encoded : (version : IpVersion) (reading : Reading) (taken : List ℕ) (number : ℕ) (bytes : List ℕ)
     (parts : List ExtensionPart) (last : ℕ) (rest : List ℕ)
     → IsChainAfter version reading taken number bytes parts last rest
     → (encoded : List ℕ) × EncodesParts encoded parts × (bytes ≡ encoded ++ rest)
-behind_encoded version reading taken number bytes [] last rest is = ([], refl, sym is.2)
-behind_encoded version reading taken number bytes (part ∷ parts) last rest is =
+after_encoded version reading taken number bytes [] last rest is = ([], refl, sym is.2)
+after_encoded version reading taken number bytes (part ∷ parts) last rest is =
     let here = part_encoded number bytes part is.1.0 is.1.1 in
-    let more = behind_encoded version reading (number ∷ taken) (part_next part) is.1.0 parts last rest is.1.2 in (
+    let more = after_encoded version reading (number ∷ taken) (part_next part) is.1.0 parts last rest is.1.2 in (
       here.0 ++ more.0,
       (here.0, more.0, here.1, more.1, refl),
       here.2 ∙ ap (λ (s : List ℕ). here.0 ++ s) more.2 ∙ sym (append_assoc here.0 more.0 rest),
@@ -58,7 +58,7 @@ pub chain_encoded : (version : IpVersion) (reading : Reading) (number : ℕ) (by
     → IsExtensionChain version reading number bytes chain
     → (encoded : List ℕ) × EncodesParts encoded chain.parts × (bytes ≡ encoded ++ chain.rest)
 chain_encoded version reading number bytes chain is =
-    behind_encoded version reading [] number bytes chain.parts chain.last chain.rest is
+    after_encoded version reading [] number bytes chain.parts chain.last chain.rest is
 
 pub chain_len : (version : IpVersion) (reading : Reading) (number : ℕ) (bytes : List ℕ) (chain : ExtensionChain)
     → IsExtensionChain version reading number bytes chain

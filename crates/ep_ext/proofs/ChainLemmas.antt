@@ -16,16 +16,16 @@ use Rattle.ep_ext.specs.declared.ip_auth_header.IpAuthHeader.{IpAuthHeader}
 use Rattle.ep_ext.specs.ExtensionParts.{ExtensionPart, authentication, part_next, part_len, RefusesExtensionPart, auth_refusal}
 use Rattle.ep_ext.specs.IpAuth.{IsIpAuth, RefusesIpAuth, ip_auth_rows}
 use Rattle.ep_ext.specs.Chains.{IpVersion, ipv4, ipv6, ExtensionChain, chain_of, Demand, ends, takes, misplaced, demand_of, is_taken, IsChainAfter, IsExtensionChain, RefusesChainAfter, RefusesExtensionChain, NoKindTwice, with_offset_in}
-use Rattle.ep_ext.proofs.PartLemmas.{HeaderLaws, ReadPart, IsReadPart, IsKind, is_hop_by_hop, is_routing, is_fragment, is_authentication, is_destination, part_decided, part_lens, part_behind_fits, part_numbered}
+use Rattle.ep_ext.proofs.PartLemmas.{HeaderLaws, ReadPart, IsReadPart, IsKind, is_hop_by_hop, is_routing, is_fragment, is_authentication, is_destination, part_decided, part_lens, part_after_fits, part_numbered}
 
 -- The bytes, starting with the header of this IP number, are a chain that continues after the visited headers.
-abbrev pub IsBehind : IpVersion → Reading → List ℕ → ℕ → List ℕ → ExtensionChain → Type 0
-IsBehind version reading taken number bytes chain = IsChainAfter version reading taken number bytes chain.parts
+abbrev pub IsFollowing : IpVersion → Reading → List ℕ → ℕ → List ℕ → ExtensionChain → Type 0
+IsFollowing version reading taken number bytes chain = IsChainAfter version reading taken number bytes chain.parts
     chain.last chain.rest
 
 -- The bytes are rejected with this error after the visited headers.
-abbrev pub RefusesBehind : IpVersion → Reading → List ℕ → ℕ → ℕ → List ℕ → HeaderSliceError → Type 0
-RefusesBehind version reading taken offset number bytes error =
+abbrev pub RefusesAfter : IpVersion → Reading → List ℕ → ℕ → ℕ → List ℕ → HeaderSliceError → Type 0
+RefusesAfter version reading taken offset number bytes error =
     (parts : List ExtensionPart) × RefusesChainAfter version reading taken offset number bytes parts error
 
 pub demand_cases : (demand : Demand) → (demand ≡ ends) ⊎ ((demand ≡ takes) ⊎ (demand ≡ misplaced))
@@ -106,12 +106,12 @@ with_part read = chain_of (read.0.0 ∷ read.1.parts) read.1.last read.1.rest
 
 -- The chain after the first header.
 abbrev IsNext : IpVersion → Reading → List ℕ → ℕ → ReadPart → ExtensionChain → Type 0
-IsNext version reading taken number read chain = IsBehind version reading (number ∷ taken)
+IsNext version reading taken number read chain = IsFollowing version reading (number ∷ taken)
     (part_next read.0) read.1 chain
 
 abbrev RefusesNext : IpVersion → Reading → List ℕ → ℕ → ℕ → ReadPart → HeaderSliceError → Type 0
 RefusesNext version reading taken offset number read error =
-    RefusesBehind version reading (number ∷ taken) (offset + part_len read.0) (part_next read.0) read.1 error
+    RefusesAfter version reading (number ∷ taken) (offset + part_len read.0) (part_next read.0) read.1 error
 
 -- The first header is rejected with this error.
 abbrev RefusesFirst : ℕ → ℕ → List ℕ → HeaderSliceError → Type 0
@@ -140,21 +140,21 @@ refused_back version reading taken offset number bytes demand [] error (inr refu
 refused_back version reading taken offset number bytes demand (part ∷ parts) error refused =
     inr ((part, refused.1.0), refused.1.1, (parts, refused.1.2))
 
-refused_there : (version : IpVersion) (reading : Reading) (taken : List ℕ) (offset number : ℕ) (bytes : List ℕ)
+refuses_part : (version : IpVersion) (reading : Reading) (taken : List ℕ) (offset number : ℕ) (bytes : List ℕ)
     → demand_of version reading taken number ≡ takes
     → (error : HeaderSliceError) → RefusesEither (IsReadPart number bytes) (RefusesFirst offset number bytes)
     (RefusesNext version reading taken offset number) error
-    → RefusesBehind version reading taken offset number bytes error
-refused_there version reading taken offset number bytes demand error (inl refused) = ([], inr (demand, refused))
-refused_there version reading taken offset number bytes demand error (inr refused) =
+    → RefusesAfter version reading taken offset number bytes error
+refuses_part version reading taken offset number bytes demand error (inl refused) = ([], inr (demand, refused))
+refuses_part version reading taken offset number bytes demand error (inr refused) =
     (refused.0.0 ∷ refused.2.0, (demand, (refused.0.1, refused.1, refused.2.1)))
 
 -- Bytes shorter than `most` are either exactly one chain after the visited headers or rejected with exactly one error.
-pub behind_decided : HeaderLaws → (most : ℕ) (version : IpVersion) (reading : Reading) (taken : List ℕ)
+pub after_decided : HeaderLaws → (most : ℕ) (version : IpVersion) (reading : Reading) (taken : List ℕ)
     (offset number : ℕ) (bytes : List ℕ) → length bytes < most → AreBytes bytes
-    → IsDecided (IsBehind version reading taken number bytes) (RefusesBehind version reading taken offset number bytes)
-behind_decided laws zero version reading taken offset number bytes within fits = absurd (omega arith)
-behind_decided laws (suc most) version reading taken offset number bytes within fits =
+    → IsDecided (IsFollowing version reading taken number bytes) (RefusesAfter version reading taken offset number bytes)
+after_decided laws zero version reading taken offset number bytes within fits = absurd (omega arith)
+after_decided laws (suc most) version reading taken offset number bytes within fits =
     elim (demand_cases (demand_of version reading taken number)) [
       | inl end ↦ decided_by (chain_of [] number bytes) (end, refl, refl)
           (λ chain is. only_end version reading taken number bytes end chain.parts chain.last chain.rest is)
@@ -162,16 +162,16 @@ behind_decided laws (suc most) version reading taken offset number bytes within 
       | inr (inl demand) ↦ decided_as with_part (λ error. error)
           (decided_then (refused_as (with_offset_in offset) (part_decided laws number bytes fits
           (taken_is_kind version reading taken number demand)))
-          (λ read is. behind_decided laws most version reading (number ∷ taken) (offset + part_len read.0)
+          (λ read is. after_decided laws most version reading (number ∷ taken) (offset + part_len read.0)
           (part_next read.0) read.1
           (omega (arith, part_lens number bytes read.0 read.1 is))
-          (part_behind_fits number bytes read.0 read.1 is fits)))
+          (part_after_fits number bytes read.0 read.1 is fits)))
           (record {
-            there = λ read is. (demand, (read.0.1, is.0, is.1));
+            present = λ read is. (demand, (read.0.1, is.0, is.1));
             back = λ chain is. taken_back version reading
                 taken number bytes demand chain.parts chain.last chain.rest is;
           })
-          (same_image (refused_there version reading taken offset number bytes demand)
+          (same_image (refuses_part version reading taken offset number bytes demand)
           (λ error refused. refused_back version reading taken offset number bytes demand refused.0 error refused.1))
       | inr (inr wrong) ↦ record {
         some = inr (header_error.Content content.HopByHopNotAtStart, ([], inl (wrong, refl)));
@@ -188,7 +188,7 @@ pub chain_decided : HeaderLaws → (version : IpVersion) (reading : Reading) (nu
     → AreBytes bytes
     → IsDecided (IsExtensionChain version reading number bytes) (RefusesExtensionChain version reading number bytes)
 chain_decided laws version reading number bytes fits =
-    behind_decided laws (length bytes + 1) version reading [] 0 number bytes (omega arith) fits
+    after_decided laws (length bytes + 1) version reading [] 0 number bytes (omega arith) fits
 
 -- ---- the two readings
 

@@ -65,10 +65,10 @@ same_fragment a b =
     (two_same (booleans_Decides a.more_fragments b.more_fragments) (Decides-eqb a.identification b.identification))))
 
 -- A present header of a list that fits also fits.
-pub there_fits : {H : Type 0} (kind : H → ExtensionPart) (there : Option H) (header : H)
-    → FitParts (optional_part kind there) → there ≡ Some header → FitsPart (kind header)
-there_fits kind None header fit same = absurd (none-some header same)
-there_fits kind (Some other) header fit same =
+pub present_fits : {H : Type 0} (kind : H → ExtensionPart) (present : Option H) (header : H)
+    → FitParts (optional_part kind present) → present ≡ Some header → FitsPart (kind header)
+present_fits kind None header fit same = absurd (none-some header same)
+present_fits kind (Some other) header fit same =
     let one : other ≡ header = cc in subst (λ h. FitsPart (kind h)) one fit.0
 
 pub same_routing : (a b : Ipv6RoutingExtensions)
@@ -81,12 +81,12 @@ same_routing a b fits other =
     (two_same (same_raw_extension a.routing b.routing fits.0 other.0)
     (same_option raw_extension_eq a.final_destination_options b.final_destination_options
     (λ x y is_x is_y. same_raw_extension x y
-    (there_fits destination_options a.final_destination_options x fits.1 is_x)
-    (there_fits destination_options b.final_destination_options y other.1 is_y))))
+    (present_fits destination_options a.final_destination_options x fits.1 is_x)
+    (present_fits destination_options b.final_destination_options y other.1 is_y))))
 
-fit_front : (parts more : List ExtensionPart) → FitParts (parts ++ more) → FitParts parts
-fit_front [] more fit = tt
-fit_front (part ∷ parts) more fit = (fit.0, fit_front parts more fit.1)
+fit_prefix : (parts more : List ExtensionPart) → FitParts (parts ++ more) → FitParts parts
+fit_prefix [] more fit = tt
+fit_prefix (part ∷ parts) more fit = (fit.0, fit_prefix parts more fit.1)
 
 fit_back : (parts more : List ExtensionPart) → FitParts (parts ++ more) → FitParts more
 fit_back [] more fit = fit
@@ -96,15 +96,15 @@ fit_back (part ∷ parts) more fit = fit_back parts more fit.1
 pub record FitEach (extensions : Ipv6Extensions) : Type 0 where
   pub hop : FitParts (optional_part hop_by_hop extensions.hop_by_hop_options)
   pub destination : FitParts (optional_part destination_options extensions.destination_options)
-  pub behind : FitParts (optional_part routing (option_map routing_header extensions.routing))
+  pub after : FitParts (optional_part routing (option_map routing_header extensions.routing))
   pub auth : FitParts (optional_part authentication extensions.auth)
   pub final : FitParts (optional_part destination_options (final_by extensions.routing))
 
 -- If each header of a value fits, so do its routing header and the destination options after it.
-pub fit_routing : (extensions : Ipv6Extensions) (behind : Ipv6RoutingExtensions) → FitEach extensions
-    → extensions.routing ≡ Some behind → FitRouting behind
-fit_routing extensions behind fit is = (
-  there_fits routing (option_map routing_header extensions.routing) behind.routing fit.behind
+pub fit_routing : (extensions : Ipv6Extensions) (after : Ipv6RoutingExtensions) → FitEach extensions
+    → extensions.routing ≡ Some after → FitRouting after
+fit_routing extensions after fit is = (
+  present_fits routing (option_map routing_header extensions.routing) after.routing fit.after
       (ap (option_map routing_header) is),
   subst (λ (r : Option Ipv6RoutingExtensions). FitParts (optional_part destination_options (final_by r))) is fit.final,
 )
@@ -117,13 +117,13 @@ fit_each extensions fit =
     let d = optional_part fragment extensions.fragment in
     let e = optional_part authentication extensions.auth in
     let f = optional_part destination_options (final_by extensions.routing) in
-    let to_e = fit_front (a ++ b ++ c ++ d ++ e) f fit in
-    let to_c = fit_front (a ++ b ++ c) d (fit_front (a ++ b ++ c ++ d) e to_e) in
-    let to_b = fit_front (a ++ b) c to_c in
+    let to_e = fit_prefix (a ++ b ++ c ++ d ++ e) f fit in
+    let to_c = fit_prefix (a ++ b ++ c) d (fit_prefix (a ++ b ++ c ++ d) e to_e) in
+    let to_b = fit_prefix (a ++ b) c to_c in
     record {
-      hop = fit_front a b to_b;
+      hop = fit_prefix a b to_b;
       destination = fit_back a b to_b;
-      behind = fit_back (a ++ b) c to_c;
+      after = fit_back (a ++ b) c to_c;
       auth = fit_back (a ++ b ++ c ++ d) e to_e;
       final = fit_back (a ++ b ++ c ++ d ++ e) f fit;
     }

@@ -32,8 +32,8 @@ eight_encodes a b c d e f g h fits =
     let flag : bit (d % 2 == 1) ≡ d % 2 = bit_of_read (d % 2) (omega arith) in
     let word = 2 ^ 3 * ((256 * c + d) / 8) + 2 * (d / 2 % 4) + bit (d % 2 == 1) in
     let word_same : word ≡ 256 * c + d = omega (arith, flag, fits 2, fits 3) in
-    let behind : AreBytes (e ∷ f ∷ g ∷ h ∷ []) = AreBytes-drop 4 (a ∷ b ∷ c ∷ d ∷ e ∷ f ∷ g ∷ h ∷ []) fits in
-    let identification = sym (be_bytes_4 (e ∷ f ∷ g ∷ h ∷ []) _ refl behind refl) in
+    let after : AreBytes (e ∷ f ∷ g ∷ h ∷ []) = AreBytes-drop 4 (a ∷ b ∷ c ∷ d ∷ e ∷ f ∷ g ∷ h ∷ []) fits in
+    let identification = sym (be_bytes_4 (e ∷ f ∷ g ∷ h ∷ []) _ refl after refl) in
     record {
       fits = eight_fits a b c d e f g h fits;
       reserved_byte = b;
@@ -43,9 +43,9 @@ eight_encodes a b c d e f g h fits =
       same = λ i. a ∷ b ∷ (word_cells (a ∷ b ∷ c ∷ d ∷ e ∷ f ∷ g ∷ h ∷ []) fits 2 word_same i ++ identification i);
     }
 
-pub whole_encodes : (e : List ℕ) → AreBytes e → length e ≡ 8 → EncodesFragmentHeader e (fragment_header_of e)
-whole_encodes (a ∷ b ∷ c ∷ d ∷ e ∷ f ∷ g ∷ h ∷ []) fits whole = eight_encodes a b c d e f g h fits
-whole_encodes _ fits whole = absurd (omega arith)
+pub complete_encodes : (e : List ℕ) → AreBytes e → length e ≡ 8 → EncodesFragmentHeader e (fragment_header_of e)
+complete_encodes (a ∷ b ∷ c ∷ d ∷ e ∷ f ∷ g ∷ h ∷ []) fits complete = eight_encodes a b c d e f g h fits
+complete_encodes _ fits complete = absurd (omega arith)
 
 -- ---- the wire format of a header is parsed as the header
 
@@ -85,27 +85,27 @@ fragment_header_len_of bytes = 8
 abbrev pub fragment_header_read : List ℕ → Ipv6FragmentHeader × List ℕ
 fragment_header_read bytes = cut_at fragment_header_len_of fragment_header_parts bytes
 
-stands : (bytes : List ℕ) → first_row (fragment_header_rows bytes) ≡ None → 8 ≤ length bytes
-stands bytes none = grind (arith, common_steps)
+holds : (bytes : List ℕ) → first_row (fragment_header_rows bytes) ≡ None → 8 ≤ length bytes
+holds bytes none = grind (arith, common_steps)
 
 -- The first 8 bytes are a header.
-pub front_is : (bytes : List ℕ) (n : ℕ) → n ≡ 8 → AreBytes bytes → n ≤ length bytes
+pub leading_is : (bytes : List ℕ) (n : ℕ) → n ≡ 8 → AreBytes bytes → n ≤ length bytes
     → IsFragmentHeader bytes (fragment_header_parts (take n bytes) (drop n bytes))
-front_is bytes n eight fits there = record {
+leading_is bytes n eight fits present = record {
   encoded = take n bytes;
-  encodes = whole_encodes (take n bytes) (AreBytes-take n bytes fits) (omega (arith, length-take n bytes));
+  encodes = complete_encodes (take n bytes) (AreBytes-take n bytes fits) (omega (arith, length-take n bytes));
   parts = sym (take-append-drop n bytes);
 }
 
 reads : (bytes : List ℕ) → AreBytes bytes → first_row (fragment_header_rows bytes) ≡ None
     → IsFragmentHeader bytes (fragment_header_read bytes)
-reads bytes fits none = front_is bytes 8 refl fits (stands bytes none)
+reads bytes fits none = leading_is bytes 8 refl fits (holds bytes none)
 
 none_refuses : (bytes : List ℕ) (read : Ipv6FragmentHeader × List ℕ) → IsFragmentHeader bytes read
     → first_row (fragment_header_rows bytes) ≡ None
 none_refuses bytes read is =
-    let whole = encoded_len is.encoded read.0 is.encodes in
-    let within : 8 ≤ length bytes = omega (arith, whole, ap length is.parts, length-append is.encoded read.1) in
+    let complete = encoded_len is.encoded read.0 is.encodes in
+    let within : 8 ≤ length bytes = omega (arith, complete, ap length is.parts, length-append is.encoded read.1) in
     grind (arith, within)
 
 is_read : (bytes : List ℕ) (read : Ipv6FragmentHeader × List ℕ) → IsFragmentHeader bytes read
@@ -113,9 +113,9 @@ is_read : (bytes : List ℕ) (read : Ipv6FragmentHeader × List ℕ) → IsFragm
 is_read bytes read is =
     let header = encoded_read is.encoded read.0 is.encodes in
     let same : read ≡ fragment_header_parts is.encoded read.1 = λ i. (header i, read.1) in
-    let whole = encoded_len is.encoded read.0 is.encodes in (
+    let complete = encoded_len is.encoded read.0 is.encodes in (
       none_refuses bytes read is,
-      same ∙ cut_same fragment_header_len_of fragment_header_parts bytes is.encoded read.1 is.parts whole,
+      same ∙ cut_same fragment_header_len_of fragment_header_parts bytes is.encoded read.1 is.parts complete,
     )
 
 pub fragment_header_is_read : IsReadBy IsFragmentHeader fragment_header_rows fragment_header_read

@@ -16,7 +16,7 @@ abbrev pub ip_auth_parts : List ℕ → List ℕ → IpAuthHeader × List ℕ
 ip_auth_parts bytes rest = (ip_auth_of bytes, rest)
 
 -- The bytes are exactly one header: they have the length that their length field states, which is not 0.
-pub record IsWholeIpAuth (bytes : List ℕ) : Type 0 where
+pub record IsCompleteIpAuth (bytes : List ℕ) : Type 0 where
   pub field : 0 < get_or bytes 1 0
   pub whole : length bytes ≡ ip_auth_len_of bytes
 
@@ -34,8 +34,8 @@ four_len e i within = omega (arith, length-take 4 (drop i e), length-drop i e)
 AreBytes-four : (e : List ℕ) (i : ℕ) → AreBytes e → AreBytes (take 4 (drop i e))
 AreBytes-four e i fits = AreBytes-take 4 (drop i e) (AreBytes-drop i e fits)
 
-pub whole_fits : (e : List ℕ) → AreBytes e → IsWholeIpAuth e → FitsIpAuth (ip_auth_of e)
-whole_fits e fits a = record {
+pub complete_fits : (e : List ℕ) → AreBytes e → IsCompleteIpAuth e → FitsIpAuth (ip_auth_of e)
+complete_fits e fits a = record {
   next_header = fits 0;
   spi = four_below (slice_range e 4 8) (four_len e 4 (omega (arith, a.field, a.whole))) (AreBytes-four e 4 fits);
   sequence_number =
@@ -57,14 +57,14 @@ twelve : (e : List ℕ) → 12 ≤ length e
     ∷ (take 4 (drop 4 e) ++ take 4 (drop 8 e) ++ drop 12 e)
 twelve e long = grind (arith, common_steps)
 
-pub whole_encodes : (e : List ℕ) → AreBytes e → IsWholeIpAuth e → EncodesIpAuth e (ip_auth_of e)
-whole_encodes e fits a =
+pub complete_encodes : (e : List ℕ) → AreBytes e → IsCompleteIpAuth e → EncodesIpAuth e (ip_auth_of e)
+complete_encodes e fits a =
     let long : 12 ≤ length e = omega (arith, a.field, a.whole) in
     let second : get_or e 1 0 ≡ (12 + length (drop 12 e)) / 4 - 2 = omega (arith, length-drop 12 e, a.whole, a.field) in
     let spi = number_again e 4 fits (omega (arith, long)) in
     let sequence_number = number_again e 8 fits (omega (arith, long)) in
     record {
-      fits = whole_fits e fits a;
+      fits = complete_fits e fits a;
       reserved = word_at e 2;
       bits = omega (arith, fits 2, fits 3);
       same = twelve e long
@@ -81,13 +81,13 @@ encoded_read e h a =
     λ i. record { next_header = h.next_header; spi = spi i; sequence_number = sequence_number i; icv = h.icv } in
     read ∙ ap ip_auth_of (sym a.same)
 
-pub encoded_whole : (e : List ℕ) (h : IpAuthHeader) → EncodesIpAuth e h → IsWholeIpAuth e
-encoded_whole e h a =
-    let whole : IsWholeIpAuth (ip_auth_bytes_with a.reserved h) = record {
+pub encoded_complete : (e : List ℕ) (h : IpAuthHeader) → EncodesIpAuth e h → IsCompleteIpAuth e
+encoded_complete e h a =
+    let complete : IsCompleteIpAuth (ip_auth_bytes_with a.reserved h) = record {
       field = omega (arith, a.fits.icv_words);
       whole = omega (arith, a.fits.icv_words);
     } in
-    subst IsWholeIpAuth (sym a.same) whole
+    subst IsCompleteIpAuth (sym a.same) complete
 
 -- ---- parsing headers
 
@@ -95,38 +95,38 @@ abbrev pub ip_auth_read : List ℕ → IpAuthHeader × List ℕ
 ip_auth_read bytes = cut_at ip_auth_len_of ip_auth_parts bytes
 
 -- If the bytes begin with a header, the prefix of its length is exactly one header.
-pub front_whole : (bytes : List ℕ) → 0 < get_or bytes 1 0 → ip_auth_len_of bytes ≤ length bytes
-    → IsWholeIpAuth (take (ip_auth_len_of bytes) bytes)
-front_whole bytes field there =
+pub prefix_complete : (bytes : List ℕ) → 0 < get_or bytes 1 0 → ip_auth_len_of bytes ≤ length bytes
+    → IsCompleteIpAuth (take (ip_auth_len_of bytes) bytes)
+prefix_complete bytes field present =
     let n = ip_auth_len_of bytes in
     let same : get_or (take n bytes) 1 0 ≡ get_or bytes 1 0 = get_or-take n bytes 1 0 (omega arith) in
-    record { field = omega (arith, same, field); whole = omega (arith, length-take n bytes, same, there) }
+    record { field = omega (arith, same, field); whole = omega (arith, length-take n bytes, same, present) }
 
-stands : (bytes : List ℕ) → first_row (ip_auth_rows bytes) ≡ None
+holds : (bytes : List ℕ) → first_row (ip_auth_rows bytes) ≡ None
     → (0 < get_or bytes 1 0) × (ip_auth_len_of bytes ≤ length bytes)
-stands bytes none = grind (arith, common_steps)
+holds bytes none = grind (arith, common_steps)
 
 reads : (bytes : List ℕ) → AreBytes bytes → first_row (ip_auth_rows bytes) ≡ None → IsIpAuth bytes (ip_auth_read bytes)
 reads bytes fits none =
     let n = ip_auth_len_of bytes in
-    let there = stands bytes none in
+    let present = holds bytes none in
     record {
       encoded = take n bytes;
-      encodes = whole_encodes (take n bytes) (AreBytes-take n bytes fits) (front_whole bytes there.0 there.1);
+      encodes = complete_encodes (take n bytes) (AreBytes-take n bytes fits) (prefix_complete bytes present.0 present.1);
       parts = sym (take-append-drop n bytes);
     }
 
 -- The length field of the first header does not depend on the bytes after it.
-front_field : (e rest : List ℕ) → IsWholeIpAuth e → get_or (e ++ rest) 1 0 ≡ get_or e 1 0
-front_field e rest a = grind (arith, common_steps)
+prefix_field : (e rest : List ℕ) → IsCompleteIpAuth e → get_or (e ++ rest) 1 0 ≡ get_or e 1 0
+prefix_field e rest a = grind (arith, common_steps)
 
 pub len_same : (bytes : List ℕ) (read : IpAuthHeader × List ℕ) (is : IsIpAuth bytes read)
     → (0 < get_or bytes 1 0) × (length is.encoded ≡ ip_auth_len_of bytes)
 len_same bytes read is =
-    let whole = encoded_whole is.encoded read.0 is.encodes in
+    let complete = encoded_complete is.encoded read.0 is.encodes in
     let field : get_or bytes 1 0 ≡ get_or is.encoded 1 0 =
-    ap (λ (s : List ℕ). get_or s 1 0) is.parts ∙ front_field is.encoded read.1 whole in
-    (omega (arith, field, whole.field), omega (arith, field, whole.whole))
+    ap (λ (s : List ℕ). get_or s 1 0) is.parts ∙ prefix_field is.encoded read.1 complete in
+    (omega (arith, field, complete.field), omega (arith, field, complete.whole))
 
 none_refuses : (bytes : List ℕ) (read : IpAuthHeader × List ℕ) → IsIpAuth bytes read
     → first_row (ip_auth_rows bytes) ≡ None

@@ -3,7 +3,7 @@ pub mod CutRefusalLemmas
 pub mod ChainLemmas
 pub mod ComparisonLemmas
 pub mod FragmentHeaderLemmas
-pub mod FrontLemmas
+pub mod PrefixLemmas
 pub mod HeaderLawLemmas
 pub mod IpAuthLemmas
 pub mod LinkLemmas
@@ -14,7 +14,7 @@ pub mod ReadLemmas
 pub mod ReadingLemmas
 pub mod RefusalLemmas
 pub mod ShownLemmas
-pub mod ValueFrontLemmas
+pub mod ValuePrefixLemmas
 pub mod ValueLawLemmas
 pub mod ValueLemmas
 pub mod WalkLawLemmas

@@ -39,21 +39,21 @@ both_none : (test : Bool) (choice other : Option ExtensionPart) → choice ≡ N
 both_none true choice other a b = a
 both_none false choice other a b = b
 
-spent : {H : Type 0} (kind : H → ExtensionPart) (there : Option H) (mark : Bool)
-    → (is_some there && not mark) ≡ false → (if mark then None else option_map kind there) ≡ None
-spent kind there true none = refl
+spent : {H : Type 0} (kind : H → ExtensionPart) (present : Option H) (mark : Bool)
+    → (is_some present && not mark) ≡ false → (if mark then None else option_map kind present) ≡ None
+spent kind present true none = refl
 spent kind None false none = refl
 spent kind (Some header) false none = absurd (true≢false none)
 
-routing_spent : (there : Option Ipv6RoutingExtensions) (mark : Bool) → (is_some there && not mark) ≡ false
-    → (if mark then None else option_map routing (option_map routing_header there)) ≡ None
-routing_spent there true none = refl
+routing_spent : (present : Option Ipv6RoutingExtensions) (mark : Bool) → (is_some present && not mark) ≡ false
+    → (if mark then None else option_map routing (option_map routing_header present)) ≡ None
+routing_spent present true none = refl
 routing_spent None false none = refl
-routing_spent (Some behind) false none = absurd (true≢false none)
+routing_spent (Some after) false none = absurd (true≢false none)
 
-hop_spent : (there : Option Ipv6RawExtHeader) (any mark : Bool) → (any ≡ false → mark ≡ false)
-    → (is_some there && not mark) ≡ false → (if any then None else option_map hop_by_hop there) ≡ None
-hop_spent there true mark first none = refl
+hop_spent : (present : Option Ipv6RawExtHeader) (any mark : Bool) → (any ≡ false → mark ≡ false)
+    → (is_some present && not mark) ≡ false → (if any then None else option_map hop_by_hop present) ≡ None
+hop_spent present true mark first none = refl
 hop_spent None false mark first none = refl
 hop_spent (Some header) false true first none = absurd (true≢false (first refl))
 hop_spent (Some header) false false first none = absurd (true≢false none)
@@ -103,13 +103,13 @@ data Slot : Type 1 where
 -- The first IP number of the slots, if the payload has the number `last`.
 abbrev slots_first : List Slot → IpNumber → IpNumber
 slots_first [] last = last
-slots_first (slot number kind leading_to value there ∷ slots) last = number_before there number (slots_first slots last)
+slots_first (slot number kind leading_to value present ∷ slots) last = number_before present number (slots_first slots last)
 
 -- The headers of the slots, each linked to the next one.
 abbrev slots_parts : List Slot → IpNumber → List ExtensionPart
 slots_parts [] last = []
-slots_parts (slot number kind leading_to value there ∷ slots) last =
-    optional_part kind (option_map (leading_to (slots_first slots last)) there) ++ slots_parts slots last
+slots_parts (slot number kind leading_to value present ∷ slots) last =
+    optional_part kind (option_map (leading_to (slots_first slots last)) present) ++ slots_parts slots last
 
 -- The visited headers after a slot.
 abbrev taken_with : {H : Type 0} → Option H → ℕ → List ℕ → List ℕ
@@ -120,14 +120,14 @@ taken_with (Some header) number taken = number ∷ taken
 -- has all headers.
 abbrev Lead : Ipv6Extensions → List ℕ → Ipv6Extensions → List Slot → IpNumber → Type 0
 Lead extensions taken walked [] last = walked ≡ extensions
-Lead extensions taken walked (slot {H} number kind leading_to value there ∷ slots) last =
+Lead extensions taken walked (slot {H} number kind leading_to value present ∷ slots) last =
     let next = slots_first slots last in
     (walked ≡ value None)
-    × ((header : H) → there ≡ Some header → HasTaken taken walked
-    → (header_for extensions taken number ≡ option_map kind (option_map (leading_to next) there))
+    × ((header : H) → present ≡ Some header → HasTaken taken walked
+    → (header_for extensions taken number ≡ option_map kind (option_map (leading_to next) present))
     × (part_next (kind (leading_to next header)) ≡ next.0)
     × (with_part walked (kind (leading_to next header)) ≡ value (Some (leading_to next header))))
-    × Lead extensions (taken_with there number taken) (value (option_map (leading_to next) there)) slots last
+    × Lead extensions (taken_with present number taken) (value (option_map (leading_to next) present)) slots last
 
 -- A walk visits the headers of the slots and collects the complete value.
 abbrev Walks : Ipv6Extensions → List ℕ → Ipv6Extensions → List Slot → IpNumber → Type 0
@@ -138,14 +138,14 @@ Walks extensions taken walked slots last =
 slots_walk : (extensions : Ipv6Extensions) (taken : List ℕ) (walked : Ipv6Extensions) (marks : VisitedHeaders)
     (slots : List Slot) (last : IpNumber) → IsMarked taken walked marks → Lead extensions taken walked slots last
     → Walks extensions taken walked slots last
-slots_walk extensions taken walked marks [] last m whole = (
+slots_walk extensions taken walked marks [] last m complete = (
   (
     found_is extensions taken walked marks last.0 m
         ∙ all_taken extensions taken walked marks last.0 m (sym (left_is extensions taken walked marks m)
-        ∙ ap (missing_number extensions) whole ∙ nothing_left extensions),
+        ∙ ap (missing_number extensions) complete ∙ nothing_left extensions),
     refl,
   ),
-  whole,
+  complete,
 )
 slots_walk extensions taken walked marks (slot number kind leading_to value None ∷ slots) last m leads =
     slots_walk extensions taken walked marks slots last m
@@ -155,21 +155,21 @@ slots_walk extensions taken walked marks (slot number kind leading_to value (Som
     let here = leads.1 header refl m.has in
     let more = subst (λ (n : ℕ). IsMarked (n ∷ taken) (with_part walked part) (marked marks part))
     (sym (found_kind extensions taken number part here.0).0) (mark_more taken walked marks part m) in
-    let behind = slots_walk extensions (number ∷ taken) (with_part walked part) (marked marks part) slots last more
+    let after = slots_walk extensions (number ∷ taken) (with_part walked part) (marked marks part) slots last more
     (subst (λ (w : Ipv6Extensions). Lead extensions (number ∷ taken) w slots last) (sym here.2) leads.2) in (
       (
         here.0,
         subst (λ (n : ℕ). IsWalkAfter extensions (number ∷ taken) n (slots_parts slots last) last.0) (sym here.1)
-            behind.0,
+            after.0,
       ),
-      behind.1,
+      after.1,
     )
 
 -- ---- the headers of a value as slots
 
 -- A routing header with these destination options after it.
 abbrev with_final : Option Ipv6RawExtHeader → Ipv6RoutingExtensions → Ipv6RoutingExtensions
-with_final final behind = record behind { final_destination_options = final }
+with_final final after = record after { final_destination_options = final }
 
 -- The slots of a linked value.
 abbrev slots_of : Ipv6Extensions → IpNumber → List Slot
@@ -178,23 +178,23 @@ slots_of extensions last =
     let hop = linked.hop_by_hop_options in
     let destination = linked.destination_options in
     let alone = option_map (with_final None) in
-    slot 0 hop_by_hop raw_leading_to (λ (there : Option Ipv6RawExtHeader). value_of there None None None None)
+    slot 0 hop_by_hop raw_leading_to (λ (present : Option Ipv6RawExtHeader). value_of present None None None None)
     extensions.hop_by_hop_options
     ∷ slot 60 destination_options raw_leading_to
-    (λ (there : Option Ipv6RawExtHeader). value_of hop there None None None) extensions.destination_options
-    ∷ slot 43 (λ (behind : Ipv6RoutingExtensions). routing behind.routing)
+    (λ (present : Option Ipv6RawExtHeader). value_of hop present None None None) extensions.destination_options
+    ∷ slot 43 (λ (after : Ipv6RoutingExtensions). routing after.routing)
     (λ (next : IpNumber). routing_leading_to next last)
-    (λ (there : Option Ipv6RoutingExtensions). value_of hop destination (alone there) None None)
+    (λ (present : Option Ipv6RoutingExtensions). value_of hop destination (alone present) None None)
     extensions.routing
     ∷ slot 44 fragment fragment_leading_to
-    (λ (there : Option Ipv6FragmentHeader). value_of hop destination (alone linked.routing) there None)
+    (λ (present : Option Ipv6FragmentHeader). value_of hop destination (alone linked.routing) present None)
     extensions.fragment
     ∷ slot 51 authentication ip_auth_leading_to
-    (λ (there : Option IpAuthHeader). value_of hop destination (alone linked.routing) linked.fragment there)
+    (λ (present : Option IpAuthHeader). value_of hop destination (alone linked.routing) linked.fragment present)
     extensions.auth
     ∷ slot 60 destination_options raw_leading_to
-    (λ (there : Option Ipv6RawExtHeader).
-    value_of hop destination (option_map (with_final there) linked.routing) linked.fragment linked.auth)
+    (λ (present : Option Ipv6RawExtHeader).
+    value_of hop destination (option_map (with_final present) linked.routing) linked.fragment linked.auth)
     (final_by extensions.routing)
     ∷ []
 
@@ -206,64 +206,64 @@ if_true : (test : Bool) (choice other : Option ExtensionPart) → test ≡ true 
 if_true true choice other is = refl
 if_true false choice other is = absurd (true≢false (sym is))
 
-routing_found : (behind : Option Ipv6RoutingExtensions)
-    → option_map routing (option_map routing_header behind)
-    ≡ option_map (λ (there : Ipv6RoutingExtensions). routing there.routing) behind
+routing_found : (after : Option Ipv6RoutingExtensions)
+    → option_map routing (option_map routing_header after)
+    ≡ option_map (λ (present : Ipv6RoutingExtensions). routing present.routing) after
 routing_found None = refl
-routing_found (Some behind) = refl
+routing_found (Some after) = refl
 
 -- The slot of the destination options after a routing header.
-final_leads : (hop destination : Option Ipv6RawExtHeader) (behind : Option Ipv6RoutingExtensions)
+final_leads : (hop destination : Option Ipv6RawExtHeader) (after : Option Ipv6RoutingExtensions)
     (fragmenting : Option Ipv6FragmentHeader) (auth : Option IpAuthHeader) (next last : IpNumber) (taken : List ℕ)
     (header : Ipv6RawExtHeader)
-    → let there = option_map (routing_leading_to next last) behind in
-    let walked = value_of hop destination (option_map (with_final None) there) fragmenting auth in
+    → let present = option_map (routing_leading_to next last) after in
+    let walked = value_of hop destination (option_map (with_final None) present) fragmenting auth in
     let led = raw_leading_to last header in
-    final_by behind ≡ Some header → HasTaken taken walked
-    → (header_for (value_of hop destination there fragmenting auth) taken 60
-    ≡ option_map destination_options (option_map (raw_leading_to last) (final_by behind)))
+    final_by after ≡ Some header → HasTaken taken walked
+    → (header_for (value_of hop destination present fragmenting auth) taken 60
+    ≡ option_map destination_options (option_map (raw_leading_to last) (final_by after)))
     × (last.0 ≡ last.0)
     × (with_destination walked led walked.routing
-    ≡ value_of hop destination (option_map (with_final (Some led)) there) fragmenting auth)
-final_leads hop destination None fragmenting auth next last taken header there has = absurd (none-some header there)
-final_leads hop destination (Some behind) fragmenting auth next last taken header there has = (
+    ≡ value_of hop destination (option_map (with_final (Some led)) present) fragmenting auth)
+final_leads hop destination None fragmenting auth next last taken header present has = absurd (none-some header present)
+final_leads hop destination (Some after) fragmenting auth next last taken header present has = (
   if_false _ _ _ (has 60) ∙ if_true _ _ _ (has 43),
   refl,
   refl,
 )
 
-final_whole : (behind : Option Ipv6RoutingExtensions) (next last : IpNumber)
-    → let there = option_map (routing_leading_to next last) behind in
-    option_map (with_final (option_map (raw_leading_to last) (final_by behind))) there ≡ there
-final_whole None next last = refl
-final_whole (Some behind) next last = refl
+final_complete : (after : Option Ipv6RoutingExtensions) (next last : IpNumber)
+    → let present = option_map (routing_leading_to next last) after in
+    option_map (with_final (option_map (raw_leading_to last) (final_by after))) present ≡ present
+final_complete None next last = refl
+final_complete (Some after) next last = refl
 
 leads : (extensions : Ipv6Extensions) (last : IpNumber)
     → Lead (ipv6_linked extensions last) [] no_ipv6_extensions (slots_of extensions last) last
 leads extensions last =
     let all = ipv6_linked extensions last in
     let next = after_routing extensions last in
-    let whole = ap (λ (behind : Option Ipv6RoutingExtensions). value_of all.hop_by_hop_options all.destination_options
-    behind all.fragment all.auth) (final_whole extensions.routing next last) in (
+    let complete = ap (λ (after : Option Ipv6RoutingExtensions). value_of all.hop_by_hop_options all.destination_options
+    after all.fragment all.auth) (final_complete extensions.routing next last) in (
       refl,
-      λ header there has. (refl, refl, refl),
+      λ header present has. (refl, refl, refl),
       (
         refl,
-        λ header there has. (if_false _ _ _ (has 60) ∙ if_false _ _ _ (has 43), refl, refl),
+        λ header present has. (if_false _ _ _ (has 60) ∙ if_false _ _ _ (has 43), refl, refl),
         (
           refl,
-          λ header there has. (if_false _ _ _ (has 43) ∙ routing_found all.routing, refl, refl),
+          λ header present has. (if_false _ _ _ (has 43) ∙ routing_found all.routing, refl, refl),
           (
             refl,
-            λ header there has. (if_false _ _ _ (has 44), refl, refl),
+            λ header present has. (if_false _ _ _ (has 44), refl, refl),
             (
               refl,
-              λ header there has. (if_false _ _ _ (has 51), refl, refl),
+              λ header present has. (if_false _ _ _ (has 51), refl, refl),
               (
                 refl,
                 final_leads all.hop_by_hop_options all.destination_options extensions.routing all.fragment all.auth next
                     last _,
-                whole,
+                complete,
               ),
             ),
           ),
@@ -272,44 +272,44 @@ leads extensions last =
     )
 
 -- The headers of the slots are those of the linked value.
-routing_part : (behind : Option Ipv6RoutingExtensions)
-    → optional_part (λ (b : Ipv6RoutingExtensions). routing b.routing) behind
-    ≡ optional_part routing (option_map routing_header behind)
+routing_part : (after : Option Ipv6RoutingExtensions)
+    → optional_part (λ (b : Ipv6RoutingExtensions). routing b.routing) after
+    ≡ optional_part routing (option_map routing_header after)
 routing_part None = refl
-routing_part (Some behind) = refl
+routing_part (Some after) = refl
 
-final_led : (behind : Option Ipv6RoutingExtensions) (next last : IpNumber)
-    → option_map (raw_leading_to last) (final_by behind)
-    ≡ final_by (option_map (routing_leading_to next last) behind)
+final_led : (after : Option Ipv6RoutingExtensions) (next last : IpNumber)
+    → option_map (raw_leading_to last) (final_by after)
+    ≡ final_by (option_map (routing_leading_to next last) after)
 final_led None next last = refl
-final_led (Some behind) next last = refl
+final_led (Some after) next last = refl
 
 -- The headers of the slots after other headers.
-abbrev slots_behind : List ExtensionPart → List Slot → IpNumber → List ExtensionPart
-slots_behind front [] last = front
-slots_behind front (slot number kind leading_to value there ∷ slots) last =
-    slots_behind (front ++ optional_part kind (option_map (leading_to (slots_first slots last)) there)) slots last
+abbrev slots_after : List ExtensionPart → List Slot → IpNumber → List ExtensionPart
+slots_after prefix [] last = prefix
+slots_after prefix (slot number kind leading_to value present ∷ slots) last =
+    slots_after (prefix ++ optional_part kind (option_map (leading_to (slots_first slots last)) present)) slots last
 
-behind_front : (front : List ExtensionPart) (slots : List Slot) (last : IpNumber)
-    → front ++ slots_parts slots last ≡ slots_behind front slots last
-behind_front front [] last = append-nil front
-behind_front front (slot number kind leading_to value there ∷ slots) last =
-    let here = optional_part kind (option_map (leading_to (slots_first slots last)) there) in
-    sym (append_assoc front here (slots_parts slots last)) ∙ behind_front (front ++ here) slots last
+after_prefix : (prefix : List ExtensionPart) (slots : List Slot) (last : IpNumber)
+    → prefix ++ slots_parts slots last ≡ slots_after prefix slots last
+after_prefix prefix [] last = append-nil prefix
+after_prefix prefix (slot number kind leading_to value present ∷ slots) last =
+    let here = optional_part kind (option_map (leading_to (slots_first slots last)) present) in
+    sym (append_assoc prefix here (slots_parts slots last)) ∙ after_prefix (prefix ++ here) slots last
 
 parts_of_slots : (extensions : Ipv6Extensions) (last : IpNumber)
     → slots_parts (slots_of extensions last) last ≡ ipv6_parts (ipv6_linked extensions last)
 parts_of_slots extensions last =
     let all = ipv6_linked extensions last in
-    let front = optional_part hop_by_hop all.hop_by_hop_options
+    let prefix = optional_part hop_by_hop all.hop_by_hop_options
     ++ optional_part destination_options all.destination_options in
     let middle = optional_part fragment all.fragment in
     let auths = optional_part authentication all.auth in
     let routings = optional_part routing (option_map routing_header all.routing) in
-    behind_front [] (slots_of extensions last) last
-    ∙ ap (λ (there : List ExtensionPart). front ++ there ++ middle ++ auths ++ optional_part destination_options
+    after_prefix [] (slots_of extensions last) last
+    ∙ ap (λ (present : List ExtensionPart). prefix ++ present ++ middle ++ auths ++ optional_part destination_options
     (option_map (raw_leading_to last) (final_by extensions.routing))) (routing_part all.routing)
-    ∙ ap (λ (final : Option Ipv6RawExtHeader). front ++ routings ++ middle ++ auths
+    ∙ ap (λ (final : Option Ipv6RawExtHeader). prefix ++ routings ++ middle ++ auths
     ++ optional_part destination_options final) (final_led extensions.routing (after_routing extensions last) last)
 
 linked : (extensions : Ipv6Extensions) (last : IpNumber)
@@ -336,12 +336,12 @@ linked_walk extensions last =
 -- ---- written headers are a chain
 
 -- The wire format of a header, followed by any bytes, is the header.
-part_written : (part : ExtensionPart) (behind : List ℕ) → FitsPart part
-    → IsExtensionPart (part_number part) (part_bytes part ++ behind) part behind
-part_written (hop_by_hop header) behind fits = (refl, record { fits = fits; parts = refl })
-part_written (destination_options header) behind fits = (refl, record { fits = fits; parts = refl })
-part_written (routing header) behind fits = (refl, record { fits = fits; parts = refl })
-part_written (fragment header) behind fits = (
+part_written : (part : ExtensionPart) (after : List ℕ) → FitsPart part
+    → IsExtensionPart (part_number part) (part_bytes part ++ after) part after
+part_written (hop_by_hop header) after fits = (refl, record { fits = fits; parts = refl })
+part_written (destination_options header) after fits = (refl, record { fits = fits; parts = refl })
+part_written (routing header) after fits = (refl, record { fits = fits; parts = refl })
+part_written (fragment header) after fits = (
   refl,
   record {
     encoded = fragment_header_bytes header;
@@ -357,7 +357,7 @@ part_written (fragment header) behind fits = (
     parts = refl;
   },
 )
-part_written (authentication header) behind fits = (
+part_written (authentication header) after fits = (
   refl,
   record {
     encoded = ip_auth_bytes header;
@@ -395,15 +395,15 @@ walk_is_chain extensions taken number (part ∷ parts) last rest walk fit none =
     let kind = found_kind extensions taken number part walk.0 in
     let start : number ≡ 0 → is_first taken ≡ true = λ zero_is. hop_first extensions taken part (subst (λ
     (n : ℕ). header_for extensions taken n ≡ Some part) zero_is walk.0) in
-    let behind = parts_bytes parts ++ rest in
-    let bytes : part_bytes part ++ behind ≡ (part_bytes part ++ parts_bytes parts) ++ rest = sym (append_assoc
+    let after = parts_bytes parts ++ rest in
+    let bytes : part_bytes part ++ after ≡ (part_bytes part ++ parts_bytes parts) ++ rest = sym (append_assoc
     (part_bytes part) (parts_bytes parts) rest) in
-    let here = subst (λ (n : ℕ). IsExtensionPart n (part_bytes part ++ behind) part behind) (sym kind.0)
-    (part_written part behind fit.0) in (
+    let here = subst (λ (n : ℕ). IsExtensionPart n (part_bytes part ++ after) part after) (sym kind.0)
+    (part_written part after fit.0) in (
       headers_take taken number (ap is_ipv6_extension kind.0 ∙ kind_of_part part) start kind.1,
       (
-        behind,
-        subst (λ (b : List ℕ). IsExtensionPart number b part behind) bytes here,
+        after,
+        subst (λ (b : List ℕ). IsExtensionPart number b part after) bytes here,
         walk_is_chain extensions (number ∷ taken) (part_next part) parts last rest walk.1 fit.1 none,
       ),
     )
@@ -440,12 +440,12 @@ linked_chain_by : (auth : Option IpAuthHeader) (last : IpNumber) (rest : List �
     (chain_of (ipv4_parts (ipv4_linked (record { auth = auth }) last)) last.0 rest)
 linked_chain_by None last rest fit other = ends_at_once headers last.0 rest other
 linked_chain_by (Some header) last rest fit other =
-    let there = record header { next_header = last } in
-    let bytes : ip_auth_bytes there ++ rest ≡ (ip_auth_bytes there ++ []) ++ rest = sym (append_assoc
-    (ip_auth_bytes there) [] rest) in
-    subst (λ (b : List ℕ). IsExtensionChain ipv4 headers 51 b (chain_of (authentication there ∷ []) last.0 rest)) bytes
-    (one_authentication headers 51 (ip_auth_bytes there ++ rest) there rest refl (part_written
-    (authentication there) rest fit.0).1)
+    let present = record header { next_header = last } in
+    let bytes : ip_auth_bytes present ++ rest ≡ (ip_auth_bytes present ++ []) ++ rest = sym (append_assoc
+    (ip_auth_bytes present) [] rest) in
+    subst (λ (b : List ℕ). IsExtensionChain ipv4 headers 51 b (chain_of (authentication present ∷ []) last.0 rest)) bytes
+    (one_authentication headers 51 (ip_auth_bytes present ++ rest) present rest refl (part_written
+    (authentication present) rest fit.0).1)
 
 pub linked_chain_4 : (extensions : Ipv4Extensions) (last : IpNumber) (rest : List ℕ)
     → FitParts (ipv4_parts (ipv4_linked extensions last)) → (last.0 ≡ 51 → ⊥)

@@ -61,21 +61,21 @@ further_misses offset limit (header_error.Len error) short =
     (record { available = omega (arith, short.0.available); needed = short.0.needed }, short.1)
 further_misses offset limit (header_error.Content error) short = tt
 
-chain_behind_misses : (version : IpVersion) (reading : Reading) (taken : List ℕ) (offset number : ℕ) (bytes : List ℕ)
+chain_after_misses : (version : IpVersion) (reading : Reading) (taken : List ℕ) (offset number : ℕ) (bytes : List ℕ)
     (parts : List ExtensionPart) (error : HeaderSliceError)
     → RefusesChainAfter version reading taken offset number bytes parts error
     → Misses (offset + length bytes) error
-chain_behind_misses version reading taken offset number bytes [] error (inl refused) =
+chain_after_misses version reading taken offset number bytes [] error (inl refused) =
     subst (Misses (offset + length bytes)) (sym refused.1) tt
-chain_behind_misses version reading taken offset number bytes [] error (inr refused) =
+chain_after_misses version reading taken offset number bytes [] error (inr refused) =
     subst (Misses (offset + length bytes)) (sym refused.1.2)
     (further_misses offset (length bytes) refused.1.0 (part_misses number bytes refused.1.0 refused.1.1))
-chain_behind_misses version reading taken offset number bytes (part ∷ parts) error refused =
-    let behind = refused.1.0 in
-    let len = part_lens number bytes part behind refused.1.1 in
-    let same : offset + part_len part + length behind ≡ offset + length bytes = omega (arith, len.0) in
+chain_after_misses version reading taken offset number bytes (part ∷ parts) error refused =
+    let after = refused.1.0 in
+    let len = part_lens number bytes part after refused.1.1 in
+    let same : offset + part_len part + length after ≡ offset + length bytes = omega (arith, len.0) in
     subst (λ (n : ℕ). Misses n error) same
-    (chain_behind_misses version reading (number ∷ taken) (offset + part_len part) (part_next part) behind parts error
+    (chain_after_misses version reading (number ∷ taken) (offset + part_len part) (part_next part) after parts error
     refused.1.2)
 
 -- A length error of a chain is for missing bytes.
@@ -84,7 +84,7 @@ pub chain_misses : (version : IpVersion) (reading : Reading) (number : ℕ) (byt
 chain_misses version reading number bytes error refused =
     let same : 0 + length bytes ≡ length bytes = omega arith in
     subst (λ (n : ℕ). Misses n error) same
-    (chain_behind_misses version reading [] 0 number bytes refused.0 error refused.1)
+    (chain_after_misses version reading [] 0 number bytes refused.0 error refused.1)
 
 -- ---- missing bytes counted by errors
 

@@ -51,7 +51,7 @@ refused_under name ((false, refusal) ∷ rows) error some = refused_under name r
 refusals : {E F : Type 0} (name : E → F) (rows : List (Bool × E))
     → IsImage (Refuses rows) (Refuses (rows_as name rows)) name
 refusals name rows = record {
-  there = λ error refused. first_row-as_some name rows error refused;
+  present = λ error refused. first_row-as_some name rows error refused;
   back = λ error refused. refused_under name rows error refused;
 }
 
@@ -92,47 +92,47 @@ pub part_decided : HeaderLaws → (number : ℕ) (bytes : List ℕ) → AreBytes
     → IsDecided (IsReadPart number bytes) (RefusesExtensionPart number bytes)
 part_decided laws number bytes fits is_hop_by_hop =
     decided_as (λ read. (hop_by_hop read.0, read.1)) header_error.Len (laws.raw_extension bytes fits)
-    (record { there = λ read is. (refl, is); back = λ read is. hop_by_hop_back bytes read.0 read.1 is })
+    (record { present = λ read is. (refl, is); back = λ read is. hop_by_hop_back bytes read.0 read.1 is })
     (refusals header_error.Len (raw_extension_rows bytes))
 part_decided laws number bytes fits is_routing =
     decided_as (λ read. (routing read.0, read.1)) header_error.Len (laws.raw_extension bytes fits)
-    (record { there = λ read is. (refl, is); back = λ read is. routing_back bytes read.0 read.1 is })
+    (record { present = λ read is. (refl, is); back = λ read is. routing_back bytes read.0 read.1 is })
     (refusals header_error.Len (raw_extension_rows bytes))
 part_decided laws number bytes fits is_fragment =
     decided_as (λ read. (fragment read.0, read.1)) header_error.Len (laws.fragment_header bytes fits)
-    (record { there = λ read is. (refl, is); back = λ read is. fragment_back bytes read.0 read.1 is })
+    (record { present = λ read is. (refl, is); back = λ read is. fragment_back bytes read.0 read.1 is })
     (refusals header_error.Len (fragment_header_rows bytes))
 part_decided laws number bytes fits is_authentication =
     decided_as (λ read. (authentication read.0, read.1)) auth_refusal (laws.ip_auth bytes fits)
-    (record { there = λ read is. (refl, is); back = λ read is. authentication_back bytes read.0 read.1 is })
+    (record { present = λ read is. (refl, is); back = λ read is. authentication_back bytes read.0 read.1 is })
     (refusals auth_refusal (ip_auth_rows bytes))
 part_decided laws number bytes fits is_destination =
     decided_as (λ read. (destination_options read.0, read.1)) header_error.Len (laws.raw_extension bytes fits)
-    (record { there = λ read is. (refl, is); back = λ read is. destination_back bytes read.0 read.1 is })
+    (record { present = λ read is. (refl, is); back = λ read is. destination_back bytes read.0 read.1 is })
     (refusals header_error.Len (raw_extension_rows bytes))
 
 -- ---- header lengths
 
 -- The bytes of a header, with its length, and the bytes after it.
-pub record CutBehind (bytes behind : List ℕ) (len : ℕ) : Type 0 where
-  pub front : List ℕ
-  pub parts : bytes ≡ front ++ behind
-  pub len_is : length front ≡ len
+pub record CutAfter (bytes after : List ℕ) (len : ℕ) : Type 0 where
+  pub prefix : List ℕ
+  pub parts : bytes ≡ prefix ++ after
+  pub len_is : length prefix ≡ len
   pub least : 8 ≤ len
 
-raw_cut : (bytes : List ℕ) (header : Ipv6RawExtHeader) (behind : List ℕ) → IsRawExtension bytes (header, behind)
-    → CutBehind bytes behind (raw_extension_len header)
-raw_cut bytes header behind is = record {
-  front = raw_extension_bytes header;
+raw_cut : (bytes : List ℕ) (header : Ipv6RawExtHeader) (after : List ℕ) → IsRawExtension bytes (header, after)
+    → CutAfter bytes after (raw_extension_len header)
+raw_cut bytes header after is = record {
+  prefix = raw_extension_bytes header;
   parts = is.parts;
   len_is = omega arith;
   least = omega (arith, is.fits.payload_least);
 }
 
-fragment_cut : (bytes : List ℕ) (header : Ipv6FragmentHeader) (behind : List ℕ)
-    → IsFragmentHeader bytes (header, behind) → CutBehind bytes behind 8
-fragment_cut bytes header behind is = record {
-  front = is.encoded;
+fragment_cut : (bytes : List ℕ) (header : Ipv6FragmentHeader) (after : List ℕ)
+    → IsFragmentHeader bytes (header, after) → CutAfter bytes after 8
+fragment_cut bytes header after is = record {
+  prefix = is.encoded;
   parts = is.parts;
   len_is = ap length is.encodes.same;
   least = omega arith;
@@ -141,44 +141,44 @@ fragment_cut bytes header behind is = record {
 pub auth_len : (reserved : ℕ) (header : IpAuthHeader) → length (ip_auth_bytes_with reserved header) ≡ ip_auth_len header
 auth_len reserved header = grind (arith, common_steps)
 
-auth_cut : (bytes : List ℕ) (header : IpAuthHeader) (behind : List ℕ) → IsIpAuth bytes (header, behind)
-    → CutBehind bytes behind (ip_auth_len header)
-auth_cut bytes header behind is = record {
-  front = is.encoded;
+auth_cut : (bytes : List ℕ) (header : IpAuthHeader) (after : List ℕ) → IsIpAuth bytes (header, after)
+    → CutAfter bytes after (ip_auth_len header)
+auth_cut bytes header after is = record {
+  prefix = is.encoded;
   parts = is.parts;
   len_is = ap length is.encodes.same ∙ auth_len is.encodes.reserved header;
   least = omega arith;
 }
 
 -- The header ends after its length.
-pub part_cut : (number : ℕ) (bytes : List ℕ) (part : ExtensionPart) (behind : List ℕ)
-    → IsExtensionPart number bytes part behind
-    → CutBehind bytes behind (part_len part)
-part_cut number bytes (hop_by_hop header) behind is = raw_cut bytes header behind is.1
-part_cut number bytes (destination_options header) behind is = raw_cut bytes header behind is.1
-part_cut number bytes (routing header) behind is = raw_cut bytes header behind is.1
-part_cut number bytes (fragment header) behind is = fragment_cut bytes header behind is.1
-part_cut number bytes (authentication header) behind is = auth_cut bytes header behind is.1
+pub part_cut : (number : ℕ) (bytes : List ℕ) (part : ExtensionPart) (after : List ℕ)
+    → IsExtensionPart number bytes part after
+    → CutAfter bytes after (part_len part)
+part_cut number bytes (hop_by_hop header) after is = raw_cut bytes header after is.1
+part_cut number bytes (destination_options header) after is = raw_cut bytes header after is.1
+part_cut number bytes (routing header) after is = raw_cut bytes header after is.1
+part_cut number bytes (fragment header) after is = fragment_cut bytes header after is.1
+part_cut number bytes (authentication header) after is = auth_cut bytes header after is.1
 
 -- The bytes are as long as the header and the bytes after it; a header has at least 8 bytes.
-pub part_lens : (number : ℕ) (bytes : List ℕ) (part : ExtensionPart) (behind : List ℕ)
-    → IsExtensionPart number bytes part behind
-    → (length bytes ≡ part_len part + length behind) × (8 ≤ part_len part)
-part_lens number bytes part behind is =
-    let cut = part_cut number bytes part behind is in
-    (ap length cut.parts ∙ length-append cut.front behind ∙ ap (λ (n : ℕ). n + length behind) cut.len_is, cut.least)
+pub part_lens : (number : ℕ) (bytes : List ℕ) (part : ExtensionPart) (after : List ℕ)
+    → IsExtensionPart number bytes part after
+    → (length bytes ≡ part_len part + length after) × (8 ≤ part_len part)
+part_lens number bytes part after is =
+    let cut = part_cut number bytes part after is in
+    (ap length cut.parts ∙ length-append cut.prefix after ∙ ap (λ (n : ℕ). n + length after) cut.len_is, cut.least)
 
 -- The bytes after a header are bytes.
-pub part_behind_fits : (number : ℕ) (bytes : List ℕ) (part : ExtensionPart) (behind : List ℕ)
-    → IsExtensionPart number bytes part behind
-    → AreBytes bytes → AreBytes behind
-part_behind_fits number bytes part behind is fits =
-    let cut = part_cut number bytes part behind is in
-    AreBytes-back cut.front behind (subst AreBytes cut.parts fits)
+pub part_after_fits : (number : ℕ) (bytes : List ℕ) (part : ExtensionPart) (after : List ℕ)
+    → IsExtensionPart number bytes part after
+    → AreBytes bytes → AreBytes after
+part_after_fits number bytes part after is fits =
+    let cut = part_cut number bytes part after is in
+    AreBytes-back cut.prefix after (subst AreBytes cut.parts fits)
 
 -- The IP number before a header is that of its kind.
-pub part_numbered : (number : ℕ) (bytes : List ℕ) (part : ExtensionPart) (behind : List ℕ)
-    → IsExtensionPart number bytes part behind
+pub part_numbered : (number : ℕ) (bytes : List ℕ) (part : ExtensionPart) (after : List ℕ)
+    → IsExtensionPart number bytes part after
     → number ≡ part_number part
-part_numbered number bytes (hop_by_hop header) behind is = is.0
-part_numbered number bytes _ behind is = is.0
+part_numbered number bytes (hop_by_hop header) after is = is.0
+part_numbered number bytes _ after is = is.0

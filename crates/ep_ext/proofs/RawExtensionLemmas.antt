@@ -15,45 +15,45 @@ raw_extension_parts bytes rest = (raw_extension_of bytes, rest)
 
 -- ---- bytes of the stated length are the wire format of the header parsed from them
 
-pub whole_fits : (e : List ℕ) → AreBytes e → length e ≡ raw_extension_len_of e → FitsRawExtension (raw_extension_of e)
-whole_fits e fits whole = record {
+pub complete_fits : (e : List ℕ) → AreBytes e → length e ≡ raw_extension_len_of e → FitsRawExtension (raw_extension_of e)
+complete_fits e fits complete = record {
   next_header = fits 0;
-  payload_least = omega (arith, length-drop 2 e, whole);
-  payload_len = omega (arith, length-drop 2 e, whole, fits 1);
-  payload_units = omega (arith, length-drop 2 e, whole);
+  payload_least = omega (arith, length-drop 2 e, complete);
+  payload_len = omega (arith, length-drop 2 e, complete, fits 1);
+  payload_units = omega (arith, length-drop 2 e, complete);
   payload = AreBytes-drop 2 e fits;
 }
 
-pub whole_same : (e : List ℕ) → length e ≡ raw_extension_len_of e → e ≡ raw_extension_bytes (raw_extension_of e)
+pub entire_same : (e : List ℕ) → length e ≡ raw_extension_len_of e → e ≡ raw_extension_bytes (raw_extension_of e)
 unfolding elements
-whole_same e whole =
-    let second : get_or e 1 0 ≡ (2 + length (drop 2 e)) / 8 - 1 = omega (arith, length-drop 2 e, whole) in
-    drop-elements 2 0 e (omega (arith, whole)) ∙ (λ i. get_or e 0 0 ∷ second i ∷ drop 2 e)
+entire_same e complete =
+    let second : get_or e 1 0 ≡ (2 + length (drop 2 e)) / 8 - 1 = omega (arith, length-drop 2 e, complete) in
+    drop-elements 2 0 e (omega (arith, complete)) ∙ (λ i. get_or e 0 0 ∷ second i ∷ drop 2 e)
 
 -- The prefix of the stated length states the same length.
-pub front_whole : (bytes : List ℕ) → raw_extension_len_of bytes ≤ length bytes
+pub prefix_complete : (bytes : List ℕ) → raw_extension_len_of bytes ≤ length bytes
     → length (take (raw_extension_len_of bytes) bytes) ≡ raw_extension_len_of (take (raw_extension_len_of bytes) bytes)
-front_whole bytes there =
+prefix_complete bytes present =
     let n = raw_extension_len_of bytes in
     let field : get_or (take n bytes) 1 0 ≡ get_or bytes 1 0 = get_or-take n bytes 1 0 (omega arith) in
-    omega (arith, length-take n bytes, field, there)
+    omega (arith, length-take n bytes, field, present)
 
 -- ---- parsing headers
 
 abbrev pub raw_extension_read : List ℕ → Ipv6RawExtHeader × List ℕ
 raw_extension_read bytes = cut_at raw_extension_len_of raw_extension_parts bytes
 
-stands : (bytes : List ℕ) → first_row (raw_extension_rows bytes) ≡ None → raw_extension_len_of bytes ≤ length bytes
-stands bytes none = grind (arith, common_steps)
+holds : (bytes : List ℕ) → first_row (raw_extension_rows bytes) ≡ None → raw_extension_len_of bytes ≤ length bytes
+holds bytes none = grind (arith, common_steps)
 
 reads : (bytes : List ℕ) → AreBytes bytes → first_row (raw_extension_rows bytes) ≡ None
     → IsRawExtension bytes (raw_extension_read bytes)
 reads bytes fits none =
     let n = raw_extension_len_of bytes in
-    let whole = front_whole bytes (stands bytes none) in
+    let complete = prefix_complete bytes (holds bytes none) in
     record {
-      fits = whole_fits (take n bytes) (AreBytes-take n bytes fits) whole;
-      parts = sym (take-append-drop n bytes) ∙ ap (λ (s : List ℕ). s ++ drop n bytes) (whole_same (take n bytes) whole);
+      fits = complete_fits (take n bytes) (AreBytes-take n bytes fits) complete;
+      parts = sym (take-append-drop n bytes) ∙ ap (λ (s : List ℕ). s ++ drop n bytes) (entire_same (take n bytes) complete);
     }
 
 -- The length field counts the bytes of the header.

@@ -24,101 +24,101 @@ use Rattle.ep_ext.proofs.RawExtensionLemmas.{raw_extension_is_read}
 use Rattle.ep_ext.proofs.PartLemmas.{part_lens}
 
 -- Facts about the first header of the bytes.
-pub record ShowsFirst (number : ℕ) (bytes : List ℕ) (part : ExtensionPart) (behind : List ℕ) : Type 0 where
+pub record ShowsFirst (number : ℕ) (bytes : List ℕ) (part : ExtensionPart) (after : List ℕ) : Type 0 where
   pub begins : begins_part number bytes ≡ true
   pub part_is : part ≡ part_of number (take (part_len_of number bytes) bytes)
-  pub behind_is : behind ≡ drop (part_len_of number bytes) bytes
+  pub after_is : after ≡ drop (part_len_of number bytes) bytes
   pub next_is : part_next part ≡ get_or bytes 0 0
 
 none_begins : {E : Type 0} → (answer : Option E) → answer ≡ None → is_none answer ≡ true
 none_begins answer none = ap is_none none
 
-raw_next : (bytes : List ℕ) (header : Ipv6RawExtHeader) (behind : List ℕ) → IsRawExtension bytes (header, behind)
+raw_next : (bytes : List ℕ) (header : Ipv6RawExtHeader) (after : List ℕ) → IsRawExtension bytes (header, after)
     → header.next_header.0 ≡ get_or bytes 0 0
-raw_next bytes header behind is = sym (ap (λ (b : List ℕ). get_or b 0 0) is.parts)
+raw_next bytes header after is = sym (ap (λ (b : List ℕ). get_or b 0 0) is.parts)
 
-fragment_next : (bytes : List ℕ) (header : Ipv6FragmentHeader) (behind : List ℕ)
-    → IsFragmentHeader bytes (header, behind) → header.next_header.0 ≡ get_or bytes 0 0
-fragment_next bytes header behind is =
-    sym (ap (λ (b : List ℕ). get_or b 0 0) is.parts ∙ ap (λ (b : List ℕ). get_or (b ++ behind) 0 0) is.encodes.same)
+fragment_next : (bytes : List ℕ) (header : Ipv6FragmentHeader) (after : List ℕ)
+    → IsFragmentHeader bytes (header, after) → header.next_header.0 ≡ get_or bytes 0 0
+fragment_next bytes header after is =
+    sym (ap (λ (b : List ℕ). get_or b 0 0) is.parts ∙ ap (λ (b : List ℕ). get_or (b ++ after) 0 0) is.encodes.same)
 
-auth_next : (bytes : List ℕ) (header : IpAuthHeader) (behind : List ℕ) → IsIpAuth bytes (header, behind)
+auth_next : (bytes : List ℕ) (header : IpAuthHeader) (after : List ℕ) → IsIpAuth bytes (header, after)
     → header.next_header.0 ≡ get_or bytes 0 0
-auth_next bytes header behind is =
-    sym (ap (λ (b : List ℕ). get_or b 0 0) is.parts ∙ ap (λ (b : List ℕ). get_or (b ++ behind) 0 0) is.encodes.same)
+auth_next bytes header after is =
+    sym (ap (λ (b : List ℕ). get_or b 0 0) is.parts ∙ ap (λ (b : List ℕ). get_or (b ++ after) 0 0) is.encodes.same)
 
 raw_begins : (bytes : List ℕ) → first_row (raw_extension_rows bytes) ≡ None
     → is_none (first_row (rows_as header_error.Len (raw_extension_rows bytes))) ≡ true
 raw_begins bytes none = none_begins _ (first_row-as_none header_error.Len (raw_extension_rows bytes) none)
 
-hop_by_hop_first : (bytes : List ℕ) (header : Ipv6RawExtHeader) (behind : List ℕ)
-    → IsRawExtension bytes (header, behind) → ShowsFirst 0 bytes (hop_by_hop header) behind
-hop_by_hop_first bytes header behind is =
-    let read = raw_extension_is_read.is_read bytes (header, behind) is in
+hop_by_hop_first : (bytes : List ℕ) (header : Ipv6RawExtHeader) (after : List ℕ)
+    → IsRawExtension bytes (header, after) → ShowsFirst 0 bytes (hop_by_hop header) after
+hop_by_hop_first bytes header after is =
+    let read = raw_extension_is_read.is_read bytes (header, after) is in
     record {
       begins = raw_begins bytes read.0;
       part_is = λ i. hop_by_hop (read.1 i).0;
-      behind_is = λ i. (read.1 i).1;
-      next_is = raw_next bytes header behind is;
+      after_is = λ i. (read.1 i).1;
+      next_is = raw_next bytes header after is;
     }
 
-routing_first : (bytes : List ℕ) (header : Ipv6RawExtHeader) (behind : List ℕ)
-    → IsRawExtension bytes (header, behind) → ShowsFirst 43 bytes (routing header) behind
-routing_first bytes header behind is =
-    let read = raw_extension_is_read.is_read bytes (header, behind) is in
+routing_first : (bytes : List ℕ) (header : Ipv6RawExtHeader) (after : List ℕ)
+    → IsRawExtension bytes (header, after) → ShowsFirst 43 bytes (routing header) after
+routing_first bytes header after is =
+    let read = raw_extension_is_read.is_read bytes (header, after) is in
     record {
       begins = raw_begins bytes read.0;
       part_is = λ i. routing (read.1 i).0;
-      behind_is = λ i. (read.1 i).1;
-      next_is = raw_next bytes header behind is;
+      after_is = λ i. (read.1 i).1;
+      next_is = raw_next bytes header after is;
     }
 
-destination_first : (bytes : List ℕ) (header : Ipv6RawExtHeader) (behind : List ℕ)
-    → IsRawExtension bytes (header, behind) → ShowsFirst 60 bytes (destination_options header) behind
-destination_first bytes header behind is =
-    let read = raw_extension_is_read.is_read bytes (header, behind) is in
+destination_first : (bytes : List ℕ) (header : Ipv6RawExtHeader) (after : List ℕ)
+    → IsRawExtension bytes (header, after) → ShowsFirst 60 bytes (destination_options header) after
+destination_first bytes header after is =
+    let read = raw_extension_is_read.is_read bytes (header, after) is in
     record {
       begins = raw_begins bytes read.0;
       part_is = λ i. destination_options (read.1 i).0;
-      behind_is = λ i. (read.1 i).1;
-      next_is = raw_next bytes header behind is;
+      after_is = λ i. (read.1 i).1;
+      next_is = raw_next bytes header after is;
     }
 
-fragment_first : (bytes : List ℕ) (header : Ipv6FragmentHeader) (behind : List ℕ)
-    → IsFragmentHeader bytes (header, behind) → ShowsFirst 44 bytes (fragment header) behind
-fragment_first bytes header behind is =
-    let read = fragment_header_is_read.is_read bytes (header, behind) is in
+fragment_first : (bytes : List ℕ) (header : Ipv6FragmentHeader) (after : List ℕ)
+    → IsFragmentHeader bytes (header, after) → ShowsFirst 44 bytes (fragment header) after
+fragment_first bytes header after is =
+    let read = fragment_header_is_read.is_read bytes (header, after) is in
     record {
       begins = none_begins _ (first_row-as_none header_error.Len (fragment_header_rows bytes) read.0);
       part_is = λ i. fragment (read.1 i).0;
-      behind_is = λ i. (read.1 i).1;
-      next_is = fragment_next bytes header behind is;
+      after_is = λ i. (read.1 i).1;
+      next_is = fragment_next bytes header after is;
     }
 
-authentication_first : (bytes : List ℕ) (header : IpAuthHeader) (behind : List ℕ) → IsIpAuth bytes (header, behind)
-    → ShowsFirst 51 bytes (authentication header) behind
-authentication_first bytes header behind is =
-    let read = ip_auth_is_read.is_read bytes (header, behind) is in
+authentication_first : (bytes : List ℕ) (header : IpAuthHeader) (after : List ℕ) → IsIpAuth bytes (header, after)
+    → ShowsFirst 51 bytes (authentication header) after
+authentication_first bytes header after is =
+    let read = ip_auth_is_read.is_read bytes (header, after) is in
     record {
       begins = none_begins _ (first_row-as_none auth_refusal (ip_auth_rows bytes) read.0);
       part_is = λ i. authentication (read.1 i).0;
-      behind_is = λ i. (read.1 i).1;
-      next_is = auth_next bytes header behind is;
+      after_is = λ i. (read.1 i).1;
+      next_is = auth_next bytes header after is;
     }
 
 -- Bytes that begin with a header are found to have it first.
-pub part_shown : (number : ℕ) (bytes : List ℕ) (part : ExtensionPart) (behind : List ℕ)
-    → IsExtensionPart number bytes part behind → ShowsFirst number bytes part behind
-part_shown number bytes (hop_by_hop header) behind is = subst (λ (n : ℕ). ShowsFirst n bytes
-    (hop_by_hop header) behind) (sym is.0) (hop_by_hop_first bytes header behind is.1)
-part_shown number bytes (destination_options header) behind is = subst (λ (n : ℕ). ShowsFirst n bytes
-    (destination_options header) behind) (sym is.0) (destination_first bytes header behind is.1)
-part_shown number bytes (routing header) behind is = subst (λ (n : ℕ). ShowsFirst n bytes (routing header) behind)
-    (sym is.0) (routing_first bytes header behind is.1)
-part_shown number bytes (fragment header) behind is = subst (λ (n : ℕ). ShowsFirst n bytes (fragment header) behind)
-    (sym is.0) (fragment_first bytes header behind is.1)
-part_shown number bytes (authentication header) behind is = subst (λ (n : ℕ). ShowsFirst n bytes
-    (authentication header) behind) (sym is.0) (authentication_first bytes header behind is.1)
+pub part_shown : (number : ℕ) (bytes : List ℕ) (part : ExtensionPart) (after : List ℕ)
+    → IsExtensionPart number bytes part after → ShowsFirst number bytes part after
+part_shown number bytes (hop_by_hop header) after is = subst (λ (n : ℕ). ShowsFirst n bytes
+    (hop_by_hop header) after) (sym is.0) (hop_by_hop_first bytes header after is.1)
+part_shown number bytes (destination_options header) after is = subst (λ (n : ℕ). ShowsFirst n bytes
+    (destination_options header) after) (sym is.0) (destination_first bytes header after is.1)
+part_shown number bytes (routing header) after is = subst (λ (n : ℕ). ShowsFirst n bytes (routing header) after)
+    (sym is.0) (routing_first bytes header after is.1)
+part_shown number bytes (fragment header) after is = subst (λ (n : ℕ). ShowsFirst n bytes (fragment header) after)
+    (sym is.0) (fragment_first bytes header after is.1)
+part_shown number bytes (authentication header) after is = subst (λ (n : ℕ). ShowsFirst n bytes
+    (authentication header) after) (sym is.0) (authentication_first bytes header after is.1)
 
 -- ---- one step of finding headers
 
@@ -141,13 +141,13 @@ not_begun (suc most) number bytes begins = λ i. if begins i
     else []
 
 -- The headers found are the first header and those found after it.
-first_shown : (most number : ℕ) (bytes : List ℕ) (part : ExtensionPart) (behind : List ℕ)
-    → IsExtensionPart number bytes part behind
-    → shown_parts_in (suc most) number bytes ≡ part ∷ shown_parts_in most (part_next part) behind
-first_shown most number bytes part behind is =
-    let shows = part_shown number bytes part behind is in
+first_shown : (most number : ℕ) (bytes : List ℕ) (part : ExtensionPart) (after : List ℕ)
+    → IsExtensionPart number bytes part after
+    → shown_parts_in (suc most) number bytes ≡ part ∷ shown_parts_in most (part_next part) after
+first_shown most number bytes part after is =
+    let shows = part_shown number bytes part after is in
     begun most number bytes shows.begins ∙ (λ i. sym shows.part_is i ∷ shown_parts_in most (sym shows.next_is i)
-    (sym shows.behind_is i))
+    (sym shows.after_is i))
 
 -- An IP number that is not that of an extension header finds no header.
 pub no_kind_shown : (number : ℕ) (bytes : List ℕ) → is_ipv6_extension number ≡ false → begins_part number bytes ≡ false
@@ -170,7 +170,7 @@ part_len_least number bytes = grind (arith, common_steps)
 pub no_bytes : (number : ℕ) (bytes : List ℕ) → length bytes ≤ 0 → begins_part number bytes ≡ false
 no_bytes number bytes none = elim (cases_Bool (begins_part number bytes)) [
   | inl begins ↦ absurd (omega (arith, begun_long number bytes begins))
-  | inr not_there ↦ not_there
+  | inr not_present ↦ not_present
 ]
 
 enough : (most other number : ℕ) (bytes : List ℕ) → length bytes ≤ most → length bytes ≤ other
@@ -196,16 +196,16 @@ enough (suc most) (suc other) number bytes within within_other =
     ]
 
 -- The headers found in the bytes are a first header and those found after it.
-pub shown_next : (number : ℕ) (bytes : List ℕ) (part : ExtensionPart) (behind : List ℕ)
-    → IsExtensionPart number bytes part behind
-    → shown_parts number bytes ≡ part ∷ shown_parts (part_next part) behind
+pub shown_next : (number : ℕ) (bytes : List ℕ) (part : ExtensionPart) (after : List ℕ)
+    → IsExtensionPart number bytes part after
+    → shown_parts number bytes ≡ part ∷ shown_parts (part_next part) after
 unfolding shown_parts
-shown_next number bytes part behind is =
-    let lens = part_lens number bytes part behind is in
-    let most = part_len part + length behind in
+shown_next number bytes part after is =
+    let lens = part_lens number bytes part after is in
+    let most = part_len part + length after in
     enough (length bytes) (suc most) number bytes (omega arith) (omega (arith, lens.0))
-    ∙ first_shown most number bytes part behind is
-    ∙ ap (λ (parts : List ExtensionPart). part ∷ parts) (enough most (length behind) (part_next part) behind
+    ∙ first_shown most number bytes part after is
+    ∙ ap (λ (parts : List ExtensionPart). part ∷ parts) (enough most (length after) (part_next part) after
     (omega arith) (omega arith))
 
 -- No headers are found if none begins the bytes.
@@ -247,63 +247,63 @@ chain_shown taken number bytes (part ∷ parts) last rest is =
     (part_next part) is.1.0 parts last rest is.1.2)
 
 -- A header stays valid when the bytes after it are replaced.
-pub part_moved : (number : ℕ) (bytes : List ℕ) (part : ExtensionPart) (behind other : List ℕ)
-    → IsExtensionPart number bytes part behind
-    → (front : List ℕ) × (bytes ≡ front ++ behind) × IsExtensionPart number (front ++ other) part other
-part_moved number bytes (hop_by_hop header) behind other is = (
+pub part_moved : (number : ℕ) (bytes : List ℕ) (part : ExtensionPart) (after other : List ℕ)
+    → IsExtensionPart number bytes part after
+    → (prefix : List ℕ) × (bytes ≡ prefix ++ after) × IsExtensionPart number (prefix ++ other) part other
+part_moved number bytes (hop_by_hop header) after other is = (
   raw_extension_bytes header,
   is.1.parts,
   (is.0, record { fits = is.1.fits; parts = refl }),
 )
-part_moved number bytes (destination_options header) behind other is = (
+part_moved number bytes (destination_options header) after other is = (
   raw_extension_bytes header,
   is.1.parts,
   (is.0, record { fits = is.1.fits; parts = refl }),
 )
-part_moved number bytes (routing header) behind other is = (
+part_moved number bytes (routing header) after other is = (
   raw_extension_bytes header,
   is.1.parts,
   (is.0, record { fits = is.1.fits; parts = refl }),
 )
-part_moved number bytes (fragment header) behind other is =
+part_moved number bytes (fragment header) after other is =
     (is.1.encoded, is.1.parts, (is.0, record { encoded = is.1.encoded; encodes = is.1.encodes; parts = refl }))
-part_moved number bytes (authentication header) behind other is =
+part_moved number bytes (authentication header) after other is =
     (is.1.encoded, is.1.parts, (is.0, record { encoded = is.1.encoded; encodes = is.1.encodes; parts = refl }))
 
 -- The bytes of a chain without the rest.
-pub record FrontOf (version : IpVersion) (reading : Reading) (taken : List ℕ) (number : ℕ) (bytes : List ℕ)
+pub record PrefixOf (version : IpVersion) (reading : Reading) (taken : List ℕ) (number : ℕ) (bytes : List ℕ)
     (parts : List ExtensionPart) (last : ℕ) (rest : List ℕ) : Type 0 where
-  pub front : List ℕ
-  pub split : bytes ≡ front ++ rest
-  pub chain : IsChainAfter version reading taken number front parts last []
+  pub prefix : List ℕ
+  pub split : bytes ≡ prefix ++ rest
+  pub chain : IsChainAfter version reading taken number prefix parts last []
 
-pub chain_front : (version : IpVersion) (reading : Reading) (taken : List ℕ) (number : ℕ) (bytes : List ℕ)
+pub chain_prefix : (version : IpVersion) (reading : Reading) (taken : List ℕ) (number : ℕ) (bytes : List ℕ)
     (parts : List ExtensionPart) (last : ℕ) (rest : List ℕ)
     → IsChainAfter version reading taken number bytes parts last rest
-    → FrontOf version reading taken number bytes parts last rest
-chain_front version reading taken number bytes [] last rest is = record {
-  front = [];
+    → PrefixOf version reading taken number bytes parts last rest
+chain_prefix version reading taken number bytes [] last rest is = record {
+  prefix = [];
   split = sym is.2;
   chain =
       (is.0, is.1, refl);
 }
-chain_front version reading taken number bytes (part ∷ parts) last rest is =
-    let more = chain_front version reading (number ∷ taken) (part_next part) is.1.0 parts last rest is.1.2 in
-    let moved = part_moved number bytes part is.1.0 more.front is.1.1 in
+chain_prefix version reading taken number bytes (part ∷ parts) last rest is =
+    let more = chain_prefix version reading (number ∷ taken) (part_next part) is.1.0 parts last rest is.1.2 in
+    let moved = part_moved number bytes part is.1.0 more.prefix is.1.1 in
     record {
-      front = moved.0 ++ more.front;
-      split = moved.1 ∙ ap (λ (s : List ℕ). moved.0 ++ s) more.split ∙ sym (append_assoc moved.0 more.front rest);
-      chain = (is.0, (more.front, moved.2, more.chain));
+      prefix = moved.0 ++ more.prefix;
+      split = moved.1 ∙ ap (λ (s : List ℕ). moved.0 ++ s) more.split ∙ sym (append_assoc moved.0 more.prefix rest);
+      chain = (is.0, (more.prefix, moved.2, more.chain));
     }
 
 -- The headers found in the bytes before the rest of a chain of slices are its headers.
-pub front_shown : (number : ℕ) (bytes front : List ℕ) (parts : List ExtensionPart) (last : ℕ) (rest : List ℕ)
-    → IsExtensionChain ipv6 slices number bytes (chain_of parts last rest) → bytes ≡ front ++ rest
-    → shown_parts number front ≡ parts
-front_shown number bytes front parts last rest is split =
-    let own = chain_front ipv6 slices [] number bytes parts last rest is in
-    let both : front ++ rest ≡ own.front ++ rest = sym split ∙ own.split in
-    let lens : length front ≡ length own.front = omega
-    (arith, length-append front rest, length-append own.front rest, ap length both) in
-    let same = (same_parts front own.front rest rest lens both).0 in
-    ap (shown_parts number) same ∙ chain_shown [] number own.front parts last [] own.chain
+pub prefix_shown : (number : ℕ) (bytes prefix : List ℕ) (parts : List ExtensionPart) (last : ℕ) (rest : List ℕ)
+    → IsExtensionChain ipv6 slices number bytes (chain_of parts last rest) → bytes ≡ prefix ++ rest
+    → shown_parts number prefix ≡ parts
+prefix_shown number bytes prefix parts last rest is split =
+    let own = chain_prefix ipv6 slices [] number bytes parts last rest is in
+    let both : prefix ++ rest ≡ own.prefix ++ rest = sym split ∙ own.split in
+    let lens : length prefix ≡ length own.prefix = omega
+    (arith, length-append prefix rest, length-append own.prefix rest, ap length both) in
+    let same = (same_parts prefix own.prefix rest rest lens both).0 in
+    ap (shown_parts number) same ∙ chain_shown [] number own.prefix parts last [] own.chain

@@ -56,21 +56,21 @@ absent : {H : Type 0} (len : H → ℕ) (header : Option H) → is_some header �
 absent len None none = refl
 absent len (Some header) none = absurd (true≢false none)
 
-routing_absent : (there : Option Ipv6RoutingExtensions) → is_some there ≡ false
-    → (option_map_or raw_extension_len (option_map routing_header there) 0 ≡ 0)
-    × (option_map_or raw_extension_len (final_by there) 0 ≡ 0)
+routing_absent : (present : Option Ipv6RoutingExtensions) → is_some present ≡ false
+    → (option_map_or raw_extension_len (option_map routing_header present) 0 ≡ 0)
+    × (option_map_or raw_extension_len (final_by present) 0 ≡ 0)
 routing_absent None none = (refl, refl)
-routing_absent (Some behind) none = absurd (true≢false none)
+routing_absent (Some after) none = absurd (true≢false none)
 
-destination_longer : (hop destination : Option Ipv6RawExtHeader) (behind : Option Ipv6RoutingExtensions)
+destination_longer : (hop destination : Option Ipv6RawExtHeader) (after : Option Ipv6RoutingExtensions)
     (fragmenting : Option Ipv6FragmentHeader) (auth : Option IpAuthHeader) (header : Ipv6RawExtHeader)
-    → has_destination (value_of hop destination behind fragmenting auth) behind ≡ false
-    → total (with_destination (value_of hop destination behind fragmenting auth) header behind)
-    ≡ total (value_of hop destination behind fragmenting auth) + raw_extension_len header
+    → has_destination (value_of hop destination after fragmenting auth) after ≡ false
+    → total (with_destination (value_of hop destination after fragmenting auth) header after)
+    ≡ total (value_of hop destination after fragmenting auth) + raw_extension_len header
 destination_longer hop destination None fragmenting auth header free =
     omega (arith, absent raw_extension_len destination free)
-destination_longer hop destination (Some behind) fragmenting auth header free =
-    omega (arith, absent raw_extension_len behind.final_destination_options free)
+destination_longer hop destination (Some after) fragmenting auth header free =
+    omega (arith, absent raw_extension_len after.final_destination_options free)
 
 -- A header added to a value adds its length.
 pub longer : (walked : Ipv6Extensions) (part : ExtensionPart) → has_kind walked (part_number part) ≡ false
@@ -99,17 +99,17 @@ or_assoc : (a b c : Bool) → ((a || b) || c) ≡ (a || (b || c))
 or_assoc true b c = refl
 or_assoc false b c = refl
 
-not_there : (there : Option Ipv6FragmentHeader) (test : Bool) → is_some there ≡ false
-    → test ≡ (fragments_by there || test)
-not_there None test none = refl
-not_there (Some header) test none = absurd (true≢false none)
+not_present : (present : Option Ipv6FragmentHeader) (test : Bool) → is_some present ≡ false
+    → test ≡ (fragments_by present || test)
+not_present None test none = refl
+not_present (Some header) test none = absurd (true≢false none)
 
-destination_fragments : (hop destination : Option Ipv6RawExtHeader) (behind : Option Ipv6RoutingExtensions)
+destination_fragments : (hop destination : Option Ipv6RawExtHeader) (after : Option Ipv6RoutingExtensions)
     (fragmenting : Option Ipv6FragmentHeader) (auth : Option IpAuthHeader) (header : Ipv6RawExtHeader)
-    → fragments_by (with_destination (value_of hop destination behind fragmenting auth) header behind).fragment
+    → fragments_by (with_destination (value_of hop destination after fragmenting auth) header after).fragment
     ≡ (fragments_by fragmenting || false)
 destination_fragments hop destination None fragmenting auth header = or_false (fragments_by fragmenting)
-destination_fragments hop destination (Some behind) fragmenting auth header = or_false (fragments_by fragmenting)
+destination_fragments hop destination (Some after) fragmenting auth header = or_false (fragments_by fragmenting)
 
 -- A header added to a value adds its fragment state.
 fragments_with : (walked : Ipv6Extensions) (part : ExtensionPart) → has_kind walked (part_number part) ≡ false
@@ -119,7 +119,7 @@ fragments_with walked (destination_options header) free =
     destination_fragments walked.hop_by_hop_options walked.destination_options walked.routing walked.fragment
     walked.auth header
 fragments_with walked (routing header) free = or_false (fragments_by walked.fragment)
-fragments_with walked (fragment header) free = not_there walked.fragment (is_ipv6_fragment header) free
+fragments_with walked (fragment header) free = not_present walked.fragment (is_ipv6_fragment header) free
 fragments_with walked (authentication header) free = or_false (fragments_by walked.fragment)
 
 fragments-append : (parts more : List ExtensionPart)
@@ -131,11 +131,11 @@ fragments-append (part ∷ parts) more =
 
 -- Headers other than fragment headers never state a fragment.
 none_fragments : {H : Type 0} (kind : H → ExtensionPart) → ((header : H) → part_fragments (kind header) ≡ false)
-    → (there : Option H) → chain_fragments (optional_part kind there) ≡ false
+    → (present : Option H) → chain_fragments (optional_part kind present) ≡ false
 none_fragments kind never None = refl
 none_fragments kind never (Some header) = ap (λ (b : Bool). b || false) (never header)
 
-one_fragments : (there : Option Ipv6FragmentHeader) → chain_fragments (optional_part fragment there) ≡ fragments_by there
+one_fragments : (present : Option Ipv6FragmentHeader) → chain_fragments (optional_part fragment present) ≡ fragments_by present
 one_fragments None = refl
 one_fragments (Some header) = sym (or_false (is_ipv6_fragment header))
 
@@ -170,18 +170,18 @@ record ValueIs (walked : Ipv6Extensions) (parts : List ExtensionPart) : Type 0 w
   fragments : fragments_by (with_parts walked parts).fragment
       ≡ (fragments_by walked.fragment || chain_fragments parts)
 
-value_behind : (taken : List ℕ) (walked : Ipv6Extensions) (number : ℕ) (bytes : List ℕ) (parts : List ExtensionPart)
+value_after : (taken : List ℕ) (walked : Ipv6Extensions) (number : ℕ) (bytes : List ℕ) (parts : List ExtensionPart)
     (last : ℕ) (rest : List ℕ)
     → HasTaken taken walked → IsChainAfter ipv6 headers taken number bytes parts last rest → ValueIs walked parts
-value_behind taken walked number bytes [] last rest has is = record {
+value_after taken walked number bytes [] last rest has is = record {
   len = omega arith;
   fragments = or_false (fragments_by walked.fragment);
 }
-value_behind taken walked number bytes (part ∷ parts) last rest has is =
+value_after taken walked number bytes (part ∷ parts) last rest has is =
     let here = fresh taken walked number part has is.0 (part_numbered number bytes part is.1.0 is.1.1) in
     let more_taken = subst (λ (n : ℕ). HasTaken (n ∷ taken) (with_part walked part)) (sym here.numbered)
     (taken_more taken walked part has) in
-    let more = value_behind (number ∷ taken) (with_part walked part) (part_next part) is.1.0 parts last rest more_taken
+    let more = value_after (number ∷ taken) (with_part walked part) (part_next part) is.1.0 parts last rest more_taken
     is.1.2 in
     record {
       len = omega (
@@ -200,7 +200,7 @@ pub chain_value_len : (number : ℕ) (bytes : List ℕ) (chain : ExtensionChain)
     → IsExtensionChain ipv6 headers number bytes chain
     → length bytes ≡ length (parts_bytes (ipv6_parts (extensions_of chain.parts))) + length chain.rest
 chain_value_len number bytes chain is =
-    let value = value_behind [] no_ipv6_extensions number bytes chain.parts chain.last chain.rest none_taken is in
+    let value = value_after [] no_ipv6_extensions number bytes chain.parts chain.last chain.rest none_taken is in
     omega (arith, chain_len ipv6 headers number bytes chain is, value_len (extensions_of chain.parts), value.len)
 
 -- The value of a chain states a fragment if the chain does.
@@ -208,7 +208,7 @@ pub chain_value_fragments : (number : ℕ) (bytes : List ℕ) (chain : Extension
     → IsExtensionChain ipv6 headers number bytes chain
     → chain_fragments (ipv6_parts (extensions_of chain.parts)) ≡ chain_fragments chain.parts
 chain_value_fragments number bytes chain is =
-    let value = value_behind [] no_ipv6_extensions number bytes chain.parts chain.last chain.rest none_taken is in
+    let value = value_after [] no_ipv6_extensions number bytes chain.parts chain.last chain.rest none_taken is in
     value_fragments (extensions_of chain.parts) ∙ value.fragments
 
 -- ---- value of the headers before a rejected one

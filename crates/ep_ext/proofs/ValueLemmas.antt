@@ -20,7 +20,7 @@ use Rattle.ep_ext.specs.RawExtension.{raw_extension_bytes, raw_extension_len}
 use Rattle.ep_ext.specs.Chains.{ipv6, chain_of, ends, takes, demand_of, is_first, is_taken, is_ipv6_extension, parts_bytes, IsExtensionChain, RefusesExtensionChain, with_offset_in}
 use Rattle.ep_ext.specs.Ipv6Chains.{no_ipv6_extensions, extensions_of, with_part, with_parts, with_destination, has_kind, ipv6_parts, routing_header, final_by}
 use Rattle.ep_ext.proofs.PartLemmas.{part_numbered, auth_len}
-use Rattle.ep_ext.proofs.ReadLemmas.{IsRead, read_nothing, read_part, read_all, read_refused, read_misplaced, read_as, misplaced_0, at_start, past_start, front_len}
+use Rattle.ep_ext.proofs.ReadLemmas.{IsRead, read_nothing, read_part, read_all, read_refused, read_misplaced, read_as, misplaced_0, at_start, past_start, start_len}
 
 -- The kinds of headers of the value are those visited.
 abbrev pub HasTaken : List ℕ → Ipv6Extensions → Type 0
@@ -32,21 +32,21 @@ none_taken number = grind (arith, common_steps)
 -- The value with these fields.
 abbrev pub value_of : Option Ipv6RawExtHeader → Option Ipv6RawExtHeader → Option Ipv6RoutingExtensions
     → Option Ipv6FragmentHeader → Option IpAuthHeader → Ipv6Extensions
-value_of hop destination behind fragmenting auth = record {
+value_of hop destination following fragmenting auth = record {
   hop_by_hop_options = hop;
   destination_options = destination;
-  routing = behind;
+  routing = following;
   fragment = fragmenting;
   auth = auth;
 }
 
-destination_taken : (hop destination : Option Ipv6RawExtHeader) (behind : Option Ipv6RoutingExtensions)
+destination_taken : (hop destination : Option Ipv6RawExtHeader) (following : Option Ipv6RoutingExtensions)
     (fragmenting : Option Ipv6FragmentHeader) (auth : Option IpAuthHeader) (taken : List ℕ) (header : Ipv6RawExtHeader)
-    → HasTaken taken (value_of hop destination behind fragmenting auth)
-    → HasTaken (60 ∷ taken) (with_destination (value_of hop destination behind fragmenting auth) header behind)
+    → HasTaken taken (value_of hop destination following fragmenting auth)
+    → HasTaken (60 ∷ taken) (with_destination (value_of hop destination following fragmenting auth) header following)
 destination_taken hop destination None fragmenting auth taken header has number = grind
     (arith, common_steps, has number)
-destination_taken hop destination (Some behind) fragmenting auth taken header has number = grind
+destination_taken hop destination (Some following) fragmenting auth taken header has number = grind
     (arith, common_steps, has number)
 
 -- A visited header is of a kind that the value then has.
@@ -83,8 +83,8 @@ headers_end taken number none = grind (arith, common_steps)
 
 pub headers_end_taken : (taken : List ℕ) (number : ℕ) → (number ≡ 0 → is_first taken ≡ true)
     → is_ipv6_extension number ≡ true → is_taken taken number ≡ true → demand_of ipv6 headers taken number ≡ ends
-headers_end_taken taken number start kind there =
-    let other : number ≡ 0 → ⊥ = λ is. false≢true (sym (first_none_taken taken number (start is)) ∙ there) in
+headers_end_taken taken number start kind present =
+    let other : number ≡ 0 → ⊥ = λ is. false≢true (sym (first_none_taken taken number (start is)) ∙ present) in
     grind (arith, common_steps)
 
 -- ---- state of the loop over owned headers
@@ -115,19 +115,19 @@ headers_start first bytes number rest extensions read start zero_is = at_start i
     read.parts number rest read.read (start zero_is)
 
 pub headers_more : (first : ℕ) (bytes : List ℕ) (number : ℕ) (rest : List ℕ) (extensions : Ipv6Extensions)
-    (part : ExtensionPart) (behind : List ℕ) (next : ℕ) (after : Ipv6Extensions)
+    (part : ExtensionPart) (following : List ℕ) (next : ℕ) (after : Ipv6Extensions)
     → HeadersRead first bytes number rest extensions → is_ipv6_extension number ≡ true → (number ≡ 0
     → length bytes - length rest ≤ 0) → has_kind extensions number ≡ false
-    → IsExtensionPart number rest part behind → next ≡ part_next part → after ≡ with_part extensions part
-    → HeadersRead first bytes next behind after
-headers_more first bytes number rest extensions part behind next after read kind start none is next_is after_is =
-    let numbered = part_numbered number rest part behind is in
+    → IsExtensionPart number rest part following → next ≡ part_next part → after ≡ with_part extensions part
+    → HeadersRead first bytes next following after
+headers_more first bytes number rest extensions part following next after read kind start none is next_is after_is =
+    let numbered = part_numbered number rest part following is in
     record {
       taken = number ∷ read.taken;
       parts = read.parts ++ part ∷ [];
       read = read_as ipv6 headers first bytes (number ∷ read.taken) (read.parts ++ part ∷ [])
-          (part_next part) next behind behind
-          (read_part ipv6 headers first bytes read.taken read.parts number rest part behind read.read
+          (part_next part) next following following
+          (read_part ipv6 headers first bytes read.taken read.parts number rest part following read.read
           (headers_take read.taken number kind (headers_start first bytes number rest extensions read start)
           (read.has number ∙ none)) is) next_is refl;
       value = after_is ∙ ap (λ (e : Ipv6Extensions). with_part e part) read.value
@@ -145,7 +145,7 @@ pub headers_refused : (first : ℕ) (bytes : List ℕ) (number : ℕ) (rest : Li
     → RefusesExtensionChain ipv6 headers first bytes shown
 headers_refused first bytes number rest extensions error shown read kind start none refused same =
     subst (RefusesExtensionChain ipv6 headers first bytes) (ap (λ (n : ℕ). with_offset_in n error)
-    (front_len bytes read.read.front rest read.read.split) ∙ sym same)
+    (start_len bytes read.read.prefix rest read.read.split) ∙ sym same)
     (read_refused ipv6 headers first bytes read.taken read.parts number rest error read.read
     (headers_take read.taken number kind (headers_start first bytes number rest extensions read start)
     (read.has number ∙ none)) refused)
@@ -178,12 +178,12 @@ pub headers_second_read : (first : ℕ) (bytes : List ℕ) (number : ℕ) (rest 
     → HeadersRead first bytes number rest extensions
     → is_ipv6_extension number ≡ true → (number ≡ 0 → length bytes - length rest ≤ 0)
     → has_kind extensions number ≡ true → IsValueOf first bytes number rest extensions
-headers_second_read first bytes number rest extensions read kind start there = (
+headers_second_read first bytes number rest extensions read kind start present = (
   read.parts,
   read.value,
   read_all ipv6 headers first bytes read.taken read.parts number rest read.read
       (headers_end_taken read.taken number (headers_start first bytes number rest extensions read start) kind
-      (read.has number ∙ there)),
+      (read.has number ∙ present)),
 )
 
 -- ---- length of the headers of a value
@@ -219,10 +219,10 @@ fragment_len : (header : Option Ipv6FragmentHeader)
 fragment_len None = refl
 fragment_len (Some header) = ap length (append-nil (fragment_header_bytes header))
 
-auth_there_len : (header : Option IpAuthHeader)
+auth_present_len : (header : Option IpAuthHeader)
     → length (parts_bytes (optional_part authentication header)) ≡ option_map_or ip_auth_len header 0
-auth_there_len None = refl
-auth_there_len (Some header) = ap length (append-nil (ip_auth_bytes header)) ∙ auth_len 0 header
+auth_present_len None = refl
+auth_present_len (Some header) = ap length (append-nil (ip_auth_bytes header)) ∙ auth_len 0 header
 
 -- The length of a value is the sum of the lengths of its headers.
 pub value_len : (extensions : Ipv6Extensions) → length (parts_bytes (ipv6_parts extensions))
@@ -249,6 +249,6 @@ value_len extensions =
       destination_len extensions.destination_options,
       routing_len (option_map routing_header extensions.routing),
       fragment_len extensions.fragment,
-      auth_there_len extensions.auth,
+      auth_present_len extensions.auth,
       destination_len (final_by extensions.routing),
     )

@@ -18,11 +18,11 @@ option_cases None = inl refl
 option_cases (Some some) = inr (some, refl)
 
 -- A walk from any IP number visits at most the headers not yet marked.
-pub walk_there : (most : ℕ) (extensions : Ipv6Extensions) (taken : List ℕ) (walked : Ipv6Extensions) (marks : VisitedHeaders)
+pub walk_present : (most : ℕ) (extensions : Ipv6Extensions) (taken : List ℕ) (walked : Ipv6Extensions) (marks : VisitedHeaders)
     (number : ℕ) → marks_left marks < most → IsMarked taken walked marks
     → (parts : List ExtensionPart) × (last : ℕ) × IsWalkAfter extensions taken number parts last
-walk_there zero extensions taken walked marks number within m = absurd (omega arith)
-walk_there (suc most) extensions taken walked marks number within m =
+walk_present zero extensions taken walked marks number within m = absurd (omega arith)
+walk_present (suc most) extensions taken walked marks number within m =
     elim (option_cases (header_for extensions taken number)) [
       | inl none ↦ ([], number, (none, refl))
       | inr found ↦
@@ -31,7 +31,7 @@ walk_there (suc most) extensions taken walked marks number within m =
           let fewer = fewer_after taken walked marks part m (ap (is_taken taken) (sym kind.0) ∙ kind.1) in
           let more = subst (λ (n : ℕ). IsMarked (n ∷ taken) (with_part walked part) (marked marks part)) (sym kind.0)
           (mark_more taken walked marks part m) in
-          let walk = walk_there most extensions (number ∷ taken) (with_part walked part) (marked marks part)
+          let walk = walk_present most extensions (number ∷ taken) (with_part walked part) (marked marks part)
           (part_next part) (omega (arith, fewer, within)) more in
           (part ∷ walk.0, walk.1, (found.1, walk.2))
     ]
@@ -39,7 +39,7 @@ walk_there (suc most) extensions taken walked marks number within m =
 pub walk_decided : (extensions : Ipv6Extensions) (first : ℕ)
     → IsDecided (IsWalk extensions first) (RefusesWalk extensions first)
 walk_decided extensions first =
-    let walk = walk_there 7 extensions [] no_ipv6_extensions no_marks first (omega arith) marked_none in
+    let walk = walk_present 7 extensions [] no_ipv6_extensions no_marks first (omega arith) marked_none in
     record {
       some = elim (option_cases (missing_number extensions (extensions_of walk.0))) [
         | inl none ↦ inl ((walk.0, walk.1), (walk.2, none))

@@ -44,44 +44,44 @@ marked_none = record {
 }
 
 -- The marks of destination options for a value with a known routing header.
-record DestinationMarks (walked : Ipv6Extensions) (behind : Option Ipv6RoutingExtensions) (header : Ipv6RawExtHeader)
+record DestinationMarks (walked : Ipv6Extensions) (following : Option Ipv6RoutingExtensions) (header : Ipv6RawExtHeader)
     (marks new : VisitedHeaders) : Type 0 where
-  hop_by_hop : is_some (with_destination walked header behind).hop_by_hop_options ≡ new.hop_by_hop
-  destination : is_some (with_destination walked header behind).destination_options ≡ new.destination_options
-  routing : is_some (with_destination walked header behind).routing ≡ new.routing
-  fragment : is_some (with_destination walked header behind).fragment ≡ new.fragment
-  auth : is_some (with_destination walked header behind).auth ≡ new.auth
-  final : is_some (final_by (with_destination walked header behind).routing) ≡ new.final_destination_options
+  hop_by_hop : is_some (with_destination walked header following).hop_by_hop_options ≡ new.hop_by_hop
+  destination : is_some (with_destination walked header following).destination_options ≡ new.destination_options
+  routing : is_some (with_destination walked header following).routing ≡ new.routing
+  fragment : is_some (with_destination walked header following).fragment ≡ new.fragment
+  auth : is_some (with_destination walked header following).auth ≡ new.auth
+  final : is_some (final_by (with_destination walked header following).routing) ≡ new.final_destination_options
 
-destination_marks : (walked : Ipv6Extensions) (behind : Option Ipv6RoutingExtensions) (header : Ipv6RawExtHeader)
-    (marks : VisitedHeaders) (there : Bool)
+destination_marks : (walked : Ipv6Extensions) (following : Option Ipv6RoutingExtensions) (header : Ipv6RawExtHeader)
+    (marks : VisitedHeaders) (present : Bool)
     → is_some walked.hop_by_hop_options ≡ marks.hop_by_hop
-    → is_some walked.destination_options ≡ marks.destination_options → walked.routing ≡ behind
-    → is_some behind ≡ there
+    → is_some walked.destination_options ≡ marks.destination_options → walked.routing ≡ following
+    → is_some following ≡ present
     → is_some walked.fragment ≡ marks.fragment → is_some walked.auth ≡ marks.auth
-    → is_some (final_by behind) ≡ marks.final_destination_options → marks.routing ≡ there
-    → DestinationMarks walked behind header marks
-    (if there then record marks { any = true; final_destination_options = true } else record marks {
+    → is_some (final_by following) ≡ marks.final_destination_options → marks.routing ≡ present
+    → DestinationMarks walked following header marks
+    (if present then record marks { any = true; final_destination_options = true } else record marks {
       any = true;
       destination_options = true;
     })
-destination_marks walked None header marks true hop destination same is_there frag auth final there_is = absurd
-    (false≢true is_there)
-destination_marks walked None header marks false hop destination same is_there frag auth final there_is = record {
+destination_marks walked None header marks true hop destination same is_present frag auth final present_is = absurd
+    (false≢true is_present)
+destination_marks walked None header marks false hop destination same is_present frag auth final present_is = record {
   hop_by_hop = hop;
   destination = refl;
-  routing = ap is_some same ∙ sym there_is;
+  routing = ap is_some same ∙ sym present_is;
   fragment = frag;
   auth = auth;
   final = ap (λ (b : Option Ipv6RoutingExtensions). is_some (final_by b)) same ∙ final;
 }
-destination_marks walked (Some behind) header marks false hop destination same is_there frag auth final there_is =
-    absurd (true≢false is_there)
-destination_marks walked (Some behind) header marks true hop destination same is_there frag auth final there_is =
+destination_marks walked (Some following) header marks false hop destination same is_present frag auth final present_is =
+    absurd (true≢false is_present)
+destination_marks walked (Some following) header marks true hop destination same is_present frag auth final present_is =
     record {
       hop_by_hop = hop;
       destination = destination;
-      routing = sym there_is;
+      routing = sym present_is;
       fragment = frag;
       auth = auth;
       final = refl;
@@ -158,11 +158,11 @@ mark_more taken walked marks (authentication header) m = record {
 
 -- ---- the unmarked header found is the next of the walk
 
-by_routing : (walked : Ipv6Extensions) (behind : Option Ipv6RoutingExtensions)
-    → has_destination walked behind ≡ (if is_some behind then is_some
-    (final_by behind) else is_some walked.destination_options)
+by_routing : (walked : Ipv6Extensions) (following : Option Ipv6RoutingExtensions)
+    → has_destination walked following ≡ (if is_some following then is_some
+    (final_by following) else is_some walked.destination_options)
 by_routing walked None = refl
-by_routing walked (Some behind) = refl
+by_routing walked (Some following) = refl
 
 taken_destination : (taken : List ℕ) (walked : Ipv6Extensions) (marks : VisitedHeaders) → IsMarked taken walked marks
     → is_taken taken 60 ≡ (if marks.routing then marks.final_destination_options else marks.destination_options)
@@ -231,7 +231,7 @@ found_is extensions taken walked marks number m =
 -- ---- the header found
 
 of_kind : {H : Type 0} (kind : H → ExtensionPart) (number : ℕ) → ((header : H) → number ≡ part_number (kind header))
-    → (there : Option H) (part : ExtensionPart) → option_map kind there ≡ Some part
+    → (present : Option H) (part : ExtensionPart) → option_map kind present ≡ Some part
     → number ≡ part_number part
 of_kind kind number numbered None part found = absurd (none-some part found)
 of_kind kind number numbered (Some header) part found = let same : kind header ≡ part = cc in numbered header
@@ -303,9 +303,9 @@ found_kind extensions taken number part found =
 
 -- ---- a visited header leaves fewer unmarked
 
-destination_fewer : (marks : VisitedHeaders) (there : Bool) → marks.routing ≡ there
-    → (if there then marks.final_destination_options else marks.destination_options) ≡ false
-    → marks_left (if there then record marks { any = true; final_destination_options = true } else record marks {
+destination_fewer : (marks : VisitedHeaders) (present : Bool) → marks.routing ≡ present
+    → (if present then marks.final_destination_options else marks.destination_options) ≡ false
+    → marks_left (if present then record marks { any = true; final_destination_options = true } else record marks {
       any
           = true;
       destination_options = true;
@@ -490,13 +490,13 @@ fit_more [] part fit here = (here, tt)
 fit_more (other ∷ parts) part fit here = (fit.0, fit_more parts part fit.1 here)
 
 -- If the capacity suffices for all headers of a walk, it suffices for each.
-pub room_for : (room len size all : ℕ) (parts : List ExtensionPart) (part : ExtensionPart) (rest : List ExtensionPart)
-    → len + all ≤ room → length (parts_bytes ((parts ++ part ∷ []) ++ rest)) ≡ all
-    → size ≡ len + length (parts_bytes parts) → size + length (part_bytes part) ≤ room
-room_for room len size all parts part rest enough whole written = omega (
+pub space_for : (space len size all : ℕ) (parts : List ExtensionPart) (part : ExtensionPart) (rest : List ExtensionPart)
+    → len + all ≤ space → length (parts_bytes ((parts ++ part ∷ []) ++ rest)) ≡ all
+    → size ≡ len + length (parts_bytes parts) → size + length (part_bytes part) ≤ space
+space_for space len size all parts part rest enough complete written = omega (
   arith,
   enough,
-  whole,
+  complete,
   written,
   bytes-append (parts ++ part ∷ []) rest,
   ap length (parts_bytes-append parts part),
@@ -519,7 +519,7 @@ when_ok (Ok value) P is holds = holds
 when_ok (Err error) P is holds = absurd (false≢true is)
 
 -- A call that fails only if the capacity is too small succeeds if it suffices.
-pub succeeds : {A E : Type 0} (answer : Result A E) (room needed : ℕ) → OnErr answer (room < needed) → needed ≤ room
+pub succeeds : {A E : Type 0} (answer : Result A E) (space needed : ℕ) → OnErr answer (space < needed) → needed ≤ space
     → IsOk answer
-succeeds (Ok value) room needed full enough = refl
-succeeds (Err error) room needed full enough = absurd (omega (arith, full, enough))
+succeeds (Ok value) space needed full enough = refl
+succeeds (Err error) space needed full enough = absurd (omega (arith, full, enough))

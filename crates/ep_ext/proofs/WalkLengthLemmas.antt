@@ -20,10 +20,10 @@ use Rattle.ep_ext.proofs.LinkLemmas.{no_row}
 
 -- A visited header is equal to the present header.
 abbrev From : {H : Type 0} → Option H → Option H → Type 0
-From taken there = is_some taken ≡ true → taken ≡ there
+From taken present = is_some taken ≡ true → taken ≡ present
 
-none_from : {H : Type 0} (there : Option H) → From None there
-none_from there some = absurd (false≢true some)
+none_from : {H : Type 0} (present : Option H) → From None present
+none_from present some = absurd (false≢true some)
 
 -- All visited headers are equal to the present headers.
 record AreFrom (walked extensions : Ipv6Extensions) : Type 0 where
@@ -45,24 +45,24 @@ none_are_from extensions = record {
 }
 
 -- A header found as one of a kind is present.
-place : {H : Type 0} (kind : H → ExtensionPart) (there : Option H) (header : H)
-    → ((other : H) → kind other ≡ kind header → other ≡ header) → option_map kind there ≡ Some (kind header)
-    → there ≡ Some header
+place : {H : Type 0} (kind : H → ExtensionPart) (present : Option H) (header : H)
+    → ((other : H) → kind other ≡ kind header → other ≡ header) → option_map kind present ≡ Some (kind header)
+    → present ≡ Some header
 place kind None header one found = absurd (none-some (kind header) found)
 place kind (Some other) header one found = let same : kind other ≡ kind header = cc in ap Some (one other same)
 
 -- Destination options found are those after the routing header if it has been visited, else those before it.
-destination_place : (behind : Bool) (final first : Option Ipv6RawExtHeader) (header : Ipv6RawExtHeader)
-    → (if behind then option_map destination_options final else option_map destination_options first)
+destination_place : (after : Bool) (final first : Option Ipv6RawExtHeader) (header : Ipv6RawExtHeader)
+    → (if after then option_map destination_options final else option_map destination_options first)
     ≡ Some (destination_options header)
-    → (if behind then final else first) ≡ Some header
+    → (if after then final else first) ≡ Some header
 destination_place true final first header found = place destination_options final header (λ other same. cc) found
 destination_place false final first header found = place destination_options first header (λ other same. cc) found
 
-destination_from : (walked extensions : Ipv6Extensions) (behind : Option Ipv6RoutingExtensions)
-    (header : Ipv6RawExtHeader) → walked.routing ≡ behind → AreFrom walked extensions
-    → (if is_some behind then final_by extensions.routing else extensions.destination_options) ≡ Some header
-    → AreFrom (with_destination walked header behind) extensions
+destination_from : (walked extensions : Ipv6Extensions) (after : Option Ipv6RoutingExtensions)
+    (header : Ipv6RawExtHeader) → walked.routing ≡ after → AreFrom walked extensions
+    → (if is_some after then final_by extensions.routing else extensions.destination_options) ≡ Some header
+    → AreFrom (with_destination walked header after) extensions
 destination_from walked extensions None header same from found = record {
   hop = from.hop;
   destination = λ some. sym found;
@@ -71,7 +71,7 @@ destination_from walked extensions None header same from found = record {
   authenticating = from.authenticating;
   final = from.final;
 }
-destination_from walked extensions (Some behind) header same from found = record {
+destination_from walked extensions (Some after) header same from found = record {
   hop = from.hop;
   destination = from.destination;
   route = subst (λ (b : Option Ipv6RoutingExtensions). From (option_map routing_header b)
@@ -166,18 +166,18 @@ walk_from extensions taken walked number (part ∷ parts) last has from is =
 
 -- ---- all headers are visited if none is left
 
-same_len : {H : Type 0} (len : H → ℕ) (taken there : Option H) → From taken there
-    → (is_some there && not (is_some taken)) ≡ false → option_map_or len taken 0 ≡ option_map_or len there 0
-same_len len (Some header) there from none = ap (λ (t : Option _). option_map_or len t 0) (from refl)
+same_len : {H : Type 0} (len : H → ℕ) (taken present : Option H) → From taken present
+    → (is_some present && not (is_some taken)) ≡ false → option_map_or len taken 0 ≡ option_map_or len present 0
+same_len len (Some header) present from none = ap (λ (t : Option _). option_map_or len t 0) (from refl)
 same_len len None None from none = refl
 same_len len None (Some header) from none = absurd (true≢false none)
 
 -- A routing header that is not left is visited.
-header_left : (there taken : Option Ipv6RoutingExtensions) → (is_some there && not (is_some taken)) ≡ false
-    → (is_some (option_map routing_header there) && not (is_some (option_map routing_header taken))) ≡ false
+header_left : (present taken : Option Ipv6RoutingExtensions) → (is_some present && not (is_some taken)) ≡ false
+    → (is_some (option_map routing_header present) && not (is_some (option_map routing_header taken))) ≡ false
 header_left None taken none = refl
-header_left (Some behind) None none = none
-header_left (Some behind) (Some other) none = none
+header_left (Some after) None none = none
+header_left (Some after) (Some other) none = none
 
 -- No header of the first value is left by the second.
 record NoneLeft (extensions walked : Ipv6Extensions) : Type 0 where

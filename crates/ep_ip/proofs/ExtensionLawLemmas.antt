@@ -26,26 +26,26 @@ further_offset : (offset : ℕ) (error : HeaderSliceError) → AtStart error →
 further_offset offset (header_error.Len error) start = omega (arith, start)
 further_offset offset (header_error.Content error) start = omega arith
 
-behind_within : (version : IpVersion) (reading : Reading) (taken : List ℕ) (offset number : ℕ) (bytes : List ℕ)
+after_within : (version : IpVersion) (reading : Reading) (taken : List ℕ) (offset number : ℕ) (bytes : List ℕ)
     (parts : List ExtensionPart) (error : HeaderSliceError)
     → RefusesChainAfter version reading taken offset number bytes parts error → offset_of error ≤ offset + length bytes
-behind_within version reading taken offset number bytes [] error (inl refused) =
+after_within version reading taken offset number bytes [] error (inl refused) =
     omega (arith, ap offset_of refused.1)
-behind_within version reading taken offset number bytes [] error (inr refused) =
+after_within version reading taken offset number bytes [] error (inr refused) =
     let refusal = refused.1 in
     let start = part_at_start number bytes refusal.0 refusal.1 in
     omega (arith, ap offset_of refusal.2, further_offset offset refusal.0 start)
-behind_within version reading taken offset number bytes (part ∷ parts) error refused =
-    let behind = refused.1.0 in
-    let within = behind_within version reading (number ∷ taken) (offset + part_len part) (part_next part) behind parts
+after_within version reading taken offset number bytes (part ∷ parts) error refused =
+    let after = refused.1.0 in
+    let within = after_within version reading (number ∷ taken) (offset + part_len part) (part_next part) after parts
     error refused.1.2 in
-    omega (arith, within, part_lens number bytes part behind refused.1.1)
+    omega (arith, within, part_lens number bytes part after refused.1.1)
 
 -- The layer that an error of a chain names starts within the bytes.
 pub refused_within : (version : IpVersion) (reading : Reading) (number : ℕ) (bytes : List ℕ) (error : HeaderSliceError)
     → RefusesExtensionChain version reading number bytes error → offset_of error ≤ length bytes
 refused_within version reading number bytes error refused =
-    omega (arith, behind_within version reading [] 0 number bytes refused.0 error refused.1)
+    omega (arith, after_within version reading [] 0 number bytes refused.0 error refused.1)
 
 -- The layer that a length error of an IPv4 chain names starts within the bytes.
 pub auth_within : (reading : Reading) (number : ℕ) (bytes : List ℕ) (refusal : AuthSliceError) (error : LenError)

@@ -12,10 +12,10 @@ use Rattle.ep_ip.specs.IpPackets.{IpPacket, IsIpv4, IsIpv6}
 use Rattle.ep_ip.specs.IpBytes.{AreIpv4Bytes, AreIpv6Bytes}
 
 -- Regroups a header, extension headers, a payload and trailing bytes.
-regroup : (bytes front content behind payload left : List ℕ) → bytes ≡ (front ++ content) ++ left
-    → content ≡ behind ++ payload → bytes ≡ ((front ++ behind) ++ payload) ++ left
-regroup bytes front content behind payload left parts inside =
-    parts ∙ ap (λ (x : List ℕ). (front ++ x) ++ left) inside
+regroup : (bytes prefix content after payload left : List ℕ) → bytes ≡ (prefix ++ content) ++ left
+    → content ≡ after ++ payload → bytes ≡ ((prefix ++ after) ++ payload) ++ left
+regroup bytes prefix content after payload left parts inside =
+    parts ∙ ap (λ (x : List ℕ). (prefix ++ x) ++ left) inside
     ∙ ap (λ (x : List ℕ). x ++ left) (simp append_assoc)
 
 -- The wire bytes of a header have the header's length.
@@ -33,20 +33,20 @@ pub ipv4_packet_bytes : (reading : Reading) (bytes : List ℕ) (packet : IpPacke
 ipv4_packet_bytes reading bytes packet is =
     let cut = is.cut in
     let chain = chain_of packet.extensions packet.payload.number packet.payload.bytes in
-    let behind = chain_encoded ipv4 reading packet.header.protocol.0 is.content chain is.chain in
+    let after = chain_encoded ipv4 reading packet.header.protocol.0 is.content chain is.chain in
     let len = chain_len ipv4 reading packet.header.protocol.0 is.content chain is.chain in
     record {
-      headers = cut.encoded ++ behind.0;
-      encodes = (cut.encoded, behind.0, cut.encodes, behind.1, refl);
+      headers = cut.encoded ++ after.0;
+      encodes = (cut.encoded, after.0, cut.encodes, after.1, refl);
       len_is = omega (
         arith,
-        length-append cut.encoded behind.0,
+        length-append cut.encoded after.0,
         encoded_len cut.encoded packet.header cut.encodes,
         len,
-        ap length behind.2,
-        length-append behind.0 packet.payload.bytes,
+        ap length after.2,
+        length-append after.0 packet.payload.bytes,
       );
-      parts = regroup bytes cut.encoded is.content behind.0 packet.payload.bytes packet.left cut.parts behind.2;
+      parts = regroup bytes cut.encoded is.content after.0 packet.payload.bytes packet.left cut.parts after.2;
     }
 
 -- The bytes of an IPv6 packet are its parts in order.
@@ -54,20 +54,20 @@ pub ipv6_packet_bytes : (reading : Reading) (bytes : List ℕ) (packet : IpPacke
     → IsIpv6 reading bytes packet → AreIpv6Bytes bytes packet
 ipv6_packet_bytes reading bytes packet is =
     let cut = is.cut in
-    let front = ipv6_bytes packet.header in
+    let prefix = ipv6_bytes packet.header in
     let chain = chain_of packet.extensions packet.payload.number packet.payload.bytes in
-    let behind = chain_encoded ipv6 reading packet.header.next_header.0 is.content chain is.chain in
+    let after = chain_encoded ipv6 reading packet.header.next_header.0 is.content chain is.chain in
     let len = chain_len ipv6 reading packet.header.next_header.0 is.content chain is.chain in
     record {
-      headers = front ++ behind.0;
-      encodes = (cut.fits, (behind.0, behind.1, refl));
+      headers = prefix ++ after.0;
+      encodes = (cut.fits, (after.0, after.1, refl));
       len_is = omega (
         arith,
-        length-append front behind.0,
+        length-append prefix after.0,
         ipv6_len packet.header cut.fits,
         len,
-        ap length behind.2,
-        length-append behind.0 packet.payload.bytes,
+        ap length after.2,
+        length-append after.0 packet.payload.bytes,
       );
-      parts = regroup bytes front is.content behind.0 packet.payload.bytes packet.left cut.parts behind.2;
+      parts = regroup bytes prefix is.content after.0 packet.payload.bytes packet.left cut.parts after.2;
     }

@@ -27,7 +27,7 @@ record Begins (bytes : List ℕ) : Type 0 where
 -- ---- the bytes of a header, followed by any bytes, are read as this header
 
 -- The bytes are read as this header, which is `len` bytes long.
-record IsFront (bytes : List ℕ) (header : Ipv4Header) (len : ℕ) : Type 0 where
+record IsPrefix (bytes : List ℕ) (header : Ipv4Header) (len : ℕ) : Type 0 where
   pub begins : Begins bytes
   pub same : header ≡ ipv4_header_of bytes
   pub size : len ≡ 4 * ihl_of bytes
@@ -43,10 +43,10 @@ with_four-same h fits i = record h {
   destination = cells_4 h.destination fits.destination_len i;
 }
 
-with_four-front : (r : ℕ) (h : Ipv4Header) (rest : List ℕ) → r < 2 → FitsIpv4 h
-    → IsFront (ipv4_bytes_with r (with_four h) ++ rest) (with_four h) (length (ipv4_bytes_with r (with_four h)))
+with_four-prefix : (r : ℕ) (h : Ipv4Header) (rest : List ℕ) → r < 2 → FitsIpv4 h
+    → IsPrefix (ipv4_bytes_with r (with_four h) ++ rest) (with_four h) (length (ipv4_bytes_with r (with_four h)))
 unfolding with_four
-with_four-front r h rest flag fits =
+with_four-prefix r h rest flag fits =
     let bytes = ipv4_bytes_with r (with_four h) ++ rest in
     let upper = slice_index bytes 6 in
     let dont = bit_le h.dont_fragment in
@@ -87,15 +87,15 @@ with_four-front r h rest flag fits =
       size = omega (arith, fits.options_len, fits.options_words);
     }
 
-front_read : (bytes encoded rest : List ℕ) (h : Ipv4Header) → EncodesIpv4 encoded h → bytes ≡ encoded ++ rest
-    → IsFront bytes h (length encoded)
-front_read bytes encoded rest h is parts =
+prefix_read : (bytes encoded rest : List ℕ) (h : Ipv4Header) → EncodesIpv4 encoded h → bytes ≡ encoded ++ rest
+    → IsPrefix bytes h (length encoded)
+prefix_read bytes encoded rest h is parts =
     let r = is.reserved in
-    let family : Ipv4Header → Type 0 = λ k. IsFront (ipv4_bytes_with r k ++ rest) k (length (ipv4_bytes_with r k)) in
-    let front = subst family (sym (with_four-same h is.fits)) (with_four-front r h rest is.flag is.fits) in
-    let whole : IsFront (encoded ++ rest) h (length encoded) =
-    subst (λ (e : List ℕ). IsFront (e ++ rest) h (length e)) (sym is.same) front in
-    subst (λ (s : List ℕ). IsFront s h (length encoded)) (sym parts) whole
+    let family : Ipv4Header → Type 0 = λ k. IsPrefix (ipv4_bytes_with r k ++ rest) k (length (ipv4_bytes_with r k)) in
+    let prefix = subst family (sym (with_four-same h is.fits)) (with_four-prefix r h rest is.flag is.fits) in
+    let complete : IsPrefix (encoded ++ rest) h (length encoded) =
+    subst (λ (e : List ℕ). IsPrefix (e ++ rest) h (length e)) (sym is.same) prefix in
+    subst (λ (s : List ℕ). IsPrefix s h (length encoded)) (sym parts) complete
 
 -- ---- bytes that begin with a header are the bytes of the header read, and the rest
 
@@ -145,7 +145,7 @@ header_bytes s fits begins =
     let len = options_len s begins in
     let left : drop (n - 20) (drop 20 s) ≡ drop n s =
     drop-drop (n - 20) 20 s ∙ ap (λ (k : ℕ). drop k s) (omega (arith, begins.words)) in
-    let behind : drop 20 s ≡ h.options ++ drop n s =
+    let after : drop 20 s ≡ h.options ++ drop n s =
     sym (take-append-drop (n - 20) (drop 20 s)) ∙ ap (λ (r : List ℕ). h.options ++ r) left in
     let b0 : slice_index s 0 ≡ 2 ^ 4 * 4 + (20 + length h.options) / 4 =
     omega (arith, len, begins.version, begins.words) in
@@ -157,7 +157,7 @@ header_bytes s fits begins =
     let same_flags : flags ≡ word_at s 6 = flags_same upper (slice_index s 7) (fits 7) dont more in
     let joined : elements 20 0 s ++ drop 20 s ≡ ipv4_bytes_with (upper / 128) h ++ drop n s = λ i.
     b0 i ∷ b1 i ∷ (word_cells s fits 2 refl i ++ word_cells s fits 4 refl i ++ word_cells s fits 6 same_flags i
-    ++ slice_index s 8 ∷ slice_index s 9 ∷ (word_cells s fits 10 refl i ++ four_at s 12 ++ four_at s 16 ++ behind i)) in
+    ++ slice_index s 8 ∷ slice_index s 9 ∷ (word_cells s fits 10 refl i ++ four_at s 12 ++ four_at s 16 ++ after i)) in
     drop-elements 20 0 s begins.fixed ∙ joined
 
 header_encodes : (bytes : List ℕ) → AreBytes bytes → Begins bytes
@@ -170,15 +170,15 @@ header_encodes bytes fits begins = record {
 }
 
 -- The bytes are a complete header, with the length that the first byte states.
-pub record IsWhole (e : List ℕ) : Type 0 where
+pub record IsComplete (e : List ℕ) : Type 0 where
   pub fits : AreBytes e
   pub version : version_of e ≡ 4
   pub words : 5 ≤ ihl_of e
   pub whole : length e ≡ 4 * ihl_of e
 
 -- Bytes of a complete header are the wire bytes of the header read from them.
-whole_encodes : (e : List ℕ) → IsWhole e → EncodesIpv4 e (ipv4_header_of e)
-whole_encodes e a =
+complete_encodes : (e : List ℕ) → IsComplete e → EncodesIpv4 e (ipv4_header_of e)
+complete_encodes e a =
     let fits = a.fits in
     let begins : Begins e = record {
       fixed = omega (arith, a.words, a.whole);
@@ -221,10 +221,10 @@ header_reads bytes fits none =
 header_is_read : (bytes : List ℕ) (read : Ipv4Header × List ℕ) → IsIpv4Header bytes read
     → (first_row (ipv4_header_rows bytes) ≡ None) × (read ≡ ipv4_header_read bytes)
 header_is_read bytes read is =
-    let front = front_read bytes is.encoded read.1 read.0 is.encodes is.parts in
+    let prefix = prefix_read bytes is.encoded read.1 read.0 is.encodes is.parts in
     let n = 4 * ihl_of bytes in
-    let behind : drop n bytes ≡ read.1 = ap (drop n) is.parts ∙ drop_at is.encoded read.1 n front.size in
-    (begins_none bytes front.begins, λ i. (front.same i, sym behind i))
+    let after : drop n bytes ≡ read.1 = ap (drop n) is.parts ∙ drop_at is.encoded read.1 n prefix.size in
+    (begins_none bytes prefix.begins, λ i. (prefix.same i, sym after i))
 
 pub ipv4_header_is_read : IsReadBy IsIpv4Header ipv4_header_rows ipv4_header_read
 ipv4_header_is_read = record { reads = header_reads; is_read = header_is_read }
@@ -251,17 +251,17 @@ reads : (bytes : List ℕ) → AreBytes bytes → first_row (ipv4_packet_rows by
     → IsIpv4Packet bytes (ipv4_packet_read bytes)
 unfolding header_reads
 reads bytes fits none =
-    let stands = rows_none bytes none in
+    let holds = rows_none bytes none in
     let n = 4 * ihl_of bytes in
     let t = word_at bytes 2 in
-    let header = header_reads bytes fits stands.0 in
-    let front = front_read bytes header.encoded (drop n bytes) (ipv4_header_of bytes) header.encodes header.parts in
-    let size = front.size in
+    let header = header_reads bytes fits holds.0 in
+    let prefix = prefix_read bytes header.encoded (drop n bytes) (ipv4_header_of bytes) header.encodes header.parts in
+    let size = prefix.size in
     record {
       encoded = header.encoded;
       encodes = header.encodes;
-      parts = cut_parts bytes header.encoded (drop n bytes) n t header.parts (sym size) stands.1;
-      cut = omega (arith, size, stands.1, stands.2, length-take (t - n) (drop n bytes), length-drop n bytes);
+      parts = cut_parts bytes header.encoded (drop n bytes) n t header.parts (sym size) holds.1;
+      cut = omega (arith, size, holds.1, holds.2, length-take (t - n) (drop n bytes), length-drop n bytes);
     }
 
 is_read : (bytes : List ℕ) (packet : Parts Ipv4Header) → IsIpv4Packet bytes packet
@@ -273,18 +273,18 @@ is_read bytes packet is =
     let n = 4 * ihl_of bytes in
     let t = word_at bytes 2 in
     let parts : bytes ≡ e ++ (payload ++ left) = is.parts ∙ append_assoc e payload left in
-    let front = front_read bytes e (payload ++ left) packet.header is.encodes parts in
-    let total : t ≡ length e + length payload = sym (ap (λ (h : Ipv4Header). h.total_len) front.same) ∙ is.cut in
-    let behind : drop n bytes ≡ payload ++ left = ap (drop n) parts ∙ drop_at e (payload ++ left) n front.size in
+    let prefix = prefix_read bytes e (payload ++ left) packet.header is.encodes parts in
+    let total : t ≡ length e + length payload = sym (ap (λ (h : Ipv4Header). h.total_len) prefix.same) ∙ is.cut in
+    let after : drop n bytes ≡ payload ++ left = ap (drop n) parts ∙ drop_at e (payload ++ left) n prefix.size in
     let shown : take (t - n) (drop n bytes) ≡ payload =
-    ap (take (t - n)) behind ∙ take_at payload left (t - n) (omega (arith, total, front.size)) in
+    ap (take (t - n)) after ∙ take_at payload left (t - n) (omega (arith, total, prefix.size)) in
     let rest : drop t bytes ≡ left =
     ap (drop t) is.parts ∙ drop_at (e ++ payload) left t (omega (arith, total, length-append e payload)) in
     let len = ap length is.parts in
     let within : t ≤ length bytes =
     omega (arith, total, len, length-append (e ++ payload) left, length-append e payload) in (
-      none_rows bytes front.begins (omega (arith, total, front.size)) within,
-      λ i. parts_of (front.same i) (sym shown i) (sym rest i),
+      none_rows bytes prefix.begins (omega (arith, total, prefix.size)) within,
+      λ i. parts_of (prefix.same i) (sym shown i) (sym rest i),
     )
 
 pub ipv4_packet_is_read : IsReadBy IsIpv4Packet ipv4_packet_rows ipv4_packet_read
@@ -293,12 +293,12 @@ ipv4_packet_is_read = record { reads = reads; is_read = is_read }
 -- ---- contents of slices
 
 -- Bytes of a complete header and the rest are the header read from them, and the rest.
-pub header_there : (bytes e rest : List ℕ) → IsWhole e → bytes ≡ e ++ rest → IsIpv4Header bytes (ipv4_header_of e, rest)
-header_there bytes e rest a parts =
-    record { encoded = e; encodes = whole_encodes e a; parts = parts }
+pub header_present : (bytes e rest : List ℕ) → IsComplete e → bytes ≡ e ++ rest → IsIpv4Header bytes (ipv4_header_of e, rest)
+header_present bytes e rest a parts =
+    record { encoded = e; encodes = complete_encodes e a; parts = parts }
 
 -- A complete header, a payload up to its total length and trailing bytes are a packet.
-pub packet_there : (bytes e payload left : List ℕ) → IsWhole e → bytes ≡ (e ++ payload) ++ left
+pub packet_present : (bytes e payload left : List ℕ) → IsComplete e → bytes ≡ (e ++ payload) ++ left
     → word_at e 2 ≡ length e + length payload → IsIpv4Packet bytes (parts_of (ipv4_header_of e) payload left)
-packet_there bytes e payload left a parts cut =
-    record { encoded = e; encodes = whole_encodes e a; parts = parts; cut = cut }
+packet_present bytes e payload left a parts cut =
+    record { encoded = e; encodes = complete_encodes e a; parts = parts; cut = cut }

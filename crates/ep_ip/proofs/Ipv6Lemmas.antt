@@ -18,7 +18,7 @@ use Rattle.ep_ip.proofs.CutLemmas.{cut_parts}
 -- ---- the bytes of a header, followed by any bytes, are read as this header
 
 -- The first 40 bytes are read as this header.
-record IsFront (bytes : List ℕ) (header : Ipv6Header) : Type 0 where
+record IsPrefix (bytes : List ℕ) (header : Ipv6Header) : Type 0 where
   pub fixed : 40 ≤ length bytes
   pub version : version_of bytes ≡ 6
   pub same : header ≡ ipv6_header_of bytes
@@ -26,20 +26,20 @@ record IsFront (bytes : List ℕ) (header : Ipv6Header) : Type 0 where
 bytes_len : (h : Ipv6Header) → FitsIpv6 h → length (ipv6_bytes h) ≡ 40
 bytes_len h fits = omega (arith, fits.source_len, fits.destination_len, length-append h.source h.destination)
 
-bytes_front : (h : Ipv6Header) (rest : List ℕ) → FitsIpv6 h → IsFront (ipv6_bytes h ++ rest) h
-bytes_front h rest fits =
+bytes_prefix : (h : Ipv6Header) (rest : List ℕ) → FitsIpv6 h → IsPrefix (ipv6_bytes h ++ rest) h
+bytes_prefix h rest fits =
     let bytes = ipv6_bytes h ++ rest in
     let class : h.traffic_class ≡ 16 * (slice_index bytes 0 % 16) + slice_index bytes 1 / 16 =
     omega (arith, fits.traffic_class, fits.flow_label) in
     let label : h.flow_label ≡ (65536 * slice_index bytes 1 + word_at bytes 2) % 1048576 =
     omega (arith, fits.traffic_class, fits.flow_label) in
     let payload_length : h.payload_length ≡ word_at bytes 4 = omega (arith, fits.payload_length) in
-    let behind : (h.source ++ h.destination) ++ rest ≡ h.source ++ (h.destination ++ rest) =
+    let after : (h.source ++ h.destination) ++ rest ≡ h.source ++ (h.destination ++ rest) =
     append_assoc h.source h.destination rest in
     let source : take 16 (drop 8 bytes) ≡ h.source =
-    ap (take 16) behind ∙ take_at h.source (h.destination ++ rest) 16 fits.source_len in
+    ap (take 16) after ∙ take_at h.source (h.destination ++ rest) 16 fits.source_len in
     let past : drop 24 bytes ≡ h.destination ++ rest =
-    ap (drop 16) behind ∙ drop_at h.source (h.destination ++ rest) 16 fits.source_len in
+    ap (drop 16) after ∙ drop_at h.source (h.destination ++ rest) 16 fits.source_len in
     let destination : take 16 (drop 24 bytes) ≡ h.destination =
     ap (take 16) past ∙ take_at h.destination rest 16 fits.destination_len in
     record {
@@ -82,10 +82,10 @@ header_bytes s fits long version =
     sym (take-append-drop 16 (drop 24 s)) ∙ ap (λ (r : List ℕ). h.destination ++ r) (drop-drop 16 24 s) in
     let source : drop 8 s ≡ h.source ++ drop 24 s =
     sym (take-append-drop 16 (drop 8 s)) ∙ ap (λ (r : List ℕ). h.source ++ r) (drop-drop 16 8 s) in
-    let behind : drop 8 s ≡ (h.source ++ h.destination) ++ drop 40 s =
+    let after : drop 8 s ≡ (h.source ++ h.destination) ++ drop 40 s =
     source ∙ ap (λ (r : List ℕ). h.source ++ r) destination ∙ sym (append_assoc h.source h.destination (drop 40 s)) in
     let joined : elements 8 0 s ++ drop 8 s ≡ ipv6_bytes h ++ drop 40 s = λ i.
-    long_cells s fits 0 known i ++ word_cells s fits 4 refl i ++ slice_index s 6 ∷ slice_index s 7 ∷ behind i in
+    long_cells s fits 0 known i ++ word_cells s fits 4 refl i ++ slice_index s 6 ∷ slice_index s 7 ∷ after i in
     drop-elements 8 0 s (omega arith) ∙ joined
 
 -- ---- header
@@ -100,20 +100,20 @@ header_reads bytes fits none =
     let version : version_of bytes ≡ 6 = grind (arith, common_steps) in
     record { fits = header_fits bytes fits long; parts = header_bytes bytes fits long version }
 
-front_read : (bytes rest : List ℕ) (h : Ipv6Header) → FitsIpv6 h → bytes ≡ ipv6_bytes h ++ rest
-    → IsFront bytes h × (drop 40 bytes ≡ rest)
-front_read bytes rest h fits parts = (
-  subst (λ (s : List ℕ). IsFront s h) (sym parts) (bytes_front h rest fits),
+prefix_read : (bytes rest : List ℕ) (h : Ipv6Header) → FitsIpv6 h → bytes ≡ ipv6_bytes h ++ rest
+    → IsPrefix bytes h × (drop 40 bytes ≡ rest)
+prefix_read bytes rest h fits parts = (
+  subst (λ (s : List ℕ). IsPrefix s h) (sym parts) (bytes_prefix h rest fits),
   ap (drop 40) parts ∙ drop_at (ipv6_bytes h) rest 40 (bytes_len h fits),
 )
 
 header_is_read : (bytes : List ℕ) (read : Ipv6Header × List ℕ) → IsIpv6Header bytes read
     → (first_row (ipv6_header_rows bytes) ≡ None) × (read ≡ ipv6_header_read bytes)
 header_is_read bytes read is =
-    let front = front_read bytes read.1 read.0 is.fits is.parts in
-    let long = front.0.fixed in
-    let version = front.0.version in
-    (grind (arith, common_steps), λ i. (front.0.same i, sym front.1 i))
+    let prefix = prefix_read bytes read.1 read.0 is.fits is.parts in
+    let long = prefix.0.fixed in
+    let version = prefix.0.version in
+    (grind (arith, common_steps), λ i. (prefix.0.same i, sym prefix.1 i))
 
 pub ipv6_header_is_read : IsReadBy IsIpv6Header ipv6_header_rows ipv6_header_read
 ipv6_header_is_read = record { reads = header_reads; is_read = header_is_read }
@@ -174,14 +174,14 @@ reads : (bytes : List ℕ) → AreBytes bytes → first_row (ipv6_packet_rows by
     → IsIpv6Packet bytes (ipv6_packet_read bytes)
 unfolding header_reads
 reads bytes fits none =
-    let stands = rows_none bytes none in
-    let header = header_reads bytes fits stands.0 in
+    let holds = rows_none bytes none in
+    let header = header_reads bytes fits holds.0 in
     let h = ipv6_header_of bytes in
     let size = sym (bytes_len h header.fits) in
     record {
       fits = header.fits;
-      parts = cut_parts bytes (ipv6_bytes h) (drop 40 bytes) 40 (ipv6_len_of bytes) header.parts size stands.1;
-      cut = read_cut bytes (omega (arith, stands.1, stands.2)) stands.2;
+      parts = cut_parts bytes (ipv6_bytes h) (drop 40 bytes) 40 (ipv6_len_of bytes) header.parts size holds.1;
+      cut = read_cut bytes (omega (arith, holds.1, holds.2)) holds.2;
     }
 
 is_read : (bytes : List ℕ) (packet : Parts Ipv6Header) → IsIpv6Packet bytes packet
@@ -191,30 +191,30 @@ is_read bytes packet is =
     let payload = packet.payload in
     let left = packet.left in
     let parts : bytes ≡ ipv6_bytes h ++ (payload ++ left) = is.parts ∙ append_assoc (ipv6_bytes h) payload left in
-    let front = front_read bytes (payload ++ left) h is.fits parts in
+    let prefix = prefix_read bytes (payload ++ left) h is.fits parts in
     let size = bytes_len h is.fits in
-    let whole : length bytes ≡ 40 + (length payload + length left) =
+    let complete : length bytes ≡ 40 + (length payload + length left) =
     ap length parts ∙ omega (arith, size, length-append (ipv6_bytes h) (payload ++ left), length-append payload left) in
-    let field : h.payload_length ≡ word_at bytes 4 = ap (λ (k : Ipv6Header). k.payload_length) front.0.same in
-    let len = cut_len bytes payload left (subst (λ (n : ℕ). IsCut n payload left) field is.cut) whole in
+    let field : h.payload_length ≡ word_at bytes 4 = ap (λ (k : Ipv6Header). k.payload_length) prefix.0.same in
+    let len = cut_len bytes payload left (subst (λ (n : ℕ). IsCut n payload left) field is.cut) complete in
     let t = ipv6_len_of bytes in
     let shown : take (t - 40) (drop 40 bytes) ≡ payload =
-    ap (take (t - 40)) front.1 ∙ take_at payload left (t - 40) (omega (arith, len.0)) in
+    ap (take (t - 40)) prefix.1 ∙ take_at payload left (t - 40) (omega (arith, len.0)) in
     let rest : drop t bytes ≡ left =
     ap (drop t) is.parts
     ∙ drop_at (ipv6_bytes h ++ payload) left t (omega (arith, len.0, size, length-append (ipv6_bytes h) payload)) in
-    let behind : IsIpv6Header bytes (h, payload ++ left) = record { fits = is.fits; parts = parts } in
-    let none = (header_is_read bytes (h, payload ++ left) behind).0 in
-    (none_rows bytes none len.1, λ i. parts_of (front.0.same i) (sym shown i) (sym rest i))
+    let after : IsIpv6Header bytes (h, payload ++ left) = record { fits = is.fits; parts = parts } in
+    let none = (header_is_read bytes (h, payload ++ left) after).0 in
+    (none_rows bytes none len.1, λ i. parts_of (prefix.0.same i) (sym shown i) (sym rest i))
 
 pub ipv6_packet_is_read : IsReadBy IsIpv6Packet ipv6_packet_rows ipv6_packet_read
 ipv6_packet_is_read = record { reads = reads; is_read = is_read }
 
 -- ---- contents of slices, whose bytes are the 40 of the header
 
-pub header_there : (bytes e rest : List ℕ) → AreBytes e → version_of e ≡ 6 → length e ≡ 40 → bytes ≡ e ++ rest
+pub header_present : (bytes e rest : List ℕ) → AreBytes e → version_of e ≡ 6 → length e ≡ 40 → bytes ≡ e ++ rest
     → IsIpv6Header bytes (ipv6_header_of e, rest)
-header_there bytes e rest fits version whole parts =
+header_present bytes e rest fits version complete parts =
     let long : 40 ≤ length e = omega arith in
     let encoded = ipv6_bytes (ipv6_header_of e) in
     let none : drop 40 e ≡ [] = drop_all 40 e (omega arith) in
@@ -231,15 +231,15 @@ cut_by_length field t bytes enough within (inl some) =
 cut_by_length field t bytes enough within (inr none) = inr (none.0, drop_all t bytes (omega (arith, none.1)))
 
 -- A header, the bytes up to byte t and the trailing bytes are a packet if the payload length sets its end to t.
-pub packet_there : (bytes e rest : List ℕ) (t : ℕ) → bytes ≡ e ++ rest → length e ≡ 40
+pub packet_present : (bytes e rest : List ℕ) (t : ℕ) → bytes ≡ e ++ rest → length e ≡ 40
     → IsIpv6Header bytes (ipv6_header_of e, rest) → 40 ≤ t → t ≤ length bytes
     → ((0 < word_at e 4) × (t ≡ 40 + word_at e 4)) ⊎ ((word_at e 4 ≡ 0) × (t ≡ length bytes))
     → (left : List ℕ) × (bytes ≡ (e ++ take (t - 40) (drop 40 bytes)) ++ left)
     × IsIpv6Packet bytes (parts_of (ipv6_header_of e) (take (t - 40) (drop 40 bytes)) left)
-packet_there bytes e rest t parts whole header enough within field =
+packet_present bytes e rest t parts complete header enough within field =
     let h = ipv6_header_of e in (
       drop t bytes,
-      cut_parts bytes e rest 40 t parts (sym whole) enough,
+      cut_parts bytes e rest 40 t parts (sym complete) enough,
       record {
         fits = header.fits;
         parts = cut_parts bytes (ipv6_bytes h) rest 40 t header.parts (sym (bytes_len h header.fits)) enough;
@@ -248,16 +248,16 @@ packet_there bytes e rest t parts whole header enough within field =
     )
 
 -- The first n bytes have the version of all bytes.
-pub front_version : (n : ℕ) (bytes : List ℕ) → 0 < n → version_of (take n bytes) ≡ version_of bytes
-front_version n bytes some = ap (λ (k : ℕ). k / 16) (get_or-take n bytes 0 0 some)
+pub prefix_version : (n : ℕ) (bytes : List ℕ) → 0 < n → version_of (take n bytes) ≡ version_of bytes
+prefix_version n bytes some = ap (λ (k : ℕ). k / 16) (get_or-take n bytes 0 0 some)
 
 -- ---- the addresses, element by element
 
 all_elements : (n : ℕ) (bytes : List ℕ) → length bytes ≡ n → elements n 0 bytes ≡ bytes
 all_elements n bytes len =
-    let front = elements n 0 bytes in
+    let prefix = elements n 0 bytes in
     let none : drop (0 + n) bytes ≡ [] = drop_all (0 + n) bytes (omega arith) in
-    sym (drop-elements n 0 bytes (omega arith) ∙ ap (λ (s : List ℕ). front ++ s) none ∙ append-nil front)
+    sym (drop-elements n 0 bytes (omega arith) ∙ ap (λ (s : List ℕ). prefix ++ s) none ∙ append-nil prefix)
 
 pub two_addresses : (a b : List ℕ) → length a ≡ 16 → length b ≡ 16 → elements 16 0 a ++ elements 16 0 b ≡ a ++ b
 two_addresses a b a_len b_len i = all_elements 16 a a_len i ++ all_elements 16 b b_len i

@@ -145,7 +145,7 @@ left_nothing bytes cut is at_hand =
     (source_zero (cut.header.payload_length == 0) (nat_lt 0 (length cut.payload)) at_hand) in
     elim is.cut [
       | inl counted ↦ absurd (omega (arith, counted.0, zero))
-      | inr whole ↦ whole.1
+      | inr complete ↦ complete.1
     ]
 
 ipv6_chain_counts : (bytes : List ℕ) (cut : Parts Ipv6Header) → IsIpv6Packet bytes cut → (error : ExtsSliceError)
@@ -154,14 +154,14 @@ ipv6_chain_counts : (bytes : List ℕ) (cut : Parts Ipv6Header) → IsIpv6Packet
 ipv6_chain_counts bytes cut is (exts_error.Len error) misses =
     λ at_hand inexact.
     let limit = ipv6_payload_source cut.header cut.payload in
-    let whole = left_nothing bytes cut is
+    let complete = left_nothing bytes cut is
     (subst (λ (s : LenSource). IsOfAvailableBytes (limited_by limit s)) misses.1 at_hand) in
     record {
       available = omega (
         arith,
         misses.0.available,
         ap length is.parts,
-        ap length whole,
+        ap length complete,
         length-append (ipv6_bytes cut.header ++ cut.payload) cut.left,
         length-append (ipv6_bytes cut.header) cut.payload,
         ipv6_len cut.header is.fits,

@@ -106,11 +106,11 @@ auth_only reading number bytes [] error (inr refused) =
     taken_number number taken = grind (arith, common_steps)
 auth_only reading number bytes (part ∷ parts) error refused = absurd (no_second _ _ _ parts refused.1.2)
   where
-    no_second : (offset next : ℕ) (behind : List ℕ) (parts : List ExtensionPart)
-        → RefusesChainAfter ipv4 reading (number ∷ []) offset next behind parts error → ⊥
-    no_second offset next behind [] (inl refused) = let end : ends ≡ misplaced = refused.0 in cc
-    no_second offset next behind [] (inr refused) = let end : ends ≡ takes = refused.0 in cc
-    no_second offset next behind (part ∷ parts) refused = let end : ends ≡ takes = refused.0 in cc
+    no_second : (offset next : ℕ) (after : List ℕ) (parts : List ExtensionPart)
+        → RefusesChainAfter ipv4 reading (number ∷ []) offset next after parts error → ⊥
+    no_second offset next after [] (inl refused) = let end : ends ≡ misplaced = refused.0 in cc
+    no_second offset next after [] (inr refused) = let end : ends ≡ takes = refused.0 in cc
+    no_second offset next after (part ∷ parts) refused = let end : ends ≡ takes = refused.0 in cc
 
 authentication_chain : (reading : Reading) (number : ℕ) (bytes : List ℕ) → AreBytes bytes
     → IsDecided (IsExtensionChain ipv4 reading number bytes)
@@ -119,7 +119,7 @@ authentication_chain reading number bytes fits =
     let Refuses = RefusesExtensionChain ipv4 reading number bytes in
     decided_as (λ chain. chain) auth_of (extension_chain ipv4 reading number bytes fits)
     (same_image (λ chain is. is) (λ chain is. is)) (record {
-      there = λ error refused. subst Refuses (auth_only reading number bytes refused.0 error refused.1) refused;
+      present = λ error refused. subst Refuses (auth_only reading number bytes refused.0 error refused.1) refused;
       back = λ refusal refused. (auth_refusal refusal, refused, auth_of_same refusal);
     })
 
@@ -134,7 +134,7 @@ ipv4_image : (reading : Reading) (bytes : List ℕ) → IsImage
     (IsIpv4 reading bytes) ipv4_packet_of
 unfolding ipv4_packet_of
 ipv4_image reading bytes = record {
-  there = λ read is. record {
+  present = λ read is. record {
     content = read.0.payload;
     cut = is.0;
     chain = is.1;
@@ -212,7 +212,7 @@ ipv6_image : (reading : Reading) (bytes : List ℕ) → IsImage
     (IsIpv6 reading bytes) ipv6_packet_of
 unfolding ipv6_packet_of
 ipv6_image reading bytes = record {
-  there = λ read is. record {
+  present = λ read is. record {
     content = read.0.payload;
     cut = is.0;
     chain = is.1;
@@ -354,12 +354,12 @@ ip_decided reading bytes fits =
     elim (cases_eq (version_of bytes) 4) [
       | inl version ↦ decided_as ipv4_part (λ error. error)
           (refused_as of_ipv4_error (ipv4_decided reading bytes fits))
-          (record { there = λ packet is. is; back = ipv4_back reading bytes version })
+          (record { present = λ packet is. is; back = ipv4_back reading bytes version })
           (same_image (λ error refused. inr (inl (version, refused))) (ipv4_refused_back reading bytes version))
       | inr not_4 ↦ elim (cases_eq (version_of bytes) 6) [
         | inl version ↦ decided_as ipv6_part (λ error. error)
             (refused_as of_ipv6_error (ipv6_decided reading bytes fits))
-            (record { there = λ packet is. is; back = ipv6_back reading bytes version })
+            (record { present = λ packet is. is; back = ipv6_back reading bytes version })
             (same_image (λ error refused. inr (inr (version, refused))) (ipv6_refused_back reading bytes version))
         | inr not_6 ↦ record {
           some = let row = version_rows_some bytes not_4 not_6 in inr (row.0, inl row.1);

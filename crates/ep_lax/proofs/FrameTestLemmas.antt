@@ -42,21 +42,21 @@ use Rattle.ep_lax.specs.WholeFrames.{are_complete, is_whole_frame, is_whole_head
 use Rattle.ep_lax.proofs.LaxEntryLemmas.{lax_decided}
 use Rattle.ep_lax.proofs.LaxLawLemmas.{Tagged}
 use Rattle.ep_lax.proofs.NestedLengthLemmas.{frame_includes, none_stated, some_stated}
-use Rattle.ep_lax.proofs.StrictLemmas.{frame_is_whole, says_some}
-use Rattle.ep_lax.proofs.WholeFrameLemmas.{last_include, whole_is_frame}
+use Rattle.ep_lax.proofs.StrictLemmas.{frame_is_complete, says_some}
+use Rattle.ep_lax.proofs.CompleteFrameLemmas.{last_include, complete_is_frame}
 
 -- ---- missing bytes
 
 -- No byte of the payload of complete link extensions is missing.
-complete_whole : (extensions : List Tagged) → are_complete extensions ≡ true → AreWhole extensions
-complete_whole [] complete = tt
-complete_whole (tagged ∷ others) complete =
-    let parts = and_parts _ _ complete in (not-true tagged.1 parts.0, complete_whole others parts.1)
+are_complete_sound : (extensions : List Tagged) → are_complete extensions ≡ true → AreWhole extensions
+are_complete_sound [] complete = tt
+are_complete_sound (tagged ∷ others) complete =
+    let parts = and_parts _ _ complete in (not-true tagged.1 parts.0, are_complete_sound others parts.1)
 
-whole_complete : (extensions : List Tagged) → AreWhole extensions → are_complete extensions ≡ true
-whole_complete [] whole = refl
-whole_complete (tagged ∷ others) whole =
-    and_from _ _ (not_from_false tagged.1 whole.0) (whole_complete others whole.1)
+entire_complete : (extensions : List Tagged) → AreWhole extensions → are_complete extensions ≡ true
+entire_complete [] entire = refl
+entire_complete (tagged ∷ others) entire =
+    and_from _ _ (not_from_false tagged.1 entire.0) (entire_complete others entire.1)
 
 -- No byte after complete link extensions is missing.
 last_complete : (outer : Bool) (slices : List LaxLinkExtSlice) → outer ≡ false
@@ -71,10 +71,10 @@ last_complete outer (slice ∷ others) none complete =
 net_complete : (outer : Bool) (slice : Option LaxNetSlice) → outer ≡ false
     → is_whole_net (option_map lax_net_layer_of slice) (net_incomplete outer slice) ≡ true
     → net_incomplete outer slice ≡ false
-net_complete outer None none whole = none
-net_complete outer (Some (net.Ipv4 slice)) none whole = not-true _ (and_parts _ _ whole).0
-net_complete outer (Some (net.Ipv6 slice)) none whole = not-true _ whole
-net_complete outer (Some (net.Arp packet)) none whole = refl
+net_complete outer None none entire = none
+net_complete outer (Some (net.Ipv4 slice)) none entire = not-true _ (and_parts _ _ entire).0
+net_complete outer (Some (net.Ipv6 slice)) none entire = not-true _ entire
+net_complete outer (Some (net.Arp packet)) none entire = refl
 
 -- ---- lengths that include their headers
 
@@ -159,19 +159,19 @@ ipv6_includes field =
 
 net_includes : (layer : Option NetLayer) (incomplete : Bool) (others : List LayerHeader)
     → is_whole_net layer incomplete ≡ true → IncludeHeaders others → IncludeHeaders (net_headers layer ++ others)
-net_includes None incomplete others whole include = include
-net_includes (Some (ipv4 h extensions payload)) incomplete others whole include = (
-  leb-true (ipv4_header_len h) h.total_len (and_parts _ _ whole).1,
+net_includes None incomplete others entire include = include
+net_includes (Some (ipv4 h extensions payload)) incomplete others entire include = (
+  leb-true (ipv4_header_len h) h.total_len (and_parts _ _ entire).1,
   parts_include extensions others include,
 )
-net_includes (Some (ipv6 h extensions payload)) incomplete others whole include =
+net_includes (Some (ipv6 h extensions payload)) incomplete others entire include =
     (ipv6_includes h.payload_length, parts_include extensions others include)
-net_includes (Some (arp packet)) incomplete others whole include = (tt, include)
+net_includes (Some (arp packet)) incomplete others entire include = (tt, include)
 
 -- A length of UDP that applies or states no length: no byte is missing, and the header is included.
 length_parts : (stated available : ℕ) → (stated == 0 || cuts 8 stated available) ≡ true
     → (is_missing 8 stated false available ≡ false) × IncludesHeader 8 (if stated == 0 then None else Some stated)
-length_parts stated available whole = (
+length_parts stated available entire = (
   grind (arith, common_steps),
   elim (cases_eq stated 0) [
     | inl none ↦ subst (IncludesHeader 8) (sym (none_stated stated stated none)) tt
@@ -183,34 +183,34 @@ length_parts stated available whole = (
 header_parts : (h : TransportHeader) (payload : List ℕ) → is_whole_header h payload ≡ true
     → (layer_incomplete false h payload ≡ false)
     × IncludesHeader (header_len (of_transport h)) (stated_len (of_transport h))
-header_parts (header.Udp udp) payload whole = length_parts udp.length (8 + length payload) whole
-header_parts (header.Tcp tcp) payload whole = (refl, tt)
-header_parts (header.Icmpv4 icmp) payload whole = (refl, tt)
-header_parts (header.Icmpv6 icmp) payload whole = (refl, tt)
+header_parts (header.Udp udp) payload entire = length_parts udp.length (8 + length payload) entire
+header_parts (header.Tcp tcp) payload entire = (refl, tt)
+header_parts (header.Icmpv4 icmp) payload entire = (refl, tt)
+header_parts (header.Icmpv6 icmp) payload entire = (refl, tt)
 
 -- No byte of the payload of a whole transport layer is missing, and its length field includes the header.
 transport_parts : (transport : Option TransportLayer) → is_whole_transport transport ≡ true
     → (transport_incomplete false transport ≡ false) × IncludeHeaders (transport_headers transport)
-transport_parts None whole = (refl, tt)
-transport_parts (Some layer) whole =
-    let parts = header_parts layer.header layer.payload whole in (parts.0, (parts.1, tt))
+transport_parts None entire = (refl, tt)
+transport_parts (Some layer) entire =
+    let parts = header_parts layer.header layer.payload entire in (parts.0, (parts.1, tt))
 
 no_stop : (stop : Option (SliceError × Layer)) → is_none stop ≡ true → stop ≡ None
 no_stop None none = refl
 no_stop (Some error) none = absurd (false≢true none)
 
 -- No byte of any payload of a whole packet is missing.
-packet_whole : (packet : LaxSlicedPacket) → is_whole_frame (lax_layers_of packet) ≡ true
+packet_complete : (packet : LaxSlicedPacket) → is_whole_frame (lax_layers_of packet) ≡ true
     → IsWhole (lax_layers_of packet)
-packet_whole packet whole =
-    let stop = and_parts _ _ whole in
+packet_complete packet entire =
+    let stop = and_parts _ _ entire in
     let tags = and_parts _ _ stop.1 in
     let layers = and_parts _ _ tags.1 in
     let transport = option_map transport_layer_of packet.transport in
     let complete = net_complete (extensions_incomplete false packet.link_exts.items) packet.net
     (last_complete false packet.link_exts.items refl tags.0) layers.0 in
     record {
-      extensions = complete_whole (lax_layers_of packet).link_exts tags.0;
+      extensions = are_complete_sound (lax_layers_of packet).link_exts tags.0;
       net = complete;
       inside = ap (λ (o : Bool). transport_incomplete o transport) complete ∙ (transport_parts transport layers.1).0;
       stop = no_stop packet.stop_err stop.0;
@@ -219,8 +219,8 @@ packet_whole packet whole =
 -- The length fields of a whole packet include their headers.
 packet_includes : (entry : Entry) (bytes : List ℕ) (read : LaxLayers) → IsLax entry bytes read
     → is_whole_frame read ≡ true → IncludeHeaders (shown_headers read)
-packet_includes entry bytes read is whole =
-    let layers = and_parts _ _ (and_parts _ _ (and_parts _ _ whole).1).1 in
+packet_includes entry bytes read is entire =
+    let layers = and_parts _ _ (and_parts _ _ (and_parts _ _ entire).1).1 in
     include_both (link_headers read.link) _ (link_includes read.link)
     (include_both (map tag_header (map extension_in read.link_exts)) _ (packet_tags_include entry bytes read is)
     (net_includes read.net.layer read.net.incomplete (transport_headers read.net.inside.layer) layers.0
@@ -228,17 +228,17 @@ packet_includes entry bytes read is whole =
 
 -- ---- whole packets
 
-net_whole : (layer : Option NetLayer) (incomplete : Bool) (others : List LayerHeader) → incomplete ≡ false
+net_entire : (layer : Option NetLayer) (incomplete : Bool) (others : List LayerHeader) → incomplete ≡ false
     → IncludeHeaders (net_headers layer ++ others) → is_whole_net layer incomplete ≡ true
-net_whole None incomplete others none include = refl
-net_whole (Some (ipv4 h extensions payload)) incomplete others none include =
+net_entire None incomplete others none include = refl
+net_entire (Some (ipv4 h extensions payload)) incomplete others none include =
     and_from _ _ (not_from_false incomplete none) (le-leb (ipv4_header_len h) h.total_len include.0)
-net_whole (Some (ipv6 h extensions payload)) incomplete others none include = not_from_false incomplete none
-net_whole (Some (arp packet)) incomplete others none include = refl
+net_entire (Some (ipv6 h extensions payload)) incomplete others none include = not_from_false incomplete none
+net_entire (Some (arp packet)) incomplete others none include = refl
 
-length_whole : (stated available : ℕ) (outer : Bool) → is_missing 8 stated outer available ≡ false
+length_complete : (stated available : ℕ) (outer : Bool) → is_missing 8 stated outer available ≡ false
     → IncludesHeader 8 (if stated == 0 then None else Some stated) → (stated == 0 || cuts 8 stated available) ≡ true
-length_whole stated available outer complete include =
+length_complete stated available outer complete include =
     elim (cases_eq stated 0) [
       | inl none ↦ or_left _ _ (eq-eqb stated 0 none)
       | inr other ↦
@@ -247,42 +247,42 @@ length_whole stated available outer complete include =
           grind (arith, common_steps)
     ]
 
-header_whole : (outer : Bool) (h : TransportHeader) (payload : List ℕ) → layer_incomplete outer h payload ≡ false
+header_complete : (outer : Bool) (h : TransportHeader) (payload : List ℕ) → layer_incomplete outer h payload ≡ false
     → IncludesHeader (header_len (of_transport h)) (stated_len (of_transport h)) → is_whole_header h payload ≡ true
-header_whole outer (header.Udp udp) payload complete include =
-    length_whole udp.length (8 + length payload) outer complete include
-header_whole outer (header.Tcp tcp) payload complete include = refl
-header_whole outer (header.Icmpv4 icmp) payload complete include = refl
-header_whole outer (header.Icmpv6 icmp) payload complete include = refl
+header_complete outer (header.Udp udp) payload complete include =
+    length_complete udp.length (8 + length payload) outer complete include
+header_complete outer (header.Tcp tcp) payload complete include = refl
+header_complete outer (header.Icmpv4 icmp) payload complete include = refl
+header_complete outer (header.Icmpv6 icmp) payload complete include = refl
 
-transport_whole : (outer : Bool) (transport : Option TransportLayer) → transport_incomplete outer transport ≡ false
+transport_complete : (outer : Bool) (transport : Option TransportLayer) → transport_incomplete outer transport ≡ false
     → IncludeHeaders (transport_headers transport) → is_whole_transport transport ≡ true
-transport_whole outer None complete include = refl
-transport_whole outer (Some layer) complete include =
-    header_whole outer layer.header layer.payload complete include.0
+transport_complete outer None complete include = refl
+transport_complete outer (Some layer) complete include =
+    header_complete outer layer.header layer.payload complete include.0
 
 -- A packet is whole if no byte of a payload is missing, slicing did not stop at an error, and each length that a header
 -- states includes the header.
-is_whole : (packet : LaxSlicedPacket) → IsWhole (lax_layers_of packet)
+is_complete : (packet : LaxSlicedPacket) → IsWhole (lax_layers_of packet)
     → IncludeHeaders (shown_headers (lax_layers_of packet)) → is_whole_frame (lax_layers_of packet) ≡ true
-is_whole packet whole include =
+is_complete packet entire include =
     let read = lax_layers_of packet in
     let inside = transport_headers read.net.inside.layer in
     let net_include : IncludeHeaders (net_headers read.net.layer ++ inside) =
     last_include (map tag_header (map extension_in read.link_exts)) _
     (last_include (link_headers read.link) _ include) in
-    and_from _ _ (ap is_none whole.stop) (and_from _ _ (whole_complete read.link_exts whole.extensions)
-    (and_from _ _ (net_whole read.net.layer read.net.incomplete inside whole.net net_include)
-    (transport_whole read.net.incomplete read.net.inside.layer whole.inside
+    and_from _ _ (ap is_none entire.stop) (and_from _ _ (entire_complete read.link_exts entire.extensions)
+    (and_from _ _ (net_entire read.net.layer read.net.incomplete inside entire.net net_include)
+    (transport_complete read.net.incomplete read.net.inside.layer entire.inside
     (last_include (net_headers read.net.layer) inside net_include))))
 
 -- Strict slicing accepts whole packets.
-pub accepts_whole : (packet : LaxSlicedPacket) (entry : Entry) (bytes : List ℕ)
+pub accepts_complete : (packet : LaxSlicedPacket) (entry : Entry) (bytes : List ℕ)
     → IsLax entry bytes (lax_layers_of packet) → is_whole_frame (lax_layers_of packet) ≡ true
     → IsFrame entry bytes (layers_in (lax_layers_of packet))
-accepts_whole packet entry bytes is whole =
-    whole_is_frame entry bytes (lax_layers_of packet) is (packet_whole packet whole)
-    (packet_includes entry bytes (lax_layers_of packet) is whole)
+accepts_complete packet entry bytes is entire =
+    complete_is_frame entry bytes (lax_layers_of packet) is (packet_complete packet entire)
+    (packet_includes entry bytes (lax_layers_of packet) is entire)
 
 -- Strict slicing rejects all other packets.
 pub rejects_others : (packet : LaxSlicedPacket) (entry : Entry) (bytes : List ℕ) → AreBytes bytes
@@ -291,11 +291,11 @@ pub rejects_others : (packet : LaxSlicedPacket) (entry : Entry) (bytes : List �
 rejects_others packet entry bytes fits is other =
     elim (frame_law entry bytes fits).some [
       | inl frame ↦
-          let found = frame_is_whole entry bytes frame.0 frame.1 in
+          let found = frame_is_complete entry bytes frame.0 frame.1 in
           let same = (lax_decided entry bytes fits).one_value found.0 (lax_layers_of packet) found.1 is in
           let include = subst (λ (layers : Layers). IncludeHeaders (frame_headers layers)) (sym found.2)
           (frame_includes entry bytes frame.0 frame.1) in
-          absurd (false≢true (sym other ∙ is_whole packet (subst IsWhole same found.3)
+          absurd (false≢true (sym other ∙ is_complete packet (subst IsWhole same found.3)
           (subst (λ (read : LaxLayers). IncludeHeaders (shown_headers read)) same include)))
       | inr refused ↦ refused
     ]

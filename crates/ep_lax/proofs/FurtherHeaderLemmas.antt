@@ -11,17 +11,17 @@ use Rattle.ep_lax.specs.LaxHeaders.{BeginWith, LayerHeader, header_len, headers_
 -- ---- bytes
 
 -- If bytes begin with a list and with a longer one, the longer list begins with the shorter.
-pub front_of_longer : (a x b y : List ℕ) → a ++ x ≡ b ++ y → length a ≤ length b → (rest : List ℕ) × (b ≡ a ++ rest)
-front_of_longer a x b y same within =
+pub prefix_of_longer : (a x b y : List ℕ) → a ++ x ≡ b ++ y → length a ≤ length b → (rest : List ℕ) × (b ≡ a ++ rest)
+prefix_of_longer a x b y same within =
     let n = length a in
-    let front : take n b ≡ a = sym (take-append-le n b y within) ∙ ap (take n) (sym same) ∙ take-append_seam a x in
-    (drop n b, sym (take-append-drop n b) ∙ ap (λ (l : List ℕ). l ++ drop n b) front)
+    let prefix : take n b ≡ a = sym (take-append-le n b y within) ∙ ap (take n) (sym same) ∙ take-append_seam a x in
+    (drop n b, sym (take-append-drop n b) ∙ ap (λ (l : List ℕ). l ++ drop n b) prefix)
 
 -- Bytes that begin with a header which ends in a prefix of them: the prefix begins with the header, too.
 pub header_in_prefix : (encoded rest bytes more : List ℕ) → bytes ++ more ≡ encoded ++ rest
     → length encoded ≤ length bytes → (after : List ℕ) × (bytes ≡ encoded ++ after) × (rest ≡ after ++ more)
 header_in_prefix encoded rest bytes more same within =
-    let after = front_of_longer encoded rest bytes more (sym same) within in (
+    let after = prefix_of_longer encoded rest bytes more (sym same) within in (
       after.0,
       after.1,
       append_cancel_left encoded rest (after.0 ++ more)
@@ -59,63 +59,63 @@ abbrev pub EndAfter : ℕ → List LayerHeader → List LayerHeader → Type 0
 EndAfter len shown [] = ⊤
 EndAfter len shown (next ∷ others) = len < headers_len shown + header_len next
 
--- Whichever headers of `whole` come after the headers `shown`, the first of them does not end within `len` bytes.
+-- Whichever headers of `entire` come after the headers `shown`, the first of them does not end within `len` bytes.
 abbrev pub ShowsComplete : ℕ → List LayerHeader → List LayerHeader → Type 0
-ShowsComplete len shown whole = (more : List LayerHeader) → whole ≡ shown ++ more → EndAfter len shown more
+ShowsComplete len shown entire = (more : List LayerHeader) → entire ≡ shown ++ more → EndAfter len shown more
 
 -- One list of further headers, whose first one does not end within `len` bytes, is enough.
-pub complete_before : (len : ℕ) (shown more whole : List LayerHeader) → whole ≡ shown ++ more → EndAfter len shown more
-    → ShowsComplete len shown whole
-complete_before len shown more whole parts end others same =
+pub complete_before : (len : ℕ) (shown more entire : List LayerHeader) → entire ≡ shown ++ more → EndAfter len shown more
+    → ShowsComplete len shown entire
+complete_before len shown more entire parts end others same =
     subst (EndAfter len shown) (append_cancel_left shown more others (sym parts ∙ same)) end
 
 -- No header is shown.
-pub complete_first : (len : ℕ) (whole : List LayerHeader) → EndAfter len [] whole → ShowsComplete len [] whole
-complete_first len whole end = complete_before len [] whole whole refl end
+pub complete_first : (len : ℕ) (entire : List LayerHeader) → EndAfter len [] entire → ShowsComplete len [] entire
+complete_first len entire end = complete_before len [] entire entire refl end
 
 -- Equal headers.
-pub complete_same : (len : ℕ) (shown whole : List LayerHeader) → whole ≡ shown → ShowsComplete len shown whole
-complete_same len shown whole same [] parts = tt
-complete_same len shown whole same (next ∷ others) parts =
+pub complete_same : (len : ℕ) (shown entire : List LayerHeader) → entire ≡ shown → ShowsComplete len shown entire
+complete_same len shown entire same [] parts = tt
+complete_same len shown entire same (next ∷ others) parts =
     absurd (omega (arith, ap length (sym same ∙ parts), length-append shown (next ∷ others)))
 
 -- More headers are shown than there are.
-pub complete_fewer : (len : ℕ) (shown whole : List LayerHeader) (next : LayerHeader) (others : List LayerHeader)
-    → shown ≡ whole ++ next ∷ others → ShowsComplete len shown whole
-complete_fewer len shown whole next others parts more same =
+pub complete_fewer : (len : ℕ) (shown entire : List LayerHeader) (next : LayerHeader) (others : List LayerHeader)
+    → shown ≡ entire ++ next ∷ others → ShowsComplete len shown entire
+complete_fewer len shown entire next others parts more same =
     absurd (omega (
       arith,
       ap length same,
       ap length parts,
       length-append shown more,
-      length-append whole (next ∷ others),
+      length-append entire (next ∷ others),
     ))
 
 -- Headers before both lists.
-pub complete_behind : (len : ℕ) (before shown whole : List LayerHeader) → ShowsComplete len shown whole
-    → ShowsComplete (headers_len before + len) (before ++ shown) (before ++ whole)
-complete_behind len before shown whole complete more parts =
-    behind more (complete more (append_cancel_left before whole (shown ++ more) (parts ∙ append_assoc before shown more)))
+pub complete_following : (len : ℕ) (before shown entire : List LayerHeader) → ShowsComplete len shown entire
+    → ShowsComplete (headers_len before + len) (before ++ shown) (before ++ entire)
+complete_following len before shown entire complete more parts =
+    following more (complete more (append_cancel_left before entire (shown ++ more) (parts ∙ append_assoc before shown more)))
   where
-    behind : (more : List LayerHeader) → EndAfter len shown more
+    following : (more : List LayerHeader) → EndAfter len shown more
         → EndAfter (headers_len before + len) (before ++ shown) more
-    behind [] end = tt
-    behind (next ∷ others) end = omega (arith, end, headers_len-append before shown)
+    following [] end = tt
+    following (next ∷ others) end = omega (arith, end, headers_len-append before shown)
 
 -- One header before both lists.
-pub complete_after : (len : ℕ) (header : LayerHeader) (shown whole : List LayerHeader) → ShowsComplete len shown whole
-    → ShowsComplete (header_len header + len) (header ∷ shown) (header ∷ whole)
-complete_after len header shown whole complete =
-    subst (λ (n : ℕ). ShowsComplete n (header ∷ shown) (header ∷ whole)) (omega arith)
-    (complete_behind len (header ∷ []) shown whole complete)
+pub complete_after : (len : ℕ) (header : LayerHeader) (shown entire : List LayerHeader) → ShowsComplete len shown entire
+    → ShowsComplete (header_len header + len) (header ∷ shown) (header ∷ entire)
+complete_after len header shown entire complete =
+    subst (λ (n : ℕ). ShowsComplete n (header ∷ shown) (header ∷ entire)) (omega arith)
+    (complete_following len (header ∷ []) shown entire complete)
 
 -- A length field limits both to the same bytes, or it leaves the prefix all its bytes.
-pub complete_limited : (inner full len : ℕ) (shown whole : List LayerHeader) → ShowsComplete inner shown whole
-    → headers_len whole ≤ full → (len ≤ inner) ⊎ (full ≤ inner) → ShowsComplete len shown whole
-complete_limited inner full len shown whole complete fits limit [] parts = tt
-complete_limited inner full len shown whole complete fits (inl all) (next ∷ others) parts =
+pub complete_limited : (inner full len : ℕ) (shown entire : List LayerHeader) → ShowsComplete inner shown entire
+    → headers_len entire ≤ full → (len ≤ inner) ⊎ (full ≤ inner) → ShowsComplete len shown entire
+complete_limited inner full len shown entire complete fits limit [] parts = tt
+complete_limited inner full len shown entire complete fits (inl all) (next ∷ others) parts =
     omega (arith, all, complete (next ∷ others) parts)
-complete_limited inner full len shown whole complete fits (inr same) (next ∷ others) parts =
+complete_limited inner full len shown entire complete fits (inr same) (next ∷ others) parts =
     absurd (omega (
       arith,
       same,

@@ -7,7 +7,7 @@ use Rattle.ep_base.specs.Readings.{Reading, slices}
 use Rattle.ep_base.specs.Tables.{IsDecided, IsOne, Parts, first_row, rows_as}
 use Rattle.ep_base.specs.declared.len_source.LenSource.TheVariants as source
 use Rattle.ep_base.proofs.BytesLemmas.{AreBytes-payload}
-use Rattle.ep_base.proofs.DecidedLemmas.{decided_as, decided_behind, decided_by, refused_as, same_image}
+use Rattle.ep_base.proofs.DecidedLemmas.{decided_as, decided_after, decided_by, refused_as, same_image}
 use Rattle.ep_base.proofs.TableLemmas.{first_row-as_some}
 use Rattle.ep_ip.specs.Ip.{version_of}
 use Rattle.ep_ip.specs.IpPackets.{IpPacket}
@@ -31,7 +31,7 @@ use Rattle.ep_packet.specs.Layers.{NetLayer, ipv4_layer, ipv6_layer}
 use Rattle.ep_packet.proofs.LayerLawLemmas.{layer_laws}
 use Rattle.ep_lax.specs.LaxLayers.{LaxLayers, LaxNet}
 use Rattle.ep_ip.specs.LaxIp.{LaxIp, RefusesIpHeader, ip_header_rows, of_ipv4_header, of_ipv6_header}
-use Rattle.ep_ip.proofs.LaxIpLemmas.{lax_ipv4_decided, lax_ipv4_fits, lax_ipv4_version, lax_ipv6_decided, lax_ipv6_fits, lax_ipv6_version, one_refusal, refused_there, rows_of_ipv4, rows_of_ipv6}
+use Rattle.ep_ip.proofs.LaxIpLemmas.{lax_ipv4_decided, lax_ipv4_fits, lax_ipv4_version, lax_ipv6_decided, lax_ipv6_fits, lax_ipv6_version, one_refusal, refused_present, rows_of_ipv4, rows_of_ipv6}
 use Rattle.ep_lax.specs.LaxRefusals.{RefusesLax, ip_header_refusal}
 use Rattle.ep_lax.specs.Lax.{IsIpLayer, IsIpv4NetIn, IsIpv6NetIn, IsLax, IsLaxIn, IsLaxNetIn}
 use Rattle.ep_lax.proofs.LaxLawLemmas.{Inside, HoldsLax, ip_layer_is_one, lax_inside_is_one}
@@ -45,10 +45,10 @@ net_decided : {Header E : Type 0} {Is : LaxIp Header → Type 0} {Refuses : E �
     → IsDecided (λ net. (lax : LaxIp Header) × Is lax × IsIpLayer version layer_of 0 lax net) Refuses
 net_decided {Header = Header} {E = E} version layer_of decided fits =
     decided_as (λ (read : LaxIp Header × LaxNet). read.1) (λ (error : E). error)
-    (decided_behind {Next = IsIpLayer version layer_of 0} decided
+    (decided_after {Next = IsIpLayer version layer_of 0} decided
     (λ lax is. ip_layer_is_one version layer_of 0 lax (fits lax is)))
     (record {
-      there = λ read is. (read.0, is.0, is.1);
+      present = λ read is. (read.0, is.0, is.1);
       back = λ net is. ((is.0, net), (is.1, is.2), refl);
     })
     (same_image (λ error refused. refused) (λ error refused. refused))
@@ -80,10 +80,10 @@ open_version_decided reading bytes fits =
           decided_as (λ (net : LaxNet). net) of_ipv4_header (ipv4_net_decided reading bytes fits)
           (same_image (λ net is. inl is) (λ net is. elim is [
             | inl here ↦ here
-            | inr there ↦ absurd (omega (arith, version, ipv6_net_version reading bytes net there))
+            | inr present ↦ absurd (omega (arith, version, ipv6_net_version reading bytes net present))
           ]))
           (record {
-            there = λ error refused. rows ∙ first_row-as_some of_ipv4_header (ipv4_header_rows bytes) error refused;
+            present = λ error refused. rows ∙ first_row-as_some of_ipv4_header (ipv4_header_rows bytes) error refused;
             back = λ error refused. refused_under of_ipv4_header (ipv4_header_rows bytes) error (sym rows ∙ refused);
           })
       | inr not_4 ↦ elim (cases_eq (version_of bytes) 6) [
@@ -91,11 +91,11 @@ open_version_decided reading bytes fits =
             let rows = rows_of_ipv6 bytes version in
             decided_as (λ (net : LaxNet). net) of_ipv6_header (ipv6_net_decided reading bytes fits)
             (same_image (λ net is. inr is) (λ net is. elim is [
-              | inl there ↦ absurd (omega (arith, version, ipv4_net_version reading bytes net there))
+              | inl present ↦ absurd (omega (arith, version, ipv4_net_version reading bytes net present))
               | inr here ↦ here
             ]))
             (record {
-              there = λ error refused. rows ∙ first_row-as_some of_ipv6_header (ipv6_header_rows bytes) error refused;
+              present = λ error refused. rows ∙ first_row-as_some of_ipv6_header (ipv6_header_rows bytes) error refused;
               back = λ error refused. refused_under of_ipv6_header (ipv6_header_rows bytes) error (sym rows ∙ refused);
             })
         | inr not_6 ↦
@@ -106,7 +106,7 @@ open_version_decided reading bytes fits =
               | inr six ↦ not_6 (ipv6_net_version reading bytes net six)
             ] in
             record {
-              some = inr (refused_there (length bytes == 0) (not (version_of bytes == 4 || version_of bytes == 6)) _ _
+              some = inr (refused_present (length bytes == 0) (not (version_of bytes == 4 || version_of bytes == 6)) _ _
                   (if version_of bytes == 4 then rows_as of_ipv4_header (ipv4_header_rows bytes)
                   else rows_as of_ipv6_header (ipv6_header_rows bytes)) unknown);
               one_value = λ net other a b. absurd (none net a);
@@ -127,16 +127,16 @@ abbrev without_link : LaxNet → LaxLayers
 without_link net = record { link = None; link_exts = []; net = net }
 
 -- A link layer with one result for its payload is either valid, or its header is rejected.
-behind_link : {Header : Type 0} {Is : Parts Header → Type 0} {Refuses : SliceError → Type 0}
+after_link : {Header : Type 0} {Is : Parts Header → Type 0} {Refuses : SliceError → Type 0}
     (layer_of : Parts Header → LinkLayer) (Next : Parts Header → Inside → Type 0) → IsDecided Is Refuses
     → ((frame : Parts Header) → Is frame → IsOne (Next frame))
     → IsDecided (λ (layers : LaxLayers). (frame : Parts Header) × Is frame × (layers.link ≡ Some (layer_of frame))
     × Next frame (layers.link_exts, layers.net)) Refuses
-behind_link {Header = Header} layer_of Next decided one =
+after_link {Header = Header} layer_of Next decided one =
     decided_as (λ (read : Parts Header × Inside). with_link (layer_of read.0) read.1) (λ (error : SliceError). error)
-    (decided_behind {Next = Next} decided one)
+    (decided_after {Next = Next} decided one)
     (record {
-      there = λ read is. (read.0, is.0, refl, is.1);
+      present = λ read is. (read.0, is.0, refl, is.1);
       back = λ layers is. (
         (is.0, (layers.link_exts, layers.net)),
         (is.1, is.3),
@@ -148,13 +148,13 @@ behind_link {Header = Header} layer_of Next decided one =
 pub lax_in_decided : (reading : Reading) (entry : Entry) (bytes : List ℕ) → AreBytes bytes
     → IsDecided (IsLaxIn reading entry bytes) (RefusesLax entry bytes)
 lax_in_decided reading ethernet bytes fits =
-    behind_link (λ (frame : Parts Ethernet2Header). ethernet2 frame.header frame.payload)
+    after_link (λ (frame : Parts Ethernet2Header). ethernet2 frame.header frame.payload)
     (λ frame. HoldsLax reading most_link_exts ethernet2_header_len false (Some frame.header.ether_type) frame.payload)
     (refused_as Len (layer_laws.ethernet2 bytes fits))
     (λ frame is. lax_inside_is_one reading most_link_exts ethernet2_header_len false (Some frame.header.ether_type) frame.payload
     (AreBytes-payload bytes (ethernet2_bytes frame.header) frame.payload frame.left fits is.parts))
 lax_in_decided reading linux_sll bytes fits =
-    behind_link (λ (frame : Parts LinuxSllHeader). sll frame.header frame.payload)
+    after_link (λ (frame : Parts LinuxSllHeader). sll frame.header frame.payload)
     (λ frame. HoldsLax reading most_link_exts linux_sll_header_len false (protocol_ether_type frame.header.protocol_type)
     frame.payload)
     (refused_as linux_sll_refusal (layer_laws.linux_sll bytes fits))
@@ -172,7 +172,7 @@ lax_in_decided reading ip bytes fits =
     decided_as without_link (λ (error : SliceError). error)
     (refused_as ip_header_refusal (open_version_decided reading bytes fits))
     (record {
-      there = λ net is. (refl, refl, is);
+      present = λ net is. (refl, refl, is);
       back = λ layers is. (
         layers.net,
         is.2,

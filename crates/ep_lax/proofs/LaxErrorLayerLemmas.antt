@@ -60,15 +60,15 @@ use Rattle.ep_lax.specs.LaxStops.{is_by_length, is_length_row, is_udp_length}
 use Rattle.ep_lax.proofs.LaxLawLemmas.{Tagged}
 
 -- If slicing stops at an error, this is reported with its layer and is not caused by a length field.
-abbrev pub IsTold : Option (SliceError × Layer) → Type 0
-IsTold None = ⊤
-IsTold (Some stop) = (stop ≡ error_with_layer stop.0) × (is_by_length stop.0 ≡ false)
+abbrev pub HasItsLayer : Option (SliceError × Layer) → Type 0
+HasItsLayer None = ⊤
+HasItsLayer (Some stop) = (stop ≡ error_with_layer stop.0) × (is_by_length stop.0 ≡ false)
 
 -- A property of two values holds for the one chosen by a condition.
 either_way : {A : Type 0} (P : A → Type 0) (condition : Bool) (a b : A) → P a → P b
     → P (if condition then a else b)
-either_way P true a b here there = here
-either_way P false a b here there = there
+either_way P true a b here present = here
+either_way P false a b here present = present
 
 -- An error of a table without errors of length fields is not caused by a length field in the frame either.
 placed : {E : Type 0} (place : E → SliceError) (rows : List (Bool × E))
@@ -124,24 +124,24 @@ transport_not_long offset payload error not_udp refused =
         (transport_rows headers payload.number payload.bytes)
         (transport_placed offset payload.source not_udp payload.number payload.bytes) refused.0 why
 
-header_told : (outer : Bool) (read : TransportHeader) (payload : List ℕ) (lax : LaxTransport)
-    → IsHeaderLimitedLaxly outer read payload lax → IsTold lax.stop
-header_told outer (header.Udp udp) payload lax is = subst (λ (l : LaxTransport). IsTold l.stop) (sym is.2) tt
-header_told outer (header.Tcp tcp) payload lax is = subst (λ (l : LaxTransport). IsTold l.stop) (sym is) tt
-header_told outer (header.Icmpv4 icmp) payload lax is = subst (λ (l : LaxTransport). IsTold l.stop) (sym is) tt
-header_told outer (header.Icmpv6 icmp) payload lax is = subst (λ (l : LaxTransport). IsTold l.stop) (sym is) tt
+header_reported : (outer : Bool) (read : TransportHeader) (payload : List ℕ) (lax : LaxTransport)
+    → IsHeaderLimitedLaxly outer read payload lax → HasItsLayer lax.stop
+header_reported outer (header.Udp udp) payload lax is = subst (λ (l : LaxTransport). HasItsLayer l.stop) (sym is.2) tt
+header_reported outer (header.Tcp tcp) payload lax is = subst (λ (l : LaxTransport). HasItsLayer l.stop) (sym is) tt
+header_reported outer (header.Icmpv4 icmp) payload lax is = subst (λ (l : LaxTransport). HasItsLayer l.stop) (sym is) tt
+header_reported outer (header.Icmpv6 icmp) payload lax is = subst (λ (l : LaxTransport). HasItsLayer l.stop) (sym is) tt
 
-part_told : (outer : Bool) (part : Option TransportLayer) (lax : LaxTransport) → IsLimitedLaxly outer part lax
-    → IsTold lax.stop
-part_told outer None lax is = subst (λ (l : LaxTransport). IsTold l.stop) (sym is) tt
-part_told outer (Some layer) lax is = header_told outer layer.header layer.payload lax is
+part_reported : (outer : Bool) (part : Option TransportLayer) (lax : LaxTransport) → IsLimitedLaxly outer part lax
+    → HasItsLayer lax.stop
+part_reported outer None lax is = subst (λ (l : LaxTransport). HasItsLayer l.stop) (sym is) tt
+part_reported outer (Some layer) lax is = header_reported outer layer.header layer.payload lax is
 
-transport_told : (offset : ℕ) (outer : Bool) (payload : IpPayload) (lax : LaxTransport)
-    → is_udp_length payload.source ≡ false → IsLaxTransport offset outer payload lax → IsTold lax.stop
-transport_told offset outer payload lax not_udp (inl refused) =
-    subst (λ (l : LaxTransport). IsTold l.stop) (sym refused.2)
+transport_reported : (offset : ℕ) (outer : Bool) (payload : IpPayload) (lax : LaxTransport)
+    → is_udp_length payload.source ≡ false → IsLaxTransport offset outer payload lax → HasItsLayer lax.stop
+transport_reported offset outer payload lax not_udp (inl refused) =
+    subst (λ (l : LaxTransport). HasItsLayer l.stop) (sym refused.2)
     (refl, transport_not_long offset payload refused.0 not_udp refused.1)
-transport_told offset outer payload lax not_udp (inr found) = part_told outer found.0 lax found.2
+transport_reported offset outer payload lax not_udp (inr found) = part_reported outer found.0 lax found.2
 
 -- ---- IP packets
 
@@ -186,11 +186,11 @@ abbrev IsOtherStop : IpVersion → ℕ → Option ExtsSliceError → Type 0
 IsOtherStop version offset None = ⊤
 IsOtherStop version offset (Some error) = is_by_length (chain_refusal version offset error) ≡ false
 
-front_other : (version : IpVersion) (offset header_len number : ℕ) (bytes : List ℕ) (end : LenSource)
+prefix_other : (version : IpVersion) (offset header_len number : ℕ) (bytes : List ℕ) (end : LenSource)
     (chain : ExtensionChain) (refused : Option ExtsSliceError) → IsLaxChain version number bytes chain refused
     → IsOtherStop version offset (option_map (stop_after header_len end) refused)
-front_other version offset header_len number bytes end chain None is = tt
-front_other version offset header_len number bytes end chain (Some error) is =
+prefix_other version offset header_len number bytes end chain None is = tt
+prefix_other version offset header_len number bytes end chain (Some error) is =
     chain_not_long version offset header_len end error
     (chain_other version [] 0 number bytes chain.parts error is.0)
 
@@ -203,91 +203,91 @@ either_end : (condition : Bool) (end other : LenSource) → is_udp_length end �
     → is_udp_length (if condition then end else other) ≡ false
 either_end = either_way (λ (end : LenSource). is_udp_length end ≡ false)
 
-cut_end : (least stated there : ℕ) (end : LenSource) (cut : LaxCut) → is_udp_length end ≡ false
-    → cut.source ≡ (if cuts least stated there then end else source.Slice) → is_udp_length cut.source ≡ false
-cut_end least stated there end cut not_udp same =
-    ap is_udp_length same ∙ either_end (cuts least stated there) end source.Slice not_udp refl
+cut_end : (least stated present : ℕ) (end : LenSource) (cut : LaxCut) → is_udp_length end ≡ false
+    → cut.source ≡ (if cuts least stated present then end else source.Slice) → is_udp_length cut.source ≡ false
+cut_end least stated present end cut not_udp same =
+    ap is_udp_length same ∙ either_end (cuts least stated present) end source.Slice not_udp refl
 
 ipv4_other : (offset : ℕ) (outer : Bool) (bytes : List ℕ) (lax : LaxIp Ipv4Header) → IsLaxIpv4 outer bytes lax
     → IsOtherIp ipv4 offset lax
 ipv4_other offset outer bytes lax is =
     let header = is.0.0 in
     let n = ipv4_header_len header in
-    let behind = is.2 in
-    subst (IsOtherIp ipv4 offset) (sym behind.is) (
-      cut_end n header.total_len (n + length is.0.1) source.Ipv4HeaderTotalLen behind.cut refl behind.cuts.source,
-      front_other ipv4 offset n header.protocol.0 behind.cut.payload behind.cut.source behind.chain behind.refused
-          behind.is_chain,
+    let after = is.2 in
+    subst (IsOtherIp ipv4 offset) (sym after.is) (
+      cut_end n header.total_len (n + length is.0.1) source.Ipv4HeaderTotalLen after.cut refl after.cuts.source,
+      prefix_other ipv4 offset n header.protocol.0 after.cut.payload after.cut.source after.chain after.refused
+          after.is_chain,
     )
 
 ipv6_other : (offset : ℕ) (outer : Bool) (bytes : List ℕ) (lax : LaxIp Ipv6Header) → IsLaxIpv6 outer bytes lax
     → IsOtherIp ipv6 offset lax
 ipv6_other offset outer bytes lax is =
     let header = is.0.0 in
-    let behind = is.2 in
-    let end = lax_ipv6_source header behind.cut in
-    let known = cut_end 41 (40 + header.payload_length) (40 + length is.0.1) source.Ipv6HeaderPayloadLen behind.cut
-    refl behind.cuts.source in
-    subst (IsOtherIp ipv6 offset) (sym behind.is) (
-      either_end (header.payload_length == 0) (ipv6_payload_source header behind.cut.payload) behind.cut.source
+    let after = is.2 in
+    let end = lax_ipv6_source header after.cut in
+    let known = cut_end 41 (40 + header.payload_length) (40 + length is.0.1) source.Ipv6HeaderPayloadLen after.cut
+    refl after.cuts.source in
+    subst (IsOtherIp ipv6 offset) (sym after.is) (
+      either_end (header.payload_length == 0) (ipv6_payload_source header after.cut.payload) after.cut.source
           (either_end _ source.Slice source.Ipv6HeaderPayloadLen refl refl) known,
-      front_other ipv6 offset 40 header.next_header.0 behind.cut.payload end behind.chain behind.refused
-          behind.is_chain,
+      prefix_other ipv6 offset 40 header.next_header.0 after.cut.payload end after.chain after.refused
+          after.is_chain,
     )
 
-inside_told : (version : IpVersion) (offset len : ℕ) (incomplete : Bool) (payload : IpPayload)
+inside_reported : (version : IpVersion) (offset len : ℕ) (incomplete : Bool) (payload : IpPayload)
     (stop : Option ExtsSliceError) (inside : LaxTransport) → is_udp_length payload.source ≡ false
     → IsOtherStop version offset stop → IsInsideIp version offset len incomplete payload stop inside
-    → IsTold inside.stop
-inside_told version offset len incomplete payload None inside not_udp other is =
-    transport_told (offset + len) incomplete payload inside not_udp is
-inside_told version offset len incomplete payload (Some error) inside not_udp other is =
-    subst (λ (l : LaxTransport). IsTold l.stop) (sym is) (refl, other)
+    → HasItsLayer inside.stop
+inside_reported version offset len incomplete payload None inside not_udp other is =
+    transport_reported (offset + len) incomplete payload inside not_udp is
+inside_reported version offset len incomplete payload (Some error) inside not_udp other is =
+    subst (λ (l : LaxTransport). HasItsLayer l.stop) (sym is) (refl, other)
 
-ip_told : {Header : Type 0} (version : IpVersion) (layer_of : IpPacket Header → NetLayer) (offset : ℕ)
+ip_reported : {Header : Type 0} (version : IpVersion) (layer_of : IpPacket Header → NetLayer) (offset : ℕ)
     (lax : LaxIp Header) (net : LaxNet) → IsOtherIp version offset lax → IsIpLayer version layer_of offset lax net
-    → IsTold net.inside.stop
-ip_told version layer_of offset lax net other is =
-    subst (λ (n : LaxNet). IsTold n.inside.stop) (sym is.2)
-    (inside_told version offset (net_payload_offset (layer_of lax.packet)) lax.incomplete lax.packet.payload lax.stop is.0
+    → HasItsLayer net.inside.stop
+ip_reported version layer_of offset lax net other is =
+    subst (λ (n : LaxNet). HasItsLayer n.inside.stop) (sym is.2)
+    (inside_reported version offset (net_payload_offset (layer_of lax.packet)) lax.incomplete lax.packet.payload lax.stop is.0
     other.0 other.1 is.1)
 
 -- ---- network layer
 
-none_told : (outer : Bool) (net : LaxNet) (error : SliceError) → IsNoNet outer net error
-    → is_by_length error ≡ false → IsTold net.inside.stop
-none_told outer net error is by_other = subst (λ (n : LaxNet). IsTold n.inside.stop) (sym is) (refl, by_other)
+none_reported : (outer : Bool) (net : LaxNet) (error : SliceError) → IsNoNet outer net error
+    → is_by_length error ≡ false → HasItsLayer net.inside.stop
+none_reported outer net error is by_other = subst (λ (n : LaxNet). HasItsLayer n.inside.stop) (sym is) (refl, by_other)
 
-ipv4_told : (offset : ℕ) (outer : Bool) (bytes : List ℕ) (net : LaxNet) → IsIpv4Net offset outer bytes net
-    → IsTold net.inside.stop
-ipv4_told offset outer bytes net is =
-    ip_told ipv4 ipv4_layer offset is.0 net (ipv4_other offset outer bytes is.0 is.1) is.2
+ipv4_reported : (offset : ℕ) (outer : Bool) (bytes : List ℕ) (net : LaxNet) → IsIpv4Net offset outer bytes net
+    → HasItsLayer net.inside.stop
+ipv4_reported offset outer bytes net is =
+    ip_reported ipv4 ipv4_layer offset is.0 net (ipv4_other offset outer bytes is.0 is.1) is.2
 
-ipv6_told : (offset : ℕ) (outer : Bool) (bytes : List ℕ) (net : LaxNet) → IsIpv6Net offset outer bytes net
-    → IsTold net.inside.stop
-ipv6_told offset outer bytes net is =
-    ip_told ipv6 ipv6_layer offset is.0 net (ipv6_other offset outer bytes is.0 is.1) is.2
+ipv6_reported : (offset : ℕ) (outer : Bool) (bytes : List ℕ) (net : LaxNet) → IsIpv6Net offset outer bytes net
+    → HasItsLayer net.inside.stop
+ipv6_reported offset outer bytes net is =
+    ip_reported ipv6 ipv6_layer offset is.0 net (ipv6_other offset outer bytes is.0 is.1) is.2
 
-pub net_told : (offset : ℕ) (outer : Bool) (kind : Option NetKind) (bytes : List ℕ) (net : LaxNet)
-    → IsLaxNet offset outer kind bytes net → IsTold net.inside.stop
-net_told offset outer None bytes net is = subst (λ (n : LaxNet). IsTold n.inside.stop) (sym is) tt
-net_told offset outer (Some only_ipv4) bytes net (inl refused) =
-    none_told outer net refused.0 refused.2
+pub net_reported : (offset : ℕ) (outer : Bool) (kind : Option NetKind) (bytes : List ℕ) (net : LaxNet)
+    → IsLaxNet offset outer kind bytes net → HasItsLayer net.inside.stop
+net_reported offset outer None bytes net is = subst (λ (n : LaxNet). HasItsLayer n.inside.stop) (sym is) tt
+net_reported offset outer (Some only_ipv4) bytes net (inl refused) =
+    none_reported outer net refused.0 refused.2
     (placed (λ e. ipv4_refusal offset (of_header_error e)) (ipv4_header_rows bytes) (refl, (refl, (refl, (refl, tt))))
     refused.0 refused.1)
-net_told offset outer (Some only_ipv4) bytes net (inr is) = ipv4_told offset outer bytes net is
-net_told offset outer (Some only_ipv6) bytes net (inl refused) =
-    none_told outer net refused.0 refused.2
+net_reported offset outer (Some only_ipv4) bytes net (inr is) = ipv4_reported offset outer bytes net is
+net_reported offset outer (Some only_ipv6) bytes net (inl refused) =
+    none_reported outer net refused.0 refused.2
     (placed (λ e. ipv6_refusal offset (of_ipv6_header_error e)) (ipv6_header_rows bytes) (refl, (refl, tt))
     refused.0 refused.1)
-net_told offset outer (Some only_ipv6) bytes net (inr is) = ipv6_told offset outer bytes net is
-net_told offset outer (Some only_arp) bytes net (inl refused) =
-    none_told outer net refused.0 refused.2
+net_reported offset outer (Some only_ipv6) bytes net (inr is) = ipv6_reported offset outer bytes net is
+net_reported offset outer (Some only_arp) bytes net (inl refused) =
+    none_reported outer net refused.0 refused.2
     (placed (len_refusal offset) (arp_rows bytes) (refl, (refl, tt)) refused.0 refused.1)
-net_told offset outer (Some only_arp) bytes net (inr is) =
-    subst (λ (n : LaxNet). IsTold n.inside.stop) (sym is.2) tt
-net_told offset outer (Some any_ip) bytes net (inl is) = ipv4_told offset outer bytes net is
-net_told offset outer (Some any_ip) bytes net (inr is) = ipv6_told offset outer bytes net is
+net_reported offset outer (Some only_arp) bytes net (inr is) =
+    subst (λ (n : LaxNet). HasItsLayer n.inside.stop) (sym is.2) tt
+net_reported offset outer (Some any_ip) bytes net (inl is) = ipv4_reported offset outer bytes net is
+net_reported offset outer (Some any_ip) bytes net (inr is) = ipv6_reported offset outer bytes net is
 
 -- ---- link extensions
 
@@ -298,33 +298,33 @@ extension_not_long offset type bytes error (inl refused) =
 extension_not_long offset type bytes error (inr refused) =
     placed (extension_refusal offset) (macsec_header_rows bytes) (refl, (refl, (refl, (refl, tt)))) error refused.1
 
-inside_is_told : (room offset : ℕ) (outer : Bool) (type : Option EtherType) (bytes : List ℕ) (extensions : List Tagged)
-    (net : LaxNet) → IsLaxInside room offset outer type bytes extensions net → IsTold net.inside.stop
-inside_is_told room offset outer None bytes extensions net is =
-    subst (λ (n : LaxNet). IsTold n.inside.stop) (sym is.1) tt
-inside_is_told zero offset outer (Some type) bytes [] net is = net_told offset outer (net_kind type) bytes net is
-inside_is_told zero offset outer (Some type) bytes (extension ∷ others) net is = absurd is
-inside_is_told (suc room) offset outer (Some type) bytes [] net (inl is) =
-    net_told offset outer (net_kind type) bytes net is.1
-inside_is_told (suc room) offset outer (Some type) bytes [] net (inr refused) =
-    none_told outer net refused.0 refused.2 (extension_not_long offset type bytes refused.0 refused.1)
-inside_is_told (suc room) offset outer (Some type) bytes (extension ∷ others) net is =
-    inside_is_told room (offset + link_ext_header_len (extension_header extension.0)) extension.1
+inside_is_reported : (space offset : ℕ) (outer : Bool) (type : Option EtherType) (bytes : List ℕ) (extensions : List Tagged)
+    (net : LaxNet) → IsLaxInside space offset outer type bytes extensions net → HasItsLayer net.inside.stop
+inside_is_reported space offset outer None bytes extensions net is =
+    subst (λ (n : LaxNet). HasItsLayer n.inside.stop) (sym is.1) tt
+inside_is_reported zero offset outer (Some type) bytes [] net is = net_reported offset outer (net_kind type) bytes net is
+inside_is_reported zero offset outer (Some type) bytes (extension ∷ others) net is = absurd is
+inside_is_reported (suc space) offset outer (Some type) bytes [] net (inl is) =
+    net_reported offset outer (net_kind type) bytes net is.1
+inside_is_reported (suc space) offset outer (Some type) bytes [] net (inr refused) =
+    none_reported outer net refused.0 refused.2 (extension_not_long offset type bytes refused.0 refused.1)
+inside_is_reported (suc space) offset outer (Some type) bytes (extension ∷ others) net is =
+    inside_is_reported space (offset + link_ext_header_len (extension_header extension.0)) extension.1
     (extension_type extension.0) (extension_payload extension.0) others net is.1
 
 -- ---- complete packets
 
-pub lax_told : (entry : Entry) (bytes : List ℕ) (read : LaxLayers) → IsLax entry bytes read
-    → IsTold read.net.inside.stop
-lax_told ethernet bytes read is =
-    inside_is_told most_link_exts ethernet2_header_len false (Some is.0.header.ether_type) is.0.payload read.link_exts
+pub lax_reported : (entry : Entry) (bytes : List ℕ) (read : LaxLayers) → IsLax entry bytes read
+    → HasItsLayer read.net.inside.stop
+lax_reported ethernet bytes read is =
+    inside_is_reported most_link_exts ethernet2_header_len false (Some is.0.header.ether_type) is.0.payload read.link_exts
     read.net is.3
-lax_told linux_sll bytes read is =
-    inside_is_told most_link_exts linux_sll_header_len false (protocol_ether_type is.0.header.protocol_type)
+lax_reported linux_sll bytes read is =
+    inside_is_reported most_link_exts linux_sll_header_len false (protocol_ether_type is.0.header.protocol_type)
     is.0.payload read.link_exts read.net is.3
-lax_told (ether_type type) bytes read is =
-    inside_is_told most_link_exts 0 false (Some type) bytes read.link_exts read.net is.1
-lax_told ip bytes read is = net_told 0 false (Some any_ip) bytes read.net is.2
+lax_reported (ether_type type) bytes read is =
+    inside_is_reported most_link_exts 0 false (Some type) bytes read.link_exts read.net is.1
+lax_reported ip bytes read is = net_reported 0 false (Some any_ip) bytes read.net is.2
 
 -- The error of a rejected first header is not caused by a length field.
 pub first_not_long : (entry : Entry) (bytes : List ℕ) (error : SliceError) → RefusesLax entry bytes error

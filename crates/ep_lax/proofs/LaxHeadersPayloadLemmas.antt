@@ -103,6 +103,6 @@ payload_lies entry bytes packet (layers, is, same) =
     let order = lax_in_order headers entry bytes layers is in
     let payload : lax_payload_part_bytes (lax_payload_part_of packet.payload) ≡ last_payload (layers_in layers) =
     ap (λ (h : LaxHeaders). lax_payload_part_bytes h.payload) same ∙ payload_bytes_are layers in
-    let front = order.link ++ (order.tags ++ (order.net ++ order.transport)) in
-    let grouped : bytes ≡ front ++ (last_payload (layers_in layers) ++ order.left) = order.parts ∙ (simp append_assoc) in
-    (front, order.left, grouped ∙ ap (λ (b : List ℕ). front ++ (b ++ order.left)) (sym payload))
+    let prefix = order.link ++ (order.tags ++ (order.net ++ order.transport)) in
+    let grouped : bytes ≡ prefix ++ (last_payload (layers_in layers) ++ order.left) = order.parts ∙ (simp append_assoc) in
+    (prefix, order.left, grouped ∙ ap (λ (b : List ℕ). prefix ++ (b ++ order.left)) (sym payload))

@@ -52,7 +52,7 @@ pub header_cut_is_one : (outer : Bool) (header : TransportHeader) (payload : Lis
 header_cut_is_one outer (header.Udp udp) payload =
     one_as (λ (cut : LaxCut). layer_cut (header.Udp udp) cut.payload cut.incomplete)
     (lax_cut_is_one 8 udp.length source.UdpHeaderLen outer 8 payload (omega arith))
-    (record { there = λ cut is. (cut, is, refl); back = λ lax is. is })
+    (record { present = λ cut is. (cut, is, refl); back = λ lax is. is })
 header_cut_is_one outer (header.Tcp tcp) payload = one_same (layer_cut (header.Tcp tcp) payload outer)
 header_cut_is_one outer (header.Icmpv4 icmp) payload = one_same (layer_cut (header.Icmpv4 icmp) payload outer)
 header_cut_is_one outer (header.Icmpv6 icmp) payload = one_same (layer_cut (header.Icmpv6 icmp) payload outer)
@@ -65,7 +65,7 @@ pub transport_is_one : (offset : ℕ) (outer : Bool) (payload : IpPayload) → A
     → IsOne (IsLaxTransport offset outer payload)
 transport_is_one offset outer payload fits =
     one_either {Is = IsTransportPart headers payload.number payload.fragmented payload.bytes}
-    {Refuses = RefusesTransportIn headers offset payload} {There = IsLimitedLaxly outer}
+    {Refuses = RefusesTransportIn headers offset payload} {Present = IsLimitedLaxly outer}
     {Instead = λ (error : SliceError) (lax : LaxTransport). lax ≡ no_transport outer (Some (error_with_layer error))}
     (refused_as (transport_refusal offset payload.source)
     (layer_laws.transport headers payload.number payload.fragmented payload.bytes fits))
@@ -88,7 +88,7 @@ ip_layer_is_one version layer_of offset lax fits =
     one_as (net_with (layer_of lax.packet) lax.incomplete)
     (inside_ip_is_one version offset (net_payload_offset (layer_of lax.packet)) lax.incomplete lax.packet.payload lax.stop
     fits)
-    (record { there = λ inside is. (inside, is, refl); back = λ net is. is })
+    (record { present = λ inside is. (inside, is, refl); back = λ net is. is })
 
 -- For each error the result without network layer is unique.
 no_net_is_one : (outer : Bool) (error : SliceError) → IsOne (λ (net : LaxNet). IsNoNet outer net error)
@@ -112,7 +112,7 @@ ipv4_is_one : (reading : Reading) (offset : ℕ) (outer : Bool) (bytes : List �
 ipv4_is_one reading offset outer bytes fits =
     one_either {Is = IsLaxIpv4In reading outer bytes}
     {Refuses = RefusesAs (λ e. ipv4_refusal offset (of_header_error e)) (RefusesIpv4Header bytes)}
-    {There = IsIpLayer ipv4 ipv4_layer offset} {Instead = λ (error : SliceError) (net : LaxNet). IsNoNet outer net error}
+    {Present = IsIpLayer ipv4 ipv4_layer offset} {Instead = λ (error : SliceError) (net : LaxNet). IsNoNet outer net error}
     (refused_as (λ e. ipv4_refusal offset (of_header_error e)) (lax_ipv4_decided reading outer bytes fits))
     (λ lax is. ip_layer_is_one ipv4 ipv4_layer offset lax (lax_ipv4_fits reading outer bytes lax fits is))
     (λ error refused. no_net_is_one outer error)
@@ -122,7 +122,7 @@ ipv6_is_one : (reading : Reading) (offset : ℕ) (outer : Bool) (bytes : List �
 ipv6_is_one reading offset outer bytes fits =
     one_either {Is = IsLaxIpv6In reading outer bytes}
     {Refuses = RefusesAs (λ e. ipv6_refusal offset (of_ipv6_header_error e)) (RefusesIpv6Header bytes)}
-    {There = IsIpLayer ipv6 ipv6_layer offset} {Instead = λ (error : SliceError) (net : LaxNet). IsNoNet outer net error}
+    {Present = IsIpLayer ipv6 ipv6_layer offset} {Instead = λ (error : SliceError) (net : LaxNet). IsNoNet outer net error}
     (refused_as (λ e. ipv6_refusal offset (of_ipv6_header_error e)) (lax_ipv6_decided reading outer bytes fits))
     (λ lax is. ip_layer_is_one ipv6 ipv6_layer offset lax (lax_ipv6_fits reading outer bytes lax fits is))
     (λ error refused. no_net_is_one outer error)
@@ -131,7 +131,7 @@ arp_is_one : (reading : Reading) (offset : ℕ) (outer : Bool) (bytes : List ℕ
     → IsOne (IsLaxNetIn reading offset outer (Some only_arp) bytes)
 arp_is_one reading offset outer bytes fits =
     one_either {Is = IsArp bytes} {Refuses = RefusesAs (len_refusal offset) (RefusesArp bytes)}
-    {There = λ (part : Arp × List ℕ) (net : LaxNet). net ≡ arp_net part.0}
+    {Present = λ (part : Arp × List ℕ) (net : LaxNet). net ≡ arp_net part.0}
     {Instead = λ (error : SliceError) (net : LaxNet). IsNoNet outer net error}
     (refused_as (len_refusal offset) (layer_laws.arp bytes fits))
     (λ part is. one_same (arp_net part.0)) (λ error refused. no_net_is_one outer error)
@@ -161,10 +161,10 @@ Tagged = LinkExtension × Bool
 vlan_tagged : Bool → Parts SingleVlanHeader → Tagged
 vlan_tagged outer tagged = (vlan tagged.header tagged.payload, outer)
 
-vlan_there : (outer : Bool) (type : EtherType) (bytes : List ℕ) → IsVlanType type → (tagged : Parts SingleVlanHeader)
+vlan_present : (outer : Bool) (type : EtherType) (bytes : List ℕ) → IsVlanType type → (tagged : Parts SingleVlanHeader)
     → IsVlan bytes tagged → IsLaxExtension outer type bytes (vlan_tagged outer tagged)
 unfolding vlan_tagged
-vlan_there outer type bytes is_vlan tagged is =
+vlan_present outer type bytes is_vlan tagged is =
     (is_vlan, subst (λ (l : List ℕ). IsVlan bytes (parts_of tagged.header tagged.payload l)) is.cut is, refl)
 
 vlan_back : (outer : Bool) (type : EtherType) (bytes : List ℕ) → IsVlanType type → (tagged : Tagged)
@@ -203,11 +203,11 @@ lax_macsec_decided outer bytes fits =
 macsec_tagged : MacsecHeader × LaxCut → Tagged
 macsec_tagged read = (macsec read.0 (lax_macsec_payload read.0 read.1), read.1.incomplete)
 
-macsec_there : (outer : Bool) (type : EtherType) (bytes : List ℕ) → IsMacsecType type
+macsec_present : (outer : Bool) (type : EtherType) (bytes : List ℕ) → IsMacsecType type
     → (read : MacsecHeader × LaxCut) → IsLaxMacsec outer bytes read
     → IsLaxExtension outer type bytes (macsec_tagged read)
 unfolding macsec_tagged
-macsec_there outer type bytes is_macsec read is = (is_macsec, (read.1, is, refl, refl))
+macsec_present outer type bytes is_macsec read is = (is_macsec, (read.1, is, refl, refl))
 
 macsec_back : (outer : Bool) (type : EtherType) (bytes : List ℕ) → IsMacsecType type → (tagged : Tagged)
     → IsLaxExtension outer type bytes tagged
@@ -230,12 +230,12 @@ pub lax_extension_decided : (offset : ℕ) (outer : Bool) (type : EtherType) (by
 lax_extension_decided offset outer type bytes fits (inl is_vlan) =
     decided_as (vlan_tagged outer) (λ (error : SliceError). error)
     (refused_as (len_refusal offset) (decided vlan_is_read bytes fits))
-    (record { there = vlan_there outer type bytes is_vlan; back = vlan_back outer type bytes is_vlan })
+    (record { present = vlan_present outer type bytes is_vlan; back = vlan_back outer type bytes is_vlan })
     (same_image (λ error refused. inl (is_vlan, refused)) (vlan_refused_back offset type bytes is_vlan))
 lax_extension_decided offset outer type bytes fits (inr is_macsec) =
     decided_as macsec_tagged (λ (error : SliceError). error)
     (refused_as (extension_refusal offset) (lax_macsec_decided outer bytes fits))
-    (record { there = macsec_there outer type bytes is_macsec; back = macsec_back outer type bytes is_macsec })
+    (record { present = macsec_present outer type bytes is_macsec; back = macsec_back outer type bytes is_macsec })
     (same_image (λ error refused. inr (is_macsec, refused)) (macsec_refused_back offset type bytes is_macsec))
 
 -- The ether type before a link extension names a link extension.
@@ -257,10 +257,10 @@ lax_extension_fits outer type bytes (vlan tag payload, incomplete) fits is =
 lax_extension_fits outer type bytes (macsec tag payload, incomplete) fits is =
     let cut = is.1.0 in
     let read = is.1.1 in
-    let behind = AreBytes-back read.header.encoded read.after_tag (subst AreBytes read.header.parts fits) in
+    let after = AreBytes-back read.header.encoded read.after_tag (subst AreBytes read.header.parts fits) in
     let len = macsec_header_len tag in
     let content = cut_fits len (macsec_stated_len tag) source.MacsecShortLength outer len read.after_tag cut
-    behind read.cut in
+    after read.cut in
     subst AreBytes (sym (ap macsec_payload_bytes is.1.2 ∙ payload_by_is tag.ptype cut.source cut.payload)) content
 
 -- ---- layers in bytes of an ether type
@@ -271,18 +271,18 @@ Inside = List Tagged × LaxNet
 
 -- The bytes contain these link extensions and this network layer.
 abbrev pub HoldsLax : Reading → ℕ → ℕ → Bool → Option EtherType → List ℕ → Inside → Type 0
-HoldsLax reading room offset outer type bytes inside =
-    IsLaxInsideIn reading room offset outer type bytes inside.0 inside.1
+HoldsLax reading space offset outer type bytes inside =
+    IsLaxInsideIn reading space offset outer type bytes inside.0 inside.1
 
 -- The offset of the payload of a link extension.
-abbrev pub behind_tag : ℕ → Tagged → ℕ
-behind_tag offset tagged = offset + link_ext_header_len (extension_header tagged.0)
+abbrev pub following_tag : ℕ → Tagged → ℕ
+following_tag offset tagged = offset + link_ext_header_len (extension_header tagged.0)
 
 -- A link extension followed by the layers in its payload.
 abbrev HoldsTag : Reading → ℕ → ℕ → Tagged → Inside → Type 0
-HoldsTag reading room offset tagged inside =
+HoldsTag reading space offset tagged inside =
     (others : Inside)
-    × HoldsLax reading room (behind_tag offset tagged) tagged.1 (extension_type tagged.0) (extension_payload tagged.0) others
+    × HoldsLax reading space (following_tag offset tagged) tagged.1 (extension_type tagged.0) (extension_payload tagged.0) others
     × (inside ≡ (tagged ∷ others.0, others.1))
 
 -- No link extension is read, for this reason.
@@ -291,25 +291,25 @@ HoldsNone outer error inside = inside ≡ ([], no_net outer (Some (error_with_la
 
 -- Either the first link extension is rejected, or it is followed by the layers in its payload.
 abbrev HoldsEither : Reading → ℕ → ℕ → Bool → EtherType → List ℕ → Inside → Type 0
-HoldsEither reading room offset outer type bytes inside =
+HoldsEither reading space offset outer type bytes inside =
     ((error : SliceError) × RefusesLaxExtension offset type bytes error × HoldsNone outer error inside)
-    ⊎ ((tagged : Tagged) × IsLaxExtension outer type bytes tagged × HoldsTag reading room offset tagged inside)
+    ⊎ ((tagged : Tagged) × IsLaxExtension outer type bytes tagged × HoldsTag reading space offset tagged inside)
 
-either_there : (reading : Reading) (room offset : ℕ) (outer : Bool) (type : EtherType) (bytes : List ℕ) (inside : Inside)
-    → HoldsEither reading room offset outer type bytes inside → HoldsLax reading (suc room) offset outer (Some type) bytes inside
-either_there reading room offset outer type bytes inside (inl refused) =
-    subst (HoldsLax reading (suc room) offset outer (Some type) bytes) (sym refused.2)
+either_present : (reading : Reading) (space offset : ℕ) (outer : Bool) (type : EtherType) (bytes : List ℕ) (inside : Inside)
+    → HoldsEither reading space offset outer type bytes inside → HoldsLax reading (suc space) offset outer (Some type) bytes inside
+either_present reading space offset outer type bytes inside (inl refused) =
+    subst (HoldsLax reading (suc space) offset outer (Some type) bytes) (sym refused.2)
     (inr (refused.0, refused.1, refl))
-either_there reading room offset outer type bytes inside (inr found) =
-    subst (HoldsLax reading (suc room) offset outer (Some type) bytes) (sym found.2.2) (found.1, found.2.1)
+either_present reading space offset outer type bytes inside (inr found) =
+    subst (HoldsLax reading (suc space) offset outer (Some type) bytes) (sym found.2.2) (found.1, found.2.1)
 
-either_back : (reading : Reading) (room offset : ℕ) (outer : Bool) (type : EtherType) (bytes : List ℕ) → BeginsLinkExtension type
-    → (inside : Inside) → HoldsLax reading (suc room) offset outer (Some type) bytes inside
-    → HoldsEither reading room offset outer type bytes inside
-either_back reading room offset outer type bytes begins ([], net) (inl none) = absurd (none.0 begins)
-either_back reading room offset outer type bytes begins ([], net) (inr refused) =
+either_back : (reading : Reading) (space offset : ℕ) (outer : Bool) (type : EtherType) (bytes : List ℕ) → BeginsLinkExtension type
+    → (inside : Inside) → HoldsLax reading (suc space) offset outer (Some type) bytes inside
+    → HoldsEither reading space offset outer type bytes inside
+either_back reading space offset outer type bytes begins ([], net) (inl none) = absurd (none.0 begins)
+either_back reading space offset outer type bytes begins ([], net) (inr refused) =
     inl (refused.0, refused.1, λ i. ([], refused.2 i))
-either_back reading room offset outer type bytes begins (tagged ∷ others, net) is =
+either_back reading space offset outer type bytes begins (tagged ∷ others, net) is =
     inr (tagged, is.0, ((others, net), is.1, refl))
 
 bare : LaxNet → Inside
@@ -322,61 +322,61 @@ unfolding bare
 bare_back reading offset outer type bytes ([], net) is = (net, is, refl)
 bare_back reading offset outer type bytes (tagged ∷ others, net) is = absurd is
 
-none_back : (reading : Reading) (room offset : ℕ) (outer : Bool) (type : EtherType) (bytes : List ℕ) → (¬ BeginsLinkExtension type)
-    → (inside : Inside) → HoldsLax reading (suc room) offset outer (Some type) bytes inside
+none_back : (reading : Reading) (space offset : ℕ) (outer : Bool) (type : EtherType) (bytes : List ℕ) → (¬ BeginsLinkExtension type)
+    → (inside : Inside) → HoldsLax reading (suc space) offset outer (Some type) bytes inside
     → (net : LaxNet) × IsLaxNetIn reading offset outer (net_kind type) bytes net × (inside ≡ bare net)
 unfolding bare
-none_back reading room offset outer type bytes none ([], net) (inl is) = (net, is.1, refl)
-none_back reading room offset outer type bytes none ([], net) (inr refused) =
+none_back reading space offset outer type bytes none ([], net) (inl is) = (net, is.1, refl)
+none_back reading space offset outer type bytes none ([], net) (inr refused) =
     absurd (none (lax_refused_begins offset type bytes refused.0 refused.1))
-none_back reading room offset outer type bytes none (tagged ∷ others, net) is =
+none_back reading space offset outer type bytes none (tagged ∷ others, net) is =
     absurd (none (lax_extension_begins outer type bytes tagged is.0))
 
-bare_there : (reading : Reading) (offset : ℕ) (outer : Bool) (type : EtherType) (bytes : List ℕ) (net : LaxNet)
+bare_present : (reading : Reading) (offset : ℕ) (outer : Bool) (type : EtherType) (bytes : List ℕ) (net : LaxNet)
     → IsLaxNetIn reading offset outer (net_kind type) bytes net → HoldsLax reading zero offset outer (Some type) bytes (bare net)
 unfolding bare
-bare_there reading offset outer type bytes net is = is
+bare_present reading offset outer type bytes net is = is
 
-none_there : (reading : Reading) (room offset : ℕ) (outer : Bool) (type : EtherType) (bytes : List ℕ) → (¬ BeginsLinkExtension type)
+without_extension : (reading : Reading) (space offset : ℕ) (outer : Bool) (type : EtherType) (bytes : List ℕ) → (¬ BeginsLinkExtension type)
     → (net : LaxNet) → IsLaxNetIn reading offset outer (net_kind type) bytes net
-    → HoldsLax reading (suc room) offset outer (Some type) bytes (bare net)
+    → HoldsLax reading (suc space) offset outer (Some type) bytes (bare net)
 unfolding bare
-none_there reading room offset outer type bytes none net is = inl (none, is)
+without_extension reading space offset outer type bytes none net is = inl (none, is)
 
 -- Bytes of an ether type contain exactly one list of link extensions with one network layer.
-pub lax_inside_is_one : (reading : Reading) (room offset : ℕ) (outer : Bool) (type : Option EtherType) (bytes : List ℕ) → AreBytes bytes
-    → IsOne (HoldsLax reading room offset outer type bytes)
-lax_inside_is_one reading room offset outer None bytes fits = record {
+pub lax_inside_is_one : (reading : Reading) (space offset : ℕ) (outer : Bool) (type : Option EtherType) (bytes : List ℕ) → AreBytes bytes
+    → IsOne (HoldsLax reading space offset outer type bytes)
+lax_inside_is_one reading space offset outer None bytes fits = record {
   value = ([], no_net outer None);
   is = (refl, refl);
   only = λ other is. λ i. (is.0 i, is.1 i);
 }
 lax_inside_is_one reading zero offset outer (Some type) bytes fits =
     one_as bare (lax_net_is_one reading offset outer type bytes fits)
-    (record { there = bare_there reading offset outer type bytes; back = bare_back reading offset outer type bytes })
-lax_inside_is_one reading (suc room) offset outer (Some type) bytes fits =
+    (record { present = bare_present reading offset outer type bytes; back = bare_back reading offset outer type bytes })
+lax_inside_is_one reading (suc space) offset outer (Some type) bytes fits =
     elim (cases_begins type) [
       | inl begins ↦
-          one_as {Is = HoldsEither reading room offset outer type bytes} (λ (inside : Inside). inside)
+          one_as {Is = HoldsEither reading space offset outer type bytes} (λ (inside : Inside). inside)
           (one_either {Is = IsLaxExtension outer type bytes} {Refuses = RefusesLaxExtension offset type bytes}
-          {There = HoldsTag reading room offset} {Instead = HoldsNone outer}
+          {Present = HoldsTag reading space offset} {Instead = HoldsNone outer}
           (lax_extension_decided offset outer type bytes fits begins)
-          (λ tagged is. one_as {Is = HoldsLax reading room (behind_tag offset tagged) tagged.1 (extension_type tagged.0)
+          (λ tagged is. one_as {Is = HoldsLax reading space (following_tag offset tagged) tagged.1 (extension_type tagged.0)
           (extension_payload tagged.0)}
           (λ (others : Inside). (tagged ∷ others.0, others.1))
-          (lax_inside_is_one reading room (behind_tag offset tagged) tagged.1 (extension_type tagged.0) (extension_payload tagged.0)
+          (lax_inside_is_one reading space (following_tag offset tagged) tagged.1 (extension_type tagged.0) (extension_payload tagged.0)
           (lax_extension_fits outer type bytes tagged fits is))
-          (record { there = λ others is. (others, is, refl); back = λ inside is. is }))
+          (record { present = λ others is. (others, is, refl); back = λ inside is. is }))
           (λ error refused. one_same ([], no_net outer (Some (error_with_layer error)))))
-          (same_image (either_there reading room offset outer type bytes) (either_back reading room offset outer type bytes begins))
+          (same_image (either_present reading space offset outer type bytes) (either_back reading space offset outer type bytes begins))
       | inr none ↦
           one_as bare (lax_net_is_one reading offset outer type bytes fits)
           (record {
-            there = none_there reading room offset outer type bytes none;
-            back = none_back reading room offset outer type bytes none;
+            present = without_extension reading space offset outer type bytes none;
+            back = none_back reading space offset outer type bytes none;
           })
     ]
 
-pub inside_is_one : (room offset : ℕ) (outer : Bool) (type : Option EtherType) (bytes : List ℕ) → AreBytes bytes
-    → IsOne (HoldsLax slices room offset outer type bytes)
+pub inside_is_one : (space offset : ℕ) (outer : Bool) (type : Option EtherType) (bytes : List ℕ) → AreBytes bytes
+    → IsOne (HoldsLax slices space offset outer type bytes)
 inside_is_one = lax_inside_is_one slices

@@ -40,32 +40,32 @@ payload_by_is ptype.Encrypted end bytes = refl
 payload_by_is ptype.EncryptedUnmodified end bytes = refl
 
 -- Facts about a MACsec packet built from its parsed parts.
-pub record IsPutTogether (outer : Bool) (bytes tag : List ℕ) (header : MacsecHeader) (payload : MacsecPayload)
+pub record IsAssembled (outer : Bool) (bytes tag : List ℕ) (header : MacsecHeader) (payload : MacsecPayload)
     (cut : LaxCut) : Type 0 where
   pub parts : bytes ≡ (tag ++ macsec_payload_bytes payload) ++ cut.left
   pub is : IsLaxMacsec outer bytes (header, cut)
 
-pub macsec_put_together : (outer : Bool) (bytes tag rest : List ℕ) (header : MacsecHeader)
+pub macsec_assembled : (outer : Bool) (bytes tag rest : List ℕ) (header : MacsecHeader)
     → bytes ≡ tag ++ rest → IsMacsecHeader bytes (header, rest) → (n : ℕ) → n ≡ length tag
     → n ≡ macsec_header_len header → (stated : ℕ) → stated ≡ macsec_stated_len header
     → (cut : LaxCut) → IsLaxCut n stated source.MacsecShortLength outer n (drop n bytes) cut
     → (payload : MacsecPayload) → payload ≡ payload_by header.ptype cut.source cut.payload
-    → IsPutTogether outer bytes tag header payload cut
-macsec_put_together outer bytes tag rest header parts stands n len header_len stated says_is cut cuts payload payload_is =
-    let behind : drop n bytes ≡ rest = ap (drop n) parts ∙ drop_at tag rest n (sym len) in
+    → IsAssembled outer bytes tag header payload cut
+macsec_assembled outer bytes tag rest header parts holds n len header_len stated says_is cut cuts payload payload_is =
+    let after : drop n bytes ≡ rest = ap (drop n) parts ∙ drop_at tag rest n (sym len) in
     let shown : macsec_payload_bytes payload ≡ cut.payload =
     ap macsec_payload_bytes payload_is ∙ payload_by_is header.ptype cut.source cut.payload in
-    let cuts_behind : IsLaxCut n stated source.MacsecShortLength outer n rest cut =
-    subst (λ (b : List ℕ). IsLaxCut n stated source.MacsecShortLength outer n b cut) behind cuts in
+    let cuts_after : IsLaxCut n stated source.MacsecShortLength outer n rest cut =
+    subst (λ (b : List ℕ). IsLaxCut n stated source.MacsecShortLength outer n b cut) after cuts in
     let cuts_says : IsLaxCut n (macsec_stated_len header) source.MacsecShortLength outer n rest cut =
-    subst (λ (s : ℕ). IsLaxCut n s source.MacsecShortLength outer n rest cut) says_is cuts_behind in
+    subst (λ (s : ℕ). IsLaxCut n s source.MacsecShortLength outer n rest cut) says_is cuts_after in
     record {
-      parts = parts ∙ ap (λ (s : List ℕ). tag ++ s) (cuts_behind.parts
+      parts = parts ∙ ap (λ (s : List ℕ). tag ++ s) (cuts_after.parts
           ∙ ap (λ (s : List ℕ). s ++ cut.left) (sym shown))
           ∙ sym (append_assoc tag (macsec_payload_bytes payload) cut.left);
       is = record {
         after_tag = rest;
-        header = stands;
+        header = holds;
         cut = subst (λ (k : ℕ). IsLaxCut k (macsec_stated_len header) source.MacsecShortLength outer k rest cut) header_len
             cuts_says;
       };

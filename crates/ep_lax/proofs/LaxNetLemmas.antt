@@ -44,19 +44,19 @@ lax_ipv4_lens : (reading : Reading) (outer : Bool) (bytes : List ℕ) (lax : Lax
 lax_ipv4_lens reading outer bytes lax is =
     let header = is.0.0 in
     let rest = is.0.1 in
-    let stands = is.1 in
-    let behind = is.2 in
-    let cut = behind.cut in
+    let holds = is.1 in
+    let after = is.2 in
+    let cut = after.cut in
     subst (λ (l : LaxIp Ipv4Header). length bytes
-    ≡ net_payload_offset (ipv4_layer l.packet) + length l.packet.payload.bytes + length l.packet.left) (sym behind.is)
+    ≡ net_payload_offset (ipv4_layer l.packet) + length l.packet.payload.bytes + length l.packet.left) (sym after.is)
     (omega (
       arith,
-      ap length stands.parts,
-      length-append stands.encoded rest,
-      encoded_len stands.encoded header stands.encodes,
-      ap length behind.cuts.parts,
+      ap length holds.parts,
+      length-append holds.encoded rest,
+      encoded_len holds.encoded header holds.encodes,
+      ap length after.cuts.parts,
       length-append cut.payload cut.left,
-      lax_chain_len ipv4 reading header.protocol.0 cut.payload behind.chain behind.refused behind.is_chain,
+      lax_chain_len ipv4 reading header.protocol.0 cut.payload after.chain after.refused after.is_chain,
     ))
 
 -- The length of the bytes is the sum of the headers, payload and trailing bytes of an IPv6 packet.
@@ -66,19 +66,19 @@ lax_ipv6_lens : (reading : Reading) (outer : Bool) (bytes : List ℕ) (lax : Lax
 lax_ipv6_lens reading outer bytes lax is =
     let header = is.0.0 in
     let rest = is.0.1 in
-    let stands = is.1 in
-    let behind = is.2 in
-    let cut = behind.cut in
+    let holds = is.1 in
+    let after = is.2 in
+    let cut = after.cut in
     subst (λ (l : LaxIp Ipv6Header). length bytes
-    ≡ net_payload_offset (ipv6_layer l.packet) + length l.packet.payload.bytes + length l.packet.left) (sym behind.is)
+    ≡ net_payload_offset (ipv6_layer l.packet) + length l.packet.payload.bytes + length l.packet.left) (sym after.is)
     (omega (
       arith,
-      ap length stands.parts,
+      ap length holds.parts,
       length-append (ipv6_bytes header) rest,
-      ipv6_len header stands.fits,
-      ap length behind.cuts.parts,
+      ipv6_len header holds.fits,
+      ap length after.cuts.parts,
       length-append cut.payload cut.left,
-      lax_chain_len ipv6 reading header.next_header.0 cut.payload behind.chain behind.refused behind.is_chain,
+      lax_chain_len ipv6 reading header.next_header.0 cut.payload after.chain after.refused after.is_chain,
     ))
 
 -- ---- start of a rejected extension header
@@ -89,36 +89,36 @@ stop_start n end (header_error.Len error) = omega arith
 stop_start n end (header_error.Content error) = omega arith
 
 -- A rejected extension header after a header of this length starts within the bytes of the packet.
-behind_within : (n : ℕ) (end : LenSource) (version : IpVersion) (reading : Reading) (number : ℕ) (content : List ℕ)
+after_within : (n : ℕ) (end : LenSource) (version : IpVersion) (reading : Reading) (number : ℕ) (content : List ℕ)
     (chain : ExtensionChain) (refused : Option HeaderSliceError) → IsLaxChainIn version reading number content chain refused
     → (error : HeaderSliceError) → option_map (stop_after n end) refused ≡ Some error
     → offset_of error ≤ n + length content
-behind_within n end version reading number content chain None front error same = absurd (cc same)
-behind_within n end version reading number content chain (Some refused) front error same =
+after_within n end version reading number content chain None prefix error same = absurd (cc same)
+after_within n end version reading number content chain (Some refused) prefix error same =
     let is : stop_after n end refused ≡ error = cc in
     omega (
       arith,
       ap offset_of is,
       stop_start n end refused,
-      stop_within version reading number content chain (Some refused) front refused refl,
+      stop_within version reading number content chain (Some refused) prefix refused refl,
     )
 
 pub ipv4_stop_within : (reading : Reading) (outer : Bool) (bytes : List ℕ) (lax : LaxIp Ipv4Header) → IsLaxIpv4In reading outer bytes lax
     → (error : HeaderSliceError) → lax.stop ≡ Some error → offset_of error ≤ length bytes
 ipv4_stop_within reading outer bytes lax is error same =
     let header = is.0.0 in
-    let stands = is.1 in
-    let behind = is.2 in
-    let cut = behind.cut in
-    let error_with_layer = sym (ap (λ (l : LaxIp Ipv4Header). l.stop) behind.is) ∙ same in
+    let holds = is.1 in
+    let after = is.2 in
+    let cut = after.cut in
+    let error_with_layer = sym (ap (λ (l : LaxIp Ipv4Header). l.stop) after.is) ∙ same in
     omega (
       arith,
-      behind_within (ipv4_header_len header) cut.source ipv4 reading header.protocol.0 cut.payload behind.chain behind.refused
-          behind.is_chain error error_with_layer,
-      ap length stands.parts,
-      length-append stands.encoded is.0.1,
-      encoded_len stands.encoded header stands.encodes,
-      ap length behind.cuts.parts,
+      after_within (ipv4_header_len header) cut.source ipv4 reading header.protocol.0 cut.payload after.chain after.refused
+          after.is_chain error error_with_layer,
+      ap length holds.parts,
+      length-append holds.encoded is.0.1,
+      encoded_len holds.encoded header holds.encodes,
+      ap length after.cuts.parts,
       length-append cut.payload cut.left,
     )
 
@@ -126,31 +126,31 @@ pub ipv6_stop_within : (reading : Reading) (outer : Bool) (bytes : List ℕ) (la
     → (error : HeaderSliceError) → lax.stop ≡ Some error → offset_of error ≤ length bytes
 ipv6_stop_within reading outer bytes lax is error same =
     let header = is.0.0 in
-    let stands = is.1 in
-    let behind = is.2 in
-    let cut = behind.cut in
-    let error_with_layer = sym (ap (λ (l : LaxIp Ipv6Header). l.stop) behind.is) ∙ same in
+    let holds = is.1 in
+    let after = is.2 in
+    let cut = after.cut in
+    let error_with_layer = sym (ap (λ (l : LaxIp Ipv6Header). l.stop) after.is) ∙ same in
     omega (
       arith,
-      behind_within 40 lax.packet.payload.source ipv6 reading header.next_header.0 cut.payload behind.chain behind.refused
-          behind.is_chain error
-          (ap (λ (e : LenSource). option_map (stop_after 40 e) behind.refused)
-          (ap (λ (l : LaxIp Ipv6Header). l.packet.payload.source) behind.is) ∙ error_with_layer),
-      ap length stands.parts,
+      after_within 40 lax.packet.payload.source ipv6 reading header.next_header.0 cut.payload after.chain after.refused
+          after.is_chain error
+          (ap (λ (e : LenSource). option_map (stop_after 40 e) after.refused)
+          (ap (λ (l : LaxIp Ipv6Header). l.packet.payload.source) after.is) ∙ error_with_layer),
+      ap length holds.parts,
       length-append (ipv6_bytes header) is.0.1,
-      ipv6_len header stands.fits,
-      ap length behind.cuts.parts,
+      ipv6_len header holds.fits,
+      ap length after.cuts.parts,
       length-append cut.payload cut.left,
     )
 
 -- ---- layers in a packet
 
-pub behind_is_inside : (version : IpVersion) (offset len : ℕ) (incomplete : Bool) (payload : IpPayload)
+pub after_is_inside : (version : IpVersion) (offset len : ℕ) (incomplete : Bool) (payload : IpPayload)
     (stop : Option HeaderSliceError) (inside : LaxTransport)
     → IsInIpPayload (offset + len) incomplete payload (option_map (chain_refusal version offset) stop) inside
     → IsInsideIp version offset len incomplete payload stop inside
-behind_is_inside version offset len incomplete payload None inside is = is
-behind_is_inside version offset len incomplete payload (Some error) inside is = is
+after_is_inside version offset len incomplete payload None inside is = is
+after_is_inside version offset len incomplete payload (Some error) inside is = is
 
 -- The layers in an IP packet, stated with the contracts of the calls.
 inside_ip : (version : IpVersion) (offset len at : ℕ) (payload : IpPayload) (incomplete : Bool)
@@ -161,7 +161,7 @@ inside_ip : (version : IpVersion) (offset len at : ℕ) (payload : IpPayload) (i
     → IsInIpPayload at shown.incomplete (lax_ip_payload_of shown) found (inside_of shown.incomplete transport_slice error_with_layer)
     → IsInsideIp version offset len incomplete payload stop (inside_of incomplete transport_slice error_with_layer)
 inside_ip version offset len at payload incomplete shown stop found transport_slice error_with_layer place same missing found_is is =
-    behind_is_inside version offset len incomplete payload stop (inside_of incomplete transport_slice error_with_layer)
+    after_is_inside version offset len incomplete payload stop (inside_of incomplete transport_slice error_with_layer)
     (transport (λ i. IsInIpPayload (place i) (missing i) (same i) (found_is i)
     (inside_of (missing i) transport_slice error_with_layer)) is)
 
@@ -189,14 +189,14 @@ ipv4_filled offset len at packet refused shown found transport_slice error_with_
       ap length parts,
       length-append (lax_ipv4_slice_bytes packet) left,
     ) in
-    let there : at ≡ offset + headers = omega (arith, place, len_is) in (
+    let present : at ≡ offset + headers = omega (arith, place, len_is) in (
       (
         lax,
         is,
         (
           inside_of lax.incomplete transport_slice error_with_layer,
           inside_ip ipv4 offset headers at lax.packet.payload lax.incomplete shown lax.stop found transport_slice error_with_layer
-              there same missing found_is inside,
+              present same missing found_is inside,
           refl,
         ),
       ),
@@ -229,14 +229,14 @@ ipv6_filled offset len at packet shown found transport_slice error_with_layer le
       ap length parts,
       length-append (lax_ipv6_slice_bytes packet) left,
     ) in
-    let there : at ≡ offset + headers = omega (arith, place, len_is) in (
+    let present : at ≡ offset + headers = omega (arith, place, len_is) in (
       (
         lax,
         is,
         (
           inside_of lax.incomplete transport_slice error_with_layer,
           inside_ip ipv6 offset headers at lax.packet.payload lax.incomplete shown lax.stop found transport_slice error_with_layer
-              there same missing found_is inside,
+              present same missing found_is inside,
           refl,
         ),
       ),

@@ -126,9 +126,9 @@ one_rest : (number : ℕ) (bytes : List ℕ) (part : ExtensionPart) (rest other 
 one_rest number bytes part rest other is other_is =
     let cut = part_cut number bytes part rest is in
     let other_cut = part_cut number bytes part other other_is in
-    sym (front_rest bytes cut.front rest cut.parts)
+    sym (front_rest bytes cut.prefix rest cut.parts)
     ∙ ap (λ (n : ℕ). drop n bytes) (cut.len_is ∙ sym other_cut.len_is)
-    ∙ front_rest bytes other_cut.front other other_cut.parts
+    ∙ front_rest bytes other_cut.prefix other other_cut.parts
 
 further_offset : (offset : ℕ) (error : ExtsSliceError)
     → with_offset_in offset error ≡ with_offset_in (offset + 0) (with_offset_in 0 error)

@@ -90,25 +90,25 @@ regroup bytes header rest content inner payload left parts rest_is content_is =
 
 ipv4_net_bytes : (reading : Reading) (outer : Bool) (bytes : List ℕ) (lax : LaxIp Ipv4Header)
     → IsLaxIpv4In reading outer bytes lax → NetBytes bytes (ipv4_layer lax.packet)
-ipv4_net_bytes reading outer bytes lax (read, stands, is) =
+ipv4_net_bytes reading outer bytes lax (read, holds, is) =
     let chain = chain_bytes_are reading ipv4 read.0.protocol.0 is.cut.payload is.chain is.refused is.is_chain in
     subst (λ (l : LaxIp Ipv4Header). NetBytes bytes (ipv4_layer l.packet)) (sym is.is) (record {
-      header = stands.encoded ++ chain.0;
+      header = holds.encoded ++ chain.0;
       left = is.cut.left;
-      encodes = (stands.encoded, chain.0, stands.encodes, chain.1, refl);
-      parts = regroup bytes stands.encoded read.1 is.cut.payload chain.0 is.chain.rest is.cut.left stands.parts
+      encodes = (holds.encoded, chain.0, holds.encodes, chain.1, refl);
+      parts = regroup bytes holds.encoded read.1 is.cut.payload chain.0 is.chain.rest is.cut.left holds.parts
           is.cuts.parts chain.2;
     })
 
 ipv6_net_bytes : (reading : Reading) (outer : Bool) (bytes : List ℕ) (lax : LaxIp Ipv6Header)
     → IsLaxIpv6In reading outer bytes lax → NetBytes bytes (ipv6_layer lax.packet)
-ipv6_net_bytes reading outer bytes lax (read, stands, is) =
+ipv6_net_bytes reading outer bytes lax (read, holds, is) =
     let chain = chain_bytes_are reading ipv6 read.0.next_header.0 is.cut.payload is.chain is.refused is.is_chain in
     subst (λ (l : LaxIp Ipv6Header). NetBytes bytes (ipv6_layer l.packet)) (sym is.is) (record {
       header = ipv6_bytes read.0 ++ chain.0;
       left = is.cut.left;
-      encodes = (stands.fits, (chain.0, chain.1, refl));
-      parts = regroup bytes (ipv6_bytes read.0) read.1 is.cut.payload chain.0 is.chain.rest is.cut.left stands.parts
+      encodes = (holds.fits, (chain.0, chain.1, refl));
+      parts = regroup bytes (ipv6_bytes read.0) read.1 is.cut.payload chain.0 is.chain.rest is.cut.left holds.parts
           is.cuts.parts chain.2;
     })
 
@@ -236,26 +236,26 @@ tag_bytes outer type bytes (macsec tag payload, incomplete) (of_type, (cut, is, 
       ∙ sym (append_assoc is.header.encoded (macsec_payload_bytes payload) cut.left);
 }
 
-pub extensions_in_order : (reading : Reading) (room offset : ℕ) (outer : Bool) (type : Option EtherType)
+pub extensions_in_order : (reading : Reading) (space offset : ℕ) (outer : Bool) (type : Option EtherType)
     (bytes : List ℕ) (extensions : List (LinkExtension × Bool)) (net : LaxNet)
-    → IsLaxInsideIn reading room offset outer type bytes extensions net
+    → IsLaxInsideIn reading space offset outer type bytes extensions net
     → InsideBytes bytes (map extension_in extensions) net.layer net.inside.layer
-extensions_in_order reading room offset outer None bytes extensions net (no_tags, same) =
+extensions_in_order reading space offset outer None bytes extensions net (no_tags, same) =
     subst (λ (x : List (LinkExtension × Bool)). InsideBytes bytes (map extension_in x) net.layer net.inside.layer)
     (sym no_tags)
     (no_net_in_order bytes net _ refl refl same)
 extensions_in_order reading zero offset outer (Some type) bytes [] net is =
     net_in_order reading offset outer (net_kind type) bytes net is
 extensions_in_order reading zero offset outer (Some type) bytes (extension ∷ others) net is = absurd is
-extensions_in_order reading (suc room) offset outer (Some type) bytes [] net (inl is) =
+extensions_in_order reading (suc space) offset outer (Some type) bytes [] net (inl is) =
     net_in_order reading offset outer (net_kind type) bytes net is.1
-extensions_in_order reading (suc room) offset outer (Some type) bytes [] net (inr refused) =
+extensions_in_order reading (suc space) offset outer (Some type) bytes [] net (inr refused) =
     no_net_in_order bytes net _ refl refl refused.2
-extensions_in_order reading (suc room) offset outer (Some type) bytes (extension ∷ others) net is =
+extensions_in_order reading (suc space) offset outer (Some type) bytes (extension ∷ others) net is =
     let are = tag_bytes outer type bytes extension is.0 in
     tagged_bytes bytes are.tag are.left extension.0 (map extension_in others) net.layer net.inside.layer are.encodes
     are.parts
-    (extensions_in_order reading room (offset + link_ext_header_len (extension_header extension.0)) extension.1
+    (extensions_in_order reading space (offset + link_ext_header_len (extension_header extension.0)) extension.1
     (extension_type extension.0) (extension_payload extension.0) others net is.1)
 
 -- ---- the frame

@@ -33,7 +33,7 @@ use Rattle.ep_packet.specs.declared.entry.Entry.TheVariants.{EtherType as ether_
 use Rattle.ep_packet.specs.declared.err.slice_error.SliceError.{SliceError}
 use Rattle.ep_packet.specs.declared.link_part.LinkPart.{LinkPart}
 use Rattle.ep_packet.specs.declared.net_headers.NetHeaders.{NetHeaders}
-use Rattle.ep_packet.specs.Frame.{any_ip, net_kind, most_link_exts}
+use Rattle.ep_packet.specs.Frame.{NetKind, any_ip, net_kind, most_link_exts}
 use Rattle.ep_packet.specs.FrameRefusals.{net_payload_offset}
 use Rattle.ep_packet.specs.IpHeaders.{ip_headers_of, ip_part_payload}
 use Rattle.ep_packet.specs.LaxIpHeaders.{FillsLaxIp}
@@ -51,7 +51,7 @@ use Rattle.ep_lax.specs.LaxWalk.{IsInIpPayload}
 use Rattle.ep_lax.specs.StrictFrames.{extension_in}
 use Rattle.ep_lax.proofs.LaxEntryLemmas.{lax_in_decided}
 use Rattle.ep_lax.proofs.LaxLinkLemmas.{is_lax}
-use Rattle.ep_lax.proofs.LaxNetLemmas.{behind_is_inside}
+use Rattle.ep_lax.proofs.LaxNetLemmas.{after_is_inside}
 
 -- ---- IP packets
 
@@ -71,13 +71,13 @@ pub lax_ip_filled : {Header : Type 0} (version : IpVersion) (layer_of : IpPacket
     (record old { net = option_map net_header_of net }) new
     → (result : LaxNet) × IsIpLayer version layer_of offset lax result × (new ≡ with_lax_net old unread result)
 lax_ip_filled version layer_of part_of layers payloads heads nets lax bytes offset at place net payload found unread old
-    new read there found_is fills =
+    new read present found_is fills =
     let packet = lax.packet in
     let layer = layer_of packet in
     let len = net_payload_offset layer in
     let inside = fills.inside in
     let place_is : place ≡ offset + len =
-    there ∙ ap (λ (n : ℕ). offset + n) (read.place ∙ ap net_payload_offset (layers packet)) in
+    present ∙ ap (λ (n : ℕ). offset + n) (read.place ∙ ap net_payload_offset (layers packet)) in
     let payload_is : lax_ip_payload_of payload ≡ packet.payload = read.same_payload ∙ payloads packet in
     let part : IsInIpPayload (offset + len) lax.incomplete packet.payload
     (option_map (chain_refusal version offset) lax.stop) inside =
@@ -89,12 +89,21 @@ lax_ip_filled version layer_of part_of layers payloads heads nets lax bytes offs
       net_with layer lax.incomplete inside,
       (
         inside,
-        behind_is_inside version offset len lax.incomplete packet.payload lax.stop inside part,
+        after_is_inside version offset len lax.incomplete packet.payload lax.stop inside part,
         refl,
       ),
       fills.filled
           ∙ (λ i. with_lax_transport (record old { net = named i }) (outside i) inside),
     )
+
+-- Reading stopped at an invalid header of the network layer.
+pub net_stopped : (offset : ℕ) (outer : Bool) (kind : NetKind) (bytes : List ℕ) (unread : LaxPayloadPart)
+    (old new : LaxHeaders) (error : SliceError)
+    → IsLaxNetIn headers offset outer (Some kind) bytes (no_net outer (Some (error_with_layer error)))
+    → new ≡ with_lax_net old unread (no_net outer (Some (error_with_layer error)))
+    → FillsLaxNet offset outer (Some kind) bytes unread old new
+net_stopped offset outer kind bytes unread old new error part filled =
+    record { net = no_net outer (Some (error_with_layer error)); part = part; filled = filled }
 
 -- ---- UDP
 
@@ -102,9 +111,9 @@ udp_bytes_len : (datagram : UdpHeader) → length (udp_bytes datagram) ≡ 8
 udp_bytes_len datagram = refl
 
 -- The bytes after a UDP header of 8 bytes.
-pub behind_udp : (bytes : List ℕ) (datagram : UdpHeader) (rest : List ℕ) → IsUdpHeader bytes (datagram, rest)
+pub after_udp : (bytes : List ℕ) (datagram : UdpHeader) (rest : List ℕ) → IsUdpHeader bytes (datagram, rest)
     → drop 8 bytes ≡ rest
-behind_udp bytes datagram rest is = ap (drop 8) is.parts ∙ drop_at (udp_bytes datagram) rest 8 (udp_bytes_len datagram)
+after_udp bytes datagram rest is = ap (drop 8) is.parts ∙ drop_at (udp_bytes datagram) rest 8 (udp_bytes_len datagram)
 
 -- ---- payload of a transport layer
 
@@ -156,32 +165,32 @@ shows_udp payload incomplete rest datagram cut shown is same = (
 -- ---- link extensions
 
 -- Link extensions end at the greatest number, or at an ether type that is none of a link extension.
-ends_laxly : (room offset : ℕ) (outer : Bool) (type : EtherType) (bytes : List ℕ) (net : LaxNet)
-    → ((room ≡ 0) ⊎ (¬ BeginsLinkExtension type)) → IsLaxNetIn headers offset outer (net_kind type) bytes net
-    → IsLaxInsideIn headers room offset outer (Some type) bytes [] net
+ends_laxly : (space offset : ℕ) (outer : Bool) (type : EtherType) (bytes : List ℕ) (net : LaxNet)
+    → ((space ≡ 0) ⊎ (¬ BeginsLinkExtension type)) → IsLaxNetIn headers offset outer (net_kind type) bytes net
+    → IsLaxInsideIn headers space offset outer (Some type) bytes [] net
 ends_laxly zero offset outer type bytes net why is = is
-ends_laxly (suc room) offset outer type bytes net (inl full) is = absurd (omega (arith, full))
-ends_laxly (suc room) offset outer type bytes net (inr none) is = inl (none, is)
+ends_laxly (suc space) offset outer type bytes net (inl full) is = absurd (omega (arith, full))
+ends_laxly (suc space) offset outer type bytes net (inr none) is = inl (none, is)
 
-pub fills_no_more : (room offset : ℕ) (payload : LaxEtherPayload) (old new : LaxHeaders)
-    → ((room ≡ 0) ⊎ (¬ BeginsLinkExtension payload.ether_type))
+pub fills_no_more : (space offset : ℕ) (payload : LaxEtherPayload) (old new : LaxHeaders)
+    → ((space ≡ 0) ⊎ (¬ BeginsLinkExtension payload.ether_type))
     → FillsLaxNet offset payload.incomplete (net_kind payload.ether_type) payload.bytes (ether payload) old new
-    → FillsLaxInside room offset payload old new
-fills_no_more room offset payload old new why fills = record {
+    → FillsLaxInside space offset payload old new
+fills_no_more space offset payload old new why fills = record {
   extensions = [];
   net = fills.net;
-  inside = ends_laxly room offset payload.incomplete payload.ether_type payload.bytes fills.net why fills.part;
+  inside = ends_laxly space offset payload.incomplete payload.ether_type payload.bytes fills.net why fills.part;
   filled = fills.filled
       ∙ ap (λ (x : List LinkExtHeader). with_lax_net (record old { link_exts = x }) (ether payload) fills.net)
       (sym (append-nil old.link_exts));
 }
 
 -- Reading stops at a rejected link extension.
-pub fills_stopped : (room rest offset : ℕ) (payload : LaxEtherPayload) (error : SliceError) (old new : LaxHeaders)
-    → room ≡ suc rest → RefusesLaxExtension offset payload.ether_type payload.bytes error
+pub fills_stopped : (space rest offset : ℕ) (payload : LaxEtherPayload) (error : SliceError) (old new : LaxHeaders)
+    → space ≡ suc rest → RefusesLaxExtension offset payload.ether_type payload.bytes error
     → new ≡ with_lax_net old (ether payload) (no_net payload.incomplete (Some (error_with_layer error)))
-    → FillsLaxInside room offset payload old new
-fills_stopped room rest offset payload error old new more refused filled =
+    → FillsLaxInside space offset payload old new
+fills_stopped space rest offset payload error old new more refused filled =
     let net = no_net payload.incomplete (Some (error_with_layer error)) in
     record {
       extensions = [];
@@ -212,46 +221,46 @@ abbrev pub with_tag : LaxHeaders → LinkExtension × Bool → LaxHeaders
 with_tag old tagged = record old { link_exts = old.link_exts ++ tag_header_in tagged ∷ [] }
 
 -- A link extension that was read, and the layers read in its payload, are the layers of the bytes.
-pub fills_one : (room rest offset place : ℕ) (payload inside : LaxEtherPayload) (tagged : LinkExtension × Bool)
+pub fills_one : (space rest offset place : ℕ) (payload inside : LaxEtherPayload) (tagged : LinkExtension × Bool)
     (old middle new : LaxHeaders)
-    → room ≡ suc rest → IsLaxExtension payload.incomplete payload.ether_type payload.bytes tagged
+    → space ≡ suc rest → IsLaxExtension payload.incomplete payload.ether_type payload.bytes tagged
     → extension_type tagged.0 ≡ Some inside.ether_type
     → inside ≡ typed_payload (extension_source payload.len_source tagged.0) tagged inside.ether_type
     → place ≡ offset + link_ext_header_len (extension_header tagged.0) → middle ≡ with_tag old tagged
-    → FillsLaxInside rest place inside middle new → FillsLaxInside room offset payload old new
-fills_one room rest offset place payload inside tagged old middle new more is typed same place_is there behind =
-    let tags = map tag_header_in behind.extensions in
+    → FillsLaxInside rest place inside middle new → FillsLaxInside space offset payload old new
+fills_one space rest offset place payload inside tagged old middle new more is typed same place_is present after =
+    let tags = map tag_header_in after.extensions in
     let incomplete : inside.incomplete ≡ tagged.1 = ap (λ (p : LaxEtherPayload). p.incomplete) same in
     let bytes : inside.bytes ≡ extension_payload tagged.0 = ap (λ (p : LaxEtherPayload). p.bytes) same in
     record {
-      extensions = tagged ∷ behind.extensions;
-      net = behind.net;
+      extensions = tagged ∷ after.extensions;
+      net = after.net;
       inside = subst (λ (n : ℕ). IsLaxInsideIn headers n offset payload.incomplete (Some payload.ether_type)
-          payload.bytes (tagged ∷ behind.extensions) behind.net) (sym more) (
+          payload.bytes (tagged ∷ after.extensions) after.net) (sym more) (
             is,
             transport (λ i. IsLaxInsideIn headers rest (place_is i) (incomplete i) (sym typed i) (bytes i)
-                behind.extensions behind.net) behind.inside,
+                after.extensions after.net) after.inside,
           );
-      filled = behind.filled
+      filled = after.filled
           ∙ ap (λ (h : LaxHeaders). with_lax_net (record h { link_exts = h.link_exts ++ tags })
-          (open_after inside behind.extensions) behind.net) there
+          (open_after inside after.extensions) after.net) present
           ∙ ap (λ (x : List LinkExtHeader). with_lax_net (record old { link_exts = x })
-          (open_after inside behind.extensions) behind.net)
+          (open_after inside after.extensions) after.net)
           (append_assoc old.link_exts (tag_header_in tagged ∷ []) tags)
           ∙ ap (λ (p : LaxPayloadPart). with_lax_net
-          (record old { link_exts = old.link_exts ++ map tag_header_in (tagged ∷ behind.extensions) }) p behind.net)
-          (open_step payload inside tagged behind.extensions typed same);
+          (record old { link_exts = old.link_exts ++ map tag_header_in (tagged ∷ after.extensions) }) p after.net)
+          (open_step payload inside tagged after.extensions typed same);
     }
 
 -- A link extension that was read, with a payload of unknown type, is the layers of the bytes.
-pub fills_modified : (room rest offset : ℕ) (payload : LaxEtherPayload) (tagged : LinkExtension × Bool)
+pub fills_modified : (space rest offset : ℕ) (payload : LaxEtherPayload) (tagged : LinkExtension × Bool)
     (old new : LaxHeaders)
-    → room ≡ suc rest → IsLaxExtension payload.incomplete payload.ether_type payload.bytes tagged
+    → space ≡ suc rest → IsLaxExtension payload.incomplete payload.ether_type payload.bytes tagged
     → extension_type tagged.0 ≡ None
     → new ≡ with_lax_net (with_tag old tagged) (macsec_modified (extension_payload tagged.0) tagged.1)
     (no_net tagged.1 None)
-    → FillsLaxInside room offset payload old new
-fills_modified room rest offset payload tagged old new more is none filled =
+    → FillsLaxInside space offset payload old new
+fills_modified space rest offset payload tagged old new more is none filled =
     let end = extension_source payload.len_source tagged.0 in
     let net = no_net tagged.1 None in
     record {
@@ -287,62 +296,62 @@ sll_typed protocol payload type same =
     ap (λ (t : Option EtherType). sll_part protocol payload (option_map (unlimited_ether_payload payload) t)) same
 
 -- The payload of a link layer of known type.
-link_typed : (entry : Entry) (bytes : List ℕ) (front : LinkStart) (type : EtherType) → IsLinkStart entry bytes front
-    → front.type ≡ Some type → link_part (Some front.link) ≡ ether (first_payload type front.payload)
-link_typed ethernet bytes front type is typed =
+link_typed : (entry : Entry) (bytes : List ℕ) (prefix : LinkStart) (type : EtherType) → IsLinkStart entry bytes prefix
+    → prefix.type ≡ Some type → link_part (Some prefix.link) ≡ ether (first_payload type prefix.payload)
+link_typed ethernet bytes prefix type is typed =
     let frame = is.0 in
     let same = same_type frame.header.ether_type type (sym (ap (λ (f : LinkStart). f.type) is.2) ∙ typed) in
     ap (λ (f : LinkStart). link_part (Some f.link)) is.2
     ∙ ap (λ (t : EtherType). ether (first_payload t frame.payload)) same
     ∙ ap (λ (b : List ℕ). ether (first_payload type b)) (sym (ap (λ (f : LinkStart). f.payload) is.2))
-link_typed linux_sll bytes front type is typed =
+link_typed linux_sll bytes prefix type is typed =
     let frame = is.0 in
     let same = sym (ap (λ (f : LinkStart). f.type) is.2) ∙ typed in
     ap (λ (f : LinkStart). link_part (Some f.link)) is.2
     ∙ sll_typed frame.header.protocol_type frame.payload type same
     ∙ ap (λ (b : List ℕ). ether (first_payload type b)) (sym (ap (λ (f : LinkStart). f.payload) is.2))
-link_typed (ether_type given) bytes front type is typed =
+link_typed (ether_type given) bytes prefix type is typed =
     let same = same_type given type (sym (ap (λ (f : LinkStart). f.type) is) ∙ typed) in
     ap (λ (f : LinkStart). link_part (Some f.link)) is
     ∙ ap (λ (t : EtherType). ether (first_payload t bytes)) same
     ∙ ap (λ (b : List ℕ). ether (first_payload type b)) (sym (ap (λ (f : LinkStart). f.payload) is))
-link_typed ip_entry bytes front type is typed = absurd is
+link_typed ip_entry bytes prefix type is typed = absurd is
 
 -- The payload of a link layer of unknown type.
-link_untyped : (entry : Entry) (bytes : List ℕ) (front : LinkStart) → IsLinkStart entry bytes front
-    → front.type ≡ None → link_part (Some front.link) ≡ untyped_part front.link
-link_untyped ethernet bytes front is none =
+link_untyped : (entry : Entry) (bytes : List ℕ) (prefix : LinkStart) → IsLinkStart entry bytes prefix
+    → prefix.type ≡ None → link_part (Some prefix.link) ≡ untyped_part prefix.link
+link_untyped ethernet bytes prefix is none =
     absurd (let one = sym (ap (λ (f : LinkStart). f.type) is.2) ∙ none in cc)
-link_untyped linux_sll bytes front is none =
+link_untyped linux_sll bytes prefix is none =
     let frame = is.0 in
-    let none_there = sym (ap (λ (f : LinkStart). f.type) is.2) ∙ none in
+    let none_present = sym (ap (λ (f : LinkStart). f.type) is.2) ∙ none in
     ap (λ (f : LinkStart). link_part (Some f.link)) is.2
     ∙ ap (λ (t : Option EtherType). sll_part frame.header.protocol_type frame.payload
-    (option_map (unlimited_ether_payload frame.payload) t)) none_there
+    (option_map (unlimited_ether_payload frame.payload) t)) none_present
     ∙ ap (λ (f : LinkStart). untyped_part f.link) (sym is.2)
-link_untyped (ether_type given) bytes front is none =
+link_untyped (ether_type given) bytes prefix is none =
     absurd (let one = sym (ap (λ (f : LinkStart). f.type) is) ∙ none in cc)
-link_untyped ip_entry bytes front is none = absurd is
+link_untyped ip_entry bytes prefix is none = absurd is
 
 -- The payload after the link layer and its extensions.
-open_after_link : (front : LinkStart) (type : EtherType) (extensions : List (LinkExtension × Bool))
-    → link_part (Some front.link) ≡ ether (first_payload type front.payload)
-    → open_after (first_payload type front.payload) extensions ≡ open_part (Some front.link) extensions
-open_after_link front type [] same = sym same
-open_after_link front type (first ∷ others) same = refl
+open_after_link : (prefix : LinkStart) (type : EtherType) (extensions : List (LinkExtension × Bool))
+    → link_part (Some prefix.link) ≡ ether (first_payload type prefix.payload)
+    → open_after (first_payload type prefix.payload) extensions ≡ open_part (Some prefix.link) extensions
+open_after_link prefix type [] same = sym same
+open_after_link prefix type (first ∷ others) same = refl
 
 -- The headers of a packet that begins with a link layer of known type.
 pub link_filled : (part : LinkPart) (type : EtherType) (old new : LaxHeaders) → part.ether_type ≡ Some type
     → old.link ≡ link_header_of (link_layer_of part.link) → old.link_exts ≡ []
     → FillsLaxInside most_link_exts part.offset (first_payload type part.slice.now) old new → AreAfterLink part new
 link_filled part type old new typed link none fills = λ entry bytes begins.
-    let front = link_start_of part in
+    let prefix = link_start_of part in
     let extensions = fills.extensions in
     let net = fills.net in
-    let layers : LaxLayers = record { link = Some front.link; link_exts = extensions; net = net } in
-    let opened = open_after_link front type extensions (link_typed entry bytes front type begins.is typed) in (
+    let layers : LaxLayers = record { link = Some prefix.link; link_exts = extensions; net = net } in
+    let opened = open_after_link prefix type extensions (link_typed entry bytes prefix type begins.is typed) in (
       layers,
-      is_lax headers entry bytes front layers begins.is refl
+      is_lax headers entry bytes prefix layers begins.is refl
           (subst (λ (t : Option EtherType). IsLaxInsideIn headers most_link_exts part.offset false t part.slice.now
           extensions net) (sym typed) fills.inside),
       fills.filled
@@ -361,11 +370,11 @@ pub link_untyped_filled : (part : LinkPart) (old new : LaxHeaders) → part.ethe
     → old.link ≡ link_header_of (link_layer_of part.link) → old.link_exts ≡ []
     → new ≡ with_lax_net old (untyped_part (link_layer_of part.link)) (no_net false None) → AreAfterLink part new
 link_untyped_filled part old new untyped link none filled = λ entry bytes begins.
-    let front = link_start_of part in
+    let prefix = link_start_of part in
     let net = no_net false None in
-    let layers : LaxLayers = record { link = Some front.link; link_exts = []; net = net } in (
+    let layers : LaxLayers = record { link = Some prefix.link; link_exts = []; net = net } in (
       layers,
-      is_lax headers entry bytes front layers begins.is refl
+      is_lax headers entry bytes prefix layers begins.is refl
           (subst (λ (t : Option EtherType). IsLaxInsideIn headers most_link_exts part.offset false t part.slice.now [] net)
           (sym untyped) (refl, refl)),
       filled
@@ -374,7 +383,7 @@ link_untyped_filled part old new untyped link none filled = λ entry bytes begin
             link_exts = none i;
             net = None;
             transport = None;
-            payload = sym (link_untyped entry bytes front begins.is untyped) i;
+            payload = sym (link_untyped entry bytes prefix begins.is untyped) i;
             stop = None;
           }),
     )

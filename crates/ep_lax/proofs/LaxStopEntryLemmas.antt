@@ -56,8 +56,8 @@ use Rattle.ep_lax.specs.LaxStops.{IsStrictStop, RefusesWithErrorOrByLength, Stop
 use Rattle.ep_ip.proofs.LaxIpLemmas.{rows_of_ipv4, rows_of_ipv6}
 use Rattle.ep_lax.proofs.LaxEntryLemmas.{lax_decided}
 use Rattle.ep_lax.proofs.LaxStopLemmas.{StopsIn, inside_stops, ipv4_chain_stops, ipv4_header_row, ipv4_inside_stops, ipv4_length_rows, ipv6_chain_stops, ipv6_header_row, ipv6_inside_stops, ipv6_length_rows}
-use Rattle.ep_lax.proofs.LaxErrorLayerLemmas.{IsTold, lax_told}
-use Rattle.ep_lax.proofs.StrictLemmas.{frame_is_whole}
+use Rattle.ep_lax.proofs.LaxErrorLayerLemmas.{HasItsLayer, lax_reported}
+use Rattle.ep_lax.proofs.StrictLemmas.{frame_is_complete}
 
 -- ---- first header of an IP packet of either version
 
@@ -83,25 +83,25 @@ at_zero : (error : LenError) → record error { layer_start_offset = error.layer
 at_zero error i = record error { layer_start_offset = add-zero error.layer_start_offset i }
 
 -- Lax slicing rejects the IPv4 header with the error of strict slicing.
-ipv4_header_told : (error : Ipv4HeaderError)
+ipv4_header_reported : (error : Ipv4HeaderError)
     → ip_refusal 0 (of_ipv4_error (of_header_error error)) ≡ ip_header_refusal (of_ipv4_header error)
-ipv4_header_told (ipv4_header_error.Len error) = ap Len (at_zero error)
-ipv4_header_told (ipv4_header_error.Content (ipv4_content.UnexpectedVersion version)) = refl
-ipv4_header_told (ipv4_header_error.Content (ipv4_content.HeaderLengthSmallerThanHeader ihl)) = refl
+ipv4_header_reported (ipv4_header_error.Len error) = ap Len (at_zero error)
+ipv4_header_reported (ipv4_header_error.Content (ipv4_content.UnexpectedVersion version)) = refl
+ipv4_header_reported (ipv4_header_error.Content (ipv4_content.HeaderLengthSmallerThanHeader ihl)) = refl
 
-ipv6_header_told : (error : Ipv6HeaderError)
+ipv6_header_reported : (error : Ipv6HeaderError)
     → ip_refusal 0 (of_ipv6_error (of_ipv6_header_error error)) ≡ ip_header_refusal (of_ipv6_header error)
-ipv6_header_told (ipv6_header_error.Len error) = ap Len (at_zero error)
-ipv6_header_told (ipv6_header_error.Content (ipv6_content.UnexpectedVersion version)) = refl
+ipv6_header_reported (ipv6_header_error.Len error) = ap Len (at_zero error)
+ipv6_header_reported (ipv6_header_error.Content (ipv6_content.UnexpectedVersion version)) = refl
 
 -- Lax slicing rejects the first header with this error.
 abbrev RefusesFirst : List ℕ → SliceError → Type 0
 RefusesFirst bytes = RefusesAs ip_header_refusal (RefusesIpHeader bytes)
 
 -- Bytes of neither IP version are rejected with the error of strict slicing.
-version_told : (bytes : List ℕ) (error : IpSliceError) → Refuses (ip_version_rows bytes) error
+version_reported : (bytes : List ℕ) (error : IpSliceError) → Refuses (ip_version_rows bytes) error
     → RefusesFirst bytes (ip_refusal 0 error)
-version_told bytes error refused =
+version_reported bytes error refused =
     let version = version_of bytes in
     let empty = lax_error.Len (len_error 1 0 source.Slice layer.IpHeader) in
     let unknown = lax_error.Content (content.UnsupportedIpVersion version) in
@@ -119,7 +119,7 @@ ipv4_first : (bytes : List ℕ) (error : Ipv4SliceError) → version_of bytes �
 ipv4_first bytes error version (row, refused, same) = (
   of_ipv4_header row,
   rows_of_ipv4 bytes version ∙ first_row-as_some of_ipv4_header (ipv4_header_rows bytes) row refused,
-  ap (λ (e : Ipv4SliceError). ip_refusal 0 (of_ipv4_error e)) same ∙ ipv4_header_told row,
+  ap (λ (e : Ipv4SliceError). ip_refusal 0 (of_ipv4_error e)) same ∙ ipv4_header_reported row,
 )
 
 ipv6_first : (bytes : List ℕ) (error : Ipv6SliceError) → version_of bytes ≡ 6
@@ -128,7 +128,7 @@ ipv6_first : (bytes : List ℕ) (error : Ipv6SliceError) → version_of bytes �
 ipv6_first bytes error version (row, refused, same) = (
   of_ipv6_header row,
   rows_of_ipv6 bytes version ∙ first_row-as_some of_ipv6_header (ipv6_header_rows bytes) row refused,
-  ap (λ (e : Ipv6SliceError). ip_refusal 0 (of_ipv6_error e)) same ∙ ipv6_header_told row,
+  ap (λ (e : Ipv6SliceError). ip_refusal 0 (of_ipv6_error e)) same ∙ ipv6_header_reported row,
 )
 
 -- ---- IP packets of either version
@@ -153,11 +153,11 @@ ipv4_chain_same : (header : Ipv4Header) (error : AuthSliceError)
 ipv4_chain_same header (auth_error.Len error) = refl
 ipv4_chain_same header (auth_error.Content error) = refl
 
-ipv6_chain_same : (header : Ipv6Header) (behind : List ℕ) (error : ExtsSliceError)
-    → ipv6_refusal 0 (ipv6_chain_refusal header behind error)
-    ≡ ip_refusal 0 (of_ipv6_error (ipv6_chain_refusal header behind error))
-ipv6_chain_same header behind (exts_error.Len error) = refl
-ipv6_chain_same header behind (exts_error.Content error) = refl
+ipv6_chain_same : (header : Ipv6Header) (after : List ℕ) (error : ExtsSliceError)
+    → ipv6_refusal 0 (ipv6_chain_refusal header after error)
+    ≡ ip_refusal 0 (of_ipv6_error (ipv6_chain_refusal header after error))
+ipv6_chain_same header after (exts_error.Len error) = refl
+ipv6_chain_same header after (exts_error.Content error) = refl
 
 -- The first header is rejected with this error, or slicing stops at it.
 abbrev TellsIp : List ℕ → SliceError → Type 0
@@ -189,7 +189,7 @@ ipv6_tells bytes fits version error (inr (cut, is, why)) by_other =
 
 either_tells : (bytes : List ℕ) → AreBytes bytes → (error : IpSliceError) → RefusesIp slices bytes error
     → is_by_length (ip_refusal 0 error) ≡ false → TellsIp bytes (ip_refusal 0 error)
-either_tells bytes fits error (inl refused) by_other = inl (version_told bytes error refused)
+either_tells bytes fits error (inl refused) by_other = inl (version_reported bytes error refused)
 either_tells bytes fits error (inr (inl (version, (row, refused, same)))) by_other =
     subst (λ (e : IpSliceError). TellsIp bytes (ip_refusal 0 e)) (sym same)
     (ipv4_tells bytes fits version row refused
@@ -200,12 +200,12 @@ either_tells bytes fits error (inr (inr (version, (row, refused, same)))) by_oth
     (ap (λ (e : IpSliceError). is_by_length (ip_refusal 0 e)) (sym same) ∙ by_other))
 
 -- In a valid packet slicing stops at a rejected transport layer.
-behind_tells : (bytes : List ℕ) (part : IpPart) (error : SliceError) → IsIp slices bytes part
+after_tells : (bytes : List ℕ) (part : IpPart) (error : SliceError) → IsIp slices bytes part
     → RefusesTransportAfterNet slices (0 + net_payload_offset (ip_layer part)) (net_payload (ip_layer part)) error
     → is_by_length error ≡ false → StopsIn (IsLaxNet 0 false (Some any_ip) bytes) error
-behind_tells bytes (ipv4_part packet) error is refused by_other =
+after_tells bytes (ipv4_part packet) error is refused by_other =
     let stops = ipv4_inside_stops 0 bytes packet error is refused by_other in (stops.0, inl stops.1, stops.2)
-behind_tells bytes (ipv6_part packet) error is refused by_other =
+after_tells bytes (ipv6_part packet) error is refused by_other =
     let stops = ipv6_inside_stops 0 bytes packet error is refused by_other in (stops.0, inr stops.1, stops.2)
 
 ip_tells : (bytes : List ℕ) → AreBytes bytes → (error : SliceError)
@@ -214,7 +214,7 @@ ip_tells bytes fits error (inl (row, refused, same)) by_other =
     subst (TellsIp bytes) (sym same)
     (either_tells bytes fits row refused (ap is_by_length (sym same) ∙ by_other))
 ip_tells bytes fits error (inr (layer, (part, is, same), refused)) by_other =
-    inr (behind_tells bytes part error is
+    inr (after_tells bytes part error is
     (subst (λ (l : NetLayer). RefusesTransportAfterNet slices (0 + net_payload_offset l) (net_payload l) error) same refused)
     by_other)
 
@@ -281,7 +281,7 @@ first_back bytes error refused =
           (first_row-as_some of_header_error (ipv4_header_rows bytes) row.0 row.1) in (
             of_ipv4_error (of_header_error row.0),
             inr (inl (version, (of_header_error row.0, inl packet, refl))),
-            ap ip_header_refusal row.2 ∙ sym (ipv4_header_told row.0),
+            ap ip_header_refusal row.2 ∙ sym (ipv4_header_reported row.0),
           )
       | inr not_4 ↦ elim (cases_eq (version_of bytes) 6) [
         | inl version ↦
@@ -293,7 +293,7 @@ first_back bytes error refused =
             (first_row-as_some of_ipv6_header_error (ipv6_header_rows bytes) row.0 row.1) in (
               of_ipv6_error (of_ipv6_header_error row.0),
               inr (inr (version, (of_ipv6_header_error row.0, inl packet, refl))),
-              ap ip_header_refusal row.2 ∙ sym (ipv6_header_told row.0),
+              ap ip_header_refusal row.2 ∙ sym (ipv6_header_reported row.0),
             )
         | inr not_6 ↦
             let version = version_of bytes in
@@ -326,9 +326,9 @@ stop_is_strict : (entry : Entry) (bytes : List ℕ) → AreBytes bytes → (read
 stop_is_strict entry bytes fits read is stop same =
     elim (frame_law entry bytes fits).some [
       | inl frame ↦
-          let whole = frame_is_whole entry bytes frame.0 frame.1 in
-          let one = (lax_decided entry bytes fits).one_value read whole.0 is whole.1 in
-          let none = ap (λ (l : LaxLayers). l.net.inside.stop) one ∙ whole.3.stop in
+          let complete = frame_is_complete entry bytes frame.0 frame.1 in
+          let one = (lax_decided entry bytes fits).one_value read complete.0 is complete.1 in
+          let none = ap (λ (l : LaxLayers). l.net.inside.stop) one ∙ complete.3.stop in
           absurd (let one = sym none ∙ same in cc)
       | inr (refusal, refused) ↦ elim (cases_Bool (is_by_length refusal)) [
         | inl by_length ↦ (refusal, refused, inr by_length)
@@ -336,20 +336,20 @@ stop_is_strict entry bytes fits read is stop same =
           | inl first ↦ absurd ((lax_decided entry bytes fits).not_both read refusal is first)
           | inr stops ↦
               let one = (lax_decided entry bytes fits).one_value stops.0 read stops.1 is in
-              let told_so : Some (error_with_layer refusal) ≡ Some stop =
+              let reported_so : Some (error_with_layer refusal) ≡ Some stop =
               sym stops.2 ∙ ap (λ (l : LaxLayers). l.net.inside.stop) one ∙ same in
-              (refusal, refused, inl (first_of refusal stop told_so))
+              (refusal, refused, inl (first_of refusal stop reported_so))
         ]
       ]
     ]
   where
     first_of : (refusal : SliceError) (stop : SliceError × Layer) → Some (error_with_layer refusal) ≡ Some stop
         → refusal ≡ stop.0
-    first_of refusal stop told_so = let one : error_with_layer refusal ≡ stop = cc in ap (λ (s : SliceError × Layer). s.0) one
+    first_of refusal stop reported_so = let one : error_with_layer refusal ≡ stop = cc in ap (λ (s : SliceError × Layer). s.0) one
 
 -- Each error at which lax slicing stops, with its layer, is one of strict slicing, unless a length field hides it.
 pub stops_are_strict : (entry : Entry) (bytes : List ℕ) → AreBytes bytes → (read : LaxLayers) → IsLax entry bytes read
     → (stop : SliceError × Layer) → read.net.inside.stop ≡ Some stop → IsStrictStop entry bytes stop
 stops_are_strict entry bytes fits read is stop same =
-    let row = subst IsTold same (lax_told entry bytes read is) in
+    let row = subst HasItsLayer same (lax_reported entry bytes read is) in
     record { layer = row.0; row = row.1; strict = stop_is_strict entry bytes fits read is stop same }

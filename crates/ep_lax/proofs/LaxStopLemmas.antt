@@ -29,7 +29,7 @@ use Rattle.ep_ext.specs.Chains.{IpVersion, ipv4, ipv6, ExtensionChain, RefusesEx
 use Rattle.ep_ext.specs.ExtensionParts.{auth_refusal}
 use Rattle.ep_ext.specs.ChainPrefixes.{IsLaxChain}
 use Rattle.ep_ext.proofs.ChainLemmas.{chain_decided, refused_no_chain}
-use Rattle.ep_ext.proofs.FrontLemmas.{front_is_one}
+use Rattle.ep_ext.proofs.PrefixLemmas.{prefix_is_one}
 use Rattle.ep_ext.proofs.HeaderLawLemmas.{header_laws}
 use Rattle.ep_ext.proofs.PartLemmas.{refused_under}
 use Rattle.ep_ip.specs.declared.ipv4_header.Ipv4Header.{Ipv4Header}
@@ -51,7 +51,7 @@ use Rattle.ep_lax.specs.LaxLayers.{LaxNet, net_with, no_net, no_transport, error
 use Rattle.ep_lax.specs.Lax.{IsIpv4Net, IsIpv6Net, IsLaxInside, IsLaxNet, IsLaxTransport, RefusesLaxExtension, chain_refusal}
 use Rattle.ep_lax.specs.LaxStops.{is_by_length, is_length_row}
 use Rattle.ep_lax.proofs.LaxLawLemmas.{Tagged, kind_cases, lax_extension_fits}
-use Rattle.ep_lax.proofs.StrictLemmas.{extension_is_whole, ipv4_cuts, ipv4_net_with, ipv6_cuts, ipv6_net_with, whole_cut, whole_extension}
+use Rattle.ep_lax.proofs.StrictLemmas.{extension_is_complete, ipv4_cuts, ipv4_net_with, ipv6_cuts, ipv6_net_with, complete_cut, complete_extension}
 
 -- An error is not both caused by a length field and not caused by one.
 not_both_rows : (error other : SliceError) → error ≡ other → is_by_length other ≡ true
@@ -100,7 +100,7 @@ udp_alone bytes error refused =
     ∷ [] in
     elim (first_row-either (rows_as transport_error.Len (udp_header_rows bytes)) back error refused) [
       | inl here ↦ inl here
-      | inr behind ↦ inr (refusal_is ByUdpLength back ((λ end. refl), ((λ end. refl), tt)) error behind)
+      | inr after ↦ inr (refusal_is ByUdpLength back ((λ end. refl), ((λ end. refl), tt)) error after)
     ]
 
 -- Slices are rejected as headers are, or by the length field of UDP.
@@ -125,11 +125,11 @@ transport_stops offset payload error refused by_other =
 -- ---- extension headers
 
 -- A rejected chain has a result of lax parsing that stops at its error.
-front_refused : (version : IpVersion) (number : ℕ) (bytes : List ℕ) → AreBytes bytes → (error : ExtsSliceError)
+prefix_refused : (version : IpVersion) (number : ℕ) (bytes : List ℕ) → AreBytes bytes → (error : ExtsSliceError)
     → RefusesExtensionChain version slices number bytes error
     → (chain : ExtensionChain) × IsLaxChain version number bytes chain (Some error)
-front_refused version number bytes fits error refused =
-    let one = front_is_one version number bytes fits in
+prefix_refused version number bytes fits error refused =
+    let one = prefix_is_one version number bytes fits in
     (one.value.0, stops one.value.0 one.value.1 one.is)
   where
     stops : (chain : ExtensionChain) (stop : Option ExtsSliceError) → IsLaxChain version number bytes chain stop
@@ -142,20 +142,20 @@ front_refused version number bytes fits error refused =
         subst (λ (e : ExtsSliceError). IsLaxChain version number bytes chain (Some e)) same is
 
 -- The error of the authentication header is reported as strict slicing reports it.
-auth_told : (offset : ℕ) (header : Ipv4Header) (error : AuthSliceError)
+auth_reported : (offset : ℕ) (header : Ipv4Header) (error : AuthSliceError)
     → chain_refusal ipv4 offset (stop_after (ipv4_header_len header) source.Ipv4HeaderTotalLen (auth_refusal error))
     ≡ ipv4_refusal offset (ipv4_chain_refusal header error)
-auth_told offset header (auth_error.Len error) = refl
-auth_told offset header (auth_error.Content error) = refl
+auth_reported offset header (auth_error.Len error) = refl
+auth_reported offset header (auth_error.Content error) = refl
 
-chain_told : (offset : ℕ) (header : Ipv6Header) (behind : List ℕ) (end : LenSource) (error : ExtsSliceError)
-    → ipv6_payload_source header behind ≡ end
+chain_reported : (offset : ℕ) (header : Ipv6Header) (after : List ℕ) (end : LenSource) (error : ExtsSliceError)
+    → ipv6_payload_source header after ≡ end
     → chain_refusal ipv6 offset (stop_after 40 end error)
-    ≡ ipv6_refusal offset (ipv6_chain_refusal header behind error)
-chain_told offset header behind end (exts_error.Len error) same =
+    ≡ ipv6_refusal offset (ipv6_chain_refusal header after error)
+chain_reported offset header after end (exts_error.Len error) same =
     ap (λ (s : LenSource). len_refusal offset (after_header 40 s error)) (sym same)
-chain_told offset header behind end (exts_error.Content content.HopByHopNotAtStart) same = refl
-chain_told offset header behind end (exts_error.Content (content.IpAuth error)) same = refl
+chain_reported offset header after end (exts_error.Content content.HopByHopNotAtStart) same = refl
+chain_reported offset header after end (exts_error.Content (content.IpAuth error)) same = refl
 
 -- ---- IP packets
 
@@ -168,9 +168,9 @@ ipv4_chain_stops offset bytes fits cut is error refused =
     let read = ipv4_cuts bytes cut is in
     let content = AreBytes-payload bytes is.encoded cut.payload cut.left fits is.parts in
     let why = auth_refusal refused.0 in
-    let front = front_refused ipv4 header.protocol.0 cut.payload content why refused.1 in
-    let taken = whole_cut cut.payload cut.left source.Ipv4HeaderTotalLen in
-    let lax = lax_ip_of header n (is_ipv4_fragment header) taken.source taken front.0 (Some why) in
+    let prefix = prefix_refused ipv4 header.protocol.0 cut.payload content why refused.1 in
+    let taken = complete_cut cut.payload cut.left source.Ipv4HeaderTotalLen in
+    let lax = lax_ip_of header n (is_ipv4_fragment header) taken.source taken prefix.0 (Some why) in
     let inside = no_transport false (Some (error_with_layer (chain_refusal ipv4 offset (stop_after n taken.source why)))) in (
       net_with (ipv4_layer lax.packet) false inside,
       (
@@ -178,19 +178,12 @@ ipv4_chain_stops offset bytes fits cut is error refused =
         (
           (header, cut.payload ++ cut.left),
           read.0,
-          record {
-            cut = taken;
-            chain = front.0;
-            refused = Some why;
-            cuts = read.1;
-            is_chain = front.1;
-            is = refl;
-          },
+          record { cut = taken; chain = prefix.0; refused = Some why; cuts = read.1; is_chain = prefix.1; is = refl },
         ),
         (inside, refl, refl),
       ),
       ap (λ (e : SliceError). Some (error_with_layer e))
-          (auth_told offset header refused.0 ∙ ap (ipv4_refusal offset) (sym refused.2)),
+          (auth_reported offset header refused.0 ∙ ap (ipv4_refusal offset) (sym refused.2)),
     )
 
 pub ipv6_chain_stops : (offset : ℕ) (bytes : List ℕ) → AreBytes bytes → (cut : Parts Ipv6Header)
@@ -201,10 +194,10 @@ ipv6_chain_stops offset bytes fits cut is error refused =
     let read = ipv6_cuts bytes cut is in
     let content = AreBytes-payload bytes (ipv6_bytes header) cut.payload cut.left fits is.parts in
     let why = refused.0 in
-    let front = front_refused ipv6 header.next_header.0 cut.payload content why refused.1 in
-    let taken = whole_cut cut.payload cut.left read.1.0 in
+    let prefix = prefix_refused ipv6 header.next_header.0 cut.payload content why refused.1 in
+    let taken = complete_cut cut.payload cut.left read.1.0 in
     let end = lax_ipv6_source header taken in
-    let lax = lax_ip_of header 40 (chain_fragments front.0.parts) end taken front.0 (Some why) in
+    let lax = lax_ip_of header 40 (chain_fragments prefix.0.parts) end taken prefix.0 (Some why) in
     let inside = no_transport false (Some (error_with_layer (chain_refusal ipv6 offset (stop_after 40 end why)))) in (
       net_with (ipv6_layer lax.packet) false inside,
       (
@@ -212,19 +205,12 @@ ipv6_chain_stops offset bytes fits cut is error refused =
         (
           (header, cut.payload ++ cut.left),
           read.0,
-          record {
-            cut = taken;
-            chain = front.0;
-            refused = Some why;
-            cuts = read.1.1;
-            is_chain = front.1;
-            is = refl;
-          },
+          record { cut = taken; chain = prefix.0; refused = Some why; cuts = read.1.1; is_chain = prefix.1; is = refl },
         ),
         (inside, refl, refl),
       ),
       ap (λ (e : SliceError). Some (error_with_layer e))
-          (chain_told offset header cut.payload end why read.1.2 ∙ ap (ipv6_refusal offset) (sym refused.2)),
+          (chain_reported offset header cut.payload end why read.1.2 ∙ ap (ipv6_refusal offset) (sym refused.2)),
     )
 
 -- The rows of a packet are those of its header and these of its length field.
@@ -250,9 +236,9 @@ pub ipv4_header_row : (offset : ℕ) (bytes : List ℕ) (error : Ipv4SliceError)
 ipv4_header_row offset bytes error refused by_other =
     elim (first_row-either (rows_as of_header_error (ipv4_header_rows bytes)) (ipv4_length_rows bytes) error refused) [
       | inl here ↦ refused_under of_header_error (ipv4_header_rows bytes) error here
-      | inr behind ↦
+      | inr after ↦
           let by_length = refusal_is (λ (e : Ipv4SliceError). is_by_length (ipv4_refusal offset e) ≡ true)
-          (ipv4_length_rows bytes) (refl, (refl, tt)) error behind in
+          (ipv4_length_rows bytes) (refl, (refl, tt)) error after in
           absurd (let one = sym by_length ∙ by_other in cc)
     ]
 
@@ -263,9 +249,9 @@ ipv6_header_row offset bytes error refused by_other =
     elim (first_row-either (rows_as of_ipv6_header_error (ipv6_header_rows bytes)) (ipv6_length_rows bytes) error
     refused) [
       | inl here ↦ refused_under of_ipv6_header_error (ipv6_header_rows bytes) error here
-      | inr behind ↦
+      | inr after ↦
           let by_length = refusal_is (λ (e : Ipv6SliceError). is_by_length (ipv6_refusal offset e) ≡ true)
-          (ipv6_length_rows bytes) (refl, tt) error behind in
+          (ipv6_length_rows bytes) (refl, tt) error after in
           absurd (let one = sym by_length ∙ by_other in cc)
     ]
 
@@ -330,9 +316,9 @@ ipv4_stops offset bytes fits error (inl refused) by_other =
       | inr stops ↦ (stops.0, inr stops.1, stops.2 ∙ ap (λ (e : SliceError). Some (error_with_layer e)) (sym refused.2))
     ]
 ipv4_stops offset bytes fits error (inr (layer, is, refused)) by_other =
-    let behind = subst (λ (l : NetLayer). RefusesTransportAfterNet slices (offset + net_payload_offset l) (net_payload l)
+    let after = subst (λ (l : NetLayer). RefusesTransportAfterNet slices (offset + net_payload_offset l) (net_payload l)
     error) is.2 refused in
-    let stops = ipv4_inside_stops offset bytes is.0 error is.1 behind by_other in
+    let stops = ipv4_inside_stops offset bytes is.0 error is.1 after by_other in
     (stops.0, inr stops.1, stops.2)
 
 ipv6_stops : (offset : ℕ) (bytes : List ℕ) → AreBytes bytes → (error : SliceError)
@@ -346,9 +332,9 @@ ipv6_stops offset bytes fits error (inl refused) by_other =
       | inr stops ↦ (stops.0, inr stops.1, stops.2 ∙ ap (λ (e : SliceError). Some (error_with_layer e)) (sym refused.2))
     ]
 ipv6_stops offset bytes fits error (inr (layer, is, refused)) by_other =
-    let behind = subst (λ (l : NetLayer). RefusesTransportAfterNet slices (offset + net_payload_offset l) (net_payload l)
+    let after = subst (λ (l : NetLayer). RefusesTransportAfterNet slices (offset + net_payload_offset l) (net_payload l)
     error) is.2 refused in
-    let stops = ipv6_inside_stops offset bytes is.0 error is.1 behind by_other in
+    let stops = ipv6_inside_stops offset bytes is.0 error is.1 after by_other in
     (stops.0, inr stops.1, stops.2)
 
 arp_stops : (offset : ℕ) (bytes : List ℕ) (error : SliceError)
@@ -389,42 +375,42 @@ extension_refused offset type bytes error (refusal, inr refused, same) by_other 
     (nat_lt (length bytes) n, tag_error.Len (len_error n (length bytes) source.Slice layer.MacsecPacket)) ∷ [] in
     elim (first_row-either (macsec_header_rows bytes) back refusal refused.1) [
       | inl here ↦ inr (refused.0, (refusal, here, same))
-      | inr behind ↦
+      | inr after ↦
           let by_length = refusal_is (λ (e : TagError). is_by_length (extension_refusal offset e) ≡ true) back
-          (refl, tt) refusal behind in
+          (refl, tt) refusal after in
           absurd (not_both_rows error (extension_refusal offset refusal) same by_length by_other)
     ]
 
 -- The layers in bytes of an ether type up to the rejected one.
-pub record StopsInside (room offset : ℕ) (type : Option EtherType) (bytes : List ℕ) (error : SliceError) : Type 0 where
+pub record StopsInside (space offset : ℕ) (type : Option EtherType) (bytes : List ℕ) (error : SliceError) : Type 0 where
   pub extensions : List Tagged
   pub net : LaxNet
-  pub is : IsLaxInside room offset false type bytes extensions net
+  pub is : IsLaxInside space offset false type bytes extensions net
   pub stop : net.inside.stop ≡ Some (error_with_layer error)
 
-pub inside_stops : (room offset : ℕ) (type : Option EtherType) (bytes : List ℕ) → AreBytes bytes → (error : SliceError)
-    → RefusesInside slices room offset type bytes error → is_by_length error ≡ false
-    → StopsInside room offset type bytes error
-inside_stops room offset None bytes fits error refused by_other = absurd refused
+pub inside_stops : (space offset : ℕ) (type : Option EtherType) (bytes : List ℕ) → AreBytes bytes → (error : SliceError)
+    → RefusesInside slices space offset type bytes error → is_by_length error ≡ false
+    → StopsInside space offset type bytes error
+inside_stops space offset None bytes fits error refused by_other = absurd refused
 inside_stops zero offset (Some type) bytes fits error refused by_other =
     let stops = type_stops offset type bytes fits error refused by_other in
     record { extensions = []; net = stops.0; is = stops.1; stop = stops.2 }
-inside_stops (suc room) offset (Some type) bytes fits error (inl refused) by_other =
+inside_stops (suc space) offset (Some type) bytes fits error (inl refused) by_other =
     let stops = type_stops offset type bytes fits error refused.1 by_other in
     record { extensions = []; net = stops.0; is = inl (refused.0, stops.1); stop = stops.2 }
-inside_stops (suc room) offset (Some type) bytes fits error (inr (inl refused)) by_other = record {
+inside_stops (suc space) offset (Some type) bytes fits error (inr (inl refused)) by_other = record {
   extensions = [];
   net = no_net false (Some (error_with_layer error));
   is = inr (error, extension_refused offset type bytes error refused by_other, refl);
   stop = refl;
 }
-inside_stops (suc room) offset (Some type) bytes fits error (inr (inr (extension, left, is, refused))) by_other =
-    let here = extension_is_whole type bytes extension left is in
-    let payload_fits = lax_extension_fits false type bytes (whole_extension extension) fits here in
-    let more = inside_stops room (offset + link_ext_header_len (extension_header extension))
+inside_stops (suc space) offset (Some type) bytes fits error (inr (inr (extension, left, is, refused))) by_other =
+    let here = extension_is_complete type bytes extension left is in
+    let payload_fits = lax_extension_fits false type bytes (complete_extension extension) fits here in
+    let more = inside_stops space (offset + link_ext_header_len (extension_header extension))
     (extension_type extension) (extension_payload extension) payload_fits error refused by_other in
     record {
-      extensions = whole_extension extension ∷ more.extensions;
+      extensions = complete_extension extension ∷ more.extensions;
       net = more.net;
       is = (here, more.is);
       stop = more.stop;

@@ -62,8 +62,8 @@ placed_at place rows offset len all error refused =
 
 either_way : {A : Type 0} (P : A → Type 0) (condition : Bool) (a b : A) → P a → P b
     → P (if condition then a else b)
-either_way P true a b here there = here
-either_way P false a b here there = there
+either_way P true a b here present = here
+either_way P false a b here present = present
 
 none_before : (n : ℕ) → 0 + n ≡ n
 none_before n = omega arith

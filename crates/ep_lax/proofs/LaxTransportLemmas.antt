@@ -6,7 +6,7 @@ use Rattle.ep_base.specs.IpNumbers.{udp_number}
 use Rattle.ep_base.specs.LaxCut.{LaxCut, IsLaxCut, cuts, is_missing}
 use Rattle.ep_base.specs.Readings.{headers, slices}
 use Rattle.ep_base.specs.declared.len_source.LenSource.TheVariants as source
-use Rattle.ep_base.proofs.LaxCutLemmas.{cuts_not, cuts_there}
+use Rattle.ep_base.proofs.LaxCutLemmas.{cuts_not, cuts_present}
 use Rattle.ep_transport.specs.declared.transport_header.TransportHeader.TheVariants as header
 use Rattle.ep_transport.specs.declared.transport_slice.TransportSlice.{TransportSlice}
 use Rattle.ep_transport.specs.declared.transport_slice.TransportSlice.TheVariants as slice
@@ -47,27 +47,27 @@ others_read number fragmented bytes outer why (Some (slice.Icmpv6 message)) is =
 -- ---- UDP
 
 -- Whether a payload is incomplete is the same for its limited length and for the available bytes.
-missing_shown : (least stated : ℕ) (outer : Bool) (there shown : ℕ)
-    → shown ≡ (if cuts least stated there then stated else there)
-    → is_missing least stated outer shown ≡ is_missing least stated outer there
-missing_shown least stated outer there shown is =
+missing_shown : (least stated : ℕ) (outer : Bool) (present shown : ℕ)
+    → shown ≡ (if cuts least stated present then stated else present)
+    → is_missing least stated outer shown ≡ is_missing least stated outer present
+missing_shown least stated outer present shown is =
     elim (cases_lt stated least) [
       | inl short ↦
-          let no = cuts_not least stated there (inl short) in
-          let whole : shown ≡ there = is ∙ (λ i. if no i then stated else there) in
-          ap (is_missing least stated outer) whole
-      | inr enough ↦ elim (cases_lt there stated) [
+          let no = cuts_not least stated present (inl short) in
+          let complete : shown ≡ present = is ∙ (λ i. if no i then stated else present) in
+          ap (is_missing least stated outer) complete
+      | inr enough ↦ elim (cases_lt present stated) [
         | inl more ↦
-            let no = cuts_not least stated there (inr more) in
-            let whole : shown ≡ there = is ∙ (λ i. if no i then stated else there) in
-            ap (is_missing least stated outer) whole
+            let no = cuts_not least stated present (inr more) in
+            let complete : shown ≡ present = is ∙ (λ i. if no i then stated else present) in
+            ap (is_missing least stated outer) complete
         | inr within ↦
-            let yes = cuts_there least stated there enough within in
-            let cut : shown ≡ stated = is ∙ (λ i. if yes i then stated else there) in
-            let itself = cuts_there least stated stated enough (omega arith) in
+            let yes = cuts_present least stated present enough within in
+            let cut : shown ≡ stated = is ∙ (λ i. if yes i then stated else present) in
+            let itself = cuts_present least stated stated enough (omega arith) in
             ap (is_missing least stated outer) cut
             ∙ (λ i. not (itself i) && (outer || nat_lt stated stated))
-            ∙ (λ i. not (sym yes i) && (outer || nat_lt there stated))
+            ∙ (λ i. not (sym yes i) && (outer || nat_lt present stated))
       ]
     ]
 
@@ -77,17 +77,17 @@ pub udp_read_laxly : (number : ℕ) (fragmented : Bool) (bytes : List ℕ) (oute
     (cut : LaxCut) → fragmented ≡ false → number ≡ udp_number
     → IsLaxUdp false bytes (udp_slice_header datagram, cut) → udp_slice_payload datagram ≡ cut.payload
     → IsReadLaxly number fragmented bytes outer (Some (slice.Udp datagram))
-udp_read_laxly number fragmented bytes outer datagram cut whole is_udp is payload_is =
+udp_read_laxly number fragmented bytes outer datagram cut complete is_udp is payload_is =
     let udp = udp_slice_header datagram in
-    let there = 8 + length is.rest in
-    let missing = is_missing 8 udp.length outer there in
+    let present = 8 + length is.rest in
+    let missing = is_missing 8 udp.length outer present in
     let in_outer : LaxCut = record cut { incomplete = missing } in
     let cuts_so : IsLaxCut 8 udp.length source.UdpHeaderLen outer 8 is.rest in_outer =
     record { parts = is.cut.parts; ends = is.cut.ends; source = is.cut.source; incomplete = refl } in
     let same : is_missing 8 udp.length outer (8 + length (udp_slice_payload datagram)) ≡ missing =
     ap (λ (p : List ℕ). is_missing 8 udp.length outer (8 + length p)) payload_is
-    ∙ missing_shown 8 udp.length outer there (8 + length cut.payload) is.cut.ends in (
+    ∙ missing_shown 8 udp.length outer present (8 + length cut.payload) is.cut.ends in (
       Some (transport_layer (header.Udp udp) is.rest),
-      (whole, (is_udp, is.header)),
+      (complete, (is_udp, is.header)),
       (in_outer, cuts_so, λ i. layer_cut (header.Udp udp) (payload_is i) (same i)),
     )

@@ -35,7 +35,7 @@ use Rattle.ep_lax.specs.LaxVerdicts.{lax_checksums_of, lax_header_verdict}
 use Rattle.ep_lax.specs.LaxViews.{extension_incomplete, lax_extension_of, lax_extensions_of, lax_net_layer_of}
 use Rattle.ep_lax.specs.StrictFrames.{extension_in, layers_in}
 use Rattle.ep_lax.proofs.LaxEntryLemmas.{lax_decided}
-use Rattle.ep_lax.proofs.StrictLemmas.{frame_is_whole}
+use Rattle.ep_lax.proofs.StrictLemmas.{frame_is_complete}
 
 -- The verdicts about a network layer slice, and a transport slice in its payload.
 abbrev slice_verdicts : Option LaxNetSlice → Bool → Option TransportSlice → ChecksumVerdicts
@@ -109,7 +109,7 @@ pub strict_verdicts : (entry : Entry) (bytes : List ℕ) (strict : SlicedPacket)
     → IsFrame entry bytes (layers_of strict) → ShowsBytes bytes strict → IsLax entry bytes (lax_layers_of lax)
     → ShowsLax bytes lax → lax_checksums_of lax ≡ checksums_of strict
 strict_verdicts entry bytes strict lax fits is_frame shows is_lax shows_lax =
-    let found = frame_is_whole entry bytes (layers_of strict) is_frame in
+    let found = frame_is_complete entry bytes (layers_of strict) is_frame in
     let same : found.0 ≡ lax_layers_of lax =
     (lax_decided entry bytes fits).one_value found.0 (lax_layers_of lax) found.1 is_lax in
     lax_verdicts_shown bytes lax shows_lax

@@ -46,16 +46,16 @@ tag_start type bytes error (inr refused) =
     (refl, (refl, (refl, (refl, tt)))) error refused.1
 
 -- The link extension that a call returns is at the start of the bytes.
-pub found_there : (type : EtherType) (bytes : List ℕ) (outer : Bool) (answer : Option LaxLinkExtSlice)
+pub found_present : (type : EtherType) (bytes : List ℕ) (outer : Bool) (answer : Option LaxLinkExtSlice)
     (found : LaxLinkExtSlice) → answer ≡ Some found → IfSome answer (IsShownExtension outer type bytes)
     → IsShownExtension outer type bytes found
-found_there type bytes outer answer found same ok =
+found_present type bytes outer answer found same ok =
     subst (λ (o : Option LaxLinkExtSlice). IfSome o (IsShownExtension outer type bytes)) same ok
 
 -- If a call returns no link extension, the bytes have none.
-pub none_there : (type : EtherType) (answer : Option LaxLinkExtSlice) → answer ≡ None
+pub none_present : (type : EtherType) (answer : Option LaxLinkExtSlice) → answer ≡ None
     → IfNone answer (¬ BeginsLinkExtension type) → ¬ BeginsLinkExtension type
-none_there type answer same none =
+none_present type answer same none =
     subst (λ (o : Option LaxLinkExtSlice). IfNone o (¬ BeginsLinkExtension type)) same none
 
 -- Tag and payload of a link extension are within the bytes.
@@ -104,11 +104,11 @@ incomplete_more outer (slice ∷ old) found = incomplete_more (extension_incompl
 -- State of reading: the link extensions at the start of the bytes, and the number of further ones allowed. The layers
 -- of the bytes after them are those of all bytes after these extensions.
 pub record ReadsLax (offset : ℕ) (type : Option EtherType) (bytes : List ℕ) (extensions : List LaxLinkExtSlice)
-    (room rest_offset : ℕ) (rest_type : Option EtherType) (rest : List ℕ) (outer : Bool) : Type 0 where
+    (space rest_offset : ℕ) (rest_type : Option EtherType) (rest : List ℕ) (outer : Bool) : Type 0 where
   pub place : rest_offset + length rest ≤ offset + length bytes
   pub incomplete : outer ≡ extensions_incomplete false extensions
   pub holds : (others : List (LinkExtension × Bool)) (net : LaxNet)
-      → IsLaxInside room rest_offset outer rest_type rest others net
+      → IsLaxInside space rest_offset outer rest_type rest others net
       → IsLaxInside most_link_exts offset false type bytes (lax_extensions_of false extensions ++ others) net
   pub shows : (others : List LaxLinkExtSlice) (net : Option LaxNetSlice) (transport : Option TransportSlice)
       → ShowsLaxInside rest others net transport → ShowsLaxInside bytes (extensions ++ others) net transport
@@ -119,10 +119,10 @@ BeginsNone None = Unit {0}
 BeginsNone (Some type) = ¬ BeginsLinkExtension type
 
 -- Initially, no link extension is read.
-pub reads_nothing : (offset room : ℕ) (type : Option EtherType) (bytes : List ℕ) (extensions : List LaxLinkExtSlice)
-    → extensions ≡ [] → room ≡ most_link_exts → ReadsLax offset type bytes extensions room offset type bytes false
-reads_nothing offset room type bytes extensions none all =
-    subst (λ (x : List LaxLinkExtSlice). ReadsLax offset type bytes x room offset type bytes false) (sym none)
+pub reads_nothing : (offset space : ℕ) (type : Option EtherType) (bytes : List ℕ) (extensions : List LaxLinkExtSlice)
+    → extensions ≡ [] → space ≡ most_link_exts → ReadsLax offset type bytes extensions space offset type bytes false
+reads_nothing offset space type bytes extensions none all =
+    subst (λ (x : List LaxLinkExtSlice). ReadsLax offset type bytes x space offset type bytes false) (sym none)
     (subst (λ (n : ℕ). ReadsLax offset type bytes [] n offset type bytes false) (sym all)
     (record {
       place = omega arith;
@@ -132,14 +132,14 @@ reads_nothing offset room type bytes extensions none all =
     }))
 
 -- The state after one more link extension.
-one_more : (offset : ℕ) (type : Option EtherType) (bytes : List ℕ) (old : List LaxLinkExtSlice) (room at : ℕ)
+one_more : (offset : ℕ) (type : Option EtherType) (bytes : List ℕ) (old : List LaxLinkExtSlice) (space at : ℕ)
     (known : EtherType) (here : List ℕ) (outer : Bool) (found : LaxLinkExtSlice)
-    → ReadsLax offset type bytes old (suc room) at (Some known) here outer → IsShownExtension outer known here found
-    → ReadsLax offset type bytes (old ++ found ∷ []) room
+    → ReadsLax offset type bytes old (suc space) at (Some known) here outer → IsShownExtension outer known here found
+    → ReadsLax offset type bytes (old ++ found ∷ []) space
     (at + link_ext_header_len (extension_header (lax_extension_of found)))
     (extension_type (lax_extension_of found)) (extension_payload (lax_extension_of found))
     (extension_incomplete outer found)
-one_more offset type bytes old room at known here outer found so_far shown =
+one_more offset type bytes old space at known here outer found so_far shown =
     let tagged : LinkExtension × Bool = (lax_extension_of found, extension_incomplete outer found) in
     let same_tagged : lax_extensions_of false old ++ tagged ∷ [] ≡ lax_extensions_of false (old ++ found ∷ []) =
     ap (λ (o : Bool). lax_extensions_of false old ++ (lax_extension_of found, extension_incomplete o found) ∷ [])
@@ -161,15 +161,15 @@ one_more offset type bytes old room at known here outer found so_far shown =
 
 -- The state after one more link extension, stated with the contracts of the calls.
 pub reads_one : (offset : ℕ) (type : Option EtherType) (bytes : List ℕ) (old new : List LaxLinkExtSlice)
-    (room rest at after : ℕ) (here_type next_type : Option EtherType) (known : EtherType) (here next : List ℕ)
+    (space rest at after : ℕ) (here_type next_type : Option EtherType) (known : EtherType) (here next : List ℕ)
     (outer next_outer : Bool) (found : LaxLinkExtSlice)
-    → ReadsLax offset type bytes old room at here_type here outer → room ≡ suc rest → here_type ≡ Some known
+    → ReadsLax offset type bytes old space at here_type here outer → space ≡ suc rest → here_type ≡ Some known
     → IsShownExtension outer known here found
     → new ≡ old ++ found ∷ [] → after ≡ at + link_ext_header_len (extension_header (lax_extension_of found))
     → next_type ≡ extension_type (lax_extension_of found) → next ≡ extension_payload (lax_extension_of found)
     → next_outer ≡ extension_incomplete outer found
     → ReadsLax offset type bytes new rest after next_type next next_outer
-reads_one offset type bytes old new room rest at after here_type next_type known here next outer next_outer found so_far
+reads_one offset type bytes old new space rest at after here_type next_type known here next outer next_outer found so_far
     more is shown push place type_is payload_is outer_is =
     let first = subst (λ (t : Option EtherType). ReadsLax offset type bytes old (suc rest) at t here outer) is
     (subst (λ (n : ℕ). ReadsLax offset type bytes old n at here_type here outer) more so_far) in
@@ -179,49 +179,49 @@ reads_one offset type bytes old new room rest at after here_type next_type known
 
 -- Slicing stops if the next link extension is rejected.
 pub reads_refused : (offset : ℕ) (type : Option EtherType) (bytes : List ℕ) (old : List LaxLinkExtSlice)
-    (room rest at : ℕ) (here_type : Option EtherType) (known : EtherType) (here : List ℕ) (outer : Bool)
-    (error : SliceError) → ReadsLax offset type bytes old room at here_type here outer → room ≡ suc rest
+    (space rest at : ℕ) (here_type : Option EtherType) (known : EtherType) (here : List ℕ) (outer : Bool)
+    (error : SliceError) → ReadsLax offset type bytes old space at here_type here outer → space ≡ suc rest
     → here_type ≡ Some known → RefusesLaxExtension at known here error → StopsAfterExtensions offset type bytes old error
-reads_refused offset type bytes old room rest at here_type known here outer error so_far more is refused =
+reads_refused offset type bytes old space rest at here_type known here outer error so_far more is refused =
     let first = subst (λ (t : Option EtherType). ReadsLax offset type bytes old (suc rest) at t here outer) is
     (subst (λ (n : ℕ). ReadsLax offset type bytes old n at here_type here outer) more so_far) in
     let net : LaxNet = no_net outer (Some (error_with_layer error)) in
     let inside = first.holds [] net (inr (error, refused, refl)) in
     let all = append-nil (lax_extensions_of false old) in
-    let whole = subst (λ (x : List (LinkExtension × Bool)). IsLaxInside most_link_exts offset false type bytes x net)
+    let complete = subst (λ (x : List (LinkExtension × Bool)). IsLaxInside most_link_exts offset false type bytes x net)
     all inside in
     record {
       inside = subst (λ (o : Bool). IsLaxInside most_link_exts offset false type bytes (lax_extensions_of false old)
-          (no_net o (Some (error_with_layer error)))) first.incomplete whole;
+          (no_net o (Some (error_with_layer error)))) first.incomplete complete;
       shows = subst (λ (x : List LaxLinkExtSlice). ShowsLaxInside bytes x None None) (append-nil old)
           (first.shows [] None None refl);
     }
 
 -- If no more link extensions are allowed, or the ether type names none, the bytes contain only a network layer.
-net_inside : (room offset : ℕ) (outer : Bool) (type : Option EtherType) (bytes : List ℕ)
-    → ((room ≡ 0) ⊎ BeginsNone type) → (net : LaxNet) → IsLaxNet offset outer (net_kind_in type) bytes net
-    → IsLaxInside room offset outer type bytes [] net
-net_inside room offset outer None bytes why net is = (refl, is)
+net_inside : (space offset : ℕ) (outer : Bool) (type : Option EtherType) (bytes : List ℕ)
+    → ((space ≡ 0) ⊎ BeginsNone type) → (net : LaxNet) → IsLaxNet offset outer (net_kind_in type) bytes net
+    → IsLaxInside space offset outer type bytes [] net
+net_inside space offset outer None bytes why net is = (refl, is)
 net_inside zero offset outer (Some type) bytes why net is = is
-net_inside (suc room) offset outer (Some type) bytes (inl full) net is = absurd (omega (arith, full))
-net_inside (suc room) offset outer (Some type) bytes (inr none) net is = inl (none, is)
+net_inside (suc space) offset outer (Some type) bytes (inl full) net is = absurd (omega (arith, full))
+net_inside (suc space) offset outer (Some type) bytes (inr none) net is = inl (none, is)
 
 -- The link extensions end if no more are allowed, or the ether type names none.
 pub extensions_end : (offset : ℕ) (type : Option EtherType) (bytes : List ℕ) (extensions : List LaxLinkExtSlice)
-    (room at : ℕ) (rest_type : Option EtherType) (rest : List ℕ) (outer : Bool)
-    → ReadsLax offset type bytes extensions room at rest_type rest outer → ((room ≡ 0) ⊎ BeginsNone rest_type)
+    (space at : ℕ) (rest_type : Option EtherType) (rest : List ℕ) (outer : Bool)
+    → ReadsLax offset type bytes extensions space at rest_type rest outer → ((space ≡ 0) ⊎ BeginsNone rest_type)
     → HasLaxExtensions offset type bytes extensions at rest_type rest outer
-extensions_end offset type bytes extensions room at rest_type rest outer so_far why = record {
+extensions_end offset type bytes extensions space at rest_type rest outer so_far why = record {
   place = so_far.place;
   holds = λ net transport stop part. record {
     inside =
         let found = lax_net_of outer net transport stop in
-        let inside = so_far.holds [] found (net_inside room at outer rest_type rest why found part.part) in
-        let whole = subst
+        let inside = so_far.holds [] found (net_inside space at outer rest_type rest why found part.part) in
+        let complete = subst
         (λ (x : List (LinkExtension × Bool)). IsLaxInside most_link_exts offset false type bytes x found)
         (append-nil (lax_extensions_of false extensions)) inside in
         subst (λ (o : Bool). IsLaxInside most_link_exts offset false type bytes (lax_extensions_of false extensions)
-        (lax_net_of o net transport stop)) so_far.incomplete whole;
+        (lax_net_of o net transport stop)) so_far.incomplete complete;
     shows = subst (λ (x : List LaxLinkExtSlice). ShowsLaxInside bytes x net transport) (append-nil extensions)
         (so_far.shows [] net transport part.shows);
   };

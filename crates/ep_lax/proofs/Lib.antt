@@ -23,7 +23,7 @@ pub mod OrderHeaderLemmas
 pub mod NestedLengthLemmas
 pub mod TruncationLemmas
 pub mod PayloadBytesLemmas
-pub mod WholeFrameLemmas
+pub mod CompleteFrameLemmas
 pub mod FrameTestLemmas
 pub mod LaxVerdictLemmas
 pub mod PayloadStartLemmas

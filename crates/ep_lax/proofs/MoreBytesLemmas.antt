@@ -12,7 +12,7 @@ use Rattle.ep_base.specs.declared.len_source.LenSource.TheVariants as source
 use Rattle.ep_base.specs.declared.err.ipv4.HeaderSliceError.{HeaderSliceError as Ipv4HeaderError}
 use Rattle.ep_base.specs.declared.err.ipv6.HeaderSliceError.{HeaderSliceError as Ipv6HeaderError}
 use Rattle.ep_base.specs.declared.err.len_error.LenError.{LenError}
-use Rattle.ep_base.proofs.BytesLemmas.{AreBytes-front, AreBytes-payload}
+use Rattle.ep_base.proofs.BytesLemmas.{AreBytes-prefix, AreBytes-payload}
 use Rattle.ep_base.proofs.LaxCutLemmas.{lax_cut_is_one}
 use Rattle.ep_base.proofs.TableLemmas.{decided}
 use Rattle.ep_link.specs.declared.link_ext.link_ext_header.LinkExtHeader.{LinkExtHeader}
@@ -48,15 +48,15 @@ use Rattle.ep_ip.specs.LaxIp.{LaxIp}
 use Rattle.ep_lax.specs.LaxLayers.{LaxLayers, LaxNet, net_with, no_net, error_with_layer}
 use Rattle.ep_lax.specs.LaxMacsec.{lax_macsec_payload, macsec_stated_len}
 use Rattle.ep_lax.specs.StrictFrames.{extension_in, layers_in}
-use Rattle.ep_lax.proofs.FurtherHeaderLemmas.{EndAfter, ShowsComplete, complete_after, complete_behind, complete_first, complete_headers, complete_limited, complete_same, header_in_prefix, headers_fit, headers_len}
+use Rattle.ep_lax.proofs.FurtherHeaderLemmas.{EndAfter, ShowsComplete, complete_after, complete_following, complete_first, complete_headers, complete_limited, complete_same, header_in_prefix, headers_fit, headers_len}
 use Rattle.ep_lax.proofs.LaxEntryLemmas.{lax_decided}
 use Rattle.ep_lax.proofs.LaxLawLemmas.{Tagged, inside_is_one, lax_extension_decided, lax_extension_fits, lax_refused_begins, net_is_one}
 use Rattle.ep_lax.proofs.LaxMacsecLemmas.{payload_by_is}
 use Rattle.ep_lax.proofs.LaxOrderLemmas.{extensions_in_order, lax_in_order}
 use Rattle.ep_lax.proofs.MoreIpLemmas.{MoreNet, cut_limits, cut_more, inner_headers, ipv4_more, ipv6_more}
-use Rattle.ep_lax.proofs.MoreTransportLemmas.{parts_more, shows_before, shows_behind, shows_same}
+use Rattle.ep_lax.proofs.MoreTransportLemmas.{parts_more, shows_before, shows_after, shows_same}
 use Rattle.ep_lax.proofs.OrderHeaderLemmas.{inside_begins, order_begins}
-use Rattle.ep_lax.proofs.StrictLemmas.{frame_is_whole}
+use Rattle.ep_lax.proofs.StrictLemmas.{frame_is_complete}
 
 -- ---- network layer
 
@@ -80,7 +80,7 @@ ipv4_ends : (place : ℕ) (inner : Bool) (bytes more : List ℕ) (error : Ipv4He
     → EndAfter (length bytes) [] (inner_headers read)
 ipv4_ends place inner bytes more error fits refused read (inl again) =
     subst (λ (n : LaxNet). EndAfter (length bytes) [] (inner_headers n)) (sym again.2) tt
-ipv4_ends place inner bytes more error fits refused read (inr (lax, is, (inside, there, same))) =
+ipv4_ends place inner bytes more error fits refused read (inr (lax, is, (inside, present, same))) =
     let header = is.0.0 in
     let len = ipv4_encoded_len is.1.encoded header is.1.encodes in
     let short : length bytes < ipv4_header_len header =
@@ -100,7 +100,7 @@ ipv6_ends : (place : ℕ) (inner : Bool) (bytes more : List ℕ) (error : Ipv6He
     → EndAfter (length bytes) [] (inner_headers read)
 ipv6_ends place inner bytes more error fits refused read (inl again) =
     subst (λ (n : LaxNet). EndAfter (length bytes) [] (inner_headers n)) (sym again.2) tt
-ipv6_ends place inner bytes more error fits refused read (inr (lax, is, (inside, there, same))) =
+ipv6_ends place inner bytes more error fits refused read (inr (lax, is, (inside, present, same))) =
     let header = is.0.0 in
     let len = ipv6_len header is.1.fits in
     let short : length bytes < 40 =
@@ -161,19 +161,19 @@ net_more offset place outer inner None bytes more net fits one is = record {
 net_more offset place outer inner (Some only_ipv4) bytes more net fits one (inl refused) =
     stopped_more (length bytes) (IsLaxNet place inner (Some only_ipv4) (bytes ++ more)) outer (error_with_layer refused.0) net
     refused.2 one
-    (ipv4_ends place inner bytes more refused.1.0 (AreBytes-front bytes more fits) refused.1.1 one.value one.is)
+    (ipv4_ends place inner bytes more refused.1.0 (AreBytes-prefix bytes more fits) refused.1.1 one.value one.is)
 net_more offset place outer inner (Some only_ipv4) bytes more net fits one (inr is) =
     net_under (length bytes) net (λ read found. inr found) (ipv4_more offset place outer inner bytes more net fits is)
 net_more offset place outer inner (Some only_ipv6) bytes more net fits one (inl refused) =
     stopped_more (length bytes) (IsLaxNet place inner (Some only_ipv6) (bytes ++ more)) outer (error_with_layer refused.0) net
     refused.2 one
-    (ipv6_ends place inner bytes more refused.1.0 (AreBytes-front bytes more fits) refused.1.1 one.value one.is)
+    (ipv6_ends place inner bytes more refused.1.0 (AreBytes-prefix bytes more fits) refused.1.1 one.value one.is)
 net_more offset place outer inner (Some only_ipv6) bytes more net fits one (inr is) =
     net_under (length bytes) net (λ read found. inr found) (ipv6_more offset place outer inner bytes more net fits is)
 net_more offset place outer inner (Some only_arp) bytes more net fits one (inl refused) =
     stopped_more (length bytes) (IsLaxNet place inner (Some only_arp) (bytes ++ more)) outer (error_with_layer refused.0) net
     refused.2 one
-    (arp_ends place inner bytes more refused.1.0 (AreBytes-front bytes more fits) refused.1.1 one.value one.is)
+    (arp_ends place inner bytes more refused.1.0 (AreBytes-prefix bytes more fits) refused.1.1 one.value one.is)
 net_more offset place outer inner (Some only_arp) bytes more net fits one (inr (part, is, same)) = record {
   read = arp_net part.0;
   is = inr (
@@ -195,15 +195,15 @@ net_more offset place outer inner (Some any_ip) bytes more net fits one is =
 -- ---- link extensions
 
 -- Without trailing bytes, the bytes after a header and its payload continue the payload.
-whole_more : (bytes front payload left more : List ℕ) → bytes ≡ (front ++ payload) ++ left → left ≡ []
-    → bytes ++ more ≡ (front ++ (payload ++ more)) ++ []
-whole_more bytes front payload left more parts none =
-    parts_more bytes front payload more
-    (parts ∙ ap (λ (l : List ℕ). (front ++ payload) ++ l) none ∙ append-nil (front ++ payload))
-    ∙ sym (append-nil (front ++ (payload ++ more)))
+pub complete_more : (bytes prefix payload left more : List ℕ) → bytes ≡ (prefix ++ payload) ++ left → left ≡ []
+    → bytes ++ more ≡ (prefix ++ (payload ++ more)) ++ []
+complete_more bytes prefix payload left more parts none =
+    parts_more bytes prefix payload more
+    (parts ∙ ap (λ (l : List ℕ). (prefix ++ payload) ++ l) none ∙ append-nil (prefix ++ payload))
+    ∙ sym (append-nil (prefix ++ (payload ++ more)))
 
 -- The ether type of a payload does not depend on its length.
-type_by : (of : MacsecPType) (limit : LenSource) (bytes : List ℕ)
+pub type_by : (of : MacsecPType) (limit : LenSource) (bytes : List ℕ)
     → macsec_payload_type (payload_by of limit bytes) ≡ ptype_type of
 type_by (ptype.Unmodified type) limit bytes = refl
 type_by ptype.Modified limit bytes = refl
@@ -211,27 +211,27 @@ type_by ptype.Encrypted limit bytes = refl
 type_by ptype.EncryptedUnmodified limit bytes = refl
 
 -- The limit of a payload, for equal payloads.
-payload_limit : (room : ℕ) (here payload there longer : List ℕ) → payload ≡ here → longer ≡ there
-    → (room ≤ length here) ⊎ (length there ≤ length here) → (room ≤ length payload) ⊎ (length longer ≤ length payload)
-payload_limit room here payload there longer same same_longer (inl all) = inl (omega (arith, all, ap length same))
-payload_limit room here payload there longer same same_longer (inr limit) =
+payload_limit : (space : ℕ) (here payload present longer : List ℕ) → payload ≡ here → longer ≡ present
+    → (space ≤ length here) ⊎ (length present ≤ length here) → (space ≤ length payload) ⊎ (length longer ≤ length payload)
+payload_limit space here payload present longer same same_longer (inl all) = inl (omega (arith, all, ap length same))
+payload_limit space here payload present longer same same_longer (inr limit) =
     inr (omega (arith, limit, ap length same, ap length same_longer))
 
 -- A link extension with the same tag and ether type whose payload begins with the other payload. The other one is read
 -- from `len` bytes.
-record MoreExtension (len : ℕ) (outer : Bool) (type : EtherType) (bytes : List ℕ) (tagged : Tagged) : Type 0 where
-  read : Tagged
-  is : IsLaxExtension outer type bytes read
-  rest : List ℕ
-  payload : extension_payload read.0 ≡ extension_payload tagged.0 ++ rest
-  same_type : extension_type read.0 ≡ extension_type tagged.0
-  tag : extension_header read.0 ≡ extension_header tagged.0
-  room : ℕ
-  all : len ≡ link_ext_header_len (extension_header tagged.0) + room
-  limit : (room ≤ length (extension_payload tagged.0))
+pub record MoreExtension (len : ℕ) (outer : Bool) (type : EtherType) (bytes : List ℕ) (tagged : Tagged) : Type 0 where
+  pub read : Tagged
+  pub is : IsLaxExtension outer type bytes read
+  pub rest : List ℕ
+  pub payload : extension_payload read.0 ≡ extension_payload tagged.0 ++ rest
+  pub same_type : extension_type read.0 ≡ extension_type tagged.0
+  pub tag : extension_header read.0 ≡ extension_header tagged.0
+  pub room : ℕ
+  pub all : len ≡ link_ext_header_len (extension_header tagged.0) + room
+  pub limit : (room ≤ length (extension_payload tagged.0))
       ⊎ (length (extension_payload read.0) ≤ length (extension_payload tagged.0))
 
-extension_more : (outer inner : Bool) (type : EtherType) (bytes more : List ℕ) (tagged : Tagged)
+pub extension_more : (outer inner : Bool) (type : EtherType) (bytes more : List ℕ) (tagged : Tagged)
     → IsLaxExtension outer type bytes tagged → MoreExtension (length bytes) inner type (bytes ++ more) tagged
 extension_more outer inner type bytes more (vlan tag payload, incomplete) is = record {
   read = (vlan tag (payload ++ more), inner);
@@ -239,7 +239,7 @@ extension_more outer inner type bytes more (vlan tag payload, incomplete) is = r
     is.0,
     record {
       fits = is.1.fits;
-      parts = whole_more bytes (vlan_bytes tag) payload [] more is.1.parts refl;
+      parts = complete_more bytes (vlan_bytes tag) payload [] more is.1.parts refl;
       cut = refl;
     },
     refl,
@@ -305,32 +305,32 @@ abbrev pub inside_headers : List Tagged → LaxNet → List LayerHeader
 inside_headers extensions net = map tag_header (map extension_in extensions) ++ inner_headers net
 
 -- The layers of bytes of an ether type, which have the headers of a prefix of them of `len` bytes.
-record MoreInside (len room place : ℕ) (outer : Bool) (type : Option EtherType) (bytes : List ℕ)
+record MoreInside (len space place : ℕ) (outer : Bool) (type : Option EtherType) (bytes : List ℕ)
     (extensions : List Tagged) (net : LaxNet) : Type 0 where
   others : List Tagged
   read : LaxNet
-  is : IsLaxInside room place outer type bytes others read
+  is : IsLaxInside space place outer type bytes others read
   shows : ShowsPrefix (inside_headers extensions net) net.inside.stop (inside_headers others read) read.inside.stop
   complete : ShowsComplete len (inside_headers extensions net) (inside_headers others read)
 
 -- The headers of the layers are not longer than the bytes that contain them.
-inside_fits : (room offset : ℕ) (outer : Bool) (type : Option EtherType) (bytes : List ℕ) (extensions : List Tagged)
-    (net : LaxNet) → IsLaxInside room offset outer type bytes extensions net
+inside_fits : (space offset : ℕ) (outer : Bool) (type : Option EtherType) (bytes : List ℕ) (extensions : List Tagged)
+    (net : LaxNet) → IsLaxInside space offset outer type bytes extensions net
     → headers_len (inside_headers extensions net) ≤ length bytes
-inside_fits room offset outer type bytes extensions net is =
+inside_fits space offset outer type bytes extensions net is =
     headers_fit (inside_headers extensions net) bytes
     (inside_begins bytes (map extension_in extensions) net.layer net.inside.layer
-    (extensions_in_order slices room offset outer type bytes extensions net is))
+    (extensions_in_order slices space offset outer type bytes extensions net is))
 
 -- A tag before the layers of both.
-tagged_more : (len room place : ℕ) (inner : Bool) (type : EtherType) (bytes : List ℕ) (tagged : Tagged)
+tagged_more : (len space place : ℕ) (inner : Bool) (type : EtherType) (bytes : List ℕ) (tagged : Tagged)
     (others : List Tagged) (net : LaxNet) → (here : MoreExtension len inner type bytes tagged)
-    → MoreInside (length (extension_payload tagged.0)) room
+    → MoreInside (length (extension_payload tagged.0)) space
     (place + link_ext_header_len (extension_header here.read.0)) here.read.1 (extension_type here.read.0)
     (extension_payload here.read.0) others net
-    → MoreInside len (suc room) place inner (Some type) bytes (tagged ∷ others) net
-tagged_more len room place inner type bytes tagged others net here next =
-    let fits = inside_fits room (place + link_ext_header_len (extension_header here.read.0)) here.read.1
+    → MoreInside len (suc space) place inner (Some type) bytes (tagged ∷ others) net
+tagged_more len space place inner type bytes tagged others net here next =
+    let fits = inside_fits space (place + link_ext_header_len (extension_header here.read.0)) here.read.1
     (extension_type here.read.0) (extension_payload here.read.0) next.others next.read next.is in
     let complete = complete_after here.room (of_tag (extension_header tagged.0)) (inside_headers others net)
     (inside_headers next.others next.read)
@@ -342,7 +342,7 @@ tagged_more len room place inner type bytes tagged others net here next =
       is = (here.is, next.is);
       shows = subst (λ (tag : LinkExtHeader). ShowsPrefix (of_tag tag ∷ inside_headers others net) net.inside.stop
           (of_tag (extension_header here.read.0) ∷ inside_headers next.others next.read) next.read.inside.stop) here.tag
-          (shows_behind (of_tag (extension_header here.read.0) ∷ []) (inside_headers others net)
+          (shows_after (of_tag (extension_header here.read.0) ∷ []) (inside_headers others net)
           (inside_headers next.others next.read) net.inside.stop next.read.inside.stop next.shows);
       complete = subst (λ (n : ℕ). ShowsComplete n (inside_headers (tagged ∷ others) net)
           (inside_headers (here.read ∷ next.others) next.read)) (sym here.all)
@@ -352,55 +352,55 @@ tagged_more len room place inner type bytes tagged others net here next =
     }
 
 -- No link extension.
-bare_more : (len room place : ℕ) (inner : Bool) (type : Option EtherType) (bytes : List ℕ) (net : LaxNet)
-    {Is : LaxNet → Type 0} → ((read : LaxNet) → Is read → IsLaxInside room place inner type bytes [] read)
-    → MoreNet len Is net → MoreInside len room place inner type bytes [] net
-bare_more len room place inner type bytes net there more = record {
+bare_more : (len space place : ℕ) (inner : Bool) (type : Option EtherType) (bytes : List ℕ) (net : LaxNet)
+    {Is : LaxNet → Type 0} → ((read : LaxNet) → Is read → IsLaxInside space place inner type bytes [] read)
+    → MoreNet len Is net → MoreInside len space place inner type bytes [] net
+bare_more len space place inner type bytes net present more = record {
   others = [];
   read = more.read;
-  is = there more.read more.is;
+  is = present more.read more.is;
   shows = more.shows;
   complete = more.complete;
 }
 
 -- The first tag, if a prefix of its bytes is rejected, does not end in the prefix.
-tag_ends : (room offset place : ℕ) (inner : Bool) (type : EtherType) (bytes more : List ℕ) (error : SliceError)
+tag_ends : (space offset place : ℕ) (inner : Bool) (type : EtherType) (bytes more : List ℕ) (error : SliceError)
     → AreBytes bytes → RefusesLaxExtension offset type bytes error → (others : List Tagged) (read : LaxNet)
-    → IsLaxInside (suc room) place inner (Some type) (bytes ++ more) others read
+    → IsLaxInside (suc space) place inner (Some type) (bytes ++ more) others read
     → EndAfter (length bytes) [] (inside_headers others read)
-tag_ends room offset place inner type bytes more error fits refused [] read (inl none) =
+tag_ends space offset place inner type bytes more error fits refused [] read (inl none) =
     absurd (none.0 (lax_refused_begins offset type bytes error refused))
-tag_ends room offset place inner type bytes more error fits refused [] read (inr again) =
+tag_ends space offset place inner type bytes more error fits refused [] read (inr again) =
     subst (λ (n : LaxNet). EndAfter (length bytes) [] (inner_headers n)) (sym again.2) tt
-tag_ends room offset place inner type bytes more error fits refused ((vlan tag payload, incomplete) ∷ others) read is =
+tag_ends space offset place inner type bytes more error fits refused ((vlan tag payload, incomplete) ∷ others) read is =
     elim (cases_lt (length bytes) 4) [
       | inl short ↦ omega (arith, short)
       | inr within ↦
-          let there = is.0.1 in
+          let present = is.0.1 in
           let here = header_in_prefix (vlan_bytes tag) payload bytes more
-          (there.parts ∙ append-nil (vlan_bytes tag ++ payload)) (omega (arith, within)) in
+          (present.parts ∙ append-nil (vlan_bytes tag ++ payload)) (omega (arith, within)) in
           let law = lax_extension_decided offset false type bytes fits (inl is.0.0) in
           absurd (law.not_both (vlan tag here.0, false) error (
             is.0.0,
             record {
-              fits = there.fits;
+              fits = present.fits;
               parts = here.1 ∙ sym (append-nil (vlan_bytes tag ++ here.0));
               cut = refl;
             },
             refl,
           ) refused)
     ]
-tag_ends room offset place inner type bytes more error fits refused ((macsec tag payload, incomplete) ∷ others) read
+tag_ends space offset place inner type bytes more error fits refused ((macsec tag payload, incomplete) ∷ others) read
     is =
     elim (cases_lt (length bytes) (macsec_header_len tag)) [
       | inl short ↦ omega (arith, short)
       | inr within ↦
-          let there = is.0.1.1.header in
-          let len = macsec_encoded_len there.encoded tag there.encodes in
-          let here = header_in_prefix there.encoded is.0.1.1.after_tag bytes more there.parts
+          let present = is.0.1.1.header in
+          let len = macsec_encoded_len present.encoded tag present.encodes in
+          let here = header_in_prefix present.encoded is.0.1.1.after_tag bytes more present.parts
           (omega (arith, within, len)) in
           absurd (no_tag refused is.0.0 here.0
-          (record { encoded = there.encoded; encodes = there.encodes; parts = here.1 }))
+          (record { encoded = present.encoded; encodes = present.encodes; parts = here.1 }))
     ]
   where
     no_tag : RefusesLaxExtension offset type bytes error → IsMacsecType type → (after : List ℕ)
@@ -409,11 +409,11 @@ tag_ends room offset place inner type bytes more error fits refused ((macsec tag
     no_tag (inr tag_refused) is_macsec after header =
         (decided macsec_header_is_read bytes fits).not_both (tag, after) tag_refused.1.0 header tag_refused.1.1
 
-inside_more : (room offset place : ℕ) (outer inner : Bool) (type : Option EtherType) (bytes more : List ℕ)
+inside_more : (space offset place : ℕ) (outer inner : Bool) (type : Option EtherType) (bytes more : List ℕ)
     (extensions : List Tagged) (net : LaxNet) → AreBytes (bytes ++ more)
-    → IsLaxInside room offset outer type bytes extensions net
-    → MoreInside (length bytes) room place inner type (bytes ++ more) extensions net
-inside_more room offset place outer inner None bytes more extensions net fits is = record {
+    → IsLaxInside space offset outer type bytes extensions net
+    → MoreInside (length bytes) space place inner type (bytes ++ more) extensions net
+inside_more space offset place outer inner None bytes more extensions net fits is = record {
   others = [];
   read = no_net inner None;
   is = (refl, refl);
@@ -427,12 +427,12 @@ inside_more zero offset place outer inner (Some type) bytes more [] net fits is 
     (net_more offset place outer inner (net_kind type) bytes more net fits
     (net_is_one place inner type (bytes ++ more) fits) is)
 inside_more zero offset place outer inner (Some type) bytes more (tagged ∷ others) net fits is = absurd is
-inside_more (suc room) offset place outer inner (Some type) bytes more [] net fits (inl is) =
-    bare_more (length bytes) (suc room) place inner (Some type) (bytes ++ more) net (λ read found. inl (is.0, found))
+inside_more (suc space) offset place outer inner (Some type) bytes more [] net fits (inl is) =
+    bare_more (length bytes) (suc space) place inner (Some type) (bytes ++ more) net (λ read found. inl (is.0, found))
     (net_more offset place outer inner (net_kind type) bytes more net fits
     (net_is_one place inner type (bytes ++ more) fits) is.1)
-inside_more (suc room) offset place outer inner (Some type) bytes more [] net fits (inr refused) =
-    let one = inside_is_one (suc room) place inner (Some type) (bytes ++ more) fits in
+inside_more (suc space) offset place outer inner (Some type) bytes more [] net fits (inr refused) =
+    let one = inside_is_one (suc space) place inner (Some type) (bytes ++ more) fits in
     let all = inside_headers one.value.0 one.value.1 in
     record {
       others = one.value.0;
@@ -442,21 +442,21 @@ inside_more (suc room) offset place outer inner (Some type) bytes more [] net fi
           (sym refused.2) (shows_before [] all all (error_with_layer refused.0) one.value.1.inside.stop refl);
       complete = subst (λ (n : LaxNet). ShowsComplete (length bytes) (inside_headers [] n) all) (sym refused.2)
           (complete_first (length bytes) all
-          (tag_ends room offset place inner type bytes more refused.0 (AreBytes-front bytes more fits) refused.1 one.value.0
+          (tag_ends space offset place inner type bytes more refused.0 (AreBytes-prefix bytes more fits) refused.1 one.value.0
           one.value.1 one.is));
     }
-inside_more (suc room) offset place outer inner (Some type) bytes more (tagged ∷ others) net fits is =
+inside_more (suc space) offset place outer inner (Some type) bytes more (tagged ∷ others) net fits is =
     let here = extension_more outer inner type bytes more tagged is.0 in
-    let behind = place + link_ext_header_len (extension_header here.read.0) in
+    let following = place + link_ext_header_len (extension_header here.read.0) in
     let payload = lax_extension_fits inner type (bytes ++ more) here.read fits here.is in
-    let next = inside_more room (offset + link_ext_header_len (extension_header tagged.0)) behind tagged.1 here.read.1
+    let next = inside_more space (offset + link_ext_header_len (extension_header tagged.0)) following tagged.1 here.read.1
     (extension_type tagged.0) (extension_payload tagged.0) here.rest others net (subst AreBytes here.payload payload)
     is.1 in
-    tagged_more (length bytes) room place inner type (bytes ++ more) tagged others net here
-    (subst (λ (t : Option EtherType). MoreInside (length (extension_payload tagged.0)) room behind here.read.1 t
+    tagged_more (length bytes) space place inner type (bytes ++ more) tagged others net here
+    (subst (λ (t : Option EtherType). MoreInside (length (extension_payload tagged.0)) space following here.read.1 t
     (extension_payload here.read.0) others net)
     (sym here.same_type)
-    (subst (λ (l : List ℕ). MoreInside (length (extension_payload tagged.0)) room behind here.read.1
+    (subst (λ (l : List ℕ). MoreInside (length (extension_payload tagged.0)) space following here.read.1
     (extension_type tagged.0) l others net)
     (sym here.payload) next))
 
@@ -485,40 +485,40 @@ linked_shows read link longer others net is same shows =
     (link_headers (Some longer) ++ all) net.inside.stop) (sym is)
     (subst (λ (l : List LayerHeader). ShowsPrefix (link_headers (Some link) ++ shown) read.net.inside.stop (l ++ all)
     net.inside.stop) (sym same)
-    (shows_behind (link_headers (Some link)) shown all read.net.inside.stop net.inside.stop shows))
+    (shows_after (link_headers (Some link)) shown all read.net.inside.stop net.inside.stop shows))
 
-linked_complete : (len room : ℕ) (read : LaxLayers) (link longer : LinkLayer) (others : List Tagged) (net : LaxNet)
+linked_complete : (len space : ℕ) (read : LaxLayers) (link longer : LinkLayer) (others : List Tagged) (net : LaxNet)
     → read.link ≡ Some link → link_headers (Some longer) ≡ link_headers (Some link)
-    → len ≡ headers_len (link_headers (Some link)) + room
-    → ShowsComplete room (inside_headers read.link_exts read.net) (inside_headers others net)
+    → len ≡ headers_len (link_headers (Some link)) + space
+    → ShowsComplete space (inside_headers read.link_exts read.net) (inside_headers others net)
     → ShowsComplete len (shown_headers read) (shown_headers (with_link longer others net))
-linked_complete len room read link longer others net is same all complete =
+linked_complete len space read link longer others net is same all complete =
     let shown = inside_headers read.link_exts read.net in
-    let whole = inside_headers others net in
-    subst (λ (l : Option LinkLayer). ShowsComplete len (link_headers l ++ shown) (link_headers (Some longer) ++ whole))
+    let entire = inside_headers others net in
+    subst (λ (l : Option LinkLayer). ShowsComplete len (link_headers l ++ shown) (link_headers (Some longer) ++ entire))
     (sym is)
-    (subst (λ (l : List LayerHeader). ShowsComplete len (link_headers (Some link) ++ shown) (l ++ whole)) (sym same)
-    (subst (λ (n : ℕ). ShowsComplete n (link_headers (Some link) ++ shown) (link_headers (Some link) ++ whole)) (sym all)
-    (complete_behind room (link_headers (Some link)) shown whole complete)))
+    (subst (λ (l : List LayerHeader). ShowsComplete len (link_headers (Some link) ++ shown) (l ++ entire)) (sym same)
+    (subst (λ (n : ℕ). ShowsComplete n (link_headers (Some link) ++ shown) (link_headers (Some link) ++ entire)) (sym all)
+    (complete_following space (link_headers (Some link)) shown entire complete)))
 
-pub more_layers : (entry : Entry) (front back : List ℕ) (read : LaxLayers) → AreBytes (front ++ back)
-    → IsLax entry front read → MoreLayers (length front) entry (front ++ back) read
-more_layers ethernet front back read fits (frame, is, link, inside) =
+pub more_layers : (entry : Entry) (prefix back : List ℕ) (read : LaxLayers) → AreBytes (prefix ++ back)
+    → IsLax entry prefix read → MoreLayers (length prefix) entry (prefix ++ back) read
+more_layers ethernet prefix back read fits (frame, is, link, inside) =
     let header = frame.header in
     let payload = frame.payload ++ back in
-    let stands : IsEthernet2 (front ++ back) (parts_of header payload []) = record {
+    let holds : IsEthernet2 (prefix ++ back) (parts_of header payload []) = record {
       fits = is.fits;
-      parts = whole_more front (ethernet2_bytes header) frame.payload frame.left back is.parts is.cut;
+      parts = complete_more prefix (ethernet2_bytes header) frame.payload frame.left back is.parts is.cut;
       cut = refl;
     } in
     let next = inside_more most_link_exts ethernet2_header_len ethernet2_header_len false false
     (Some header.ether_type) frame.payload back read.link_exts read.net
-    (AreBytes-payload (front ++ back) (ethernet2_bytes header) payload [] fits stands.parts) inside in (
+    (AreBytes-payload (prefix ++ back) (ethernet2_bytes header) payload [] fits holds.parts) inside in (
       with_link (ethernet2 header payload) next.others next.read,
-      (parts_of header payload [], stands, refl, next.is),
+      (parts_of header payload [], holds, refl, next.is),
       linked_shows read (ethernet2 header frame.payload) (ethernet2 header payload) next.others next.read link refl
           next.shows,
-      linked_complete (length front) (length frame.payload) read (ethernet2 header frame.payload)
+      linked_complete (length prefix) (length frame.payload) read (ethernet2 header frame.payload)
           (ethernet2 header payload) next.others next.read link refl (omega (
             arith,
             ap length is.parts,
@@ -528,21 +528,21 @@ more_layers ethernet front back read fits (frame, is, link, inside) =
             link_encoded (Some (ethernet2 header frame.payload)) (ethernet2_bytes header) (is.fits, refl),
           )) next.complete,
     )
-more_layers linux_sll front back read fits (frame, is, link, inside) =
+more_layers linux_sll prefix back read fits (frame, is, link, inside) =
     let header = frame.header in
     let payload = frame.payload ++ back in
-    let stands : IsLinuxSll (front ++ back) (parts_of header payload []) = record {
+    let holds : IsLinuxSll (prefix ++ back) (parts_of header payload []) = record {
       fits = is.fits;
-      parts = whole_more front (linux_sll_bytes header) frame.payload frame.left back is.parts is.cut;
+      parts = complete_more prefix (linux_sll_bytes header) frame.payload frame.left back is.parts is.cut;
       cut = refl;
     } in
     let next = inside_more most_link_exts linux_sll_header_len linux_sll_header_len false false
     (protocol_ether_type header.protocol_type) frame.payload back read.link_exts read.net
-    (AreBytes-payload (front ++ back) (linux_sll_bytes header) payload [] fits stands.parts) inside in (
+    (AreBytes-payload (prefix ++ back) (linux_sll_bytes header) payload [] fits holds.parts) inside in (
       with_link (sll header payload) next.others next.read,
-      (parts_of header payload [], stands, refl, next.is),
+      (parts_of header payload [], holds, refl, next.is),
       linked_shows read (sll header frame.payload) (sll header payload) next.others next.read link refl next.shows,
-      linked_complete (length front) (length frame.payload) read (sll header frame.payload) (sll header payload)
+      linked_complete (length prefix) (length frame.payload) read (sll header frame.payload) (sll header payload)
           next.others next.read link refl (omega (
             arith,
             ap length is.parts,
@@ -552,46 +552,46 @@ more_layers linux_sll front back read fits (frame, is, link, inside) =
             link_encoded (Some (sll header frame.payload)) (linux_sll_bytes header) (is.fits, refl),
           )) next.complete,
     )
-more_layers (ether_type type) front back read fits (link, inside) =
-    let next = inside_more most_link_exts 0 0 false false (Some type) front back read.link_exts read.net fits inside in (
-      with_link (ether_payload type source.Slice (front ++ back)) next.others next.read,
+more_layers (ether_type type) prefix back read fits (link, inside) =
+    let next = inside_more most_link_exts 0 0 false false (Some type) prefix back read.link_exts read.net fits inside in (
+      with_link (ether_payload type source.Slice (prefix ++ back)) next.others next.read,
       (refl, next.is),
-      linked_shows read (ether_payload type source.Slice front) (ether_payload type source.Slice (front ++ back))
+      linked_shows read (ether_payload type source.Slice prefix) (ether_payload type source.Slice (prefix ++ back))
           next.others next.read link refl next.shows,
-      linked_complete (length front) (length front) read (ether_payload type source.Slice front)
-          (ether_payload type source.Slice (front ++ back)) next.others next.read link refl (omega arith) next.complete,
+      linked_complete (length prefix) (length prefix) read (ether_payload type source.Slice prefix)
+          (ether_payload type source.Slice (prefix ++ back)) next.others next.read link refl (omega arith) next.complete,
     )
-more_layers ip front back read fits (link, extensions, net) =
-    let next = open_more 0 0 false false front back read.net fits net in (
+more_layers ip prefix back read fits (link, extensions, net) =
+    let next = open_more 0 0 false false prefix back read.net fits net in (
       record { link = None; link_exts = []; net = next.read },
       (refl, refl, next.is),
       subst (λ (l : Option LinkLayer). ShowsPrefix (link_headers l ++ inside_headers read.link_exts read.net)
           read.net.inside.stop (inner_headers next.read) next.read.inside.stop) (sym link)
           (subst (λ (l : List Tagged). ShowsPrefix (inside_headers l read.net) read.net.inside.stop
           (inner_headers next.read) next.read.inside.stop) (sym extensions) next.shows),
-      subst (λ (l : Option LinkLayer). ShowsComplete (length front) (link_headers l ++ inside_headers read.link_exts read.net)
+      subst (λ (l : Option LinkLayer). ShowsComplete (length prefix) (link_headers l ++ inside_headers read.link_exts read.net)
           (inner_headers next.read)) (sym link)
-          (subst (λ (l : List Tagged). ShowsComplete (length front) (inside_headers l read.net) (inner_headers next.read))
+          (subst (λ (l : List Tagged). ShowsComplete (length prefix) (inside_headers l read.net) (inner_headers next.read))
           (sym extensions) next.complete),
     )
 
 -- More bytes have the headers of a prefix of them, followed by further headers.
-pub more_bytes : (entry : Entry) (front back : List ℕ) (read : LaxLayers) → AreBytes (front ++ back)
-    → IsLax entry front read
-    → (longer : LaxLayers) × IsLax entry (front ++ back) longer
+pub more_bytes : (entry : Entry) (prefix back : List ℕ) (read : LaxLayers) → AreBytes (prefix ++ back)
+    → IsLax entry prefix read
+    → (longer : LaxLayers) × IsLax entry (prefix ++ back) longer
     × ShowsPrefix (shown_headers read) read.net.inside.stop (shown_headers longer) longer.net.inside.stop
-more_bytes entry front back read fits is =
-    let longer = more_layers entry front back read fits is in
+more_bytes entry prefix back read fits is =
+    let longer = more_layers entry prefix back read fits is in
     (longer.0, longer.1, longer.2)
 
 -- The headers of a prefix are the first headers of the frame, and all of them if slicing of the prefix did not stop.
-pub prefix_shows_headers : (entry : Entry) (front back : List ℕ) (layers : Layers) (read : LaxLayers)
-    → AreBytes (front ++ back) → IsFrame entry (front ++ back) layers → IsLax entry front read
+pub prefix_shows_headers : (entry : Entry) (prefix back : List ℕ) (layers : Layers) (read : LaxLayers)
+    → AreBytes (prefix ++ back) → IsFrame entry (prefix ++ back) layers → IsLax entry prefix read
     → AreFirst (shown_headers read) read.net.inside.stop (frame_headers layers)
-prefix_shows_headers entry front back layers read fits frame is =
-    let longer = more_layers entry front back read fits is in
-    let strict = frame_is_whole entry (front ++ back) layers frame in
-    let same = (lax_decided entry (front ++ back) fits).one_value longer.0 strict.0 longer.1 strict.1 in
+prefix_shows_headers entry prefix back layers read fits frame is =
+    let longer = more_layers entry prefix back read fits is in
+    let strict = frame_is_complete entry (prefix ++ back) layers frame in
+    let same = (lax_decided entry (prefix ++ back) fits).one_value longer.0 strict.0 longer.1 strict.1 in
     let shows = subst (λ (l : LaxLayers). ShowsPrefix (shown_headers read) read.net.inside.stop (shown_headers l)
     l.net.inside.stop) same longer.2 in
     elim shows [
@@ -600,18 +600,18 @@ prefix_shows_headers entry front back layers read fits frame is =
     ]
 
 -- The headers of a prefix are those of the frame that end in it.
-pub prefix_shows_complete : (entry : Entry) (front back : List ℕ) (layers : Layers) (read : LaxLayers)
-    → AreBytes (front ++ back) → IsFrame entry (front ++ back) layers → IsLax entry front read
-    → shown_headers read ≡ headers_within (length front) (frame_headers layers)
-prefix_shows_complete entry front back layers read fits frame is =
-    let longer = more_layers entry front back read fits is in
-    let strict = frame_is_whole entry (front ++ back) layers frame in
-    let same = (lax_decided entry (front ++ back) fits).one_value longer.0 strict.0 longer.1 strict.1 in
-    let first = prefix_shows_headers entry front back layers read fits frame is in
+pub prefix_shows_complete : (entry : Entry) (prefix back : List ℕ) (layers : Layers) (read : LaxLayers)
+    → AreBytes (prefix ++ back) → IsFrame entry (prefix ++ back) layers → IsLax entry prefix read
+    → shown_headers read ≡ headers_within (length prefix) (frame_headers layers)
+prefix_shows_complete entry prefix back layers read fits frame is =
+    let longer = more_layers entry prefix back read fits is in
+    let strict = frame_is_complete entry (prefix ++ back) layers frame in
+    let same = (lax_decided entry (prefix ++ back) fits).one_value longer.0 strict.0 longer.1 strict.1 in
+    let first = prefix_shows_headers entry prefix back layers read fits frame is in
     let shown = shown_headers read in
-    let complete = subst (λ (l : LaxLayers). ShowsComplete (length front) shown (shown_headers l)) same longer.3 in
+    let complete = subst (λ (l : LaxLayers). ShowsComplete (length prefix) shown (shown_headers l)) same longer.3 in
     let more = first.more in
-    let begins = order_begins front (layers_in read) (lax_in_order slices entry front read is) in
-    sym (ap (headers_within (length front)) first.parts
-    ∙ complete_headers (length front) shown more (headers_fit shown front begins)
-    (subst (λ (l : Layers). ShowsComplete (length front) shown (frame_headers l)) strict.2 complete more first.parts))
+    let begins = order_begins prefix (layers_in read) (lax_in_order slices entry prefix read is) in
+    sym (ap (headers_within (length prefix)) first.parts
+    ∙ complete_headers (length prefix) shown more (headers_fit shown prefix begins)
+    (subst (λ (l : Layers). ShowsComplete (length prefix) shown (frame_headers l)) strict.2 complete more first.parts))

@@ -25,7 +25,7 @@ use Rattle.ep_transport.specs.Icmpv4.{IsIcmpv4, icmpv4_kind, icmpv4_kind_at, icm
 use Rattle.ep_transport.specs.TransportParts.{transport_layer, IsTransportLayer}
 use Rattle.ep_transport.specs.Udp.{udp_bytes}
 use Rattle.ep_transport.proofs.TransportLemmas.{icmpv4_refused}
-use Rattle.ep_base.proofs.BytesLemmas.{AreBytes-front}
+use Rattle.ep_base.proofs.BytesLemmas.{AreBytes-prefix}
 use Rattle.ep_base.proofs.DecidedLemmas.{refused_as}
 use Rattle.ep_transport.specs.TransportHeaders.{EncodesTransportHeader, transport_header_len}
 use Rattle.ep_packet.specs.FrameRefusals.{RefusesTransportIn, transport_refusal}
@@ -42,18 +42,18 @@ use Rattle.ep_lax.proofs.LaxLawLemmas.{header_cut_is_one, transport_is_one}
 -- ---- headers of a prefix
 
 -- Headers before both lists.
-pub shows_behind : (before shown whole : List LayerHeader) (end stop : Option (SliceError × Layer))
-    → ShowsPrefix shown end whole stop → ShowsPrefix (before ++ shown) end (before ++ whole) stop
-shows_behind before shown whole end stop (inl first) = inl (record {
+pub shows_after : (before shown entire : List LayerHeader) (end stop : Option (SliceError × Layer))
+    → ShowsPrefix shown end entire stop → ShowsPrefix (before ++ shown) end (before ++ entire) stop
+shows_after before shown entire end stop (inl first) = inl (record {
   more = first.more;
   parts = ap (λ (l : List LayerHeader). before ++ l) first.parts ∙ sym (append_assoc before shown first.more);
   all = first.all;
 })
-shows_behind before shown whole end stop (inr last) = inr (record {
+shows_after before shown entire end stop (inr last) = inr (record {
   header = last.header;
   timestamp = last.timestamp;
   parts = ap (λ (l : List LayerHeader). before ++ l) last.parts
-      ∙ sym (append_assoc before whole (of_transport (header.Icmpv4 last.header) ∷ []));
+      ∙ sym (append_assoc before entire (of_transport (header.Icmpv4 last.header) ∷ []));
   refusal = last.refusal;
   stops = last.stops;
   exact = last.exact;
@@ -61,23 +61,23 @@ shows_behind before shown whole end stop (inr last) = inr (record {
 })
 
 -- If slicing stopped, the headers of the prefix are the first of the headers, whatever comes after them.
-pub shows_before : (shown more whole : List LayerHeader) (end : SliceError × Layer)
-    (stop : Option (SliceError × Layer)) → whole ≡ shown ++ more → ShowsPrefix shown (Some end) whole stop
-shows_before shown more whole end stop parts =
+pub shows_before : (shown more entire : List LayerHeader) (end : SliceError × Layer)
+    (stop : Option (SliceError × Layer)) → entire ≡ shown ++ more → ShowsPrefix shown (Some end) entire stop
+shows_before shown more entire end stop parts =
     inl (record { more = more; parts = parts; all = λ none. cc none })
 
 -- Equal headers.
-pub shows_same : (shown whole : List LayerHeader) (end stop : Option (SliceError × Layer)) → whole ≡ shown
-    → ShowsPrefix shown end whole stop
-shows_same shown whole end stop same =
+pub shows_same : (shown entire : List LayerHeader) (end stop : Option (SliceError × Layer)) → entire ≡ shown
+    → ShowsPrefix shown end entire stop
+shows_same shown entire end stop same =
     inl (record { more = []; parts = same ∙ sym (append-nil shown); all = λ none. refl })
 
 -- ---- a header with more bytes after it
 
 -- The bytes after a header can be extended.
-pub parts_more : (bytes front behind more : List ℕ) → bytes ≡ front ++ behind → bytes ++ more ≡ front ++ (behind ++ more)
-parts_more bytes front behind more parts =
-    ap (λ (l : List ℕ). l ++ more) parts ∙ append_assoc front behind more
+pub parts_more : (bytes prefix following more : List ℕ) → bytes ≡ prefix ++ following → bytes ++ more ≡ prefix ++ (following ++ more)
+parts_more bytes prefix following more parts =
+    ap (λ (l : List ℕ). l ++ more) parts ∙ append_assoc prefix following more
 
 -- Bytes that begin with the header of a timestamp and are longer than 20 bytes.
 record IsLongTimestamp (number : ℕ) (bytes : List ℕ) (read : TransportHeader) : Type 0 where
@@ -204,9 +204,9 @@ layer_more number bytes more (header.Icmpv6 icmp) payload is =
 -- ---- a header that ends in a prefix of its bytes
 
 -- If bytes are followed by none, they are none.
-no_front : (front behind : List ℕ) → front ++ behind ≡ [] → front ≡ []
-no_front [] behind none = refl
-no_front (byte ∷ others) behind none = absurd (omega (arith, ap length none))
+no_prefix : (prefix following : List ℕ) → prefix ++ following ≡ [] → prefix ≡ []
+no_prefix [] following none = refl
+no_prefix (byte ∷ others) following none = absurd (omega (arith, ap length none))
 
 -- The wire format of a transport header has the length that the header states.
 encoded_len : (h : TransportHeader) (encoded : List ℕ) → EncodesTransportHeader h encoded
@@ -235,7 +235,7 @@ layer_less number bytes more (header.Icmpv4 icmp) payload is within =
           encoded = is.1.encoded;
           encodes = is.1.encodes;
           parts = after.1;
-          ends = λ twenty. no_front after.0 more (sym after.2 ∙ is.1.ends twenty);
+          ends = λ twenty. no_prefix after.0 more (sym after.2 ∙ is.1.ends twenty);
           whole = refl;
         },
       ),
@@ -302,7 +302,7 @@ transport_more offset place outer inner payload end more fits lax (inl refused) 
       complete = subst (λ (l : LaxTransport). ShowsComplete (length payload.bytes) (transport_headers l.layer)
           (transport_headers one.value.layer)) (sym refused.2)
           (complete_first (length payload.bytes) (transport_headers one.value.layer)
-          (stops_before offset place inner payload end more refused.0 (AreBytes-front payload.bytes more fits) refused.1
+          (stops_before offset place inner payload end more refused.0 (AreBytes-prefix payload.bytes more fits) refused.1
           one.value one.is));
     }
 transport_more offset place outer inner payload end more fits lax (inr (None, part, same)) = record {
@@ -316,12 +316,12 @@ transport_more offset place outer inner payload end more fits lax (inr (None, pa
 transport_more offset place outer inner payload end more fits lax (inr (Some layer, part, cut)) =
     let shown = cut_shows outer layer.header layer.payload lax cut in
     elim (layer_more payload.number payload.bytes more layer.header layer.payload part.1) [
-      | inl stands ↦
+      | inl holds ↦
           let one = header_cut_is_one inner layer.header (layer.payload ++ more) in
           let same = cut_shows inner layer.header (layer.payload ++ more) one.value one.is ∙ sym shown in
           record {
             read = one.value;
-            is = inr (Some (transport_layer layer.header (layer.payload ++ more)), (part.0, stands), one.is);
+            is = inr (Some (transport_layer layer.header (layer.payload ++ more)), (part.0, holds), one.is);
             shows = shows_same (transport_headers lax.layer) (transport_headers one.value.layer) lax.stop
                 one.value.stop same;
             complete = complete_same (length payload.bytes) (transport_headers lax.layer)

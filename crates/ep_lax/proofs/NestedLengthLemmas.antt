@@ -119,10 +119,13 @@ chain_lens version reading taken number bytes (part ∷ parts) last rest is =
     omega (arith, here.0, next)
 
 -- Length of a header, a payload and trailing bytes.
-pub three_lens : (bytes front payload left : List ℕ) → bytes ≡ (front ++ payload) ++ left
-    → length bytes ≡ length front + length payload + length left
-three_lens bytes front payload left parts =
-    omega (arith, ap length parts, length-append (front ++ payload) left, length-append front payload)
+pub two_lens : (bytes prefix rest : List ℕ) → bytes ≡ prefix ++ rest → length bytes ≡ length prefix + length rest
+two_lens bytes prefix rest parts = omega (arith, ap length parts, length-append prefix rest)
+
+pub three_lens : (bytes prefix payload left : List ℕ) → bytes ≡ (prefix ++ payload) ++ left
+    → length bytes ≡ length prefix + length payload + length left
+three_lens bytes prefix payload left parts =
+    omega (arith, ap length parts, length-append (prefix ++ payload) left, length-append prefix payload)
 
 -- ---- transport layer
 

@@ -11,7 +11,7 @@ use Rattle.ep_base.specs.declared.ether_type.EtherType.{EtherType}
 use Rattle.ep_base.specs.declared.len_source.LenSource.{LenSource}
 use Rattle.ep_base.specs.declared.len_source.LenSource.TheVariants as source
 use Rattle.ep_base.specs.declared.err.ipv6_exts.HeaderSliceError.{HeaderSliceError}
-use Rattle.ep_base.proofs.LaxCutLemmas.{cuts_not, cuts_there}
+use Rattle.ep_base.proofs.LaxCutLemmas.{cuts_not, cuts_present}
 use Rattle.ep_ext.specs.Chains.{IpVersion, ipv4, ipv6, ExtensionChain, chain_fragments}
 use Rattle.ep_ext.specs.ChainPrefixes.{IsLaxChainIn}
 use Rattle.ep_ext.specs.ExtensionParts.{ExtensionPart, part_len}
@@ -51,7 +51,7 @@ use Rattle.ep_lax.proofs.LaxLawLemmas.{Tagged}
 use Rattle.ep_lax.proofs.LaxMacsecLemmas.{payload_by_is}
 use Rattle.ep_lax.proofs.LaxOrderLemmas.{chain_bytes_are, tag_bytes}
 use Rattle.ep_lax.proofs.MoreIpLemmas.{chain_len}
-use Rattle.ep_lax.proofs.NestedLengthLemmas.{none_stated, some_stated, three_lens}
+use Rattle.ep_lax.proofs.NestedLengthLemmas.{none_stated, some_stated, three_lens, two_lens}
 
 -- ---- length fields
 
@@ -65,9 +65,9 @@ end_after : (offset len end stated : ℕ) → len ≤ stated → end < offset + 
 end_after offset len end stated enough after i =
     if le-leb len stated enough i && lt-leb (offset + stated) end after i then offset + stated else end
 
-end_there : (offset len end stated : ℕ) → len ≤ stated → offset + stated ≤ end
+end_present : (offset len end stated : ℕ) → len ≤ stated → offset + stated ≤ end
     → end_by_length offset len end (Some stated) ≡ offset + stated
-end_there offset len end stated enough within i =
+end_present offset len end stated enough within i =
     if le-leb len stated enough i && le-leb (offset + stated) end within i then offset + stated else end
 
 -- The payload that a length field does not limit has all bytes.
@@ -76,8 +76,8 @@ all_bytes : (least stated : ℕ) (named : LenSource) (outer : Bool) (header_len 
     → (stated < least) ⊎ (header_len + length after < stated)
     → header_len + length cut.payload ≡ header_len + length after
 all_bytes least stated named outer header_len after cut is why =
-    let there = header_len + length after in
-    let not_cut = cuts_not least stated there why in is.ends ∙ (λ i. if not_cut i then stated else there)
+    let present = header_len + length after in
+    let not_cut = cuts_not least stated present why in is.ends ∙ (λ i. if not_cut i then stated else present)
 
 -- The payload of a layer at `offset`, limited by a length field whose minimum is the length of the header.
 stated_ends : (offset end least stated : ℕ) (named : LenSource) (outer : Bool) (header_len : ℕ) (after : List ℕ)
@@ -86,25 +86,25 @@ stated_ends : (offset end least stated : ℕ) (named : LenSource) (outer : Bool)
     → (stated < least → stated < header_len)
     → offset + header_len + length cut.payload ≡ end_by_length offset header_len end (Some stated)
 stated_ends offset end least stated named outer header_len after cut is ends enough short =
-    let there = header_len + length after in
+    let present = header_len + length after in
     elim (cases_lt stated least) [
       | inl below ↦
           let all = all_bytes least stated named outer header_len after cut is (inl below) in
           let same : offset + header_len + length cut.payload ≡ end = omega (arith, all, ends) in
           same ∙ sym (end_below offset header_len end stated (short below))
-      | inr least_stated ↦ elim (cases_lt there stated) [
+      | inr least_stated ↦ elim (cases_lt present stated) [
         | inl long ↦
             let all = all_bytes least stated named outer header_len after cut is (inr long) in
             let same : offset + header_len + length cut.payload ≡ end = omega (arith, all, ends) in
             same
             ∙ sym (end_after offset header_len end stated (enough least_stated) (omega (arith, long, ends)))
         | inr fits ↦
-            let cut_there = cuts_there least stated there least_stated fits in
+            let cut_present = cuts_present least stated present least_stated fits in
             let some : header_len + length cut.payload ≡ stated =
-            is.ends ∙ (λ i. if cut_there i then stated else there) in
+            is.ends ∙ (λ i. if cut_present i then stated else present) in
             let same : offset + header_len + length cut.payload ≡ offset + stated = omega (arith, some) in
             same
-            ∙ sym (end_there offset header_len end stated (enough least_stated) (omega (arith, fits, ends)))
+            ∙ sym (end_present offset header_len end stated (enough least_stated) (omega (arith, fits, ends)))
       ]
     ]
 
@@ -177,8 +177,8 @@ same_range packet start other end last bytes at starts ends =
     (subst (λ (n : ℕ). IsByteRange packet start n bytes) ends at)
 
 -- The bytes of a packet.
-whole_range : (packet : List ℕ) → IsByteRange packet 0 (length packet) packet
-whole_range packet =
+range_of_all : (packet : List ℕ) → IsByteRange packet 0 (length packet) packet
+range_of_all packet =
     record { front = []; left = []; parts = sym (append-nil packet); starts = refl; ends = omega arith }
 
 -- ---- transport layer
@@ -315,17 +315,17 @@ ipv4_ranges : (reading : Reading) (packet : List ℕ) (offset end place : ℕ) (
     → AreNetRanges packet offset end around net
 ipv4_ranges reading packet offset end place outer around bytes net is at =
     let read = is.1.0 in
-    let stands = is.1.1 in
+    let holds = is.1.1 in
     let after = is.1.2 in
     let header = read.0 in
     let n = ipv4_header_len header in
     let layer = subst (λ (l : LaxIp Ipv4Header). IsIpLayer ipv4 ipv4_layer place l net) after.is is.2 in
-    let encoded_len = ipv4_encoded_len stands.encoded header stands.encodes in
+    let encoded_len = ipv4_encoded_len holds.encoded header holds.encodes in
     let last = end_by_length offset n end (Some header.total_len) in
     let ends = stated_ends offset end n header.total_len source.Ipv4HeaderTotalLen outer n read.1 after.cut after.cuts
-    (range_len packet offset end n bytes stands.encoded read.1 at stands.parts encoded_len) (λ enough. enough)
+    (range_len packet offset end n bytes holds.encoded read.1 at holds.parts encoded_len) (λ enough. enough)
     (λ short. short) in
-    let content = cut_range packet offset end n last bytes stands.encoded read.1 after.cut at stands.parts encoded_len
+    let content = cut_range packet offset end n last bytes holds.encoded read.1 after.cut at holds.parts encoded_len
     after.cuts.parts ends in
     let inner = packet_ranges reading packet offset last place _ n header.protocol.0 ipv4 after.cut.source after.cut
     after.chain after.refused (is_ipv4_fragment header) layer.0 after.is_chain layer.1 content in
@@ -336,18 +336,18 @@ ipv6_ranges : (reading : Reading) (packet : List ℕ) (offset end place : ℕ) (
     → AreNetRanges packet offset end around net
 ipv6_ranges reading packet offset end place outer around bytes net is at =
     let read = is.1.0 in
-    let stands = is.1.1 in
+    let holds = is.1.1 in
     let after = is.1.2 in
     let header = read.0 in
     let field = header.payload_length in
     let layer = subst (λ (l : LaxIp Ipv6Header). IsIpLayer ipv6 ipv6_layer place l net) after.is is.2 in
     let encoded = ipv6_bytes header in
-    let encoded_len = ipv6_len header stands.fits in
+    let encoded_len = ipv6_len header holds.fits in
     let last = end_by_length offset 40 end (if field == 0 then None else Some (40 + field)) in
     let ends = field_ends offset end field 41 (40 + field) source.Ipv6HeaderPayloadLen outer 40 read.1 after.cut
-    after.cuts (range_len packet offset end 40 bytes encoded read.1 at stands.parts encoded_len)
+    after.cuts (range_len packet offset end 40 bytes encoded read.1 at holds.parts encoded_len)
     (λ none. omega (arith, none)) (λ some enough. omega arith) (λ some short. omega (arith, some, short)) in
-    let content = cut_range packet offset end 40 last bytes encoded read.1 after.cut at stands.parts encoded_len
+    let content = cut_range packet offset end 40 last bytes encoded read.1 after.cut at holds.parts encoded_len
     after.cuts.parts ends in
     let limit = lax_ipv6_source header after.cut in
     let inner = packet_ranges reading packet offset last place _ 40 header.next_header.0 ipv6 limit after.cut
@@ -364,15 +364,15 @@ no_net_ranges : (packet : List ℕ) (offset end : ℕ) (outer : Bool) (bytes : L
     (error : SliceError) → IsNoNet outer net error → IsByteRange packet offset end bytes
     → AreNetRanges packet offset end bytes net
 no_net_ranges packet offset end outer bytes net error is at =
-    let there = no_layer_range packet offset end bytes at in
-    subst (AreNetRanges packet offset end bytes) (sym is) (record { net = there; transport = there })
+    let present = no_layer_range packet offset end bytes at in
+    subst (AreNetRanges packet offset end bytes) (sym is) (record { net = present; transport = present })
 
 net_ranges : (reading : Reading) (packet : List ℕ) (offset end place : ℕ) (outer : Bool) (kind : Option NetKind)
     (bytes : List ℕ) (net : LaxNet) → IsLaxNetIn reading place outer kind bytes net
     → IsByteRange packet offset end bytes → AreNetRanges packet offset end bytes net
 net_ranges reading packet offset end place outer None bytes net is at =
-    let there = no_layer_range packet offset end bytes at in
-    subst (AreNetRanges packet offset end bytes) (sym is) (record { net = there; transport = there })
+    let present = no_layer_range packet offset end bytes at in
+    subst (AreNetRanges packet offset end bytes) (sym is) (record { net = present; transport = present })
 net_ranges reading packet offset end place outer (Some only_ipv4) bytes net (inl refused) at =
     no_net_ranges packet offset end outer bytes net refused.0 refused.2 at
 net_ranges reading packet offset end place outer (Some only_ipv4) bytes net (inr is) at =
@@ -390,9 +390,9 @@ net_ranges reading packet offset end place outer (Some only_arp) bytes net (inr 
     is.parts ∙ ap (λ (b : List ℕ). b ++ part.1) (sym (append-nil (arp_bytes part.0))) in
     let none = payload_range packet offset end len (offset + len) bytes (arp_bytes part.0) [] part.1 at parts
     (net_encoded layer (arp_bytes part.0) (is.fits, refl)) (omega arith) in
-    let there : IsNetRange packet offset end bytes layer None =
+    let present : IsNetRange packet offset end bytes layer None =
     same_range packet (offset + len) (offset + len + 0) (offset + len) (offset + len) [] none (omega arith) refl in
-    subst (AreNetRanges packet offset end bytes) (sym same) (record { net = there; transport = there })
+    subst (AreNetRanges packet offset end bytes) (sym same) (record { net = present; transport = present })
 net_ranges reading packet offset end place outer (Some any_ip) bytes net (inl is) at =
     ipv4_ranges reading packet offset end place outer bytes bytes net is at
 net_ranges reading packet offset end place outer (Some any_ip) bytes net (inr is) at =
@@ -414,8 +414,7 @@ tag_ends offset end outer type bytes (macsec tag payload, incomplete) is ends =
     let last = layer_end offset end (tag_header (macsec tag payload)) in
     let count : length bytes ≡ n + length packet.after_tag = omega (
       arith,
-      ap length packet.header.parts,
-      length-append packet.header.encoded packet.after_tag,
+      two_lens bytes packet.header.encoded packet.after_tag packet.header.parts,
       macsec_encoded_len packet.header.encoded tag packet.header.encodes,
     ) in
     let none_is : tag.short_len ≡ 0 → stated ≡ 0 =
@@ -515,7 +514,7 @@ link_range packet layer header left encodes parts none =
     let count = three_lens packet header payload left parts in
     let n = link_len (Some layer) in
     same_range packet (0 + n) n (length packet) (length packet) payload
-    (payload_range packet 0 (length packet) n (length packet) packet header payload left (whole_range packet) parts len
+    (payload_range packet 0 (length packet) n (length packet) packet header payload left (range_of_all packet) parts len
     (omega (arith, len, count, ap length none))) (omega arith) refl
 
 pub lax_payloads : (reading : Reading) (entry : Entry) (bytes : List ℕ) (read : LaxLayers)
@@ -538,16 +537,16 @@ lax_payloads reading linux_sll bytes read is =
     (record { link = link; tags = inside.tags; net = inside.net; transport = inside.transport })
 lax_payloads reading (ether_type type) bytes read is =
     let layer = ether_payload type source.Slice bytes in
-    let whole = whole_range bytes in
+    let complete = range_of_all bytes in
     let inside = extension_ranges reading bytes most_link_exts 0 (length bytes) 0 false (Some type) bytes read.link_exts
-    read.net is.1 whole in
+    read.net is.1 complete in
     linked_payloads bytes read (Some layer) is.0
-    (record { link = whole; tags = inside.tags; net = inside.net; transport = inside.transport })
+    (record { link = complete; tags = inside.tags; net = inside.net; transport = inside.transport })
 lax_payloads reading ip bytes read is =
     let end = length bytes in
     let both : AreNetRanges bytes 0 end [] read.net = elim is.2 [
-      | inl packet ↦ ipv4_ranges reading bytes 0 end 0 false [] bytes read.net packet (whole_range bytes)
-      | inr packet ↦ ipv6_ranges reading bytes 0 end 0 false [] bytes read.net packet (whole_range bytes)
+      | inl packet ↦ ipv4_ranges reading bytes 0 end 0 false [] bytes read.net packet (range_of_all bytes)
+      | inr packet ↦ ipv6_ranges reading bytes 0 end 0 false [] bytes read.net packet (range_of_all bytes)
     ] in
     let inside = subst (λ (e : List Tagged). AreInsideRanges bytes 0 end [] (map extension_in e) read.net) (sym is.1)
     (no_tags bytes 0 end [] read.net both) in

@@ -13,13 +13,13 @@ none zero is = refl
 none (suc n) is = let never : ⊥ = grind (arith, is) in absurd never
 
 -- A packet that is no fragment has the start of its payload.
-pub whole_begins : (parts : List ExtensionPart) → chain_fragments parts ≡ false → are_first parts ≡ true
-whole_begins [] whole = refl
-whole_begins (hop_by_hop header ∷ parts) whole = whole_begins parts whole
-whole_begins (destination_options header ∷ parts) whole = whole_begins parts whole
-whole_begins (routing header ∷ parts) whole = whole_begins parts whole
-whole_begins (authentication header ∷ parts) whole = whole_begins parts whole
-whole_begins (fragment header ∷ parts) whole =
-    let (here, others) = neither _ _ whole in
+pub complete_begins : (parts : List ExtensionPart) → chain_fragments parts ≡ false → are_first parts ≡ true
+complete_begins [] complete = refl
+complete_begins (hop_by_hop header ∷ parts) complete = complete_begins parts complete
+complete_begins (destination_options header ∷ parts) complete = complete_begins parts complete
+complete_begins (routing header ∷ parts) complete = complete_begins parts complete
+complete_begins (authentication header ∷ parts) complete = complete_begins parts complete
+complete_begins (fragment header ∷ parts) complete =
+    let (here, others) = neither _ _ complete in
     let (more, offset) = neither _ _ here in
-    ap (λ (first : Bool). first && are_first parts) (none header.fragment_offset offset) ∙ whole_begins parts others
+    ap (λ (first : Bool). first && are_first parts) (none header.fragment_offset offset) ∙ complete_begins parts others

@@ -9,7 +9,7 @@ use Rattle.ep_base.specs.Tables.{Parts, parts_of}
 use Rattle.ep_base.specs.declared.ether_type.EtherType.{EtherType}
 use Rattle.ep_base.specs.declared.len_source.LenSource.{LenSource}
 use Rattle.ep_base.specs.declared.len_source.LenSource.TheVariants as source
-use Rattle.ep_base.proofs.LaxCutLemmas.{cut_there, cut_nowhere}
+use Rattle.ep_base.proofs.LaxCutLemmas.{cut_present, cut_nowhere}
 use Rattle.ep_ext.specs.Chains.{chain_of}
 use Rattle.ep_ip.specs.declared.ipv4_header.Ipv4Header.{Ipv4Header}
 use Rattle.ep_ip.specs.declared.ipv6_header.Ipv6Header.{Ipv6Header}
@@ -41,8 +41,8 @@ use Rattle.ep_lax.specs.StrictFrames.{AreWhole, IsWhole, extension_in, layers_in
 -- ---- transport layer
 
 -- A transport layer, or none, with complete payload.
-abbrev whole_transport : Option TransportLayer → LaxTransport
-whole_transport layer = record { layer = layer; incomplete = false; stop = None }
+abbrev complete_transport : Option TransportLayer → LaxTransport
+complete_transport layer = record { layer = layer; incomplete = false; stop = None }
 
 -- No length field of 0 is above the available bytes.
 none_more : (n : ℕ) → nat_lt n 0 ≡ false
@@ -51,35 +51,35 @@ none_more n = grind (arith, common_steps)
 layer_is_cut : (number : ℕ) (bytes : List ℕ) (h : TransportHeader) (payload : List ℕ)
     → IsTransportLayer slices number bytes h payload
     → (all : List ℕ) × IsTransportLayer headers number bytes h all
-    × IsHeaderLimitedLaxly false h all (whole_transport (Some (transport_layer h payload)))
+    × IsHeaderLimitedLaxly false h all (complete_transport (Some (transport_layer h payload)))
 layer_is_cut number bytes (header.Udp udp) payload is =
     let left = is.1.0 in
     let datagram = is.1.1 in
-    let stands : IsUdpHeader bytes (udp, payload ++ left) = record {
+    let holds : IsUdpHeader bytes (udp, payload ++ left) = record {
       fits = datagram.fits;
       parts = datagram.parts ∙ append_assoc (udp_bytes udp) payload left;
     } in
     elim datagram.cut [
       | inl stated ↦ (
         payload ++ left,
-        (is.0, stands),
+        (is.0, holds),
         (
           record { payload = payload; left = left; source = source.UdpHeaderLen; incomplete = false },
-          cut_there 8 udp.length source.UdpHeaderLen false 8 payload left (omega arith)
+          cut_present 8 udp.length source.UdpHeaderLen false 8 payload left (omega arith)
               (omega (arith, length-append payload left)) (sym stated),
           refl,
         ),
       )
-      | inr whole ↦
+      | inr complete ↦
           let more = nat_lt (8 + length (payload ++ left)) udp.length in
           let none : more ≡ false =
-          ap (nat_lt (8 + length (payload ++ left))) whole.0 ∙ none_more (8 + length (payload ++ left)) in (
+          ap (nat_lt (8 + length (payload ++ left))) complete.0 ∙ none_more (8 + length (payload ++ left)) in (
             payload ++ left,
-            (is.0, stands),
+            (is.0, holds),
             (
               record { payload = payload; left = left; source = source.Slice; incomplete = more },
-              cut_nowhere 8 udp.length source.UdpHeaderLen false 8 payload left (inl (omega (arith, whole.0)))
-                  (ap length whole.1),
+              cut_nowhere 8 udp.length source.UdpHeaderLen false 8 payload left (inl (omega (arith, complete.0)))
+                  (ap length complete.1),
               λ i. record {
                 layer = Some (transport_layer (header.Udp udp) payload);
                 incomplete = sym none i;
@@ -92,29 +92,29 @@ layer_is_cut number bytes (header.Tcp tcp) payload is = (payload, is, refl)
 layer_is_cut number bytes (header.Icmpv4 icmp) payload is = (payload, is, refl)
 layer_is_cut number bytes (header.Icmpv6 icmp) payload is = (payload, is, refl)
 
-transport_is_whole : (offset : ℕ) (payload : IpPayload) (transport : Option TransportLayer)
-    → IsTransportIn slices payload transport → IsLaxTransport offset false payload (whole_transport transport)
-transport_is_whole offset payload None is = inr (None, is, refl)
-transport_is_whole offset payload (Some layer) is =
+transport_is_complete : (offset : ℕ) (payload : IpPayload) (transport : Option TransportLayer)
+    → IsTransportIn slices payload transport → IsLaxTransport offset false payload (complete_transport transport)
+transport_is_complete offset payload None is = inr (None, is, refl)
+transport_is_complete offset payload (Some layer) is =
     let cut = layer_is_cut payload.number payload.bytes layer.header layer.payload is.1 in
     inr (Some (transport_layer layer.header cut.0), (is.0, cut.1), cut.2)
 
 -- ---- network layer
 
 -- A complete packet.
-abbrev whole_ip : {Header : Type 0} → IpPacket Header → LaxIp Header
-whole_ip packet = record { packet = packet; incomplete = false; stop = None }
+abbrev complete_ip : {Header : Type 0} → IpPacket Header → LaxIp Header
+complete_ip packet = record { packet = packet; incomplete = false; stop = None }
 
 -- Limited bytes that are complete.
-abbrev pub whole_cut : List ℕ → List ℕ → LenSource → LaxCut
-whole_cut payload left end = record { payload = payload; left = left; source = end; incomplete = false }
+abbrev pub complete_cut : List ℕ → List ℕ → LenSource → LaxCut
+complete_cut payload left end = record { payload = payload; left = left; source = end; incomplete = false }
 
 -- The header of an IPv4 packet is valid, and its total length applies.
 pub ipv4_cuts : (bytes : List ℕ) (packet : Parts Ipv4Header) → IsIpv4Packet bytes packet
     → IsIpv4Header bytes (packet.header, packet.payload ++ packet.left)
     × IsLaxCut (ipv4_header_len packet.header) packet.header.total_len source.Ipv4HeaderTotalLen false
     (ipv4_header_len packet.header) (packet.payload ++ packet.left)
-    (whole_cut packet.payload packet.left source.Ipv4HeaderTotalLen)
+    (complete_cut packet.payload packet.left source.Ipv4HeaderTotalLen)
 ipv4_cuts bytes packet is =
     let n = ipv4_header_len packet.header in
     let len = encoded_len is.encoded packet.header is.encodes in
@@ -124,18 +124,18 @@ ipv4_cuts bytes packet is =
         encodes = is.encodes;
         parts = is.parts ∙ append_assoc is.encoded packet.payload packet.left;
       },
-      cut_there n packet.header.total_len source.Ipv4HeaderTotalLen false n packet.payload packet.left
+      cut_present n packet.header.total_len source.Ipv4HeaderTotalLen false n packet.payload packet.left
           (omega (arith, stated)) (omega (arith, stated, length-append packet.payload packet.left)) stated,
     )
 
-ipv4_is_whole : (bytes : List ℕ) (packet : IpPacket Ipv4Header) → IsIpv4 slices bytes packet
-    → IsLaxIpv4 false bytes (whole_ip packet)
-ipv4_is_whole bytes packet is =
+ipv4_is_complete : (bytes : List ℕ) (packet : IpPacket Ipv4Header) → IsIpv4 slices bytes packet
+    → IsLaxIpv4 false bytes (complete_ip packet)
+ipv4_is_complete bytes packet is =
     let read = ipv4_cuts bytes (parts_of packet.header is.content packet.left) is.cut in (
       (packet.header, is.content ++ packet.left),
       read.0,
       record {
-        cut = whole_cut is.content packet.left source.Ipv4HeaderTotalLen;
+        cut = complete_cut is.content packet.left source.Ipv4HeaderTotalLen;
         chain = chain_of packet.extensions packet.payload.number packet.payload.bytes;
         refused = None;
         cuts = read.1;
@@ -151,11 +151,11 @@ ipv4_is_whole bytes packet is =
     )
 
 -- The source of the length of a payload with a stated length.
-told_source : (length_is_0 : Bool) (some : Bool) (named : LenSource) → length_is_0 ≡ false → (end : LenSource)
+reported_source : (length_is_0 : Bool) (some : Bool) (named : LenSource) → length_is_0 ≡ false → (end : LenSource)
     → end ≡ (if length_is_0 && some then source.Slice else named)
     → end ≡ (if length_is_0 then (if length_is_0 && some then source.Slice else named) else named)
-told_source true some named untrue end same = cc untrue
-told_source false some named untrue end same = same
+reported_source true some named untrue end same = cc untrue
+reported_source false some named untrue end same = same
 
 -- The source of the length of a payload without a stated length.
 untold_source : (length_is_0 : Bool) (same other end : LenSource) → length_is_0 ≡ true → end ≡ same
@@ -168,14 +168,14 @@ pub ipv6_cuts : (bytes : List ℕ) (packet : Parts Ipv6Header) → IsIpv6Packet 
     → IsIpv6Header bytes (packet.header, packet.payload ++ packet.left)
     × ((end : LenSource)
     × IsLaxCut 41 (40 + packet.header.payload_length) source.Ipv6HeaderPayloadLen false 40
-    (packet.payload ++ packet.left) (whole_cut packet.payload packet.left end)
+    (packet.payload ++ packet.left) (complete_cut packet.payload packet.left end)
     × (ipv6_payload_source packet.header packet.payload
-    ≡ lax_ipv6_source packet.header (whole_cut packet.payload packet.left end)))
+    ≡ lax_ipv6_source packet.header (complete_cut packet.payload packet.left end)))
 ipv6_cuts bytes packet is =
     let h = packet.header in
     let stated = 40 + h.payload_length in
-    let there = 40 + length (packet.payload ++ packet.left) in
-    let stands : IsIpv6Header bytes (h, packet.payload ++ packet.left) = record {
+    let present = 40 + length (packet.payload ++ packet.left) in
+    let holds : IsIpv6Header bytes (h, packet.payload ++ packet.left) = record {
       fits = is.fits;
       parts = is.parts ∙ append_assoc (ipv6_bytes h) packet.payload packet.left;
     } in
@@ -183,24 +183,24 @@ ipv6_cuts bytes packet is =
     elim is.cut [
       | inl some ↦
           let not_0 : (h.payload_length == 0) ≡ false = grind (arith, common_steps) in (
-            stands,
+            holds,
             (
               source.Ipv6HeaderPayloadLen,
-              cut_there 41 stated source.Ipv6HeaderPayloadLen false 40 packet.payload packet.left (omega arith)
+              cut_present 41 stated source.Ipv6HeaderPayloadLen false 40 packet.payload packet.left (omega arith)
                   (omega (arith, length-append packet.payload packet.left)) (omega arith),
-              told_source (h.payload_length == 0) (nat_lt 0 (length packet.payload)) source.Ipv6HeaderPayloadLen
+              reported_source (h.payload_length == 0) (nat_lt 0 (length packet.payload)) source.Ipv6HeaderPayloadLen
                   not_0 end refl,
             ),
           )
       | inr none ↦
-          let no_more : nat_lt there stated ≡ false =
-          ap (λ (n : ℕ). nat_lt there (40 + n)) none.0 ∙ past_header (length (packet.payload ++ packet.left)) in
+          let no_more : nat_lt present stated ≡ false =
+          ap (λ (n : ℕ). nat_lt present (40 + n)) none.0 ∙ past_header (length (packet.payload ++ packet.left)) in
           let is_0 : (h.payload_length == 0) ≡ true = ap (λ (n : ℕ). n == 0) none.0 in (
-            stands,
+            holds,
             (
               source.Slice,
               subst (λ (more : Bool). IsLaxCut 41 stated source.Ipv6HeaderPayloadLen false 40
-                  (packet.payload ++ packet.left) (record (whole_cut packet.payload packet.left source.Slice) {
+                  (packet.payload ++ packet.left) (record (complete_cut packet.payload packet.left source.Slice) {
                     incomplete = more;
                   })) no_more (cut_nowhere 41 stated source.Ipv6HeaderPayloadLen false 40 packet.payload packet.left
                   (inl (omega (arith, none.0))) (ap length none.1)),
@@ -212,15 +212,15 @@ ipv6_cuts bytes packet is =
     past_header : (n : ℕ) → nat_lt (40 + n) (40 + 0) ≡ false
     past_header n = grind (arith, common_steps)
 
-ipv6_is_whole : (bytes : List ℕ) (packet : IpPacket Ipv6Header) → IsIpv6 slices bytes packet
-    → IsLaxIpv6 false bytes (whole_ip packet)
-ipv6_is_whole bytes packet is =
+ipv6_is_complete : (bytes : List ℕ) (packet : IpPacket Ipv6Header) → IsIpv6 slices bytes packet
+    → IsLaxIpv6 false bytes (complete_ip packet)
+ipv6_is_complete bytes packet is =
     let read = ipv6_cuts bytes (parts_of packet.header is.content packet.left) is.cut in
     let end = is.source ∙ read.1.2 in (
       (packet.header, is.content ++ packet.left),
       read.0,
       record {
-        cut = whole_cut is.content packet.left read.1.0;
+        cut = complete_cut is.content packet.left read.1.0;
         chain = chain_of packet.extensions packet.payload.number packet.payload.bytes;
         refused = None;
         cuts = read.1.1;
@@ -241,48 +241,48 @@ pub ipv4_net_with : (offset : ℕ) (bytes : List ℕ) (packet : IpPacket Ipv4Hea
     → IsLaxTransport (offset + net_payload_offset (ipv4_layer packet)) false packet.payload inside
     → IsIpv4Net offset false bytes (net_with (ipv4_layer packet) false inside)
 ipv4_net_with offset bytes packet inside is read =
-    (whole_ip packet, ipv4_is_whole bytes packet is, (inside, read, refl))
+    (complete_ip packet, ipv4_is_complete bytes packet is, (inside, read, refl))
 
 pub ipv6_net_with : (offset : ℕ) (bytes : List ℕ) (packet : IpPacket Ipv6Header) (inside : LaxTransport)
     → IsIpv6 slices bytes packet
     → IsLaxTransport (offset + net_payload_offset (ipv6_layer packet)) false packet.payload inside
     → IsIpv6Net offset false bytes (net_with (ipv6_layer packet) false inside)
 ipv6_net_with offset bytes packet inside is read =
-    (whole_ip packet, ipv6_is_whole bytes packet is, (inside, read, refl))
+    (complete_ip packet, ipv6_is_complete bytes packet is, (inside, read, refl))
 
 -- A complete network layer with a transport layer or none.
-abbrev whole_net : NetLayer → Option TransportLayer → LaxNet
-whole_net layer transport = net_with layer false (whole_transport transport)
+abbrev complete_net : NetLayer → Option TransportLayer → LaxNet
+complete_net layer transport = net_with layer false (complete_transport transport)
 
 ipv4_net : (offset : ℕ) (bytes : List ℕ) (packet : IpPacket Ipv4Header) (transport : Option TransportLayer)
     → IsIpv4 slices bytes packet → IsTransportIn slices packet.payload transport
-    → IsIpv4Net offset false bytes (whole_net (ipv4_layer packet) transport)
+    → IsIpv4Net offset false bytes (complete_net (ipv4_layer packet) transport)
 ipv4_net offset bytes packet transport is inside =
-    ipv4_net_with offset bytes packet (whole_transport transport) is
-    (transport_is_whole (offset + net_payload_offset (ipv4_layer packet)) packet.payload transport inside)
+    ipv4_net_with offset bytes packet (complete_transport transport) is
+    (transport_is_complete (offset + net_payload_offset (ipv4_layer packet)) packet.payload transport inside)
 
 ipv6_net : (offset : ℕ) (bytes : List ℕ) (packet : IpPacket Ipv6Header) (transport : Option TransportLayer)
     → IsIpv6 slices bytes packet → IsTransportIn slices packet.payload transport
-    → IsIpv6Net offset false bytes (whole_net (ipv6_layer packet) transport)
+    → IsIpv6Net offset false bytes (complete_net (ipv6_layer packet) transport)
 ipv6_net offset bytes packet transport is inside =
-    ipv6_net_with offset bytes packet (whole_transport transport) is
-    (transport_is_whole (offset + net_payload_offset (ipv6_layer packet)) packet.payload transport inside)
+    ipv6_net_with offset bytes packet (complete_transport transport) is
+    (transport_is_complete (offset + net_payload_offset (ipv6_layer packet)) packet.payload transport inside)
 
 -- Facts about a network layer sliced laxly.
-record IsWholeNet (offset : ℕ) (kind : Option NetKind) (bytes : List ℕ) (net : Option NetLayer)
+record IsCompleteNet (offset : ℕ) (kind : Option NetKind) (bytes : List ℕ) (net : Option NetLayer)
     (transport : Option TransportLayer) : Type 0 where
   read : LaxNet
   is : IsLaxNet offset false kind bytes read
   layer : read.layer ≡ net
-  inside : read.inside ≡ whole_transport transport
+  inside : read.inside ≡ complete_transport transport
   whole : read.incomplete ≡ false
 
 -- Facts about the network layer of an IP packet.
-whole_one : (offset : ℕ) (kind : Option NetKind) (bytes : List ℕ) (layer found : NetLayer) (net : Option NetLayer)
+complete_one : (offset : ℕ) (kind : Option NetKind) (bytes : List ℕ) (layer found : NetLayer) (net : Option NetLayer)
     (transport : Option TransportLayer) → layer ≡ found → net ≡ Some layer
-    → IsLaxNet offset false kind bytes (whole_net found transport) → IsWholeNet offset kind bytes net transport
-whole_one offset kind bytes layer found net transport same filled is = record {
-  read = whole_net found transport;
+    → IsLaxNet offset false kind bytes (complete_net found transport) → IsCompleteNet offset kind bytes net transport
+complete_one offset kind bytes layer found net transport same filled is = record {
+  read = complete_net found transport;
   is = is;
   layer = ap Some (sym same) ∙ sym filled;
   inside = refl;
@@ -295,49 +295,49 @@ inside_found : (layer found : NetLayer) (transport : Option TransportLayer) → 
 inside_found layer found transport same inside =
     subst (λ (l : NetLayer). IsTransportAfterNet slices (net_payload l) transport) same inside
 
-net_is_whole : (offset : ℕ) (kind : Option NetKind) (bytes : List ℕ) (net : Option NetLayer)
+net_is_complete : (offset : ℕ) (kind : Option NetKind) (bytes : List ℕ) (net : Option NetLayer)
     (transport : Option TransportLayer) → IsNetPart slices kind bytes net transport
-    → IsWholeNet offset kind bytes net transport
-net_is_whole offset None bytes net transport part = record {
+    → IsCompleteNet offset kind bytes net transport
+net_is_complete offset None bytes net transport part = record {
   read = no_net false None;
   is = refl;
   layer = sym part.0;
-  inside = λ i. whole_transport (sym part.1 i);
+  inside = λ i. complete_transport (sym part.1 i);
   whole = refl;
 }
-net_is_whole offset (Some only_ipv4) bytes net transport part =
+net_is_complete offset (Some only_ipv4) bytes net transport part =
     let layer = ipv4_layer part.1.0 in
-    whole_one offset (Some only_ipv4) bytes part.0 layer net transport part.1.2 part.2
+    complete_one offset (Some only_ipv4) bytes part.0 layer net transport part.1.2 part.2
     (inr (ipv4_net offset bytes part.1.0 transport part.1.1 (inside_found part.0 layer transport part.1.2 part.3)))
-net_is_whole offset (Some only_ipv6) bytes net transport part =
+net_is_complete offset (Some only_ipv6) bytes net transport part =
     let layer = ipv6_layer part.1.0 in
-    whole_one offset (Some only_ipv6) bytes part.0 layer net transport part.1.2 part.2
+    complete_one offset (Some only_ipv6) bytes part.0 layer net transport part.1.2 part.2
     (inr (ipv6_net offset bytes part.1.0 transport part.1.1 (inside_found part.0 layer transport part.1.2 part.3)))
-net_is_whole offset (Some only_arp) bytes net transport part = record {
+net_is_complete offset (Some only_arp) bytes net transport part = record {
   read = arp_net part.1.0.0;
   is = inr (part.1.0, part.1.1, refl);
   layer = ap Some (sym part.1.2) ∙ sym part.2;
-  inside = λ i. whole_transport (sym (inside_found part.0 (arp part.1.0.0) transport part.1.2 part.3) i);
+  inside = λ i. complete_transport (sym (inside_found part.0 (arp part.1.0.0) transport part.1.2 part.3) i);
   whole = refl;
 }
-net_is_whole offset (Some any_ip) bytes net transport part = open_version part.1.0 part.1.1 part.1.2
+net_is_complete offset (Some any_ip) bytes net transport part = open_version part.1.0 part.1.1 part.1.2
   where
     open_version : (found : IpPart) → IsIp slices bytes found → part.0 ≡ ip_layer found
-        → IsWholeNet offset (Some any_ip) bytes net transport
+        → IsCompleteNet offset (Some any_ip) bytes net transport
     open_version (ipv4_part packet) is same =
-        whole_one offset (Some any_ip) bytes part.0 (ipv4_layer packet) net transport same part.2
+        complete_one offset (Some any_ip) bytes part.0 (ipv4_layer packet) net transport same part.2
         (inl (ipv4_net offset bytes packet transport is
         (inside_found part.0 (ipv4_layer packet) transport same part.3)))
     open_version (ipv6_part packet) is same =
-        whole_one offset (Some any_ip) bytes part.0 (ipv6_layer packet) net transport same part.2
+        complete_one offset (Some any_ip) bytes part.0 (ipv6_layer packet) net transport same part.2
         (inr (ipv6_net offset bytes packet transport is
         (inside_found part.0 (ipv6_layer packet) transport same part.3)))
 
 -- ---- link extensions
 
 -- A complete link extension.
-abbrev pub whole_extension : LinkExtension → LinkExtension × Bool
-whole_extension extension = (extension, false)
+abbrev pub complete_extension : LinkExtension → LinkExtension × Bool
+complete_extension extension = (extension, false)
 
 -- The value of a short length other than 0.
 pub says_some : (short more : ℕ) → 0 < short → (if short == 0 then 0 else more + short) ≡ more + short
@@ -348,16 +348,16 @@ pub short_source : (short : ℕ) → 0 < short → macsec_len_source short ≡ s
 short_source zero some = absurd (omega arith)
 short_source (suc short) some = refl
 
-pub extension_is_whole : (type : EtherType) (bytes : List ℕ) (extension : LinkExtension) (left : List ℕ)
-    → IsLinkExtension type bytes (extension, left) → IsLaxExtension false type bytes (whole_extension extension)
-extension_is_whole type bytes (vlan tag payload) left is =
+pub extension_is_complete : (type : EtherType) (bytes : List ℕ) (extension : LinkExtension) (left : List ℕ)
+    → IsLinkExtension type bytes (extension, left) → IsLaxExtension false type bytes (complete_extension extension)
+extension_is_complete type bytes (vlan tag payload) left is =
     (is.0, subst (λ (l : List ℕ). IsVlan bytes (parts_of tag payload l)) is.1.cut is.1, refl)
-extension_is_whole type bytes (macsec tag payload) left is =
+extension_is_complete type bytes (macsec tag payload) left is =
     let packet = is.1 in
     let inside = macsec_payload_bytes payload in
     let n = macsec_header_len tag in
     let short = tag.short_len in
-    let stands : IsMacsecHeader bytes (tag, inside ++ left) = record {
+    let holds : IsMacsecHeader bytes (tag, inside ++ left) = record {
       encoded = packet.encoded;
       encodes = packet.encodes;
       parts = packet.parts ∙ append_assoc packet.encoded inside left;
@@ -372,8 +372,8 @@ extension_is_whole type bytes (macsec tag payload) left is =
               cut,
               record {
                 after_tag = inside ++ left;
-                header = stands;
-                cut = cut_there n (macsec_stated_len tag) source.MacsecShortLength false n inside left
+                header = holds;
+                cut = cut_present n (macsec_stated_len tag) source.MacsecShortLength false n inside left
                     (omega (arith, stated, some.1)) (omega (arith, stated, some.1, length-append inside left))
                     (omega (arith, stated, some.1));
               },
@@ -393,7 +393,7 @@ extension_is_whole type bytes (macsec tag payload) left is =
               cut,
               record {
                 after_tag = inside ++ left;
-                header = stands;
+                header = holds;
                 cut = cut_nowhere n (macsec_stated_len tag) source.MacsecShortLength false n inside left
                     (inl (omega (arith, stated))) (ap length none.1);
               },
@@ -404,40 +404,40 @@ extension_is_whole type bytes (macsec tag payload) left is =
     ]
 
 -- Complete link extensions are the link extensions themselves.
-same_extensions : (extensions : List LinkExtension) → map extension_in (map whole_extension extensions) ≡ extensions
+same_extensions : (extensions : List LinkExtension) → map extension_in (map complete_extension extensions) ≡ extensions
 same_extensions [] = refl
 same_extensions (extension ∷ others) = ap (λ (more : List LinkExtension). extension ∷ more) (same_extensions others)
 
-all_whole : (extensions : List LinkExtension) → AreWhole (map whole_extension extensions)
-all_whole [] = tt
-all_whole (extension ∷ others) = (refl, all_whole others)
+all_complete : (extensions : List LinkExtension) → AreWhole (map complete_extension extensions)
+all_complete [] = tt
+all_complete (extension ∷ others) = (refl, all_complete others)
 
 -- Facts about the layers in bytes of an ether type.
-record IsWholeInside (room offset : ℕ) (type : Option EtherType) (bytes : List ℕ) (extensions : List LinkExtension)
+record IsWholeInside (space offset : ℕ) (type : Option EtherType) (bytes : List ℕ) (extensions : List LinkExtension)
     (net : Option NetLayer) (transport : Option TransportLayer) : Type 0 where
   read : LaxNet
-  is : IsLaxInside room offset false type bytes (map whole_extension extensions) read
+  is : IsLaxInside space offset false type bytes (map complete_extension extensions) read
   layer : read.layer ≡ net
-  inside : read.inside ≡ whole_transport transport
+  inside : read.inside ≡ complete_transport transport
   whole : read.incomplete ≡ false
 
-inside_is_whole : (room offset : ℕ) (type : Option EtherType) (bytes : List ℕ) (extensions : List LinkExtension)
+inside_is_complete : (space offset : ℕ) (type : Option EtherType) (bytes : List ℕ) (extensions : List LinkExtension)
     (net : Option NetLayer) (transport : Option TransportLayer)
-    → IsInside slices room type bytes extensions net transport
-    → IsWholeInside room offset type bytes extensions net transport
-inside_is_whole room offset None bytes extensions net transport part = record {
+    → IsInside slices space type bytes extensions net transport
+    → IsWholeInside space offset type bytes extensions net transport
+inside_is_complete space offset None bytes extensions net transport part = record {
   read = no_net false None;
-  is = (ap (map whole_extension) part.0, refl);
+  is = (ap (map complete_extension) part.0, refl);
   layer = sym part.1;
-  inside = λ i. whole_transport (sym part.2 i);
+  inside = λ i. complete_transport (sym part.2 i);
   whole = refl;
 }
-inside_is_whole zero offset (Some type) bytes [] net transport part =
-    let found = net_is_whole offset (net_kind type) bytes net transport part in
+inside_is_complete zero offset (Some type) bytes [] net transport part =
+    let found = net_is_complete offset (net_kind type) bytes net transport part in
     record { read = found.read; is = found.is; layer = found.layer; inside = found.inside; whole = found.whole }
-inside_is_whole zero offset (Some type) bytes (extension ∷ others) net transport part = absurd part
-inside_is_whole (suc room) offset (Some type) bytes [] net transport part =
-    let found = net_is_whole offset (net_kind type) bytes net transport part.1 in
+inside_is_complete zero offset (Some type) bytes (extension ∷ others) net transport part = absurd part
+inside_is_complete (suc space) offset (Some type) bytes [] net transport part =
+    let found = net_is_complete offset (net_kind type) bytes net transport part.1 in
     record {
       read = found.read;
       is = inl (part.0, found.is);
@@ -445,24 +445,24 @@ inside_is_whole (suc room) offset (Some type) bytes [] net transport part =
       inside = found.inside;
       whole = found.whole;
     }
-inside_is_whole (suc room) offset (Some type) bytes (extension ∷ others) net transport part =
-    let here = extension_is_whole type bytes extension part.0.0 part.0.1 in
-    let more = inside_is_whole room (offset + link_ext_header_len (extension_header extension))
+inside_is_complete (suc space) offset (Some type) bytes (extension ∷ others) net transport part =
+    let here = extension_is_complete type bytes extension part.0.0 part.0.1 in
+    let more = inside_is_complete space (offset + link_ext_header_len (extension_header extension))
     (extension_type extension) (extension_payload extension) others net transport part.1 in
     record { read = more.read; is = (here, more.is); layer = more.layer; inside = more.inside; whole = more.whole }
 
 -- ---- complete packets
 
 -- The complete layers of a frame.
-abbrev whole_layers : Option LinkLayer → List LinkExtension → LaxNet → LaxLayers
-whole_layers link extensions net = record { link = link; link_exts = map whole_extension extensions; net = net }
+abbrev complete_layers : Option LinkLayer → List LinkExtension → LaxNet → LaxLayers
+complete_layers link extensions net = record { link = link; link_exts = map complete_extension extensions; net = net }
 
 -- The layers are those of the frame, nothing is missing, and slicing did not stop.
-same_as_frame : (layers : Layers) (room offset : ℕ) (type : Option EtherType) (bytes : List ℕ)
-    → (found : IsWholeInside room offset type bytes layers.link_exts layers.net layers.transport)
-    → (layers_in (whole_layers layers.link layers.link_exts found.read) ≡ layers)
-    × IsWhole (whole_layers layers.link layers.link_exts found.read)
-same_as_frame layers room offset type bytes found = (
+same_as_frame : (layers : Layers) (space offset : ℕ) (type : Option EtherType) (bytes : List ℕ)
+    → (found : IsWholeInside space offset type bytes layers.link_exts layers.net layers.transport)
+    → (layers_in (complete_layers layers.link layers.link_exts found.read) ≡ layers)
+    × IsWhole (complete_layers layers.link layers.link_exts found.read)
+same_as_frame layers space offset type bytes found = (
   λ i. record {
     link = layers.link;
     link_exts = same_extensions layers.link_exts i;
@@ -470,7 +470,7 @@ same_as_frame layers room offset type bytes found = (
     transport = (found.inside i).layer;
   },
   record {
-    extensions = all_whole layers.link_exts;
+    extensions = all_complete layers.link_exts;
     net = found.whole;
     inside = λ i. (found.inside i).incomplete;
     stop = λ i. (found.inside i).stop;
@@ -478,40 +478,40 @@ same_as_frame layers room offset type bytes found = (
 )
 
 -- Lax slicing reads a frame as its layers.
-pub frame_is_whole : (entry : Entry) (bytes : List ℕ) (layers : Layers) → IsFrame entry bytes layers
+pub frame_is_complete : (entry : Entry) (bytes : List ℕ) (layers : Layers) → IsFrame entry bytes layers
     → (read : LaxLayers) × IsLax entry bytes read × (layers_in read ≡ layers) × IsWhole read
-frame_is_whole ethernet bytes layers is =
+frame_is_complete ethernet bytes layers is =
     let frame = is.0 in
     let type = Some frame.header.ether_type in
-    let found = inside_is_whole most_link_exts ethernet2_header_len type frame.payload layers.link_exts
+    let found = inside_is_complete most_link_exts ethernet2_header_len type frame.payload layers.link_exts
     layers.net layers.transport is.3 in
     let same = same_as_frame layers most_link_exts ethernet2_header_len type frame.payload found in (
-      whole_layers layers.link layers.link_exts found.read,
+      complete_layers layers.link layers.link_exts found.read,
       (frame, is.1, is.2, found.is),
       same.0,
       same.1,
     )
-frame_is_whole linux_sll bytes layers is =
+frame_is_complete linux_sll bytes layers is =
     let frame = is.0 in
     let type = protocol_ether_type frame.header.protocol_type in
-    let found = inside_is_whole most_link_exts linux_sll_header_len type frame.payload layers.link_exts
+    let found = inside_is_complete most_link_exts linux_sll_header_len type frame.payload layers.link_exts
     layers.net layers.transport is.3 in
     let same = same_as_frame layers most_link_exts linux_sll_header_len type frame.payload found in (
-      whole_layers layers.link layers.link_exts found.read,
+      complete_layers layers.link layers.link_exts found.read,
       (frame, is.1, is.2, found.is),
       same.0,
       same.1,
     )
-frame_is_whole (ether_type type) bytes layers is =
-    let found = inside_is_whole most_link_exts 0 (Some type) bytes layers.link_exts layers.net layers.transport is.1 in
+frame_is_complete (ether_type type) bytes layers is =
+    let found = inside_is_complete most_link_exts 0 (Some type) bytes layers.link_exts layers.net layers.transport is.1 in
     let same = same_as_frame layers most_link_exts 0 (Some type) bytes found in (
-      whole_layers layers.link layers.link_exts found.read,
+      complete_layers layers.link layers.link_exts found.read,
       (is.0, found.is),
       same.0,
       same.1,
     )
-frame_is_whole ip bytes layers is =
-    let found = net_is_whole 0 (Some any_ip) bytes layers.net layers.transport is.2 in (
+frame_is_complete ip bytes layers is =
+    let found = net_is_complete 0 (Some any_ip) bytes layers.net layers.transport is.2 in (
       record { link = layers.link; link_exts = []; net = found.read },
       (is.0, refl, found.is),
       λ i. record { link = layers.link; link_exts = sym is.1 i; net = found.layer i; transport = (found.inside i).layer },

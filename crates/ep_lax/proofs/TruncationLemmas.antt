@@ -11,7 +11,7 @@ use Rattle.ep_base.specs.declared.ether_type.EtherType.{EtherType}
 use Rattle.ep_base.specs.declared.len_source.LenSource.{LenSource}
 use Rattle.ep_base.specs.declared.len_source.LenSource.TheVariants as source
 use Rattle.ep_base.specs.declared.err.ipv6_exts.HeaderSliceError.{HeaderSliceError}
-use Rattle.ep_base.proofs.LaxCutLemmas.{cuts_not, cuts_there}
+use Rattle.ep_base.proofs.LaxCutLemmas.{cuts_not, cuts_present}
 use Rattle.ep_ext.specs.Chains.{IpVersion, ipv4, ipv6, ExtensionChain, chain_fragments}
 use Rattle.ep_ext.specs.ChainPrefixes.{IsLaxChain}
 use Rattle.ep_ip.specs.declared.ipv4_header.Ipv4Header.{Ipv4Header}
@@ -49,7 +49,7 @@ use Rattle.ep_lax.proofs.LaxLawLemmas.{Tagged}
 use Rattle.ep_lax.proofs.LaxMacsecLemmas.{payload_by_is}
 use Rattle.ep_lax.proofs.MoreBytesLemmas.{inside_headers, prefix_shows_headers}
 use Rattle.ep_lax.proofs.MoreIpLemmas.{inner_headers}
-use Rattle.ep_lax.proofs.NestedLengthLemmas.{AreNested, EndsWithin, chain_lens, first_nested, frame_nested, nested_parts, none_stated, payload_end, some_stated, three_lens}
+use Rattle.ep_lax.proofs.NestedLengthLemmas.{AreNested, EndsWithin, chain_lens, first_nested, frame_nested, nested_parts, none_stated, payload_end, some_stated, three_lens, two_lens}
 
 -- ---- bytes of a layer
 
@@ -94,10 +94,10 @@ none_limits : (least stated : ℕ) (named : LenSource) (outer : Bool) (header_le
     → IsLaxCut least stated named outer header_len after cut → stated < least → stated ≤ header_len
     → (header_len + length after ≡ header_len + length cut.payload) × (cut.incomplete ≡ outer)
 none_limits least stated named outer header_len after cut is short small =
-    let there = header_len + length after in
-    let not_cut = cuts_not least stated there (inl short) in (
-      sym (is.ends ∙ (λ i. if not_cut i then stated else there)),
-      is.incomplete ∙ (λ i. not (not_cut i) && (outer || above_lt there stated (omega (arith, small)) i))
+    let present = header_len + length after in
+    let not_cut = cuts_not least stated present (inl short) in (
+      sym (is.ends ∙ (λ i. if not_cut i then stated else present)),
+      is.incomplete ∙ (λ i. not (not_cut i) && (outer || above_lt present stated (omega (arith, small)) i))
           ∙ or_false outer,
     )
 
@@ -107,20 +107,20 @@ some_limits : (len offset end least stated : ℕ) (named : LenSource) (outer : B
     → Reaches len offset end outer (header_len + length after) → least ≤ stated → offset + stated ≤ end
     → IsReported len offset end outer header_len (Some stated) cut.payload cut.incomplete
 some_limits len offset end least stated named outer header_len after cut is reaches enough within =
-    let there = header_len + length after in
-    elim (cases_lt there stated) [
-      | inl long ↦ missing long (cuts_not least stated there (inr long)) reaches
-      | inr fits ↦ complete fits (cuts_there least stated there enough fits)
+    let present = header_len + length after in
+    elim (cases_lt present stated) [
+      | inl long ↦ missing long (cuts_not least stated present (inr long)) reaches
+      | inr fits ↦ complete fits (cuts_present least stated present enough fits)
     ]
   where
     missing : header_len + length after < stated → cuts least stated (header_len + length after) ≡ false
         → Reaches len offset end outer (header_len + length after)
         → IsReported len offset end outer header_len (Some stated) cut.payload cut.incomplete
     missing long not_cut (inl on) =
-        let there = header_len + length after in
-        let all : header_len + length cut.payload ≡ there = is.ends ∙ (λ i. if not_cut i then stated else there) in
+        let present = header_len + length after in
+        let all : header_len + length cut.payload ≡ present = is.ends ∙ (λ i. if not_cut i then stated else present) in
         let says : cut.incomplete ≡ true =
-        is.incomplete ∙ (λ i. not (not_cut i) && (outer || below_lt there stated long i)) ∙ or_true outer in
+        is.incomplete ∙ (λ i. not (not_cut i) && (outer || below_lt present stated long i)) ∙ or_true outer in
         record {
           reports = says ∙ sym (below_lt len (offset + stated) (omega (arith, on.0, long)));
           reaches = inl (omega (arith, all, on.0), omega (arith, on.0, long));
@@ -129,11 +129,11 @@ some_limits len offset end least stated named outer header_len after cut is reac
 
     complete : stated ≤ header_len + length after → cuts least stated (header_len + length after) ≡ true
         → IsReported len offset end outer header_len (Some stated) cut.payload cut.incomplete
-    complete fits cut_there =
-        let there = header_len + length after in
-        let some : header_len + length cut.payload ≡ stated = is.ends ∙ (λ i. if cut_there i then stated else there) in
+    complete fits cut_present =
+        let present = header_len + length after in
+        let some : header_len + length cut.payload ≡ stated = is.ends ∙ (λ i. if cut_present i then stated else present) in
         let says : cut.incomplete ≡ false =
-        is.incomplete ∙ (λ i. not (cut_there i) && (outer || nat_lt there stated)) in
+        is.incomplete ∙ (λ i. not (cut_present i) && (outer || nat_lt present stated)) in
         let ends : offset + stated ≤ len = elim reaches [
           | inl on ↦ omega (arith, on.0, fits)
           | inr ended ↦ omega (arith, ended.0, ended.1, fits)
@@ -269,7 +269,7 @@ ipv4_reports : (len offset end place : ℕ) (outer : Bool) (bytes : List ℕ) (n
     → AreNested offset end (inner_headers net) → ReportsNet len offset outer net
 ipv4_reports len offset end place outer bytes net is reaches nested =
     let read = is.1.0 in
-    let stands = is.1.1 in
+    let holds = is.1.1 in
     let after = is.1.2 in
     let header = read.0 in
     let n = ipv4_header_len header in
@@ -277,9 +277,9 @@ ipv4_reports len offset end place outer bytes net is reaches nested =
     let within = subst (λ (r : LaxNet). AreNested offset end (inner_headers r)) layer.2 nested in
     let count : length bytes ≡ n + length read.1 = omega (
       arith,
-      ap length stands.parts,
-      length-append stands.encoded read.1,
-      ipv4_encoded_len stands.encoded header stands.encodes,
+      ap length holds.parts,
+      length-append holds.encoded read.1,
+      ipv4_encoded_len holds.encoded header holds.encodes,
     ) in
     let reported = some_limits len offset end n header.total_len source.Ipv4HeaderTotalLen outer n read.1 after.cut
     after.cuts (subst (Reaches len offset end outer) count reaches) within.0.0 within.0.1 in
@@ -296,7 +296,7 @@ ipv6_reports : (len offset end place : ℕ) (outer : Bool) (bytes : List ℕ) (n
     → AreNested offset end (inner_headers net) → ReportsNet len offset outer net
 ipv6_reports len offset end place outer bytes net is reaches nested =
     let read = is.1.0 in
-    let stands = is.1.1 in
+    let holds = is.1.1 in
     let after = is.1.2 in
     let header = read.0 in
     let field = header.payload_length in
@@ -304,9 +304,9 @@ ipv6_reports len offset end place outer bytes net is reaches nested =
     let within = subst (λ (r : LaxNet). AreNested offset end (inner_headers r)) layer.2 nested in
     let count : length bytes ≡ 40 + length read.1 = omega (
       arith,
-      ap length stands.parts,
+      ap length holds.parts,
       length-append (ipv6_bytes header) read.1,
-      ipv6_len header stands.fits,
+      ipv6_len header holds.fits,
     ) in
     let reported = field_limits len offset end field 41 (40 + field) source.Ipv6HeaderPayloadLen outer 40 read.1
     after.cut after.cuts (subst (Reaches len offset end outer) count reaches)
@@ -364,8 +364,7 @@ tag_reports len offset end outer type bytes (macsec tag payload, incomplete) is 
     let stated_part = stated_len (tag_header (macsec tag payload)) in
     let count : length bytes ≡ n + length packet.after_tag = omega (
       arith,
-      ap length packet.header.parts,
-      length-append packet.header.encoded packet.after_tag,
+      two_lens bytes packet.header.encoded packet.after_tag packet.header.parts,
       macsec_encoded_len packet.header.encoded tag packet.header.encodes,
     ) in
     let none_is : tag.short_len ≡ 0 → stated ≡ 0 =
@@ -421,9 +420,9 @@ inside_reports (suc exts_left) len offset end place outer (Some type) bytes (tag
 linked_reports : (len : ℕ) (read : LaxLayers) (link : Option LinkLayer) → read.link ≡ link
     → ReportsInside len (link_len link) false read.link_exts read.net → ReportsTruncatedPayloads len read
 linked_reports len read link same reports =
-    let there = subst (λ (l : Option LinkLayer). ReportsInside len (link_len l) false read.link_exts read.net)
+    let present = subst (λ (l : Option LinkLayer). ReportsInside len (link_len l) false read.link_exts read.net)
     (sym same) reports in
-    record { tags = there.tags; net = there.inner.net; transport = there.inner.transport }
+    record { tags = present.tags; net = present.inner.net; transport = present.inner.transport }
 
 -- The headers after a link header, if present, are nested.
 abbrev AreNestedAfter : ℕ → LaxLayers → Option LinkLayer → Type 0
@@ -434,11 +433,11 @@ linked_nested : (end : ℕ) (read : LaxLayers) (link : Option LinkLayer) → rea
 linked_nested end read link same nested = subst (AreNestedAfter end read) same nested
 
 -- The payload after a link header goes on to the end of the bytes.
-link_reaches : (end : ℕ) (bytes front payload left : List ℕ) (len : ℕ) → length front ≡ len
-    → bytes ≡ (front ++ payload) ++ left → left ≡ [] → length bytes ≤ end
+link_reaches : (end : ℕ) (bytes leading payload left : List ℕ) (len : ℕ) → length leading ≡ len
+    → bytes ≡ (leading ++ payload) ++ left → left ≡ [] → length bytes ≤ end
     → Reaches (length bytes) len end false (length payload)
-link_reaches end bytes front payload left len is parts none within =
-    let count = three_lens bytes front payload left parts in
+link_reaches end bytes leading payload left len is parts none within =
+    let count = three_lens bytes leading payload left parts in
     inl (omega (arith, is, count, ap length none), within)
 
 lax_reports : (entry : Entry) (bytes : List ℕ) (end : ℕ) (read : LaxLayers) → IsLax entry bytes read

@@ -1,11 +1,11 @@
 //! IPv4 packet in a slice, as lax slicing reads it: bytes of the payload may be missing (RFC 791).
 
+use ep_base::LaxIpPayloadSlice;
 use ep_base::err::{ip_auth, ipv4};
-use ep_base::lax_cut::{LengthField, limit_by_length_field};
-use ep_base::{LaxIpPayloadSlice, LenSource};
 use ep_ext::Ipv4ExtensionsSlice;
 use ep_ip::lax::auth_error_in_packet;
 use ep_ip::{Ipv4Header, Ipv4HeaderSlice};
+use ep_packet::lax_ip_content::slice_ipv4_lax;
 
 /// IPv4 packet read by lax slicing (RFC 791): a valid header, a valid authentication header, if present, and the
 /// payload. The total length limits the payload, unless it is below the header length or above the available bytes.
@@ -57,30 +57,19 @@ impl<'a> LaxIpv4Slice<'a> {
             × IsLaxIpv4 outer slice.now (lax_ipv4_of read.0 left read.1)) }
         ensures err { IfErr result (RefusesIpv4Header slice.now) }
     {
-        let header = match Ipv4HeaderSlice::from_slice(slice) {
-            Ok(header) => header,
+        let (header, content) = match slice_ipv4_lax(slice, outer) {
+            Ok(read) => read,
             Err(error) => return Err(error),
         };
-        let header_len = header.header_len();
-        // Read first, so that only moves remain between reading the extension headers and checking their error.
-        let fragmented = header.is_fragmenting_payload();
-        let field = LengthField {
-            least: header_len,
-            stated: header.total_len() as usize,
-            source: LenSource::Ipv4HeaderTotalLen,
-        };
-        let content = limit_by_length_field(slice, header_len, field, outer);
         let (extensions, ip_number, payload, refused) = Ipv4ExtensionsSlice::from_slice_lax(
-            header.protocol(),
+            content.ip_number,
             content.payload,
         );
-        let stop = auth_error_in_packet(refused, header_len, content.len_source);
+        let stop = auth_error_in_packet(refused, header.header_len(), content.len_source);
         let payload = LaxIpPayloadSlice {
-            incomplete: content.incomplete,
             ip_number,
-            fragmented,
-            len_source: content.len_source,
             payload,
+            ..content
         };
         Ok((
             LaxIpv4Slice {

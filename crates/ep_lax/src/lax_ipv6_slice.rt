@@ -4,12 +4,12 @@ ghost use Rattle.std.specs.Prelude.{◌≡◌};
 ghost use Rattle.ep_ext.specs.Ipv6ExtensionSlices.{ipv6_slice_number as extension_number};
 ghost use Rattle.ep_ip.specs.Ipv6Slices.{ipv6_header_slice_header};
 
+use ep_base::LaxIpPayloadSlice;
 use ep_base::err::{Layer, ipv6, ipv6_exts};
-use ep_base::lax_cut::{LengthField, limit_by_length_field};
-use ep_base::{LaxIpPayloadSlice, LenSource};
 use ep_ext::Ipv6ExtensionsSlice;
-use ep_ip::lax::{exts_error_in_packet, ipv6_payload_source};
+use ep_ip::lax::exts_error_in_packet;
 use ep_ip::{Ipv6Header, Ipv6HeaderSlice};
+use ep_packet::lax_ip_content::slice_ipv6_lax;
 use std::alloc::AllocError;
 
 /// IPv6 packet read by lax slicing (RFC 8200): a valid header, the extension headers up to the first invalid one, and
@@ -94,28 +94,20 @@ impl<'a> LaxIpv6Slice<'a> {
             × IsLaxIpv6 outer slice.now (lax_ipv6_of read.0 left stop) × (read.1 ≡ option_map chain_stop stop)) }
         ensures err { IfErr result (RefusesIpv6Header slice.now) }
     {
-        let header = match Ipv6HeaderSlice::from_slice(slice) {
-            Ok(header) => header,
+        let (header, content) = match slice_ipv6_lax(slice, outer) {
+            Ok(read) => read,
             Err(error) => return Err(error),
         };
-        let field = LengthField {
-            least: Ipv6Header::LEN + 1,
-            stated: Ipv6Header::LEN + header.payload_length() as usize,
-            source: LenSource::Ipv6HeaderPayloadLen,
-        };
-        let content = limit_by_length_field(slice, Ipv6Header::LEN, field, outer);
-        let len_source = ipv6_payload_source(&header, &content);
         let (extensions, ip_number, payload, refused) = Ipv6ExtensionsSlice::from_slice_lax(
-            header.next_header(),
+            content.ip_number,
             content.payload,
         );
-        let stop = exts_error_in_packet(refused, Ipv6Header::LEN, len_source);
+        let stop = exts_error_in_packet(refused, Ipv6Header::LEN, content.len_source);
         let payload = LaxIpPayloadSlice {
-            incomplete: content.incomplete,
             ip_number,
             fragmented: extensions.is_fragmenting_payload(),
-            len_source,
             payload,
+            ..content
         };
         Ok((
             LaxIpv6Slice {

@@ -1,11 +1,8 @@
 //! Network layer (IPv4, IPv6 or ARP) in a slice, as lax slicing reads it.
 
 ghost use Rattle.std.specs.Prelude.{◌≡◌, ◌<◌, ◌+◌, ◌^◌, ◌==◌, length};
-ghost use Rattle.ep_ext.specs.ExtensionParts.{part_len};
-ghost use Rattle.ep_ext.specs.Ipv6ExtensionSlices.{extension_slice_bytes, extension_slice_part, ipv6_slice_parts};
+ghost use Rattle.ep_ext.specs.Ipv6ExtensionSlices.{extension_slice_part, ipv6_slice_parts};
 ghost use Rattle.ep_ip.specs.Ipv4.{ipv4_header_len};
-ghost use Rattle.ep_link.specs.Arp.{arp_len};
-ghost use Rattle.ep_link.specs.ArpSlices.{arp_slice_packet};
 ghost use Rattle.ep_packet.specs.Offsets.{net_layer_len, parts_len};
 ghost use Rattle.ep_packet.specs.PayloadStarts.{are_first, is_first};
 ghost use Rattle.ep_lax.specs.LaxSlices.{lax_ipv4_slice_extensions, lax_ipv4_slice_header};
@@ -17,6 +14,7 @@ use ep_base::LaxIpPayloadSlice;
 use ep_ext::{Ipv6ExtensionSlice, Ipv6ExtensionsSlice};
 use ep_ip::Ipv6Header;
 use ep_link::ArpPacketSlice;
+use ep_packet::header_lens::{arp_len, extensions_len};
 
 /// Network layer of a packet (IPv4, IPv6 or ARP) read by lax slicing: its header is valid, bytes of an IP payload may
 /// be missing.
@@ -78,7 +76,7 @@ impl<'a> LaxNetSlice<'a> {
 
 /// Returns true if the payload after these extension headers of IPv6 has its start. The headers are read only if the
 /// packet is a fragment.
-#[tactic(auto, using(crate::proofs::PayloadStartLemmas::whole_begins))]
+#[tactic(auto, using(crate::proofs::PayloadStartLemmas::complete_begins))]
 #[inline]
 fn begin_payload(extensions: Ipv6ExtensionsSlice<'_>) -> bool
     ensures { result ≡ are_first (ipv6_slice_parts extensions.entry) }
@@ -121,17 +119,6 @@ fn headers_len(net: &LaxNetSlice<'_>) -> usize
     }
 }
 
-/// Returns the length of an ARP packet in bytes.
-fn arp_len(packet: &ArpPacketSlice<'_>) -> usize
-    ensures value { result ≡ arp_len (arp_slice_packet packet.now) }
-    ensures bound { result < 2 ^ 63 }
-{
-    let bytes = packet.slice();
-    let len = packet.packet_len();
-    prove!(len == bytes.len());
-    len
-}
-
 /// Returns the length in bytes of an IPv4 header with its options and the authentication header, if present.
 fn ipv4_len(packet: &LaxIpv4Slice<'_>) -> usize
     ensures value { result
@@ -142,34 +129,5 @@ fn ipv4_len(packet: &LaxIpv4Slice<'_>) -> usize
     match &packet.extensions().auth {
         Some(header) => header_len + header.slice().len(),
         None => header_len,
-    }
-}
-
-/// Returns the length in bytes of all extension headers of an IPv6 packet together.
-fn extensions_len(extensions: Ipv6ExtensionsSlice<'_>) -> usize
-    ensures value { result ≡ parts_len (ipv6_slice_parts extensions.entry) }
-    ensures bound { result < 2 ^ 63 }
-{
-    let all = extensions.slice();
-    let mut len = 0;
-    for extension in extensions {
-        len += extension_len(&extension);
-    }
-    prove!(len <= all.len());
-    len
-}
-
-/// Returns the length of one IPv6 extension header in bytes.
-#[inline]
-fn extension_len(extension: &Ipv6ExtensionSlice<'_>) -> usize
-    ensures value { result ≡ part_len (extension_slice_part extension.now) }
-    ensures bytes { result ≡ length (extension_slice_bytes extension.now) }
-{
-    match extension {
-        Ipv6ExtensionSlice::HopByHop(header) => header.header_len(),
-        Ipv6ExtensionSlice::Routing(header) => header.header_len(),
-        Ipv6ExtensionSlice::Fragment(header) => header.header_len(),
-        Ipv6ExtensionSlice::DestinationOptions(header) => header.header_len(),
-        Ipv6ExtensionSlice::Authentication(header) => header.header_len(),
     }
 }

@@ -26,8 +26,9 @@ use ep_base::err::{Layer, LenError, ip, ipv4, ipv6, linux_sll, tcp};
 use ep_base::lax_cut::{LengthField, limit_by_length_field};
 use ep_base::{EtherType, LaxIpPayloadSlice, LenSource, VlanId, ether_type};
 use ep_ip::lax::{of_ipv4_header, of_ipv6_header, unsupported};
-use ep_link::{ArpPacketSlice, DoubleVlanHeader, LinkExtHeader, LinkHeader, LinkSlice, VlanHeader};
+use ep_link::{ArpPacketSlice, LinkExtHeader, LinkHeader, LinkSlice, VlanHeader};
 use ep_packet::err::SliceError;
+use ep_packet::vlan_tags::{outer_vlan_headers, vlan_ids_of_headers};
 use ep_packet::{Entry, LinkPart, NetHeaders};
 use ep_transport::TransportHeader;
 
@@ -204,32 +205,14 @@ impl<'a> LaxPacketHeaders<'a> {
     pub fn vlan(&self) -> Option<VlanHeader>
         ensures { result ≡ outer_headers (vlan_headers self.now.link_exts.items) }
     {
-        let mut outer = None;
-        for extension in self.link_exts.iter() {
-            if let LinkExtHeader::Vlan(tag) = extension {
-                match outer {
-                    None => outer = Some(tag.clone().unwrap()),
-                    Some(outer) => {
-                        let inner = tag.clone().unwrap();
-                        return Some(VlanHeader::Double(DoubleVlanHeader { outer, inner }));
-                    }
-                }
-            }
-        }
-        Some(VlanHeader::Single(outer?))
+        outer_vlan_headers(&self.link_exts)
     }
 
     /// Returns the VLAN identifiers of all VLAN tags of the packet, from the outside in.
     pub fn vlan_ids(&self) -> ArrayVec<VlanId, 3>
         ensures { result.items ≡ header_vlan_ids self.now.link_exts.items }
     {
-        let mut ids = ArrayVec::new();
-        for extension in self.link_exts.iter() {
-            if let LinkExtHeader::Vlan(tag) = extension {
-                ids.push(tag.vlan_id);
-            }
-        }
-        ids
+        vlan_ids_of_headers(&self.link_exts)
     }
 
     /// Removes all headers of this packet, and sets its payload to `Empty`.

@@ -4,11 +4,10 @@ ghost use Rattle.std.specs.Prelude.{◌≡◌, ◌≤◌, ◌<◌, ◌+◌, ◌^
 ghost use Rattle.std.specs.Option.{option_copied, option_map};
 ghost use Rattle.ep_base.specs.LaxCut.{is_missing};
 ghost use Rattle.ep_base.specs.declared.len_source.LenSource.TheVariants as source;
-ghost use Rattle.ep_link.specs.LinkSlices.{link_layer_of};
 ghost use Rattle.ep_transport.specs.TransportParts.{transport_layer_of};
 ghost use Rattle.ep_packet.specs.FrameBytes.{AreInOrder, last_payload, link_payload, payload_after_exts};
 ghost use Rattle.ep_packet.specs.Layers.{carries_fragment, ip_payload_in};
-ghost use Rattle.ep_packet.specs.Offsets.{link_len, net_len, payload_offset, tag_len, tags_len, transport_len};
+ghost use Rattle.ep_packet.specs.Offsets.{net_len, payload_offset, tag_len, tags_len};
 ghost use Rattle.ep_packet.specs.ShownBytes.{BeginsWith};
 ghost use Rattle.ep_packet.specs.VlanTags.{outer_tags, vlan_ids_in};
 ghost use Rattle.ep_lax.specs.LaxPackets.{extensions_incomplete, lax_layers_of, transport_incomplete};
@@ -23,7 +22,9 @@ use crate::lax_net_slice::LaxNetSlice;
 use crate::lax_sliced_packet::LaxSlicedPacket;
 use arrayvec::ArrayVec;
 use ep_base::{LaxIpPayloadSlice, LenSource, VlanId};
-use ep_link::{DoubleVlanSlice, LinkSlice, VlanSlice};
+use ep_link::VlanSlice;
+use ep_packet::header_lens::{link_len, link_payload, transport_len};
+use ep_packet::vlan_tags::double_vlan;
 use ep_transport::TransportSlice;
 
 impl<'a> LaxSlicedPacket<'a> {
@@ -110,10 +111,7 @@ impl<'a> LaxSlicedPacket<'a> {
             if let LaxLinkExtSlice::Vlan(tag) = extension {
                 match outer {
                     None => outer = Some(tag.clone().unwrap()),
-                    Some(outer) => {
-                        let inner = tag.clone().unwrap();
-                        return Some(VlanSlice::DoubleVlan(DoubleVlanSlice { outer, inner }));
-                    }
+                    Some(outer) => return Some(double_vlan(outer, tag)),
                 }
             }
         }
@@ -195,21 +193,7 @@ impl<'a> LaxSlicedPacket<'a> {
         if let Some(extension) = self.link_exts.last() {
             return extension.payload_slice();
         }
-        match &self.link {
-            Some(link) => link.payload_slice(),
-            None => &[],
-        }
-    }
-}
-
-/// Returns the length of the link header in bytes, or 0 for `None`.
-fn link_len(link: &Option<LinkSlice<'_>>) -> usize
-    ensures value { result ≡ link_len (option_map link_layer_of link.now) }
-    ensures bound { result ≤ 16 }
-{
-    match link {
-        Some(link) => link.header_len(),
-        None => 0,
+        link_payload(&self.link)
     }
 }
 
@@ -242,17 +226,6 @@ fn net_len(net: &Option<LaxNetSlice<'_>>) -> usize
 {
     match net {
         Some(net) => net.header_len(),
-        None => 0,
-    }
-}
-
-/// Returns the length of the transport header in bytes, or 0 for `None`.
-fn transport_len(transport: &Option<TransportSlice<'_>>) -> usize
-    ensures value { result ≡ transport_len (option_map transport_layer_of transport.now) }
-    ensures bound { result ≤ 60 }
-{
-    match transport {
-        Some(layer) => layer.header_len(),
         None => 0,
     }
 }

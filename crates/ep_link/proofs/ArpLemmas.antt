@@ -17,9 +17,9 @@ use Rattle.ep_link.specs.Arp.{arp_address_rows}
 -- The bytes from i on consist of the bytes from i to j and the bytes from j on.
 drop_range : (i j : ℕ) (bytes : List ℕ) → i ≤ j → drop i bytes ≡ slice_range bytes i j ++ drop j bytes
 drop_range i j bytes order =
-    let behind : drop (j - i) (drop i bytes) ≡ drop j bytes =
+    let after : drop (j - i) (drop i bytes) ≡ drop j bytes =
     drop-drop (j - i) i bytes ∙ ap (λ (k : ℕ). drop k bytes) (omega arith) in
-    sym (take-append-drop (j - i) (drop i bytes)) ∙ ap (λ (s : List ℕ). slice_range bytes i j ++ s) behind
+    sym (take-append-drop (j - i) (drop i bytes)) ∙ ap (λ (s : List ℕ). slice_range bytes i j ++ s) after
 
 -- The bytes from a on consist of four successive ranges.
 four_parts : (bytes : List ℕ) (a b c d e : ℕ) → a ≤ b → b ≤ c → c ≤ d → length bytes ≤ e
@@ -48,10 +48,10 @@ pub record HasAddresses (bytes : List ℕ) (p : Arp) : Type 0 where
   pub sender_protocol : length p.sender_protocol_addr ≡ get_or bytes 5 0
   pub target_hw : length p.target_hw_addr ≡ get_or bytes 4 0
   pub target_protocol : length p.target_protocol_addr ≡ get_or bytes 5 0
-  pub behind : drop 8 bytes ≡ p.sender_hw_addr ++ p.sender_protocol_addr ++ p.target_hw_addr ++ p.target_protocol_addr
+  pub after : drop 8 bytes ≡ p.sender_hw_addr ++ p.sender_protocol_addr ++ p.target_hw_addr ++ p.target_protocol_addr
 
 pub addresses : (bytes : List ℕ) → length bytes ≡ arp_len_of bytes → HasAddresses bytes (arp_packet_of bytes)
-addresses bytes whole =
+addresses bytes complete =
     let hw = get_or bytes 4 0 in
     let protocol = get_or bytes 5 0 in
     let a = 8 + hw in
@@ -59,11 +59,11 @@ addresses bytes whole =
     let c = 8 + 2 * hw + protocol in
     let d = 8 + 2 * hw + 2 * protocol in
     record {
-      sender_hw = length-between bytes 8 a (omega (arith, whole)) ∙ omega arith;
-      sender_protocol = length-between bytes a b (omega (arith, whole)) ∙ omega arith;
-      target_hw = length-between bytes b c (omega (arith, whole)) ∙ omega arith;
-      target_protocol = length-between bytes c d (omega (arith, whole)) ∙ omega arith;
-      behind = four_parts bytes 8 a b c d (omega arith) (omega arith) (omega arith) (omega (arith, whole));
+      sender_hw = length-between bytes 8 a (omega (arith, complete)) ∙ omega arith;
+      sender_protocol = length-between bytes a b (omega (arith, complete)) ∙ omega arith;
+      target_hw = length-between bytes b c (omega (arith, complete)) ∙ omega arith;
+      target_protocol = length-between bytes c d (omega (arith, complete)) ∙ omega arith;
+      after = four_parts bytes 8 a b c d (omega arith) (omega arith) (omega arith) (omega (arith, complete));
     }
 
 -- Addresses of equal lengths of at most 255 bytes are accepted for a new packet.
@@ -73,11 +73,11 @@ addresses_taken a b x y hw hw_len protocol protocol_len = grind (arith, common_s
 
 -- ---- complete bytes are the wire bytes of the parsed packet
 
-whole_fits : (bytes : List ℕ) → AreBytes bytes → length bytes ≡ arp_len_of bytes → FitsArp (arp_packet_of bytes)
-whole_fits bytes fits whole =
+complete_fits : (bytes : List ℕ) → AreBytes bytes → length bytes ≡ arp_len_of bytes → FitsArp (arp_packet_of bytes)
+complete_fits bytes fits complete =
     let hw = get_or bytes 4 0 in
     let protocol = get_or bytes 5 0 in
-    let each = addresses bytes whole in
+    let each = addresses bytes complete in
     record {
       hw_addr_type = omega (arith, fits 0, fits 1);
       proto_addr_type = omega (arith, fits 2, fits 3);
@@ -92,16 +92,16 @@ whole_fits bytes fits whole =
       target_protocol_addr = AreBytes-range (8 + 2 * hw + protocol) (8 + 2 * hw + 2 * protocol) bytes fits;
     }
 
-whole_same : (bytes : List ℕ) → AreBytes bytes → length bytes ≡ arp_len_of bytes
+complete_same : (bytes : List ℕ) → AreBytes bytes → length bytes ≡ arp_len_of bytes
     → bytes ≡ arp_bytes (arp_packet_of bytes)
 unfolding elements
-whole_same bytes fits whole =
-    let each = addresses bytes whole in
+complete_same bytes fits complete =
+    let each = addresses bytes complete in
     let hw = sym each.sender_hw in
     let protocol = sym each.sender_protocol in
-    drop-elements 8 0 bytes (omega (arith, whole))
+    drop-elements 8 0 bytes (omega (arith, complete))
     ∙ (λ i. word_cells bytes fits 0 refl i ++ word_cells bytes fits 2 refl i ++ hw i ∷ protocol i ∷ []
-    ++ word_cells bytes fits 6 refl i ++ each.behind i)
+    ++ word_cells bytes fits 6 refl i ++ each.after i)
 
 -- ---- the wire bytes of a packet are parsed as this packet
 
@@ -125,10 +125,10 @@ packet_same : (p : Arp) → FitsArp p → p ≡ arp_packet_of (arp_bytes p)
 packet_same p fits =
     let bytes = arp_bytes p in
     let read = arp_packet_of bytes in
-    let there = addresses bytes (len_same p fits) in
+    let present = addresses bytes (len_same p fits) in
     let each = same_four p.sender_hw_addr p.sender_protocol_addr p.target_hw_addr p.target_protocol_addr
     read.sender_hw_addr read.sender_protocol_addr read.target_hw_addr read.target_protocol_addr
-    (sym there.sender_hw) (sym there.sender_protocol) (fits.same_hw_addr_len ∙ sym there.target_hw) there.behind in
+    (sym present.sender_hw) (sym present.sender_protocol) (fits.same_hw_addr_len ∙ sym present.target_hw) present.after in
     let hw_addr_type : p.hw_addr_type.0 ≡ word_at bytes 0 = omega (arith, fits.hw_addr_type) in
     let proto_addr_type : p.proto_addr_type.0 ≡ word_at bytes 2 = omega (arith, fits.proto_addr_type) in
     let operation : p.operation.0 ≡ word_at bytes 6 = omega (arith, fits.operation) in
@@ -148,9 +148,9 @@ abbrev pub arp_read : List ℕ → Arp × List ℕ
 arp_read bytes = cut_at arp_len_of arp_parts bytes
 
 -- Bytes that no row of the table rejects contain a complete packet.
-stands : (bytes : List ℕ) → first_row (arp_rows bytes) ≡ None
+holds : (bytes : List ℕ) → first_row (arp_rows bytes) ≡ None
     → (8 ≤ length bytes) × (arp_len_of bytes ≤ length bytes)
-stands bytes none = grind (arith, common_steps)
+holds bytes none = grind (arith, common_steps)
 
 none_refuses : (bytes : List ℕ) → 8 ≤ length bytes → arp_len_of bytes ≤ length bytes
     → first_row (arp_rows bytes) ≡ None
@@ -158,17 +158,17 @@ none_refuses bytes fixed within = grind (arith, common_steps)
 
 reads : (bytes : List ℕ) → AreBytes bytes → first_row (arp_rows bytes) ≡ None → IsArp bytes (arp_read bytes)
 reads bytes fits none =
-    let there = stands bytes none in
+    let present = holds bytes none in
     let n = arp_len_of bytes in
     let seen = take n bytes in
     let hw : get_or seen 4 0 ≡ get_or bytes 4 0 = get_or-take n bytes 4 0 (omega arith) in
     let protocol : get_or seen 5 0 ≡ get_or bytes 5 0 = get_or-take n bytes 5 0 (omega arith) in
     let seen_fits : AreBytes seen = AreBytes-take n bytes fits in
-    let whole : length seen ≡ arp_len_of seen = omega (arith, length-take n bytes, hw, protocol, there) in
+    let complete : length seen ≡ arp_len_of seen = omega (arith, length-take n bytes, hw, protocol, present) in
     record {
-      fits = whole_fits seen seen_fits whole;
+      fits = complete_fits seen seen_fits complete;
       parts = sym (take-append-drop n bytes)
-          ∙ ap (λ (s : List ℕ). s ++ drop n bytes) (whole_same seen seen_fits whole);
+          ∙ ap (λ (s : List ℕ). s ++ drop n bytes) (complete_same seen seen_fits complete);
     }
 
 is_read : (bytes : List ℕ) (read : Arp × List ℕ) → IsArp bytes read

@@ -24,9 +24,9 @@ ethernet2_fits bytes fits long = record {
 }
 
 -- The wire bytes of the parsed header are the first 14 bytes.
-ethernet2_front : (bytes : List ℕ) → AreBytes bytes → 14 ≤ length bytes
+ethernet2_prefix : (bytes : List ℕ) → AreBytes bytes → 14 ≤ length bytes
     → bytes ≡ ethernet2_bytes (ethernet2_header_of bytes) ++ drop 14 bytes
-ethernet2_front bytes fits long = grind (arith, common_steps)
+ethernet2_prefix bytes fits long = grind (arith, common_steps)
 
 -- ---- the wire bytes of a header are parsed as this header
 
@@ -51,7 +51,7 @@ cells_are_bytes h source destination = ap ethernet2_bytes (with_cells-same h sou
 record IsRead (bytes : List ℕ) (h : Ethernet2Header) (payload : List ℕ) : Type 0 where
   long : 14 ≤ length bytes
   header : h ≡ ethernet2_header_of bytes
-  behind : payload ≡ drop 14 bytes
+  after : payload ≡ drop 14 bytes
 
 with_cells-read : (h : Ethernet2Header) (payload : List ℕ) → FitsEthernet2 h
     → IsRead (ethernet2_bytes (with_cells h) ++ payload) (with_cells h) payload
@@ -65,7 +65,7 @@ with_cells-read h payload fits =
         destination = six_at h.destination;
         ether_type = record { 0 = ether_type i };
       };
-      behind = refl;
+      after = refl;
     }
 
 -- The bytes of a frame have these properties.
@@ -74,8 +74,8 @@ frame_read : (bytes : List ℕ) (frame : Parts Ethernet2Header) → IsEthernet2 
 frame_read bytes frame is =
     let h = frame.header in
     let payload = frame.payload in
-    let front = ethernet2_bytes h ++ payload in
-    let parts : bytes ≡ front = is.parts ∙ ap (λ (l : List ℕ). front ++ l) is.cut ∙ append-nil front in
+    let prefix = ethernet2_bytes h ++ payload in
+    let parts : bytes ≡ prefix = is.parts ∙ ap (λ (l : List ℕ). prefix ++ l) is.cut ∙ append-nil prefix in
     let OfHeader : Ethernet2Header → Type 0 = λ k. IsRead (ethernet2_bytes k ++ payload) k payload in
     let OfBytes : List ℕ → Type 0 = λ s. IsRead s h payload in
     let same = with_cells-same h is.fits.source_length is.fits.destination_length in
@@ -92,7 +92,7 @@ reads bytes fits none =
     let long : 14 ≤ length bytes = grind (arith, common_steps) in
     record {
       fits = ethernet2_fits bytes fits long;
-      parts = ethernet2_front bytes fits long
+      parts = ethernet2_prefix bytes fits long
           ∙ sym (append-nil (ethernet2_bytes (ethernet2_header_of bytes) ++ drop 14 bytes));
       cut = refl;
     }
@@ -106,7 +106,7 @@ is_read bytes frame is =
     let read = frame_read bytes frame is in
     let same : frame ≡ ethernet2_read bytes = λ i. record {
       header = read.header i;
-      payload = read.behind i;
+      payload = read.after i;
       left = is.cut i;
     } in
     (none_refuses bytes read.long, same)

@@ -93,9 +93,9 @@ macsec_back type bytes is_macsec (macsec header payload, left) is =
     (packet, is.1, ap (λ (x : MacsecPayload). (macsec header x, left)) is.2)
 
 -- A MACsec packet is a link extension.
-macsec_there : (type : EtherType) (bytes : List ℕ) → IsMacsecType type → (packet : Parts MacsecHeader)
+macsec_present : (type : EtherType) (bytes : List ℕ) → IsMacsecType type → (packet : Parts MacsecHeader)
     → IsMacsec bytes packet → IsLinkExtension type bytes (macsec_part packet)
-macsec_there type bytes is_macsec packet is =
+macsec_present type bytes is_macsec packet is =
     let header = packet.header in
     let same = payload_by_bytes header.ptype (macsec_len_source header.short_len) packet.payload in (
       is_macsec,
@@ -120,11 +120,11 @@ pub extension_decided : (type : EtherType) (bytes : List ℕ) → AreBytes bytes
     → IsDecided (IsLinkExtension type bytes) (RefusesLinkExtension type bytes)
 extension_decided type bytes fits (inl is_vlan) =
     decided_as vlan_part (λ error. error) (decided (renamed refusal.Len vlan_is_read) bytes fits)
-    (record { there = λ tagged is. (is_vlan, is); back = vlan_back type bytes is_vlan })
+    (record { present = λ tagged is. (is_vlan, is); back = vlan_back type bytes is_vlan })
     (same_image (λ error refused. inl (is_vlan, refused)) (vlan_refused type bytes is_vlan))
 extension_decided type bytes fits (inr is_macsec) =
     decided_as macsec_part (λ error. error) (decided macsec_is_read bytes fits)
-    (record { there = macsec_there type bytes is_macsec; back = macsec_back type bytes is_macsec })
+    (record { present = macsec_present type bytes is_macsec; back = macsec_back type bytes is_macsec })
     (same_image (λ error refused. inr (is_macsec, refused)) (macsec_refused type bytes is_macsec))
 
 -- ---- bytes of an extension
@@ -137,10 +137,10 @@ extension_bytes type bytes (vlan tag payload, left) is = (vlan_bytes tag, (is.1.
 extension_bytes type bytes (macsec tag payload, left) is = (is.1.encoded, is.1.encodes, is.1.parts)
 
 -- The length of three concatenated parts is the sum of their lengths.
-three_parts : (bytes front payload left : List ℕ) → bytes ≡ (front ++ payload) ++ left
-    → length bytes ≡ length front + length payload + length left
-three_parts bytes front payload left parts =
-    omega (arith, ap length parts, length-append (front ++ payload) left, length-append front payload)
+three_parts : (bytes prefix payload left : List ℕ) → bytes ≡ (prefix ++ payload) ++ left
+    → length bytes ≡ length prefix + length payload + length left
+three_parts bytes prefix payload left parts =
+    omega (arith, ap length parts, length-append (prefix ++ payload) left, length-append prefix payload)
 
 -- The length of a link extension is the sum of the lengths of its tag, its payload and the trailing bytes.
 pub extension_len : (type : EtherType) (bytes : List ℕ) (part : LinkExtension × List ℕ)

@@ -76,28 +76,28 @@ bytes_with bytes number =
     to_be_bytes w16 (word_at bytes 0) ++ to_be_bytes w16 (word_at bytes 2) ++ to_be_bytes w16 (word_at bytes 4)
     ++ slice_range bytes 6 14 ++ to_be_bytes w16 number
 
-front_with : (bytes : List ℕ) → AreBytes bytes → 16 ≤ length bytes
+prefix_with : (bytes : List ℕ) → AreBytes bytes → 16 ≤ length bytes
     → bytes ≡ bytes_with bytes (word_at bytes 14) ++ drop 16 bytes
 unfolding elements
-front_with bytes fits long =
+prefix_with bytes fits long =
     let upper : (i : ℕ) → slice_index bytes i ≡ word_at bytes i / 256 ^ 1 % 256 =
     λ i. omega (arith, fits i, fits (i + 1)) in
     let lower : (i : ℕ) → slice_index bytes (i + 1) ≡ word_at bytes i % 256 =
     λ i. omega (arith, fits i, fits (i + 1)) in
     let address : elements 8 6 bytes ≡ slice_range bytes 6 14 =
     sym (ap (take 8) (drop-elements 8 6 bytes (omega arith))) in
-    let behind = drop 16 bytes in
-    let joined : elements 16 0 bytes ++ behind ≡ bytes_with bytes (word_at bytes 14) ++ behind =
+    let after = drop 16 bytes in
+    let joined : elements 16 0 bytes ++ after ≡ bytes_with bytes (word_at bytes 14) ++ after =
     λ i. upper 0 i ∷ lower 0 i ∷ upper 2 i ∷ lower 2 i ∷ upper 4 i ∷ lower 4 i
-    ∷ ((address i ++ (upper 14 i ∷ lower 14 i ∷ [])) ++ behind) in
+    ∷ ((address i ++ (upper 14 i ∷ lower 14 i ∷ [])) ++ after) in
     drop-elements 16 0 bytes (omega arith) ∙ joined
 
 -- The wire bytes of the parsed header are the first 16 bytes.
-linux_sll_front : (bytes : List ℕ) → AreBytes bytes → 16 ≤ length bytes
+linux_sll_prefix : (bytes : List ℕ) → AreBytes bytes → 16 ≤ length bytes
     → bytes ≡ linux_sll_bytes (linux_sll_header_of bytes) ++ drop 16 bytes
-linux_sll_front bytes fits long =
+linux_sll_prefix bytes fits long =
     let number = protocol_of-number (word_at bytes 2) (word_at bytes 14) in
-    front_with bytes fits long ∙ ap (λ (n : ℕ). bytes_with bytes n ++ drop 16 bytes) (sym number)
+    prefix_with bytes fits long ∙ ap (λ (n : ℕ). bytes_with bytes n ++ drop 16 bytes) (sym number)
 
 -- ---- the wire bytes of a header are parsed as this header
 
@@ -127,7 +127,7 @@ cells_are_bytes h len = ap linux_sll_bytes (with_eight-same h len)
 record IsRead (bytes : List ℕ) (h : LinuxSllHeader) (payload : List ℕ) : Type 0 where
   long : 16 ≤ length bytes
   header : h ≡ linux_sll_header_of bytes
-  behind : payload ≡ drop 16 bytes
+  after : payload ≡ drop 16 bytes
 
 with_eight-read : (h : LinuxSllHeader) (payload : List ℕ) → FitsLinuxSll h
     → IsRead (linux_sll_bytes (with_eight h) ++ payload) (with_eight h) payload
@@ -149,7 +149,7 @@ with_eight-read h payload fits =
         sender_address = eight_at h.sender_address;
         protocol_type = read i;
       };
-      behind = refl;
+      after = refl;
     }
 
 -- The bytes of a packet have these properties.
@@ -158,8 +158,8 @@ packet_read : (bytes : List ℕ) (packet : Parts LinuxSllHeader) → IsLinuxSll 
 packet_read bytes packet is =
     let h = packet.header in
     let payload = packet.payload in
-    let front = linux_sll_bytes h ++ payload in
-    let parts : bytes ≡ front = is.parts ∙ ap (λ (l : List ℕ). front ++ l) is.cut ∙ append-nil front in
+    let prefix = linux_sll_bytes h ++ payload in
+    let parts : bytes ≡ prefix = is.parts ∙ ap (λ (l : List ℕ). prefix ++ l) is.cut ∙ append-nil prefix in
     let OfHeader : LinuxSllHeader → Type 0 = λ k. IsRead (linux_sll_bytes k ++ payload) k payload in
     let OfBytes : List ℕ → Type 0 = λ s. IsRead s h payload in
     let same = with_eight-same h is.fits.sender_address_length in
@@ -171,24 +171,24 @@ abbrev pub linux_sll_read : List ℕ → Parts LinuxSllHeader
 linux_sll_read bytes = linux_sll_parts bytes []
 
 -- Properties of bytes that no row of the table rejects.
-record Stands (bytes : List ℕ) : Type 0 where
+record IsUnrefused (bytes : List ℕ) : Type 0 where
   long : 16 ≤ length bytes
   packet_type : word_at bytes 0 ≤ 7
   hardware : knows_hardware (word_at bytes 2) ≡ true
 
-stands : (bytes : List ℕ) → first_row (linux_sll_rows bytes) ≡ None → Stands bytes
-stands bytes none = grind (arith, common_steps)
+holds : (bytes : List ℕ) → first_row (linux_sll_rows bytes) ≡ None → IsUnrefused bytes
+holds bytes none = grind (arith, common_steps)
 
-none_refuses : (bytes : List ℕ) → Stands bytes → first_row (linux_sll_rows bytes) ≡ None
-none_refuses bytes there = grind (arith, common_steps)
+none_refuses : (bytes : List ℕ) → IsUnrefused bytes → first_row (linux_sll_rows bytes) ≡ None
+none_refuses bytes present = grind (arith, common_steps)
 
 reads : (bytes : List ℕ) → AreBytes bytes → first_row (linux_sll_rows bytes) ≡ None
     → IsLinuxSll bytes (linux_sll_read bytes)
 reads bytes fits none =
-    let there = stands bytes none in
+    let present = holds bytes none in
     record {
-      fits = linux_sll_fits bytes fits there.long there.packet_type there.hardware;
-      parts = linux_sll_front bytes fits there.long
+      fits = linux_sll_fits bytes fits present.long present.packet_type present.hardware;
+      parts = linux_sll_prefix bytes fits present.long
           ∙ sym (append-nil (linux_sll_bytes (linux_sll_header_of bytes) ++ drop 16 bytes));
       cut = refl;
     }
@@ -200,17 +200,17 @@ is_read bytes packet is =
     let read = packet_read bytes packet is in
     let packet_type : h.packet_type.0 ≡ word_at bytes 0 = λ i. (read.header i).packet_type.0 in
     let hardware : h.arp_hrd_type.0 ≡ word_at bytes 2 = λ i. (read.header i).arp_hrd_type.0 in
-    let there : Stands bytes = record {
+    let present : IsUnrefused bytes = record {
       long = read.long;
       packet_type = omega (arith, packet_type, is.fits.packet_type);
       hardware = ap knows_hardware (sym hardware) ∙ protocol_known h.arp_hrd_type.0 h.protocol_type is.fits.kind;
     } in
     let same : packet ≡ linux_sll_read bytes = λ i. record {
       header = read.header i;
-      payload = read.behind i;
+      payload = read.after i;
       left = is.cut i;
     } in
-    (none_refuses bytes there, same)
+    (none_refuses bytes present, same)
 
 pub linux_sll_is_read : IsReadBy IsLinuxSll linux_sll_rows linux_sll_read
 linux_sll_is_read = record { reads = reads; is_read = is_read }

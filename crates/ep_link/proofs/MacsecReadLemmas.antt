@@ -17,7 +17,7 @@ use Rattle.ep_link.specs.Macsec.{FitsMacsec, EncodesMacsec, short_len_of, modifi
 use Rattle.ep_link.specs.Macsec.{type_len_by, tag_len_of, IsTooShortForType, ptype_by, sci_by, macsec_header_of}
 
 -- The bytes are a complete tag, as long as its flags determine.
-pub record IsWhole (bytes : List ℕ) : Type 0 where
+pub record IsComplete (bytes : List ℕ) : Type 0 where
   pub fixed : 6 ≤ length bytes
   pub version : slice_index bytes 0 < 128
   pub room : ¬ IsTooShortForType bytes
@@ -166,19 +166,19 @@ tail_len (Some sci) ptype.Encrypted = refl
 tail_len (Some sci) ptype.EncryptedUnmodified = refl
 
 -- A short length that fits an unmodified payload is not 1.
-room_of : (p : MacsecPType) (short_len : ℕ) → FitsPType p short_len
+space_of : (p : MacsecPType) (short_len : ℕ) → FitsPType p short_len
     → 2 * encryption_bit p + changed_text_bit p ≡ 0 → short_len ≡ 1 → ⊥
-room_of (ptype.Unmodified type) short_len fits none one = fits.1 one
-room_of ptype.Modified short_len fits none one = omega (arith, none)
-room_of ptype.Encrypted short_len fits none one = omega (arith, none)
-room_of ptype.EncryptedUnmodified short_len fits none one = omega (arith, none)
+space_of (ptype.Unmodified type) short_len fits none one = fits.1 one
+space_of ptype.Modified short_len fits none one = omega (arith, none)
+space_of ptype.Encrypted short_len fits none one = omega (arith, none)
+space_of ptype.EncryptedUnmodified short_len fits none one = omega (arith, none)
 
 -- The length of a tag in bytes.
 with_len : (r : ℕ) (h : MacsecHeader) → length (macsec_bytes_with r h) ≡ macsec_header_len h
 with_len r h = omega (arith, tail_len h.sci h.ptype)
 
-with_whole : (r : ℕ) (h : MacsecHeader) → r < 4 → FitsMacsec h → IsWhole (macsec_bytes_with r h)
-with_whole r h bits fits =
+with_complete : (r : ℕ) (h : MacsecHeader) → r < 4 → FitsMacsec h → IsComplete (macsec_bytes_with r h)
+with_complete r h bits fits =
     let bytes = macsec_bytes_with r h in
     let read = first_apart _ _ _ _ _ _ (flags_of h fits) (slice_index bytes 0) refl in
     let short_len : short_len_of bytes ≡ h.short_len = omega (arith, fits.short_len) in
@@ -189,12 +189,12 @@ with_whole r h bits fits =
     record {
       fixed = omega (arith, len);
       version = read.0;
-      room = λ none. room_of h.ptype h.short_len fits.ptype (sym read.4 ∙ none.0) (sym short_len ∙ none.1);
+      room = λ none. space_of h.ptype h.short_len fits.ptype (sym read.4 ∙ none.0) (sym short_len ∙ none.1);
       whole = omega (arith, len, type_len, id_len, read.2);
     }
 
-pub encoded_whole : (e : List ℕ) (h : MacsecHeader) → EncodesMacsec e h → IsWhole e
-encoded_whole e h a = subst IsWhole (sym a.same) (with_whole a.reserved h a.bits a.fits)
+pub encoded_complete : (e : List ℕ) (h : MacsecHeader) → EncodesMacsec e h → IsComplete e
+encoded_complete e h a = subst IsComplete (sym a.same) (with_complete a.reserved h a.bits a.fits)
 
 -- The length of a tag in bytes, whatever its reserved bits.
 pub encoded_len : (e : List ℕ) (h : MacsecHeader) → EncodesMacsec e h → length e ≡ macsec_header_len h
@@ -216,10 +216,10 @@ sci_bit_by (suc (suc s)) sci below = absurd (omega arith)
 
 FitsPType_by : (m type short_len : ℕ) → type < 2 ^ 16 → ¬ ((m ≡ 0) × (short_len ≡ 1))
     → FitsPType (ptype_by m type) short_len
-FitsPType_by zero type short_len below room = (below, λ one. room (refl, one))
-FitsPType_by (suc zero) type short_len below room = tt
-FitsPType_by (suc (suc zero)) type short_len below room = tt
-FitsPType_by (suc (suc (suc m))) type short_len below room = tt
+FitsPType_by zero type short_len below space = (below, λ one. space (refl, one))
+FitsPType_by (suc zero) type short_len below space = tt
+FitsPType_by (suc (suc zero)) type short_len below space = tt
+FitsPType_by (suc (suc (suc m))) type short_len below space = tt
 
 -- Two bytes are the big-endian bytes of their number.
 two_again : (xs : List ℕ) → length xs ≡ 2 → AreBytes xs → to_be_bytes w16 (word_at xs 0) ≡ xs
@@ -279,8 +279,8 @@ sci_below e fits long =
     let eight : length (slice_range e 6 14) ≡ 8 = omega (arith, length-take 8 (drop 6 e), length-drop 6 e) in
     eight_below (slice_range e 6 14) eight (AreBytes-take 8 (drop 6 e) (AreBytes-drop 6 e fits))
 
-pub whole_fits : (e : List ℕ) → AreBytes e → IsWhole e → FitsMacsec (macsec_header_of e)
-whole_fits e fits a =
+pub complete_fits : (e : List ℕ) → AreBytes e → IsComplete e → FitsMacsec (macsec_header_of e)
+complete_fits e fits a =
     let at = 6 + 8 * sci_bit_of e in
     let type : word_at e at < 2 ^ 16 = omega (arith, fits at, fits (at + 1)) in
     record {
@@ -288,11 +288,11 @@ whole_fits e fits a =
       an = omega arith;
       short_len = omega arith;
       packet_nr = four_below (slice_range e 2 6) (four_long e a.fixed) (four_bytes e fits);
-      sci = FitsSci_by (sci_bit_of e) _ (λ there. sci_below e fits (omega (arith, a.whole, there)));
+      sci = FitsSci_by (sci_bit_of e) _ (λ present. sci_below e fits (omega (arith, a.whole, present)));
     }
 
 -- The first byte of a complete tag is the first byte of the parsed tag.
-first_byte_again : (e : List ℕ) → IsWhole e → get_or e 0 0 ≡ first_byte (macsec_header_of e)
+first_byte_again : (e : List ℕ) → IsComplete e → get_or e 0 0 ≡ first_byte (macsec_header_of e)
 first_byte_again e a =
     let station = bit_of_read (get_or e 0 0 / 64 % 2) (omega arith) in
     let sci = sci_bit_by (sci_bit_of e) (from_be_bytes w64 (slice_range e 6 14)) (omega arith) in
@@ -300,8 +300,8 @@ first_byte_again e a =
     let modification = bits_by (modification_of e) (word_at e (6 + 8 * sci_bit_of e)) (omega arith) in
     first_again (get_or e 0 0) _ _ _ _ _ _ a.version station sci single modification refl
 
-pub whole_encodes : (e : List ℕ) → AreBytes e → IsWhole e → EncodesMacsec e (macsec_header_of e)
-whole_encodes e fits a =
+pub complete_encodes : (e : List ℕ) → AreBytes e → IsComplete e → EncodesMacsec e (macsec_header_of e)
+complete_encodes e fits a =
     let h = macsec_header_of e in
     let packet_nr : slice_range e 2 6 ≡ to_be_bytes w32 h.packet_nr =
     sym (be_bytes_4 (slice_range e 2 6) _ (four_long e a.fixed) (four_bytes e fits) refl) in
@@ -310,7 +310,7 @@ whole_encodes e fits a =
     let first = first_byte_again e a in
     let second : get_or e 1 0 ≡ 2 ^ 6 * (get_or e 1 0 / 64) + h.short_len = omega arith in
     record {
-      fits = whole_fits e fits a;
+      fits = complete_fits e fits a;
       reserved = get_or e 1 0 / 64;
       bits = omega (arith, fits 1);
       same = six e a.fixed ∙ (λ i. first i ∷ second i ∷ (packet_nr i ++ tail i));

@@ -41,9 +41,9 @@ tag_same : (upper lower : ℕ) → lower < 256 → {d : ℕ} → d ≡ upper / 1
 tag_same upper lower below d = omega (arith, d, below)
 
 -- The first 4 bytes are the wire bytes of the tag that is parsed from them.
-vlan_front : (bytes : List ℕ) → AreBytes bytes → 4 ≤ length bytes
+vlan_prefix : (bytes : List ℕ) → AreBytes bytes → 4 ≤ length bytes
     → bytes ≡ vlan_bytes (vlan_header_of bytes) ++ drop 4 bytes
-vlan_front bytes fits long =
+vlan_prefix bytes fits long =
     let dei = slice_index bytes 0 / 16 % 2 in
     let flag : bit (dei == 1) ≡ dei = bit_of_read dei (omega arith) in
     let tag = 2 ^ 13 * (slice_index bytes 0 / 32) + 2 ^ 12 * bit (dei == 1) + word_at bytes 0 % 4096 in
@@ -61,19 +61,19 @@ vlan_fits bytes fits = record {
 }
 
 -- A payload without trailing bytes extends to the end.
-all_parts : (bytes front payload left : List ℕ) → bytes ≡ (front ++ payload) ++ left → left ≡ []
-    → bytes ≡ front ++ payload
-all_parts bytes front payload left parts cut =
-    parts ∙ ap (λ (l : List ℕ). (front ++ payload) ++ l) cut ∙ append-nil (front ++ payload)
+all_parts : (bytes prefix payload left : List ℕ) → bytes ≡ (prefix ++ payload) ++ left → left ≡ []
+    → bytes ≡ prefix ++ payload
+all_parts bytes prefix payload left parts cut =
+    parts ∙ ap (λ (l : List ℕ). (prefix ++ payload) ++ l) cut ∙ append-nil (prefix ++ payload)
 
 -- A tag, and its payload up to the end of the bytes.
 abbrev pub vlan_read : List ℕ → Parts SingleVlanHeader
 vlan_read bytes = vlan_parts bytes []
 
-vlan_whole : (bytes : List ℕ) → AreBytes bytes → 4 ≤ length bytes → IsVlan bytes (vlan_read bytes)
-vlan_whole bytes fits long = record {
+vlan_complete : (bytes : List ℕ) → AreBytes bytes → 4 ≤ length bytes → IsVlan bytes (vlan_read bytes)
+vlan_complete bytes fits long = record {
   fits = vlan_fits bytes fits;
-  parts = vlan_front bytes fits long ∙ sym (append-nil (vlan_bytes (vlan_header_of bytes) ++ drop 4 bytes));
+  parts = vlan_prefix bytes fits long ∙ sym (append-nil (vlan_bytes (vlan_header_of bytes) ++ drop 4 bytes));
   cut = refl;
 }
 
@@ -94,7 +94,7 @@ vlan_shows bytes tagged a =
     }
 
 vlan_reads : (bytes : List ℕ) → AreBytes bytes → first_row (vlan_rows bytes) ≡ None → IsVlan bytes (vlan_read bytes)
-vlan_reads bytes fits none = vlan_whole bytes fits (grind (arith, common_steps))
+vlan_reads bytes fits none = vlan_complete bytes fits (grind (arith, common_steps))
 
 vlan_none : (bytes : List ℕ) → 4 ≤ length bytes → first_row (vlan_rows bytes) ≡ None
 vlan_none bytes long = grind (arith, common_steps)
@@ -113,8 +113,8 @@ abbrev pub double_vlan_read : List ℕ → Parts DoubleVlanHeader
 double_vlan_read bytes = parts_of (double_vlan_header_of bytes) (drop 4 (drop 4 bytes)) []
 
 -- A tag followed by a tag and its payload is two tags and a payload.
-double_vlan_whole : (bytes : List ℕ) → AreBytes bytes → 8 ≤ length bytes → IsDoubleVlan bytes (double_vlan_read bytes)
-double_vlan_whole bytes fits long =
+double_vlan_complete : (bytes : List ℕ) → AreBytes bytes → 8 ≤ length bytes → IsDoubleVlan bytes (double_vlan_read bytes)
+double_vlan_complete bytes fits long =
     let tagged = drop 4 bytes in
     let tagged_fits = AreBytes-drop 4 bytes fits in
     let outer = vlan_bytes (vlan_header_of bytes) in
@@ -122,8 +122,8 @@ double_vlan_whole bytes fits long =
     record {
       outer = vlan_fits bytes fits;
       inner = vlan_fits tagged tagged_fits;
-      parts = vlan_front bytes fits (omega (arith, long))
-          ∙ ap (λ (l : List ℕ). outer ++ l) (vlan_front tagged tagged_fits (omega (arith, long, length-drop 4 bytes)))
+      parts = vlan_prefix bytes fits (omega (arith, long))
+          ∙ ap (λ (l : List ℕ). outer ++ l) (vlan_prefix tagged tagged_fits (omega (arith, long, length-drop 4 bytes)))
           ∙ sym (append_assoc outer inner (drop 4 tagged)) ∙ sym (append-nil ((outer ++ inner) ++ drop 4 tagged));
       cut = refl;
     }
@@ -154,10 +154,10 @@ record ShowsDoubleVlan (bytes : List ℕ) (tagged : Parts DoubleVlanHeader) : Ty
 double_vlan_shows : (bytes : List ℕ) (tagged : Parts DoubleVlanHeader) → IsDoubleVlan bytes tagged
     → ShowsDoubleVlan bytes tagged
 double_vlan_shows bytes tagged a =
-    let behind = vlan_bytes tagged.header.inner ++ tagged.payload in
+    let after = vlan_bytes tagged.header.inner ++ tagged.payload in
     let outer = vlan_shows bytes _ (double_vlan_outer bytes tagged a) in
-    let inner = vlan_shows behind _ (double_vlan_inner tagged.header.inner tagged.payload a.inner) in
-    let same : behind ≡ drop 4 bytes = λ i. (outer.same i).payload in
+    let inner = vlan_shows after _ (double_vlan_inner tagged.header.inner tagged.payload a.inner) in
+    let same : after ≡ drop 4 bytes = λ i. (outer.same i).payload in
     let shown : parts_of tagged.header.inner tagged.payload [] ≡ vlan_read (drop 4 bytes) =
     inner.same ∙ ap vlan_read same in
     record {
@@ -171,7 +171,7 @@ double_vlan_shows bytes tagged a =
 
 double_vlan_reads : (bytes : List ℕ) → AreBytes bytes → first_row (double_vlan_rows bytes) ≡ None
     → IsDoubleVlan bytes (double_vlan_read bytes)
-double_vlan_reads bytes fits none = double_vlan_whole bytes fits (grind (arith, common_steps))
+double_vlan_reads bytes fits none = double_vlan_complete bytes fits (grind (arith, common_steps))
 
 double_vlan_none : (bytes : List ℕ) → 8 ≤ length bytes → first_row (double_vlan_rows bytes) ≡ None
 double_vlan_none bytes long = grind (arith, common_steps)

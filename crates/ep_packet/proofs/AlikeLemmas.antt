@@ -160,10 +160,10 @@ layer_refused laws any_ip offset bytes error refused =
 
 -- ---- transport layer
 
-behind_refused : ReadingLaws → (offset : ℕ) (payload : Option IpPayload) (error : SliceError)
+after_refused : ReadingLaws → (offset : ℕ) (payload : Option IpPayload) (error : SliceError)
     → RefusesTransportAfterNet headers offset payload error → RefusesTransportAfterNet slices offset payload error
-behind_refused laws offset None error refused = refused
-behind_refused laws offset (Some payload) error refused =
+after_refused laws offset None error refused = refused
+after_refused laws offset (Some payload) error refused =
     (refused.0, laws.refused payload.number payload.fragmented payload.bytes refused.0 refused.1, refused.2)
 
 length_refusal : (offset : ℕ) (limit : LenSource) (error : TransportError) → IsUdpLengthError error
@@ -173,11 +173,11 @@ length_refusal offset limit (transport_error.Len error) (inl source) =
 length_refusal offset limit (transport_error.Len error) (inr layer) = inr layer
 length_refusal offset limit (transport_error.Content error) never = absurd never
 
-behind_alone : ReadingLaws → (offset : ℕ) (payload : Option IpPayload) (error : SliceError)
+after_alone : ReadingLaws → (offset : ℕ) (payload : Option IpPayload) (error : SliceError)
     → RefusesTransportAfterNet slices offset payload error
     → RefusesTransportAfterNet headers offset payload error ⊎ IsUdpLengthRefusal error
-behind_alone laws offset None error refused = inl refused
-behind_alone laws offset (Some payload) error refused =
+after_alone laws offset None error refused = inl refused
+after_alone laws offset (Some payload) error refused =
     elim (laws.alone payload.number payload.fragmented payload.bytes refused.0 refused.1) [
       | inl also ↦ inl (refused.0, also, refused.2)
       | inr alone ↦ inr (subst IsUdpLengthRefusal (sym refused.2)
@@ -206,13 +206,13 @@ no_header number extension = (
     is_icmpv6 number extension same = grind (arith, common_steps)
 
 -- After a network layer that stops at a second header of a kind, no transport layer is rejected.
-none_behind : ReadingLaws → (reading : Reading) (offset : ℕ) (layer : NetLayer) (error : SliceError) → Stops layer
+none_after : ReadingLaws → (reading : Reading) (offset : ℕ) (layer : NetLayer) (error : SliceError) → Stops layer
     → RefusesTransportAfterNet reading offset (net_payload layer) error → ⊥
-none_behind laws reading offset (ipv4 header extensions payload) error stops refused = stops
-none_behind laws reading offset (ipv6 header extensions payload) error stops refused =
+none_after laws reading offset (ipv4 header extensions payload) error stops refused = stops
+none_after laws reading offset (ipv6 header extensions payload) error stops refused =
     laws.none reading payload.number payload.fragmented payload.bytes refused.0 (no_header payload.number stops.1)
     refused.1
-none_behind laws reading offset (arp packet) error stops refused = stops
+none_after laws reading offset (arp packet) error stops refused = stops
 
 -- ---- errors in the reading as headers
 
@@ -226,25 +226,25 @@ net_refused laws offset (Some kind) bytes error (inr refused) =
       | inl is ↦ inr (
         refused.0,
         is,
-        behind_refused laws (offset + net_payload_offset refused.0) (net_payload refused.0) error refused.2,
+        after_refused laws (offset + net_payload_offset refused.0) (net_payload refused.0) error refused.2,
       )
-      | inr stops ↦ absurd (none_behind laws headers (offset + net_payload_offset refused.0) refused.0 error stops
+      | inr stops ↦ absurd (none_after laws headers (offset + net_payload_offset refused.0) refused.0 error stops
           refused.2)
     ]
 
-inside_refused : ReadingLaws → (room offset : ℕ) (type : Option EtherType) (bytes : List ℕ) (error : SliceError)
-    → RefusesInside headers room offset type bytes error → RefusesInside slices room offset type bytes error
-inside_refused laws room offset None bytes error refused = refused
+inside_refused : ReadingLaws → (space offset : ℕ) (type : Option EtherType) (bytes : List ℕ) (error : SliceError)
+    → RefusesInside headers space offset type bytes error → RefusesInside slices space offset type bytes error
+inside_refused laws space offset None bytes error refused = refused
 inside_refused laws zero offset (Some type) bytes error refused =
     net_refused laws offset (net_kind type) bytes error refused
-inside_refused laws (suc room) offset (Some type) bytes error (inl refused) =
+inside_refused laws (suc space) offset (Some type) bytes error (inl refused) =
     inl (refused.0, net_refused laws offset (net_kind type) bytes error refused.1)
-inside_refused laws (suc room) offset (Some type) bytes error (inr (inl refused)) = inr (inl refused)
-inside_refused laws (suc room) offset (Some type) bytes error (inr (inr refused)) = inr (inr (
+inside_refused laws (suc space) offset (Some type) bytes error (inr (inl refused)) = inr (inl refused)
+inside_refused laws (suc space) offset (Some type) bytes error (inr (inr refused)) = inr (inr (
   refused.0,
   refused.1,
   refused.2,
-  inside_refused laws room (offset + link_ext_header_len (extension_header refused.0)) (extension_type refused.0)
+  inside_refused laws space (offset + link_ext_header_len (extension_header refused.0)) (extension_type refused.0)
       (extension_payload refused.0) error refused.3,
 ))
 
@@ -283,10 +283,10 @@ net_alone laws deciders offset (Some kind) bytes fits error refused net transpor
     elim (layer_in_slices laws kind bytes is.0 is.1) [
       | inl also ↦ elim refused [
         | inl none ↦ absurd ((layer_decided deciders slices kind offset bytes fits).not_both is.0 error also none)
-        | inr behind ↦ elim (behind_alone laws (offset + net_payload_offset behind.0) (net_payload behind.0) error
-            behind.2) [
+        | inr after ↦ elim (after_alone laws (offset + net_payload_offset after.0) (net_payload after.0) error
+            after.2) [
               | inl both ↦
-                  let same = (layer_decided deciders slices kind offset bytes fits).one_value behind.0 is.0 behind.1
+                  let same = (layer_decided deciders slices kind offset bytes fits).one_value after.0 is.0 after.1
                   also in
                   absurd ((net_decided deciders headers offset (Some kind) bytes fits).not_both (net, transport) error is
                   (inr (
@@ -301,39 +301,39 @@ net_alone laws deciders offset (Some kind) bytes fits error refused net transpor
       | inr stops ↦ inr (subst StopsAtSecondKind (sym is.2) (stops_at_second is.0 stops))
     ]
 
-inside_alone : ReadingLaws → Deciders → (room offset : ℕ) (type : Option EtherType) (bytes : List ℕ)
-    → AreBytes bytes → (error : SliceError) → RefusesInside slices room offset type bytes error
+inside_alone : ReadingLaws → Deciders → (space offset : ℕ) (type : Option EtherType) (bytes : List ℕ)
+    → AreBytes bytes → (error : SliceError) → RefusesInside slices space offset type bytes error
     → (extensions : List LinkExtension) (net : Option NetLayer) (transport : Option TransportLayer)
-    → IsInside headers room type bytes extensions net transport → IsAlone error net
-inside_alone laws deciders room offset None bytes fits error refused extensions net transport is = absurd refused
+    → IsInside headers space type bytes extensions net transport → IsAlone error net
+inside_alone laws deciders space offset None bytes fits error refused extensions net transport is = absurd refused
 inside_alone laws deciders zero offset (Some type) bytes fits error refused [] net transport is =
     net_alone laws deciders offset (net_kind type) bytes fits error refused net transport is
 inside_alone laws deciders zero offset (Some type) bytes fits error refused (extension ∷ others) net transport is =
     absurd is
-inside_alone laws deciders (suc room) offset (Some type) bytes fits error (inl refused) [] net transport is =
+inside_alone laws deciders (suc space) offset (Some type) bytes fits error (inl refused) [] net transport is =
     net_alone laws deciders offset (net_kind type) bytes fits error refused.1 net transport is.1
-inside_alone laws deciders (suc room) offset (Some type) bytes fits error (inr (inl refused)) [] net transport is =
+inside_alone laws deciders (suc space) offset (Some type) bytes fits error (inr (inl refused)) [] net transport is =
     absurd (is.0 (deciders.extension.refused type bytes refused.0 refused.1))
-inside_alone laws deciders (suc room) offset (Some type) bytes fits error (inr (inr refused)) [] net transport is =
+inside_alone laws deciders (suc space) offset (Some type) bytes fits error (inr (inr refused)) [] net transport is =
     absurd (is.0 (deciders.extension.begins type bytes (refused.0, refused.1) refused.2))
-inside_alone laws deciders (suc room) offset (Some type) bytes fits error (inl refused) (extension ∷ others) net
+inside_alone laws deciders (suc space) offset (Some type) bytes fits error (inl refused) (extension ∷ others) net
     transport is =
     absurd (refused.0 (deciders.extension.begins type bytes (extension, is.0.0) is.0.1))
-inside_alone laws deciders (suc room) offset (Some type) bytes fits error (inr (inl refused)) (extension ∷ others) net
+inside_alone laws deciders (suc space) offset (Some type) bytes fits error (inr (inl refused)) (extension ∷ others) net
     transport is =
     let begins = deciders.extension.begins type bytes (extension, is.0.0) is.0.1 in
     absurd ((deciders.extension.decided type bytes fits begins).not_both (extension, is.0.0) refused.0 is.0.1
     refused.1)
-inside_alone laws deciders (suc room) offset (Some type) bytes fits error (inr (inr refused)) (extension ∷ others) net
+inside_alone laws deciders (suc space) offset (Some type) bytes fits error (inr (inr refused)) (extension ∷ others) net
     transport is =
     let begins = deciders.extension.begins type bytes (extension, is.0.0) is.0.1 in
     let same = (deciders.extension.decided type bytes fits begins).one_value (refused.0, refused.1)
     (extension, is.0.0) refused.2 is.0.1 in
     let parts = deciders.extension.bytes type bytes (extension, is.0.0) is.0.1 in
-    inside_alone laws deciders room (offset + link_ext_header_len (extension_header extension))
+    inside_alone laws deciders space (offset + link_ext_header_len (extension_header extension))
     (extension_type extension) (extension_payload extension)
     (AreBytes-payload bytes parts.0 (extension_payload extension) is.0.0 fits parts.2) error
-    (subst (λ (part : ExtensionPart). RefusesInside slices room
+    (subst (λ (part : ExtensionPart). RefusesInside slices space
     (offset + link_ext_header_len (extension_header part.0)) (extension_type part.0) (extension_payload part.0) error)
     same refused.3)
     others net transport is.1

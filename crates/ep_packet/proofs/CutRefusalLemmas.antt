@@ -51,29 +51,29 @@ use Rattle.ep_packet.specs.UncutTags.{CutsNothing}
 use Rattle.ep_packet.proofs.DeciderLemmas.{ExtensionPart}
 use Rattle.ep_packet.proofs.InsideLemmas.{inside_decided}
 use Rattle.ep_packet.proofs.LayerLawLemmas.{layer_laws}
-use Rattle.ep_packet.proofs.MissingLemmas.{ExtensionStart, RefusesBehind, SllStart, ethernet2_len, ethernet2_start, extension_at_start, linux_sll_len, longer_ethernet2, longer_extension, longer_linux_sll, sll_at_start, tag_len, uncut_left, whole_len}
+use Rattle.ep_packet.proofs.MissingLemmas.{ExtensionStart, RefusesAfter, SllStart, ethernet2_len, ethernet2_start, extension_at_start, linux_sll_len, longer_ethernet2, longer_extension, longer_linux_sll, sll_at_start, tag_len, uncut_left, complete_len}
 use Rattle.ep_packet.proofs.NetLemmas.{layer_decided}
 
 -- The error of a truncated frame for its missing bytes.
 abbrev IsCut : (LenError → LenSource) → ℕ → ℕ → SliceError → Type 0
 IsCut = IsTruncationError slice_error.Len
 
--- The error of a truncated frame with this network layer at `start`, for a layer at `offset` with the bytes `front`.
+-- The error of a truncated frame with this network layer at `start`, for a layer at `offset` with the bytes `prefix`.
 abbrev NetCut : Option NetLayer → ℕ → ℕ → List ℕ → List ℕ → SliceError → Type 0
-NetCut net start offset front back =
-    IsCut (net_truncation_limit net start) (offset + length front) (offset + length (front ++ back))
+NetCut net start offset prefix back =
+    IsCut (net_truncation_limit net start) (offset + length prefix) (offset + length (prefix ++ back))
 
 -- The error of a truncated layer, moved to its offset, is that of the truncated frame.
 placed : {E : Type 0} (named : LenError → E) (place : E → SliceError) (offset : ℕ)
     (limit in_frame : LenError → LenSource)
     → ((missing : LenError) → place (named missing) ≡ slice_error.Len (with_further_offset offset missing))
-    → (cut whole : ℕ) (refusal : E) (is : IsTruncationError named limit cut whole refusal)
+    → (cut complete : ℕ) (refusal : E) (is : IsTruncationError named limit cut complete refusal)
     → limit is.missing ≡ in_frame (with_further_offset offset is.missing)
-    → (error : SliceError) → error ≡ place refusal → IsCut in_frame (offset + cut) (offset + whole) error
-placed named place offset limit in_frame places cut whole refusal is limits error same = record {
+    → (error : SliceError) → error ≡ place refusal → IsCut in_frame (offset + cut) (offset + complete) error
+placed named place offset limit in_frame places cut complete refusal is limits error same = record {
   missing = with_further_offset offset is.missing;
   is = same ∙ ap place is.is ∙ places is.missing;
-  short = further_short offset cut whole is.missing.len_source is.missing is.short;
+  short = further_short offset cut complete is.missing.len_source is.missing is.short;
   source = is.source ∙ limits;
 }
 
@@ -100,35 +100,35 @@ moved_ip : (start : ℕ) (part : IpPart) (missing : LenError)
 moved_ip start (ipv4_part packet) missing = refl
 moved_ip start (ipv6_part packet) missing = moved_ipv6 start packet.header missing
 
-layer_cut : (reading : Reading) (kind : NetKind) (start : ℕ) (front back : List ℕ) → AreBytes (front ++ back)
-    → (layer : NetLayer) → IsNetLayer reading kind (front ++ back) layer → (error : SliceError)
-    → RefusesNetLayer reading kind start front error → NetCut (Some layer) start start front back error
-layer_cut reading only_ipv4 start front back fits layer is error refused =
-    let known = ipv4_cut reading front back fits is.0 is.1 refused.0 refused.1 in
-    subst (λ (l : NetLayer). NetCut (Some l) start start front back error) (sym is.2)
+layer_cut : (reading : Reading) (kind : NetKind) (start : ℕ) (prefix back : List ℕ) → AreBytes (prefix ++ back)
+    → (layer : NetLayer) → IsNetLayer reading kind (prefix ++ back) layer → (error : SliceError)
+    → RefusesNetLayer reading kind start prefix error → NetCut (Some layer) start start prefix back error
+layer_cut reading only_ipv4 start prefix back fits layer is error refused =
+    let known = ipv4_cut reading prefix back fits is.0 is.1 refused.0 refused.1 in
+    subst (λ (l : NetLayer). NetCut (Some l) start start prefix back error) (sym is.2)
     (placed ipv4_error.Len (ipv4_refusal start) start slice_end (net_truncation_limit (Some (ipv4_layer is.0)) start)
-    (λ missing. refl) (length front) (length (front ++ back)) refused.0 known refl error refused.2)
-layer_cut reading only_ipv6 start front back fits layer is error refused =
-    let known = ipv6_cut reading front back fits is.0 is.1 refused.0 refused.1 in
-    subst (λ (l : NetLayer). NetCut (Some l) start start front back error) (sym is.2)
+    (λ missing. refl) (length prefix) (length (prefix ++ back)) refused.0 known refl error refused.2)
+layer_cut reading only_ipv6 start prefix back fits layer is error refused =
+    let known = ipv6_cut reading prefix back fits is.0 is.1 refused.0 refused.1 in
+    subst (λ (l : NetLayer). NetCut (Some l) start start prefix back error) (sym is.2)
     (placed ipv6_error.Len (ipv6_refusal start) start (ipv6_truncation_limit 0 is.0.header)
-    (net_truncation_limit (Some (ipv6_layer is.0)) start) (λ missing. refl) (length front) (length (front ++ back))
+    (net_truncation_limit (Some (ipv6_layer is.0)) start) (λ missing. refl) (length prefix) (length (prefix ++ back))
     refused.0
     known
     (moved_ipv6 start is.0.header known.missing) error refused.2)
-layer_cut reading only_arp start front back fits layer is error refused =
-    let known = arp_cut front back fits is.0 is.1 refused.0 refused.1 in
-    subst (λ (l : NetLayer). NetCut (Some l) start start front back error) (sym is.2)
+layer_cut reading only_arp start prefix back fits layer is error refused =
+    let known = arp_cut prefix back fits is.0 is.1 refused.0 refused.1 in
+    subst (λ (l : NetLayer). NetCut (Some l) start start prefix back error) (sym is.2)
     (placed (λ (e : LenError). e) (len_refusal start) start (arp_truncation_limit 0)
     (net_truncation_limit (Some (arp is.0.0)) start)
-    (λ missing. refl) (length front) (length (front ++ back)) refused.0 known (moved_arp start known.missing) error
+    (λ missing. refl) (length prefix) (length (prefix ++ back)) refused.0 known (moved_arp start known.missing) error
     refused.2)
-layer_cut reading any_ip start front back fits layer is error refused =
-    let known = ip_cut reading front back fits is.0 is.1 refused.0 refused.1 in
-    subst (λ (l : NetLayer). NetCut (Some l) start start front back error) (sym is.2)
+layer_cut reading any_ip start prefix back fits layer is error refused =
+    let known = ip_cut reading prefix back fits is.0 is.1 refused.0 refused.1 in
+    subst (λ (l : NetLayer). NetCut (Some l) start start prefix back error) (sym is.2)
     (placed ip_error.Len (ip_refusal start) start (ip_truncation_limit 0 is.0)
     (net_truncation_limit (Some (ip_layer is.0)) start)
-    (λ missing. refl) (length front) (length (front ++ back)) refused.0 known (moved_ip start is.0 known.missing) error
+    (λ missing. refl) (length prefix) (length (prefix ++ back)) refused.0 known (moved_ip start is.0 known.missing) error
     refused.2)
 
 -- ---- transport layer
@@ -143,11 +143,11 @@ no_refusal reading offset payload transport is error refused =
     is
 
 -- An IPv4 packet that is valid in the truncated bytes has its full payload, which is not rejected.
-ipv4_behind : (reading : Reading) (start : ℕ) (front back : List ℕ) (layer : NetLayer)
+ipv4_after : (reading : Reading) (start : ℕ) (prefix back : List ℕ) (layer : NetLayer)
     (transport : Option TransportLayer)
     → IsTransportAfterNet reading (net_payload layer) transport → (packet : IpPacket Ipv4Header)
-    → layer ≡ ipv4_layer packet → (error : SliceError) → RefusesBehind reading start error (ipv4_layer packet) → ⊥
-ipv4_behind reading start front back layer transport is packet same error refused =
+    → layer ≡ ipv4_layer packet → (error : SliceError) → RefusesAfter reading start error (ipv4_layer packet) → ⊥
+ipv4_after reading start prefix back layer transport is packet same error refused =
     no_refusal reading (start + ipv4_headers_len packet.header packet.extensions) packet.payload transport
     (subst (λ (l : NetLayer). IsTransportAfterNet reading (net_payload l) transport) same is) error refused
 
@@ -181,21 +181,21 @@ counted reading bytes packet is nothing =
 
 -- In a truncated IPv6 packet with a payload length of 0, the payload is limited by the truncation, and its error is
 -- that of the truncated frame.
-open_after : (reading : Reading) (start : ℕ) (front back : List ℕ) → AreBytes (front ++ back)
-    → (transport : Option TransportLayer) (packet : IpPacket Ipv6Header) (is : IsIpv6 reading front packet)
+open_after : (reading : Reading) (start : ℕ) (prefix back : List ℕ) → AreBytes (prefix ++ back)
+    → (transport : Option TransportLayer) (packet : IpPacket Ipv6Header) (is : IsIpv6 reading prefix packet)
     → packet.header.payload_length ≡ 0 → packet.left ≡ []
-    → IsIpv6 reading (front ++ back) (with_more packet is.content back)
+    → IsIpv6 reading (prefix ++ back) (with_more packet is.content back)
     → IsTransportAfterNet reading (net_payload (ipv6_layer (with_more packet is.content back))) transport
-    → (error : SliceError) → RefusesBehind reading start error (ipv6_layer packet)
-    → NetCut (Some (ipv6_layer (with_more packet is.content back))) start start front back error
-open_after reading start front back fits transport packet is none nothing longer transport_is error refused =
+    → (error : SliceError) → RefusesAfter reading start error (ipv6_layer packet)
+    → NetCut (Some (ipv6_layer (with_more packet is.content back))) start start prefix back error
+open_after reading start prefix back fits transport packet is none nothing longer transport_is error refused =
     let payload = packet.payload.bytes in
     let limit = packet.payload.source in
     let headers = ipv6_headers_len packet.extensions in
     let offset = start + headers in
-    let lens = counted reading front packet is nothing in
-    let bytes = ipv6_packet_bytes reading (front ++ back) (with_more packet is.content back) longer in
-    let payload_fits = AreBytes-payload (front ++ back) bytes.headers (payload ++ back) [] fits bytes.parts in
+    let lens = counted reading prefix packet is nothing in
+    let bytes = ipv6_packet_bytes reading (prefix ++ back) (with_more packet is.content back) longer in
+    let payload_fits = AreBytes-payload (prefix ++ back) bytes.headers (payload ++ back) [] fits bytes.parts in
     let known = transport_with_trailing_bytes reading packet.payload.number packet.payload.fragmented payload back payload_fits
     transport
     transport_is refused.0 refused.1 in
@@ -204,11 +204,11 @@ open_after reading start front back fits transport packet is none nothing longer
       layer_start_offset = missing.layer_start_offset + offset;
       len_source = limit;
     } in
-    let here : offset + length payload ≡ start + length front = omega (arith, lens.by_payload) in
-    let whole : offset + length (payload ++ back) ≡ start + length (front ++ back) =
-    omega (arith, lens.by_payload, length-append payload back, length-append front back) in
+    let here : offset + length payload ≡ start + length prefix = omega (arith, lens.by_payload) in
+    let complete : offset + length (payload ++ back) ≡ start + length (prefix ++ back) =
+    omega (arith, lens.by_payload, length-append payload back, length-append prefix back) in
     let extensions = headers - 40 in
-    let behind : missing.layer_start_offset + extensions + missing.len ≡ length is.content =
+    let after : missing.layer_start_offset + extensions + missing.len ≡ length is.content =
     omega (arith, known.short.available, lens.by_payload, lens.by_content) in
     let place : missing.layer_start_offset + extensions + (start + 40) ≡ missing.layer_start_offset + offset =
     omega arith in
@@ -219,84 +219,84 @@ open_after reading start front back fits transport packet is none nothing longer
             layer_start_offset = missing.layer_start_offset + offset;
             len_source = limited_by limit s;
           })) known.source;
-      short = subst (λ (n : ℕ). IsTruncationLenError n (start + length (front ++ back)) moved) here
-          (subst (λ (n : ℕ). IsTruncationLenError (offset + length payload) n moved) whole
+      short = subst (λ (n : ℕ). IsTruncationLenError n (start + length (prefix ++ back)) moved) here
+          (subst (λ (n : ℕ). IsTruncationLenError (offset + length payload) n moved) complete
           (further_short offset (length payload) (length (payload ++ back)) limit missing known.short));
       source = is.source
           ∙ open_limit start (missing.layer_start_offset + extensions) missing.len (length is.content)
-          packet.header.payload_length behind none
+          packet.header.payload_length after none
           ∙ ap (λ (n : ℕ). if (n == start + 40) && ((missing.len == 0) && (packet.header.payload_length == 0))
           then source.Ipv6HeaderPayloadLen else source.Slice) place;
     }
 
-ipv6_behind : (reading : Reading) (start : ℕ) (front back : List ℕ) → AreBytes (front ++ back) → (layer : NetLayer)
-    → ((longer : IpPacket Ipv6Header) → IsIpv6 reading (front ++ back) longer → layer ≡ ipv6_layer longer)
+ipv6_after : (reading : Reading) (start : ℕ) (prefix back : List ℕ) → AreBytes (prefix ++ back) → (layer : NetLayer)
+    → ((longer : IpPacket Ipv6Header) → IsIpv6 reading (prefix ++ back) longer → layer ≡ ipv6_layer longer)
     → (transport : Option TransportLayer) → IsTransportAfterNet reading (net_payload layer) transport
-    → (packet : IpPacket Ipv6Header) → IsIpv6 reading front packet → (error : SliceError)
-    → RefusesBehind reading start error (ipv6_layer packet) → NetCut (Some layer) start start front back error
-ipv6_behind reading start front back fits layer one transport transport_is packet is error refused =
-    elim (longer_ipv6 reading front back packet is) [
-      | inl stands ↦ absurd (no_refusal reading (start + ipv6_headers_len packet.extensions) packet.payload transport
+    → (packet : IpPacket Ipv6Header) → IsIpv6 reading prefix packet → (error : SliceError)
+    → RefusesAfter reading start error (ipv6_layer packet) → NetCut (Some layer) start start prefix back error
+ipv6_after reading start prefix back fits layer one transport transport_is packet is error refused =
+    elim (longer_ipv6 reading prefix back packet is) [
+      | inl is_valid ↦ absurd (no_refusal reading (start + ipv6_headers_len packet.extensions) packet.payload transport
           (subst (λ (l : NetLayer). IsTransportAfterNet reading (net_payload l) transport)
-          (one (with_left packet back) stands) transport_is) error refused)
-      | inr (none, nothing, stands) ↦
-          let same = one (with_more packet is.content back) stands in
-          subst (λ (l : NetLayer). NetCut (Some l) start start front back error) (sym same)
-          (open_after reading start front back fits transport packet is none nothing stands
+          (one (with_left packet back) is_valid) transport_is) error refused)
+      | inr (none, nothing, is_valid) ↦
+          let same = one (with_more packet is.content back) is_valid in
+          subst (λ (l : NetLayer). NetCut (Some l) start start prefix back error) (sym same)
+          (open_after reading start prefix back fits transport packet is none nothing is_valid
           (subst (λ (l : NetLayer). IsTransportAfterNet reading (net_payload l) transport) same transport_is) error
           refused)
     ]
 
-behind_cut : (reading : Reading) (kind : NetKind) (start : ℕ) (front back : List ℕ) → AreBytes (front ++ back)
-    → (layer : NetLayer) → IsNetLayer reading kind (front ++ back) layer
+after_cut : (reading : Reading) (kind : NetKind) (start : ℕ) (prefix back : List ℕ) → AreBytes (prefix ++ back)
+    → (layer : NetLayer) → IsNetLayer reading kind (prefix ++ back) layer
     → (transport : Option TransportLayer) → IsTransportAfterNet reading (net_payload layer) transport
-    → (here : NetLayer) → IsNetLayer reading kind front here
-    → (error : SliceError) → RefusesBehind reading start error here → NetCut (Some layer) start start front back error
-behind_cut reading only_ipv4 start front back fits layer layer_is transport is here (packet, packet_is, same) error
+    → (here : NetLayer) → IsNetLayer reading kind prefix here
+    → (error : SliceError) → RefusesAfter reading start error here → NetCut (Some layer) start start prefix back error
+after_cut reading only_ipv4 start prefix back fits layer layer_is transport is here (packet, packet_is, same) error
     refused =
     let longer = with_left packet back in
-    let one = (layer_decided layer_laws reading only_ipv4 start (front ++ back) fits).one_value layer
+    let one = (layer_decided layer_laws reading only_ipv4 start (prefix ++ back) fits).one_value layer
     (ipv4_layer longer)
-    layer_is (longer, longer_ipv4 reading front back packet packet_is, refl) in
-    absurd (ipv4_behind reading start front back layer transport is packet one error
-    (subst (RefusesBehind reading start error) same refused))
-behind_cut reading only_ipv6 start front back fits layer layer_is transport is here (packet, packet_is, same) error
+    layer_is (longer, longer_ipv4 reading prefix back packet packet_is, refl) in
+    absurd (ipv4_after reading start prefix back layer transport is packet one error
+    (subst (RefusesAfter reading start error) same refused))
+after_cut reading only_ipv6 start prefix back fits layer layer_is transport is here (packet, packet_is, same) error
     refused =
-    ipv6_behind reading start front back fits layer
-    (λ longer stands. (layer_decided layer_laws reading only_ipv6 start (front ++ back) fits).one_value layer
-    (ipv6_layer longer) layer_is (longer, stands, refl))
-    transport is packet packet_is error (subst (RefusesBehind reading start error) same refused)
-behind_cut reading only_arp start front back fits layer layer_is transport is here here_is error refused =
-    absurd (subst (RefusesBehind reading start error) here_is.2 refused)
-behind_cut reading any_ip start front back fits layer layer_is transport is here (ipv4_part packet, packet_is, same)
+    ipv6_after reading start prefix back fits layer
+    (λ longer is_valid. (layer_decided layer_laws reading only_ipv6 start (prefix ++ back) fits).one_value layer
+    (ipv6_layer longer) layer_is (longer, is_valid, refl))
+    transport is packet packet_is error (subst (RefusesAfter reading start error) same refused)
+after_cut reading only_arp start prefix back fits layer layer_is transport is here here_is error refused =
+    absurd (subst (RefusesAfter reading start error) here_is.2 refused)
+after_cut reading any_ip start prefix back fits layer layer_is transport is here (ipv4_part packet, packet_is, same)
     error
     refused =
     let longer = with_left packet back in
-    let one = (layer_decided layer_laws reading any_ip start (front ++ back) fits).one_value layer (ipv4_layer longer)
-    layer_is (ipv4_part longer, longer_ipv4 reading front back packet packet_is, refl) in
-    absurd (ipv4_behind reading start front back layer transport is packet one error
-    (subst (RefusesBehind reading start error) same refused))
-behind_cut reading any_ip start front back fits layer layer_is transport is here (ipv6_part packet, packet_is, same)
+    let one = (layer_decided layer_laws reading any_ip start (prefix ++ back) fits).one_value layer (ipv4_layer longer)
+    layer_is (ipv4_part longer, longer_ipv4 reading prefix back packet packet_is, refl) in
+    absurd (ipv4_after reading start prefix back layer transport is packet one error
+    (subst (RefusesAfter reading start error) same refused))
+after_cut reading any_ip start prefix back fits layer layer_is transport is here (ipv6_part packet, packet_is, same)
     error
     refused =
-    ipv6_behind reading start front back fits layer
-    (λ longer stands. (layer_decided layer_laws reading any_ip start (front ++ back) fits).one_value layer
-    (ipv6_layer longer) layer_is (ipv6_part longer, stands, refl))
-    transport is packet packet_is error (subst (RefusesBehind reading start error) same refused)
+    ipv6_after reading start prefix back fits layer
+    (λ longer is_valid. (layer_decided layer_laws reading any_ip start (prefix ++ back) fits).one_value layer
+    (ipv6_layer longer) layer_is (ipv6_part longer, is_valid, refl))
+    transport is packet packet_is error (subst (RefusesAfter reading start error) same refused)
 
 -- The error of a truncated network layer, or of the transport layer in it, is that of the truncated frame.
-net_cut : (reading : Reading) (start : ℕ) (kind : Option NetKind) (front back : List ℕ) → AreBytes (front ++ back)
-    → (net : Option NetLayer) (transport : Option TransportLayer) → IsNetPart reading kind (front ++ back) net transport
-    → (error : SliceError) → RefusesNetPart reading start kind front error → NetCut net start start front back error
-net_cut reading start None front back fits net transport is error refused = absurd refused
-net_cut reading start (Some kind) front back fits net transport (layer, layer_is, same, transport_is) error
+net_cut : (reading : Reading) (start : ℕ) (kind : Option NetKind) (prefix back : List ℕ) → AreBytes (prefix ++ back)
+    → (net : Option NetLayer) (transport : Option TransportLayer) → IsNetPart reading kind (prefix ++ back) net transport
+    → (error : SliceError) → RefusesNetPart reading start kind prefix error → NetCut net start start prefix back error
+net_cut reading start None prefix back fits net transport is error refused = absurd refused
+net_cut reading start (Some kind) prefix back fits net transport (layer, layer_is, same, transport_is) error
     (inl refused) =
-    subst (λ (n : Option NetLayer). NetCut n start start front back error) (sym same)
-    (layer_cut reading kind start front back fits layer layer_is error refused)
-net_cut reading start (Some kind) front back fits net transport (layer, layer_is, same, transport_is) error
+    subst (λ (n : Option NetLayer). NetCut n start start prefix back error) (sym same)
+    (layer_cut reading kind start prefix back fits layer layer_is error refused)
+net_cut reading start (Some kind) prefix back fits net transport (layer, layer_is, same, transport_is) error
     (inr refused) =
-    subst (λ (n : Option NetLayer). NetCut n start start front back error) (sym same)
-    (behind_cut reading kind start front back fits layer layer_is transport transport_is refused.0 refused.1 error
+    subst (λ (n : Option NetLayer). NetCut n start start prefix back error) (sym same)
+    (after_cut reading kind start prefix back fits layer layer_is transport transport_is refused.0 refused.1 error
     refused.2)
 
 -- ---- link extensions
@@ -315,197 +315,197 @@ near_limit (Some (arp packet)) start missing before =
     ap (λ (b : Bool). if b && nat_le 8 missing.len then source.ArpAddrLengths else source.Slice) (sym test)
 
 -- The network layer does not start before the link extensions.
-start_behind : (offset : ℕ) (extensions : List LinkExtension) → offset ≤ net_start offset extensions
-start_behind offset [] = omega arith
-start_behind offset (extension ∷ others) =
-    omega (arith, start_behind (offset + link_ext_header_len (extension_header extension)) others)
+start_after : (offset : ℕ) (extensions : List LinkExtension) → offset ≤ net_start offset extensions
+start_after offset [] = omega arith
+start_after offset (extension ∷ others) =
+    omega (arith, start_after (offset + link_ext_header_len (extension_header extension)) others)
 
-tag_cut : (offset : ℕ) (type : EtherType) (front back : List ℕ) → AreBytes (front ++ back) → (part : ExtensionPart)
-    → IsLinkExtension type (front ++ back) part → (net : Option NetLayer) (start : ℕ) → offset < start
-    → (error : SliceError) → RefusesExtensionAt offset type front error → NetCut net start offset front back error
-tag_cut offset type front back fits part is net start before error refused =
-    let known = extension_cut type front back fits part is refused.0 refused.1 in
+tag_cut : (offset : ℕ) (type : EtherType) (prefix back : List ℕ) → AreBytes (prefix ++ back) → (part : ExtensionPart)
+    → IsLinkExtension type (prefix ++ back) part → (net : Option NetLayer) (start : ℕ) → offset < start
+    → (error : SliceError) → RefusesExtensionAt offset type prefix error → NetCut net start offset prefix back error
+tag_cut offset type prefix back fits part is net start before error refused =
+    let known = extension_cut type prefix back fits part is refused.0 refused.1 in
     let at_start : known.missing.layer_start_offset ≡ 0 =
-    subst ExtensionStart known.is (extension_at_start type front refused.0 refused.1) in
+    subst ExtensionStart known.is (extension_at_start type prefix refused.0 refused.1) in
     placed extension_error.Len (extension_refusal offset) offset slice_end (net_truncation_limit net start)
     (λ missing. refl)
-    (length front) (length (front ++ back)) refused.0 known
+    (length prefix) (length (prefix ++ back)) refused.0 known
     (near_limit net start (with_further_offset offset known.missing) (omega (arith, at_start, before))) error refused.2
 
 -- A link extension that is valid in the truncated bytes has no short length, or has its full payload.
-part_stands : (type : EtherType) (front back : List ℕ) (extension : LinkExtension) (left : List ℕ)
-    → IsLinkExtension type front (extension, left)
-    → CutsNothing extension ⊎ IsLinkExtension type (front ++ back) (extension, left ++ back)
-part_stands type front back (vlan tag payload) left is = inl tt
-part_stands type front back (macsec tag payload) left is =
+part_holds : (type : EtherType) (prefix back : List ℕ) (extension : LinkExtension) (left : List ℕ)
+    → IsLinkExtension type prefix (extension, left)
+    → CutsNothing extension ⊎ IsLinkExtension type (prefix ++ back) (extension, left ++ back)
+part_holds type prefix back (vlan tag payload) left is = inl tt
+part_holds type prefix back (macsec tag payload) left is =
     elim is.1.cut [
       | inl demanded ↦ inr (
         is.0,
         record {
           encoded = is.1.encoded;
           encodes = is.1.encodes;
-          parts = longer_rest front (is.1.encoded ++ macsec_payload_bytes payload) left back is.1.parts;
+          parts = longer_rest prefix (is.1.encoded ++ macsec_payload_bytes payload) left back is.1.parts;
           cut = inl demanded;
         },
         is.2,
       )
-      | inr whole ↦ inl whole.0
+      | inr complete ↦ inl complete.0
     ]
 
 -- The layers of a link extension's payload.
 abbrev HoldsAfterLink : Reading → ℕ → List LinkExtension → Option NetLayer → Option TransportLayer → ExtensionPart → Type 0
-HoldsAfterLink reading room others net transport part =
-    IsInside reading room (extension_type part.0) (extension_payload part.0) others net transport
+HoldsAfterLink reading space others net transport part =
+    IsInside reading space (extension_type part.0) (extension_payload part.0) others net transport
 
-inside_cut : (reading : Reading) (room offset : ℕ) (type : Option EtherType) (front back : List ℕ)
-    → AreBytes (front ++ back)
+inside_cut : (reading : Reading) (space offset : ℕ) (type : Option EtherType) (prefix back : List ℕ)
+    → AreBytes (prefix ++ back)
     → (extensions : List LinkExtension) (net : Option NetLayer) (transport : Option TransportLayer)
-    → IsInside reading room type (front ++ back) extensions net transport
-    → (error : SliceError) → RefusesInside reading room offset type front error
-    → NetCut net (net_start offset extensions) offset front back error
-inside_cut reading room offset None front back fits extensions net transport is error refused = absurd refused
-inside_cut reading zero offset (Some type) front back fits [] net transport is error refused =
-    net_cut reading offset (net_kind type) front back fits net transport is error refused
-inside_cut reading zero offset (Some type) front back fits (extension ∷ others) net transport is error refused = absurd
+    → IsInside reading space type (prefix ++ back) extensions net transport
+    → (error : SliceError) → RefusesInside reading space offset type prefix error
+    → NetCut net (net_start offset extensions) offset prefix back error
+inside_cut reading space offset None prefix back fits extensions net transport is error refused = absurd refused
+inside_cut reading zero offset (Some type) prefix back fits [] net transport is error refused =
+    net_cut reading offset (net_kind type) prefix back fits net transport is error refused
+inside_cut reading zero offset (Some type) prefix back fits (extension ∷ others) net transport is error refused = absurd
     is
-inside_cut reading (suc room) offset (Some type) front back fits [] net transport is error (inl refused) =
-    net_cut reading offset (net_kind type) front back fits net transport is.1 error refused.1
-inside_cut reading (suc room) offset (Some type) front back fits [] net transport is error (inr (inl refused)) =
-    absurd (is.0 (layer_laws.extension.refused type front refused.0 refused.1))
-inside_cut reading (suc room) offset (Some type) front back fits [] net transport is error (inr (inr refused)) =
-    absurd (is.0 (layer_laws.extension.begins type front (refused.0, refused.1) refused.2))
-inside_cut reading (suc room) offset (Some type) front back fits (extension ∷ others) net transport is error
+inside_cut reading (suc space) offset (Some type) prefix back fits [] net transport is error (inl refused) =
+    net_cut reading offset (net_kind type) prefix back fits net transport is.1 error refused.1
+inside_cut reading (suc space) offset (Some type) prefix back fits [] net transport is error (inr (inl refused)) =
+    absurd (is.0 (layer_laws.extension.refused type prefix refused.0 refused.1))
+inside_cut reading (suc space) offset (Some type) prefix back fits [] net transport is error (inr (inr refused)) =
+    absurd (is.0 (layer_laws.extension.begins type prefix (refused.0, refused.1) refused.2))
+inside_cut reading (suc space) offset (Some type) prefix back fits (extension ∷ others) net transport is error
     (inl refused) =
-    absurd (refused.0 (layer_laws.extension.begins type (front ++ back) (extension, is.0.0) is.0.1))
-inside_cut reading (suc room) offset (Some type) front back fits (extension ∷ others) net transport is error
+    absurd (refused.0 (layer_laws.extension.begins type (prefix ++ back) (extension, is.0.0) is.0.1))
+inside_cut reading (suc space) offset (Some type) prefix back fits (extension ∷ others) net transport is error
     (inr (inl refused)) =
     let header = link_ext_header_len (extension_header extension) in
-    tag_cut offset type front back fits (extension, is.0.0) is.0.1 net (net_start (offset + header) others)
-    (omega (arith, tag_len (extension_header extension), start_behind (offset + header) others)) error refused
-inside_cut reading (suc room) offset (Some type) front back fits (extension ∷ others) net transport is error
+    tag_cut offset type prefix back fits (extension, is.0.0) is.0.1 net (net_start (offset + header) others)
+    (omega (arith, tag_len (extension_header extension), start_after (offset + header) others)) error refused
+inside_cut reading (suc space) offset (Some type) prefix back fits (extension ∷ others) net transport is error
     (inr (inr (here, left, here_is, refused))) =
-    let begins = layer_laws.extension.begins type (front ++ back) (extension, is.0.0) is.0.1 in
-    let one = (layer_laws.extension.decided type (front ++ back) fits begins).one_value (extension, is.0.0) in
-    elim (part_stands type front back here left here_is) [
-      | inr stands ↦
-          let same = one (here, left ++ back) is.0.1 stands in
-          let holds = subst (HoldsAfterLink reading room others net transport) same is.1 in
-          let parts = layer_laws.extension.bytes type (front ++ back) (here, left ++ back) stands in
-          let payload_fits = AreBytes-payload (front ++ back) parts.0 (extension_payload here) (left ++ back) fits
+    let begins = layer_laws.extension.begins type (prefix ++ back) (extension, is.0.0) is.0.1 in
+    let one = (layer_laws.extension.decided type (prefix ++ back) fits begins).one_value (extension, is.0.0) in
+    elim (part_holds type prefix back here left here_is) [
+      | inr is_valid ↦
+          let same = one (here, left ++ back) is.0.1 is_valid in
+          let holds = subst (HoldsAfterLink reading space others net transport) same is.1 in
+          let parts = layer_laws.extension.bytes type (prefix ++ back) (here, left ++ back) is_valid in
+          let payload_fits = AreBytes-payload (prefix ++ back) parts.0 (extension_payload here) (left ++ back) fits
           parts.2 in
-          absurd ((inside_decided layer_laws reading room (offset + link_ext_header_len (extension_header here))
+          absurd ((inside_decided layer_laws reading space (offset + link_ext_header_len (extension_header here))
           (extension_type here) (extension_payload here) payload_fits).not_both (others, net, transport) error holds
           refused)
       | inl uncut ↦
           let payload = extension_payload here in
           let header = link_ext_header_len (extension_header here) in
-          let longer = longer_extension type front back here left here_is uncut in
+          let longer = longer_extension type prefix back here left here_is uncut in
           let same = one (longer.0, []) is.0.1 longer.1 in
-          let holds = subst (HoldsAfterLink reading room others net transport) same is.1 in
-          let by_type = subst (λ (t : Option EtherType). IsInside reading room t (extension_payload longer.0) others net
+          let holds = subst (HoldsAfterLink reading space others net transport) same is.1 in
+          let by_type = subst (λ (t : Option EtherType). IsInside reading space t (extension_payload longer.0) others net
           transport) longer.2.type holds in
-          let inside = subst (λ (l : List ℕ). IsInside reading room (extension_type here) l others net transport)
+          let inside = subst (λ (l : List ℕ). IsInside reading space (extension_type here) l others net transport)
           longer.2.payload by_type in
-          let parts = layer_laws.extension.bytes type (front ++ back) (longer.0, []) longer.1 in
+          let parts = layer_laws.extension.bytes type (prefix ++ back) (longer.0, []) longer.1 in
           let payload_fits : AreBytes (payload ++ back) = subst AreBytes longer.2.payload
-          (AreBytes-payload (front ++ back) parts.0 (extension_payload longer.0) [] fits parts.2) in
+          (AreBytes-payload (prefix ++ back) parts.0 (extension_payload longer.0) [] fits parts.2) in
           let same_header : extension_header here ≡ extension_header extension =
           sym (ap (λ (p : ExtensionPart). extension_header p.0) same ∙ longer.2.header) in
-          let nothing = uncut_left type front here left here_is uncut in
-          let cut : offset + header + length payload ≡ offset + length front =
-          omega (arith, extension_len type front (here, left) here_is, ap length nothing) in
-          let whole : offset + header + length (payload ++ back) ≡ offset + length (front ++ back) =
-          omega (arith, cut, length-append payload back, length-append front back) in
-          let behind = inside_cut reading room (offset + header) (extension_type here) payload back payload_fits others
+          let nothing = uncut_left type prefix here left here_is uncut in
+          let cut : offset + header + length payload ≡ offset + length prefix =
+          omega (arith, extension_len type prefix (here, left) here_is, ap length nothing) in
+          let complete : offset + header + length (payload ++ back) ≡ offset + length (prefix ++ back) =
+          omega (arith, cut, length-append payload back, length-append prefix back) in
+          let after = inside_cut reading space (offset + header) (extension_type here) payload back payload_fits others
           net
           transport inside error refused in
           let at_start = subst (λ (h : LinkExtHeader). IsCut (net_truncation_limit net (net_start
           (offset + link_ext_header_len h) others)) (offset + header + length payload)
-          (offset + header + length (payload ++ back)) error) same_header behind in
+          (offset + header + length (payload ++ back)) error) same_header after in
           let limit = net_truncation_limit net (net_start offset (extension ∷ others)) in
-          subst (λ (n : ℕ). IsCut limit n (offset + length (front ++ back)) error) cut
-          (subst (λ (n : ℕ). IsCut limit (offset + header + length payload) n error) whole at_start)
+          subst (λ (n : ℕ). IsCut limit n (offset + length (prefix ++ back)) error) cut
+          (subst (λ (n : ℕ). IsCut limit (offset + header + length payload) n error) complete at_start)
     ]
 
 -- ---- frames
 
 -- The limit of an error at the start of a frame is the end of the slice.
-at_front : {E : Type 0} (named : LenError → E) (place : E → SliceError) (front back : List ℕ) (refusal : E)
+at_prefix : {E : Type 0} (named : LenError → E) (place : E → SliceError) (prefix back : List ℕ) (refusal : E)
     → ((missing : LenError) → place (named missing) ≡ slice_error.Len missing)
-    → (is : IsTruncationError named slice_end (length front) (length (front ++ back)) refusal)
+    → (is : IsTruncationError named slice_end (length prefix) (length (prefix ++ back)) refusal)
     → is.missing.layer_start_offset ≡ 0 → (net : Option NetLayer) (start : ℕ) → 0 < start
     → (error : SliceError) → error ≡ place refusal
-    → IsCut (net_truncation_limit net start) (length front) (length (front ++ back)) error
-at_front named place front back refusal places is at_start net start behind error same = record {
+    → IsCut (net_truncation_limit net start) (length prefix) (length (prefix ++ back)) error
+at_prefix named place prefix back refusal places is at_start net start after error same = record {
   missing = is.missing;
   is = same ∙ ap place is.is ∙ places is.missing;
   short = is.short;
-  source = is.source ∙ near_limit net start is.missing (omega (arith, at_start, behind));
+  source = is.source ∙ near_limit net start is.missing (omega (arith, at_start, after));
 }
 
 -- The error of a truncated payload after a header of a frame, counted from the start of the frame.
-from_start : (limit : LenError → LenSource) (header : ℕ) (front payload back : List ℕ) (error : SliceError)
-    → header + length payload ≡ length front
+from_start : (limit : LenError → LenSource) (header : ℕ) (prefix payload back : List ℕ) (error : SliceError)
+    → header + length payload ≡ length prefix
     → IsCut limit (header + length payload) (header + length (payload ++ back)) error
-    → IsCut limit (length front) (length (front ++ back)) error
-from_start limit header front payload back error len is =
-    let whole : header + length (payload ++ back) ≡ length (front ++ back) =
-    omega (arith, len, length-append payload back, length-append front back) in
-    subst (λ (n : ℕ). IsCut limit n (length (front ++ back)) error) len
-    (subst (λ (n : ℕ). IsCut limit (header + length payload) n error) whole is)
+    → IsCut limit (length prefix) (length (prefix ++ back)) error
+from_start limit header prefix payload back error len is =
+    let complete : header + length (payload ++ back) ≡ length (prefix ++ back) =
+    omega (arith, len, length-append payload back, length-append prefix back) in
+    subst (λ (n : ℕ). IsCut limit n (length (prefix ++ back)) error) len
+    (subst (λ (n : ℕ). IsCut limit (header + length payload) n error) complete is)
 
 pub frame_cut : (reading : Reading) (entry : Entry)
     → ReportsTruncation (IsFrameIn reading entry) (RefusesFrameIn reading entry) slice_error.Len
     (frame_truncation_limit entry)
-frame_cut reading ethernet front back fits layers is error (inl refused) =
-    let known = ethernet2_cut front back fits is.0 is.1 refused.0 refused.1 in
-    let at_start = ap (λ (e : LenError). e.layer_start_offset) (sym known.is) ∙ ethernet2_start front refused.0
+frame_cut reading ethernet prefix back fits layers is error (inl refused) =
+    let known = ethernet2_cut prefix back fits is.0 is.1 refused.0 refused.1 in
+    let at_start = ap (λ (e : LenError). e.layer_start_offset) (sym known.is) ∙ ethernet2_start prefix refused.0
     refused.1 in
-    let behind = start_behind ethernet2_header_len layers.link_exts in
-    at_front (λ (e : LenError). e) slice_error.Len front back refused.0 (λ missing. refl) known at_start layers.net
-    (net_start ethernet2_header_len layers.link_exts) (omega (arith, behind)) error refused.2
-frame_cut reading ethernet front back fits layers is error (inr (frame, frame_is, refused)) =
+    let after = start_after ethernet2_header_len layers.link_exts in
+    at_prefix (λ (e : LenError). e) slice_error.Len prefix back refused.0 (λ missing. refl) known at_start layers.net
+    (net_start ethernet2_header_len layers.link_exts) (omega (arith, after)) error refused.2
+frame_cut reading ethernet prefix back fits layers is error (inr (frame, frame_is, refused)) =
     let longer = parts_of frame.header (frame.payload ++ back) [] in
-    let stands = longer_ethernet2 front back frame frame_is in
-    let same = (layer_laws.ethernet2 (front ++ back) fits).one_value is.0 longer is.1 stands in
+    let is_valid = longer_ethernet2 prefix back frame frame_is in
+    let same = (layer_laws.ethernet2 (prefix ++ back) fits).one_value is.0 longer is.1 is_valid in
     let inside = subst (λ (f : Parts Ethernet2Header). IsInside reading most_link_exts (Some f.header.ether_type)
     f.payload
     layers.link_exts layers.net layers.transport) same is.3 in
-    let payload_fits = AreBytes-payload (front ++ back) (ethernet2_bytes frame.header) (frame.payload ++ back) [] fits
-    stands.parts in
-    let len = whole_len front (ethernet2_bytes frame.header) frame.payload frame.left frame_is.parts frame_is.cut in
-    from_start (frame_truncation_limit ethernet layers) ethernet2_header_len front frame.payload back error
+    let payload_fits = AreBytes-payload (prefix ++ back) (ethernet2_bytes frame.header) (frame.payload ++ back) [] fits
+    is_valid.parts in
+    let len = complete_len prefix (ethernet2_bytes frame.header) frame.payload frame.left frame_is.parts frame_is.cut in
+    from_start (frame_truncation_limit ethernet layers) ethernet2_header_len prefix frame.payload back error
     (omega (arith, len, ethernet2_len frame.header frame_is.fits))
     (inside_cut reading most_link_exts ethernet2_header_len (Some frame.header.ether_type) frame.payload back
     payload_fits
     layers.link_exts layers.net layers.transport inside error refused)
-frame_cut reading linux_sll front back fits layers is error (inl refused) =
-    let known = linux_sll_cut front back fits is.0 is.1 refused.0 refused.1 in
+frame_cut reading linux_sll prefix back fits layers is error (inl refused) =
+    let known = linux_sll_cut prefix back fits is.0 is.1 refused.0 refused.1 in
     let at_start : known.missing.layer_start_offset ≡ 0 =
-    subst SllStart known.is (sll_at_start front refused.0 refused.1) in
-    let behind = start_behind linux_sll_header_len layers.link_exts in
-    at_front sll_error.Len linux_sll_refusal front back refused.0 (λ missing. refl) known at_start layers.net
-    (net_start linux_sll_header_len layers.link_exts) (omega (arith, behind)) error refused.2
-frame_cut reading linux_sll front back fits layers is error (inr (frame, frame_is, refused)) =
+    subst SllStart known.is (sll_at_start prefix refused.0 refused.1) in
+    let after = start_after linux_sll_header_len layers.link_exts in
+    at_prefix sll_error.Len linux_sll_refusal prefix back refused.0 (λ missing. refl) known at_start layers.net
+    (net_start linux_sll_header_len layers.link_exts) (omega (arith, after)) error refused.2
+frame_cut reading linux_sll prefix back fits layers is error (inr (frame, frame_is, refused)) =
     let longer = parts_of frame.header (frame.payload ++ back) [] in
-    let stands = longer_linux_sll front back frame frame_is in
-    let same = (layer_laws.linux_sll (front ++ back) fits).one_value is.0 longer is.1 stands in
+    let is_valid = longer_linux_sll prefix back frame frame_is in
+    let same = (layer_laws.linux_sll (prefix ++ back) fits).one_value is.0 longer is.1 is_valid in
     let inside = subst (λ (f : Parts LinuxSllHeader). IsInside reading most_link_exts
     (protocol_ether_type f.header.protocol_type) f.payload layers.link_exts layers.net layers.transport) same is.3 in
-    let payload_fits = AreBytes-payload (front ++ back) (linux_sll_bytes frame.header) (frame.payload ++ back) [] fits
-    stands.parts in
-    let len = whole_len front (linux_sll_bytes frame.header) frame.payload frame.left frame_is.parts frame_is.cut in
-    from_start (frame_truncation_limit linux_sll layers) linux_sll_header_len front frame.payload back error
+    let payload_fits = AreBytes-payload (prefix ++ back) (linux_sll_bytes frame.header) (frame.payload ++ back) [] fits
+    is_valid.parts in
+    let len = complete_len prefix (linux_sll_bytes frame.header) frame.payload frame.left frame_is.parts frame_is.cut in
+    from_start (frame_truncation_limit linux_sll layers) linux_sll_header_len prefix frame.payload back error
     (omega (arith, len, linux_sll_len frame.header frame_is.fits))
     (inside_cut reading most_link_exts linux_sll_header_len (protocol_ether_type frame.header.protocol_type)
     frame.payload
     back payload_fits layers.link_exts layers.net layers.transport inside error refused)
-frame_cut reading (ether_type type) front back fits layers is error refused =
-    from_start (frame_truncation_limit (ether_type type) layers) 0 front front back error (omega arith)
-    (inside_cut reading most_link_exts 0 (Some type) front back fits layers.link_exts layers.net layers.transport is.1
+frame_cut reading (ether_type type) prefix back fits layers is error refused =
+    from_start (frame_truncation_limit (ether_type type) layers) 0 prefix prefix back error (omega arith)
+    (inside_cut reading most_link_exts 0 (Some type) prefix back fits layers.link_exts layers.net layers.transport is.1
     error refused)
-frame_cut reading ip front back fits layers is error refused =
-    subst (λ (l : List LinkExtension). IsCut (net_truncation_limit layers.net (net_start 0 l)) (length front)
-    (length (front ++ back)) error) (sym is.1)
-    (from_start (net_truncation_limit layers.net 0) 0 front front back error (omega arith)
-    (net_cut reading 0 (Some any_ip) front back fits layers.net layers.transport is.2 error refused))
+frame_cut reading ip prefix back fits layers is error refused =
+    subst (λ (l : List LinkExtension). IsCut (net_truncation_limit layers.net (net_start 0 l)) (length prefix)
+    (length (prefix ++ back)) error) (sym is.1)
+    (from_start (net_truncation_limit layers.net 0) 0 prefix prefix back error (omega arith)
+    (net_cut reading 0 (Some any_ip) prefix back fits layers.net layers.transport is.2 error refused))

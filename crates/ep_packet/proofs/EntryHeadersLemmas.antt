@@ -72,12 +72,12 @@ extension_bytes_are (macsec tag (unmodified type source bytes)) = refl
 extension_bytes_are (macsec tag (modified bytes)) = tt
 
 -- The payload after link extensions of known type has the bytes after them.
-behind_bytes_are : (found : Option EtherPayload) (bytes : List ℕ) (extensions : List LinkExtension)
+after_bytes_are : (found : Option EtherPayload) (bytes : List ℕ) (extensions : List LinkExtension)
     → IfSome found (λ payload. payload.bytes ≡ bytes)
     → IfSome (ether_payload_after found extensions) (λ payload. payload.bytes ≡ payload_after_exts bytes extensions)
-behind_bytes_are found bytes [] same = same
-behind_bytes_are found bytes (extension ∷ others) same =
-    behind_bytes_are (extension_ether_payload extension) (extension_payload extension) others
+after_bytes_are found bytes [] same = same
+after_bytes_are found bytes (extension ∷ others) same =
+    after_bytes_are (extension_ether_payload extension) (extension_payload extension) others
     (extension_bytes_are extension)
 
 protocol_bytes_are : (type : Option EtherType) (bytes : List ℕ)
@@ -103,7 +103,7 @@ parts_bytes_are layer (extension ∷ others) =
     with_source_bytes (extensions_len_source (extension ∷ others))
     (ether_payload_after (extension_ether_payload extension) others)
     (payload_after_exts (extension_payload extension) others)
-    (behind_bytes_are (extension_ether_payload extension) (extension_payload extension)
+    (after_bytes_are (extension_ether_payload extension) (extension_payload extension)
     others (extension_bytes_are extension))
 
 -- The payload of a transport header has the given bytes.
@@ -142,9 +142,9 @@ payload_lies entry bytes packet layers is same =
     let order = frame_in_order layer_laws headers entry bytes layers is in
     let payload : payload_part_bytes (payload_part_of packet.payload) ≡ last_payload layers =
     ap (λ (h : Headers). payload_part_bytes h.payload) same ∙ payload_bytes_are layers in
-    let front = order.link ++ (order.tags ++ (order.net ++ order.transport)) in
-    let grouped : bytes ≡ front ++ (last_payload layers ++ order.left) = order.parts ∙ (simp append_assoc) in
-    (front, order.left, grouped ∙ ap (λ (b : List ℕ). front ++ (b ++ order.left)) (sym payload))
+    let prefix = order.link ++ (order.tags ++ (order.net ++ order.transport)) in
+    let grouped : bytes ≡ prefix ++ (last_payload layers ++ order.left) = order.parts ∙ (simp append_assoc) in
+    (prefix, order.left, grouped ∙ ap (λ (b : List ℕ). prefix ++ (b ++ order.left)) (sym payload))
 
 -- ---- entries
 
@@ -298,9 +298,9 @@ ip_fills bytes base old new alone fills = (
 -- ---- conclusions from the contracts
 
 -- Before the first link extension the full capacity is free.
-pub whole_room : (packet : PacketHeaders) (base : Headers) (read : Option LinkHeader)
+pub full_capacity : (packet : PacketHeaders) (base : Headers) (read : Option LinkHeader)
     → headers_of packet ≡ begun base read → most_link_exts - length packet.link_exts.items ≡ most_link_exts
-whole_room packet base read alone = ap (λ (h : Headers). most_link_exts - length h.link_exts) alone
+full_capacity packet base read alone = ap (λ (h : Headers). most_link_exts - length h.link_exts) alone
 
 pub ether_payload_filled : (bytes : List ℕ) (type : EtherType) (base : Headers) (packet new : PacketHeaders)
     → headers_of packet ≡ begun base None
@@ -310,14 +310,14 @@ pub ether_payload_filled : (bytes : List ℕ) (type : EtherType) (base : Headers
 ether_payload_filled bytes type base packet new alone fills =
     ether_payload_fills bytes type base (headers_of packet) (headers_of new) alone
     (subst (λ (n : ℕ). FillsInside n (unlimited_ether_payload bytes type) (headers_of packet) (headers_of new))
-    (whole_room packet base None alone) fills)
+    (full_capacity packet base None alone) fills)
 
 -- A payload slice with this ether type and these bytes, limited only by the end of the slice, shows that payload.
-whole_shown : (slice : EtherPayloadSlice) (type : EtherType) (bytes : List ℕ) → slice.ether_type ≡ type
+complete_shown : (slice : EtherPayloadSlice) (type : EtherType) (bytes : List ℕ) → slice.ether_type ≡ type
     → slice.len_source ≡ source.Slice → slice.payload.now ≡ bytes
     → ether_payload_of slice ≡ unlimited_ether_payload bytes type
-whole_shown slice type bytes same_type whole same_bytes =
-    λ i. record { ether_type = same_type i; len_source = whole i; bytes = same_bytes i }
+complete_shown slice type bytes same_type complete same_bytes =
+    λ i. record { ether_type = same_type i; len_source = complete i; bytes = same_bytes i }
 
 pub ethernet_filled : (bytes left : List ℕ) (frame : Ethernet2Slice) (read : Ethernet2Header)
     (payload : EtherPayloadSlice)
@@ -329,16 +329,16 @@ pub ethernet_filled : (bytes left : List ℕ) (frame : Ethernet2Slice) (read : E
     → FillsInside (most_link_exts - length packet.link_exts.items) (ether_payload_of payload) (headers_of packet)
     (headers_of new)
     → IsFilled ethernet bytes (headers_of new)
-ethernet_filled bytes left frame read payload base packet new is header_is same_type whole same_bytes alone fills =
+ethernet_filled bytes left frame read payload base packet new is header_is same_type complete same_bytes alone fills =
     let parts = ethernet2_slice_parts frame left in
-    let shown = whole_shown payload parts.header.ether_type parts.payload same_type whole same_bytes in
+    let shown = complete_shown payload parts.header.ether_type parts.payload same_type complete same_bytes in
     ethernet_fills bytes parts base (headers_of packet) (headers_of new) is
     (alone ∙ ap (λ (h : Ethernet2Header). begun base (Some (link.Ethernet2 h))) header_is)
     (subst (λ (p : EtherPayload). FillsInside most_link_exts p (headers_of packet) (headers_of new)) shown
     (subst (λ (n : ℕ). FillsInside n (ether_payload_of payload) (headers_of packet) (headers_of new))
-    (whole_room packet base (Some (link.Ethernet2 read)) alone) fills))
+    (full_capacity packet base (Some (link.Ethernet2 read)) alone) fills))
 
-pub ethernet_behind_refused : (bytes left : List ℕ) (frame : Ethernet2Slice) (payload : EtherPayloadSlice)
+pub ethernet_after_refused : (bytes left : List ℕ) (frame : Ethernet2Slice) (payload : EtherPayloadSlice)
     (base : Headers) (packet : PacketHeaders) (read : Option LinkHeader) (error : SliceError)
     → IsEthernet2 bytes (ethernet2_slice_parts frame left)
     → payload.ether_type ≡ (ethernet2_slice_header frame).ether_type
@@ -346,7 +346,7 @@ pub ethernet_behind_refused : (bytes left : List ℕ) (frame : Ethernet2Slice) (
     → RefusesInside headers (most_link_exts - length packet.link_exts.items) ethernet2_header_len
     (Some payload.ether_type) payload.payload.now error
     → RefusesFrameIn headers ethernet bytes error
-ethernet_behind_refused bytes left frame payload base packet read error is same_type same_bytes alone refused =
+ethernet_after_refused bytes left frame payload base packet read error is same_type same_bytes alone refused =
     let parts = ethernet2_slice_parts frame left in
     inr (
       parts,
@@ -359,7 +359,7 @@ ethernet_behind_refused bytes left frame payload base packet read error is same_
           same_type
           (subst (λ (n : ℕ). RefusesInside headers n ethernet2_header_len (Some payload.ether_type)
           payload.payload.now error)
-          (whole_room packet base read alone) refused)),
+          (full_capacity packet base read alone) refused)),
     )
 
 pub sll_filled : (bytes left shown : List ℕ) (frame : LinuxSllSlice) (read : LinuxSllHeader) (type : EtherType)
@@ -371,13 +371,13 @@ pub sll_filled : (bytes left shown : List ℕ) (frame : LinuxSllSlice) (read : L
     → FillsInside (most_link_exts - length packet.link_exts.items) (ether_payload_of payload) (headers_of packet)
     (headers_of new)
     → IsFilled cooked bytes (headers_of new)
-sll_filled bytes left shown frame read type payload base packet new is header_is typed whole same_bytes alone fills =
+sll_filled bytes left shown frame read type payload base packet new is header_is typed complete same_bytes alone fills =
     sll_fills bytes (linux_sll_slice_parts frame left) type base (headers_of packet) (headers_of new) is typed
     (alone ∙ ap (λ (h : LinuxSllHeader). begun base (Some (link.LinuxSll h))) header_is)
     (subst (λ (p : EtherPayload). FillsInside most_link_exts p (headers_of packet) (headers_of new))
-    (whole ∙ ap (λ (b : List ℕ). unlimited_ether_payload b type) same_bytes)
+    (complete ∙ ap (λ (b : List ℕ). unlimited_ether_payload b type) same_bytes)
     (subst (λ (n : ℕ). FillsInside n (ether_payload_of payload) (headers_of packet) (headers_of new))
-    (whole_room packet base (Some (link.LinuxSll read)) alone) fills))
+    (full_capacity packet base (Some (link.LinuxSll read)) alone) fills))
 
 pub sll_left_open : (bytes left shown : List ℕ) (frame : LinuxSllSlice) (read : LinuxSllHeader)
     (base middle new : Headers)
@@ -392,7 +392,7 @@ sll_left_open bytes left shown frame read base middle new is header_is none same
     (filled
     ∙ ap (λ (b : List ℕ). record middle { net = None; transport = None; payload = macsec_modified b }) same_bytes)
 
-pub sll_behind_refused : (bytes left shown : List ℕ) (frame : LinuxSllSlice) (type : EtherType)
+pub sll_after_refused : (bytes left shown : List ℕ) (frame : LinuxSllSlice) (type : EtherType)
     (payload : EtherPayloadSlice) (base : Headers) (packet : PacketHeaders) (read : Option LinkHeader)
     (error : SliceError)
     → IsLinuxSll bytes (linux_sll_slice_parts frame left)
@@ -402,7 +402,7 @@ pub sll_behind_refused : (bytes left shown : List ℕ) (frame : LinuxSllSlice) (
     → RefusesInside headers (most_link_exts - length packet.link_exts.items) linux_sll_header_len
     (Some payload.ether_type) payload.payload.now error
     → RefusesFrameIn headers cooked bytes error
-sll_behind_refused bytes left shown frame type payload base packet read error is typed whole same_bytes alone refused =
+sll_after_refused bytes left shown frame type payload base packet read error is typed complete same_bytes alone refused =
     let parts = linux_sll_slice_parts frame left in
     inr (
       parts,
@@ -413,10 +413,10 @@ sll_behind_refused bytes left shown frame type payload base packet read error is
           (Some type) b error) same_bytes
           (subst (λ (p : EtherPayload). RefusesInside headers most_link_exts linux_sll_header_len
           (Some p.ether_type) p.bytes error)
-          whole
+          complete
           (subst (λ (n : ℕ). RefusesInside headers n linux_sll_header_len (Some payload.ether_type)
           payload.payload.now error)
-          (whole_room packet base read alone) refused))),
+          (full_capacity packet base read alone) refused))),
     )
 
 -- ---- results of the entries

@@ -24,75 +24,75 @@ use Rattle.ep_packet.specs.Walk.{HoldsAfterLink}
 use Rattle.ep_packet.proofs.LayerLawLemmas.{frame_law}
 
 -- The payload found after a link layer is the payload of that link layer.
-carried : (front known : LinkStart) → front ≡ known → known.payload ≡ link_layer_payload known.link
-    → front.payload ≡ link_layer_payload front.link
-carried front known same there =
-    ap (λ (f : LinkStart). f.payload) same ∙ there ∙ sym (ap (λ (f : LinkStart). link_layer_payload f.link) same)
+carried : (prefix known : LinkStart) → prefix ≡ known → known.payload ≡ link_layer_payload known.link
+    → prefix.payload ≡ link_layer_payload prefix.link
+carried prefix known same present =
+    ap (λ (f : LinkStart). f.payload) same ∙ present ∙ sym (ap (λ (f : LinkStart). link_layer_payload f.link) same)
 
-pub payload_there : (entry : Entry) (bytes : List ℕ) (front : LinkStart) → IsLinkStart entry bytes front
-    → front.payload ≡ link_layer_payload front.link
-payload_there ethernet bytes front is = carried front _ is.2 refl
-payload_there linux_sll bytes front is = carried front _ is.2 refl
-payload_there (ether_type type) bytes front is = carried front _ is refl
-payload_there ip bytes front is = absurd is
+pub payload_present : (entry : Entry) (bytes : List ℕ) (prefix : LinkStart) → IsLinkStart entry bytes prefix
+    → prefix.payload ≡ link_layer_payload prefix.link
+payload_present ethernet bytes prefix is = carried prefix _ is.2 refl
+payload_present linux_sll bytes prefix is = carried prefix _ is.2 refl
+payload_present (ether_type type) bytes prefix is = carried prefix _ is refl
+payload_present ip bytes prefix is = absurd is
 
 -- A link layer and the layers in its payload are a frame.
-is_frame : (entry : Entry) (bytes : List ℕ) (front : LinkStart) (layers : Layers) → IsLinkStart entry bytes front
-    → layers.link ≡ Some front.link
-    → IsInside slices most_link_exts front.type front.payload layers.link_exts layers.net layers.transport
+is_frame : (entry : Entry) (bytes : List ℕ) (prefix : LinkStart) (layers : Layers) → IsLinkStart entry bytes prefix
+    → layers.link ≡ Some prefix.link
+    → IsInside slices most_link_exts prefix.type prefix.payload layers.link_exts layers.net layers.transport
     → IsFrame entry bytes layers
-is_frame ethernet bytes front layers is link inside = (
+is_frame ethernet bytes prefix layers is link inside = (
   is.0,
   is.1,
   link ∙ (λ i. Some (is.2 i).link),
   transport (λ i. IsInside slices most_link_exts (is.2 i).type
       (is.2 i).payload layers.link_exts layers.net layers.transport) inside,
 )
-is_frame linux_sll bytes front layers is link inside = (
+is_frame linux_sll bytes prefix layers is link inside = (
   is.0,
   is.1,
   link ∙ (λ i. Some (is.2 i).link),
   transport (λ i. IsInside slices most_link_exts (is.2 i).type
       (is.2 i).payload layers.link_exts layers.net layers.transport) inside,
 )
-is_frame (ether_type type) bytes front layers is link inside = (
+is_frame (ether_type type) bytes prefix layers is link inside = (
   link ∙ (λ i. Some (is i).link),
   transport (λ i. IsInside slices most_link_exts (is i).type (is i).payload
       layers.link_exts layers.net layers.transport) inside,
 )
-is_frame ip bytes front layers is link inside = absurd is
+is_frame ip bytes prefix layers is link inside = absurd is
 
 -- An error of the payload of the link layer is an error of the frame.
-is_refused : (entry : Entry) (bytes : List ℕ) (front : LinkStart) (error : SliceError) → IsLinkStart entry bytes front
-    → RefusesInside slices most_link_exts front.offset front.type front.payload error → RefusesFrame entry bytes error
-is_refused ethernet bytes front error is refused =
+is_refused : (entry : Entry) (bytes : List ℕ) (prefix : LinkStart) (error : SliceError) → IsLinkStart entry bytes prefix
+    → RefusesInside slices most_link_exts prefix.offset prefix.type prefix.payload error → RefusesFrame entry bytes error
+is_refused ethernet bytes prefix error is refused =
     inr (
       is.0,
       is.1,
       transport (λ i. RefusesInside slices most_link_exts (is.2 i).offset (is.2 i).type
           (is.2 i).payload error) refused,
     )
-is_refused linux_sll bytes front error is refused =
+is_refused linux_sll bytes prefix error is refused =
     inr (
       is.0,
       is.1,
       transport (λ i. RefusesInside slices most_link_exts (is.2 i).offset (is.2 i).type
           (is.2 i).payload error) refused,
     )
-is_refused (ether_type type) bytes front error is refused =
+is_refused (ether_type type) bytes prefix error is refused =
     transport (λ i. RefusesInside slices most_link_exts (is i).offset (is i).type (is i).payload error) refused
-is_refused ip bytes front error is refused = absurd is
+is_refused ip bytes prefix error is refused = absurd is
 
 -- Slices that show the layers in the payload of a link layer show the bytes of the frame.
-shows_behind : (entry : Entry) (bytes : List ℕ) (part : LinkPart) (packet : SlicedPacket)
+shows_after : (entry : Entry) (bytes : List ℕ) (part : LinkPart) (packet : SlicedPacket)
     → BeginsPacket entry bytes part → HoldsAfterLink part.link part.ether_type part.slice.now packet
     → ShowsBytes bytes packet
-shows_behind entry bytes part packet begins behind =
+shows_after entry bytes part packet begins after =
     subst (λ (l : Option LinkSlice). ShowsLink bytes l packet.link_exts.items packet.net packet.transport)
-    (sym behind.has_link) (
+    (sym after.has_link) (
       begins.shows,
       subst (λ (b : List ℕ). ShowsInside b packet.link_exts.items packet.net packet.transport)
-          (payload_there entry bytes (link_start_of part) begins.is) behind.shows,
+          (payload_present entry bytes (link_start_of part) begins.is) after.shows,
     )
 
 -- The clauses of a call that slices the layers after a link layer, and whose result shows the packet.
@@ -110,13 +110,13 @@ pub enters_frame : {A : Type 0} (entry : Entry) (bytes : List ℕ) (part : LinkP
     → EntersFrame A entry bytes result shown
 enters_frame entry bytes part result shown fits begins ok err =
     let is = IfOk-weaker result _ (λ a. IsFrame entry bytes (layers_of (shown a)))
-    (λ a behind. is_frame entry bytes (link_start_of part) (layers_of (shown a)) begins.is
-    (ap (option_map link_layer_of) behind.has_link) behind.inside) ok in
+    (λ a after. is_frame entry bytes (link_start_of part) (layers_of (shown a)) begins.is
+    (ap (option_map link_layer_of) after.has_link) after.inside) ok in
     let refuses = IfErr-weaker result _ (RefusesFrame entry bytes)
     (λ error refused. is_refused entry bytes (link_start_of part) error begins.is refused) err in
     record {
       ok = is;
       only = only_of (λ a. layers_of (shown a)) (frame_law entry bytes fits) result is refuses;
-      shows = IfOk-weaker result _ _ (λ a behind. shows_behind entry bytes part (shown a) begins behind) ok;
+      shows = IfOk-weaker result _ _ (λ a after. shows_after entry bytes part (shown a) begins after) ok;
       err = refuses;
     }

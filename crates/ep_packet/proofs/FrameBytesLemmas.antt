@@ -39,25 +39,25 @@ net_bytes deciders reading None bytes net transport part =
 net_bytes deciders reading (Some kind) bytes net transport (layer, is, net_is, inside) =
     let are = layer_bytes deciders reading kind bytes layer is in
     subst (λ (x : Option NetLayer). InsideBytes bytes [] x transport) (sym net_is)
-    (net_layer_bytes bytes are.front are.left layer transport are.encodes are.parts
+    (net_layer_bytes bytes are.prefix are.left layer transport are.encodes are.parts
     (transport_in_layer deciders reading layer transport inside))
 
 -- Bytes of an ether type are tags, headers, the last payload and trailing bytes.
-inside_bytes : Deciders → (reading : Reading) (room : ℕ) (type : Option EtherType) (bytes : List ℕ)
+inside_bytes : Deciders → (reading : Reading) (space : ℕ) (type : Option EtherType) (bytes : List ℕ)
     (extensions : List LinkExtension) (net : Option NetLayer) (transport : Option TransportLayer)
-    → IsInside reading room type bytes extensions net transport → InsideBytes bytes extensions net transport
-inside_bytes deciders reading room None bytes extensions net transport part =
+    → IsInside reading space type bytes extensions net transport → InsideBytes bytes extensions net transport
+inside_bytes deciders reading space None bytes extensions net transport part =
     subst (λ (x : List LinkExtension). InsideBytes bytes x net transport) (sym part.0)
     (net_bytes deciders reading None bytes net transport (part.1, part.2))
 inside_bytes deciders reading zero (Some type) bytes [] net transport part =
     net_bytes deciders reading (net_kind type) bytes net transport part
 inside_bytes deciders reading zero (Some type) bytes (extension ∷ others) net transport part = absurd part
-inside_bytes deciders reading (suc room) (Some type) bytes [] net transport part =
+inside_bytes deciders reading (suc space) (Some type) bytes [] net transport part =
     net_bytes deciders reading (net_kind type) bytes net transport part.1
-inside_bytes deciders reading (suc room) (Some type) bytes (extension ∷ others) net transport part =
-    let front = deciders.extension.bytes type bytes (extension, part.0.0) part.0.1 in
-    tagged_bytes bytes front.0 part.0.0 extension others net transport front.1 front.2
-    (inside_bytes deciders reading room (extension_type extension) (extension_payload extension)
+inside_bytes deciders reading (suc space) (Some type) bytes (extension ∷ others) net transport part =
+    let prefix = deciders.extension.bytes type bytes (extension, part.0.0) part.0.1 in
+    tagged_bytes bytes prefix.0 part.0.0 extension others net transport prefix.1 prefix.2
+    (inside_bytes deciders reading space (extension_type extension) (extension_payload extension)
     others net transport part.1)
 
 -- The bytes of a frame are its headers in order, the last payload and trailing bytes.

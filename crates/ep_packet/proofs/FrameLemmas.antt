@@ -75,7 +75,7 @@ frame_decided link type deciders reading len decided payload_fits =
     (λ frame is. inside_decided deciders reading most_link_exts len (type frame.header)
     frame.payload (payload_fits frame is)))
     (record {
-      there = λ part is. (part.0, is.0, refl, is.1);
+      present = λ part is. (part.0, is.0, refl, is.1);
       back = λ layers frame. (
         (frame.0, (layers.link_exts, layers.net, layers.transport)),
         (frame.1, frame.3),
@@ -99,7 +99,7 @@ frames_decided deciders reading (ether_type type) bytes fits =
     decided_as (layers_in (ether_payload type source.Slice bytes)) (λ error. error)
     (inside_decided deciders reading most_link_exts 0 (Some type) bytes fits)
     (record {
-      there = λ inside is. (refl, is);
+      present = λ inside is. (refl, is);
       back = λ layers frame. (
         (layers.link_exts, layers.net, layers.transport),
         frame.1,
@@ -111,7 +111,7 @@ frames_decided deciders reading ip bytes fits =
     decided_as (λ (part : NetPart). record { link = None; link_exts = []; net = part.0; transport = part.1 })
     (λ (error : SliceError). error) (net_decided deciders reading 0 (Some any_ip) bytes fits)
     (record {
-      there = λ part is. (refl, refl, is);
+      present = λ part is. (refl, refl, is);
       back = λ layers frame. ((layers.net, layers.transport), frame.2, no_link_layers layers frame.0 frame.1);
     })
     (same_image (λ error refused. refused) (λ error refused. refused))

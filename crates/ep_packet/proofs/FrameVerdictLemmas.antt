@@ -37,9 +37,9 @@ message_len : (shown : TransportSlice) → let layer = transport_layer_of shown 
 message_len (slice.Udp datagram) = let long = datagram.bytes.long in grind (arith, common_steps)
 message_len (slice.Tcp segment) =
     let words = segment.bytes.words in
-    let whole = segment.bytes.whole in
+    let complete = segment.bytes.whole in
     grind (arith, common_steps)
-message_len (slice.Icmpv4 message) = let whole = message.bytes.whole in grind (arith, common_steps)
+message_len (slice.Icmpv4 message) = let complete = message.bytes.whole in grind (arith, common_steps)
 message_len (slice.Icmpv6 message) = let long = message.bytes.long in grind (arith, common_steps)
 
 message_is : (payload : List ℕ) (shown : TransportSlice) → BeginsWith payload (transport_slice_bytes shown)

@@ -1,9 +1,11 @@
 -- Decoding a frame step by step, from the contracts of the layers' functions.
 use Rattle.std.proofs.Common.{◌≡◌, ◌⊎◌, ℕ, zero, suc, ◌+◌, ◌≤◌, ◌<◌, ◌==◌, if◌then◌else◌, Bool, List, [], ◌∷◌, ◌++◌}
-use Rattle.std.proofs.Common.{length, Option, Some, None, refl, sym, ap, subst, ◌∙◌, inl, inr, arith, length-append}
+use Rattle.std.proofs.Common.{length, Option, Some, None, Result, refl, sym, ap, subst, ◌∙◌, inl, inr, arith, length-append}
 use Rattle.std.specs.Option.{option_map}
+use Rattle.std.specs.Prelude.{IfOk, IfErr}
 use Rattle.std.proofs.Math.Dec.{eqb-suc-zero}
 use Rattle.std.proofs.lemmas.List.{append-nil}
+use Rattle.std.proofs.lemmas.Result.{IfOk-weaker, IfErr-weaker}
 use Rattle.ep_base.specs.IpPayload.{IpPayload, ip_payload_of}
 use Rattle.ep_base.specs.Readings.{headers}
 use Rattle.ep_base.specs.Tables.{RefusesAs}
@@ -112,27 +114,27 @@ fills_ip kind bytes part net payload offset old new is read fills =
 ipv6_end : (field len content : ℕ) (left : List ℕ) (sum : ℕ)
     → (((0 < field) × (field ≡ content)) ⊎ ((field ≡ 0) × (left ≡ []))) → len ≡ sum + length left
     → len ≡ 40 + content + length left → (if field == 0 then len else 40 + field) ≡ sum
-ipv6_end zero len content left sum (inl cut) whole same = absurd (omega (arith, cut.0))
-ipv6_end zero len content left sum (inr cut) whole same = omega (arith, whole, ap length cut.1)
-ipv6_end (suc n) len content left sum (inl cut) whole same =
-    ap (λ (b : Bool). if b then len else 40 + suc n) (eqb-suc-zero n) ∙ omega (arith, cut.1, whole, same)
-ipv6_end (suc n) len content left sum (inr cut) whole same = absurd (omega (arith, cut.0))
+ipv6_end zero len content left sum (inl cut) complete same = absurd (omega (arith, cut.0))
+ipv6_end zero len content left sum (inr cut) complete same = omega (arith, complete, ap length cut.1)
+ipv6_end (suc n) len content left sum (inl cut) complete same =
+    ap (λ (b : Bool). if b then len else 40 + suc n) (eqb-suc-zero n) ∙ omega (arith, cut.1, complete, same)
+ipv6_end (suc n) len content left sum (inr cut) complete same = absurd (omega (arith, cut.0))
 
 -- The length of three consecutive lists is the sum of their lengths.
-parts_len : (bytes front behind left : List ℕ) (len : ℕ) → length front ≡ len → bytes ≡ (front ++ behind) ++ left
-    → length bytes ≡ (len + length behind) + length left
-parts_len bytes front behind left len len_is parts =
-    omega (arith, len_is, ap length parts, length-append (front ++ behind) left, length-append front behind)
+parts_len : (bytes prefix after left : List ℕ) (len : ℕ) → length prefix ≡ len → bytes ≡ (prefix ++ after) ++ left
+    → length bytes ≡ (len + length after) + length left
+parts_len bytes prefix after left len len_is parts =
+    omega (arith, len_is, ap length parts, length-append (prefix ++ after) left, length-append prefix after)
 
-ipv4_whole : (bytes : List ℕ) (packet : IpPacket Ipv4Header) → IsIpv4 headers bytes packet
+ipv4_complete : (bytes : List ℕ) (packet : IpPacket Ipv4Header) → IsIpv4 headers bytes packet
     → length bytes ≡ (net_payload_offset (ip_layer (ipv4_part packet)) + length packet.payload.bytes) + length packet.left
-ipv4_whole bytes packet is =
+ipv4_complete bytes packet is =
     let are = ipv4_packet_bytes headers bytes packet is in
     parts_len bytes are.headers packet.payload.bytes packet.left _ are.len_is are.parts
 
-ipv6_whole : (bytes : List ℕ) (packet : IpPacket Ipv6Header) → IsIpv6 headers bytes packet
+ipv6_complete : (bytes : List ℕ) (packet : IpPacket Ipv6Header) → IsIpv6 headers bytes packet
     → length bytes ≡ (net_payload_offset (ip_layer (ipv6_part packet)) + length packet.payload.bytes) + length packet.left
-ipv6_whole bytes packet is =
+ipv6_complete bytes packet is =
     let are = ipv6_packet_bytes headers bytes packet is in
     parts_len bytes are.headers packet.payload.bytes packet.left _ are.len_is are.parts
 
@@ -152,31 +154,31 @@ part_content bytes (ipv4_part packet) is =
     omega (
       arith,
       cut.cut,
-      ipv4_whole bytes packet is,
+      ipv4_complete bytes packet is,
       parts_len bytes cut.encoded is.content packet.left (length cut.encoded) refl cut.parts,
     )
 part_content bytes (ipv6_part packet) is =
     ipv6_end packet.header.payload_length (length bytes) (length is.content) packet.left
     (net_payload_offset (ip_layer (ipv6_part packet)) + length packet.payload.bytes) is.cut.cut
-    (ipv6_whole bytes packet is) (content_len bytes packet is)
+    (ipv6_complete bytes packet is) (content_len bytes packet is)
 
 -- Headers and payload are at most as long as the bytes.
 part_within : (bytes : List ℕ) (part : IpPart) → IsIp headers bytes part
     → net_payload_offset (ip_layer part) + length (ip_part_payload part).bytes ≤ length bytes
-part_within bytes (ipv4_part packet) is = omega (arith, ipv4_whole bytes packet is)
-part_within bytes (ipv6_part packet) is = omega (arith, ipv6_whole bytes packet is)
+part_within bytes (ipv4_part packet) is = omega (arith, ipv4_complete bytes packet is)
+part_within bytes (ipv6_part packet) is = omega (arith, ipv6_complete bytes packet is)
 
 -- The bytes that the length field of an IP header counts are the headers and the payload.
-pub behind_headers : (bytes : List ℕ) (part : IpPart) (payload : IpPayloadSlice) → IsIp headers bytes part
+pub after_headers : (bytes : List ℕ) (part : IpPart) (payload : IpPayloadSlice) → IsIp headers bytes part
     → ip_payload_of payload ≡ ip_part_payload part
     → content_end (ip_headers_of part) (length bytes) ≡ net_payload_offset (ip_layer part) + length payload.payload.now
-behind_headers bytes part payload is same =
+after_headers bytes part payload is same =
     part_content bytes part is ∙ ap (λ (p : IpPayload). net_payload_offset (ip_layer part) + length p.bytes) (sym same)
 
 -- The IPv6 header and its content are as long as the headers and the payload.
 pub ipv6_content : (bytes : List ℕ) (packet : IpPacket Ipv6Header) (is : IsIpv6 headers bytes packet)
     → 40 + length is.content ≡ net_payload_offset (ip_layer (ipv6_part packet)) + length packet.payload.bytes
-ipv6_content bytes packet is = omega (arith, ipv6_whole bytes packet is, content_len bytes packet is)
+ipv6_content bytes packet is = omega (arith, ipv6_complete bytes packet is, content_len bytes packet is)
 
 -- Headers and payload that were read from a packet were decoded.
 pub fills_read : (bytes : List ℕ) (part : IpPart) (net : Option NetHeaders) (payload : IpPayloadSlice) (offset : ℕ)
@@ -196,16 +198,35 @@ pub ip_refused : (kind : NetKind) (bytes : List ℕ) (part : IpPart) (net : Opti
     → IsNetLayer headers kind bytes (ip_layer part) → FillsIp part bytes net payload at → place ≡ offset + at
     → RefusesTransportIn headers place payload error
     → RefusesNetPart headers offset (Some kind) bytes error
-ip_refused kind bytes part net payload offset at place error is read there refused =
+ip_refused kind bytes part net payload offset at place error is read present refused =
     inr (
       ip_layer part,
       is,
       subst (λ (p : Option IpPayload). RefusesTransportAfterNet headers (offset + net_payload_offset (ip_layer part)) p error)
           (sym (part_payload part))
           (subst (λ (n : ℕ). RefusesTransportIn headers n (ip_part_payload part) error)
-          (there ∙ ap (λ (n : ℕ). offset + n) read.place)
+          (present ∙ ap (λ (n : ℕ). offset + n) read.place)
           (subst (λ (p : IpPayload). RefusesTransportIn headers place p error) read.same_payload refused)),
     )
+
+-- The network layer is decoded if the transport layer in the payload of the packet is.
+pub ip_filled : (kind : NetKind) (bytes : List ℕ) (part : IpPart) (net : Option NetHeaders) (payload : IpPayload)
+    (offset : ℕ) (old new : Headers) (answer : Result (Unit {0}) SliceError)
+    → IsNetLayer headers kind bytes (ip_layer part) → FillsIp part bytes net payload offset
+    → IfOk answer (λ _. FillsTransport payload (record old { net = option_map net_header_of net }) new)
+    → IfOk answer (λ _. FillsNet (Some kind) bytes empty old new)
+ip_filled kind bytes part net payload offset old new answer is read =
+    IfOk-weaker answer _ _ (λ done fills. fills_ip kind bytes part net payload offset old new is read fills)
+
+-- An error of the transport layer in the payload of the packet is an error of the bytes.
+pub ip_error : (kind : NetKind) (bytes : List ℕ) (part : IpPart) (net : Option NetHeaders) (payload : IpPayload)
+    (offset at : ℕ) (answer : Result (Unit {0}) SliceError)
+    → IsNetLayer headers kind bytes (ip_layer part) → FillsIp part bytes net payload at
+    → IfErr answer (RefusesTransportIn headers (offset + at) payload)
+    → IfErr answer (RefusesNetPart headers offset (Some kind) bytes)
+ip_error kind bytes part net payload offset at answer is read =
+    IfErr-weaker answer _ _ (λ error refused. ip_refused kind bytes part net payload offset at (offset + at) error is read
+    refl refused)
 
 -- An error of the content of the headers is an error of the bytes.
 pub ip_content_refused : (bytes : List ℕ) (found : HeadersSliceError) (error : HeadersError)
@@ -237,14 +258,14 @@ net_innermost layer (Some inside) unread other = refl
 
 -- ---- link extensions
 
-pub fills_no_more : (room : ℕ) (payload : EtherPayload) (old new : Headers)
-    → ((room ≡ 0) ⊎ (¬ BeginsLinkExtension payload.ether_type))
-    → FillsNet (net_kind payload.ether_type) payload.bytes (ether payload) old new → FillsInside room payload old new
-fills_no_more room payload old new why fills = record {
+pub fills_no_more : (space : ℕ) (payload : EtherPayload) (old new : Headers)
+    → ((space ≡ 0) ⊎ (¬ BeginsLinkExtension payload.ether_type))
+    → FillsNet (net_kind payload.ether_type) payload.bytes (ether payload) old new → FillsInside space payload old new
+fills_no_more space payload old new why fills = record {
   extensions = [];
   net = fills.net;
   transport = fills.transport;
-  inside = ends_at headers room payload.ether_type payload.bytes why fills.net fills.transport fills.part;
+  inside = ends_at headers space payload.ether_type payload.bytes why fills.net fills.transport fills.part;
   filled = fills.filled
       ∙ ap (λ (x : List LinkExtHeader). with_net (record old { link_exts = x }) (ether payload)
       fills.net fills.transport)
@@ -256,23 +277,23 @@ pub some_inside : (one other : EtherPayload) → Some one ≡ Some other → one
 some_inside one other same = cc same
 
 -- A link extension's payload of known type has the extension's type and bytes.
-pub typed_there : (extension : LinkExtension) (inside : EtherPayload)
+pub typed_present : (extension : LinkExtension) (inside : EtherPayload)
     → extension_ether_payload extension ≡ Some inside
     → (extension_type extension ≡ Some inside.ether_type) × (extension_payload extension ≡ inside.bytes)
-typed_there (vlan tag payload) inside same =
+typed_present (vlan tag payload) inside same =
     let is = some_inside (unlimited_ether_payload payload tag.ether_type) inside same in
     (ap (λ (p : EtherPayload). Some p.ether_type) is, ap (λ (p : EtherPayload). p.bytes) is)
-typed_there (macsec tag (unmodified type source bytes)) inside same =
+typed_present (macsec tag (unmodified type source bytes)) inside same =
     let is = some_inside (record { ether_type = type; len_source = source; bytes = bytes }) inside same in
     (ap (λ (p : EtherPayload). Some p.ether_type) is, ap (λ (p : EtherPayload). p.bytes) is)
-typed_there (macsec tag (modified bytes)) inside same = absurd (cc same)
+typed_present (macsec tag (modified bytes)) inside same = absurd (cc same)
 
 -- A link extension without a payload of known type has no type.
-pub untyped_there : (extension : LinkExtension) → extension_ether_payload extension ≡ None
+pub untyped_present : (extension : LinkExtension) → extension_ether_payload extension ≡ None
     → extension_type extension ≡ None
-untyped_there (vlan tag payload) none = absurd (cc none)
-untyped_there (macsec tag (unmodified type source bytes)) none = absurd (cc none)
-untyped_there (macsec tag (modified bytes)) none = refl
+untyped_present (vlan tag payload) none = absurd (cc none)
+untyped_present (macsec tag (unmodified type source bytes)) none = absurd (cc none)
+untyped_present (macsec tag (modified bytes)) none = refl
 
 -- ---- VLAN tags
 

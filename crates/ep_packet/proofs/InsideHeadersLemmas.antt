@@ -21,7 +21,7 @@ use Rattle.ep_packet.specs.Payloads.{ether_payload_after, has_short_len, have_sh
 use Rattle.ep_packet.specs.declared.err.slice_error.SliceError.{SliceError}
 use Rattle.ep_packet.specs.FrameRefusals.{RefusesInside}
 use Rattle.ep_packet.specs.HeadersWalk.{FillsInside, ending_by, open_after, source_after, with_net}
-use Rattle.ep_packet.proofs.HeadersLemmas.{some_inside, typed_there, untyped_there}
+use Rattle.ep_packet.proofs.HeadersLemmas.{some_inside, typed_present, untyped_present}
 
 -- ---- source of the end of a payload
 
@@ -70,11 +70,11 @@ extension_source type bytes left (macsec tag (modified b)) is inside same outer 
 -- ---- payload after the link extensions
 
 -- The payload after further link extensions does not depend on the source of the payload they are in.
-behind_again : (first second : LenSource) (payload : EtherPayload) (others : List LinkExtension)
+after_again : (first second : LenSource) (payload : EtherPayload) (others : List LinkExtension)
     → option_map (ending_by first) (ether_payload_after (Some payload) others)
     ≡ option_map (ending_by first) (ether_payload_after (Some (ending_by second payload)) others)
-behind_again first second payload [] = refl
-behind_again first second payload (extension ∷ others) = refl
+after_again first second payload [] = refl
+after_again first second payload (extension ∷ others) = refl
 
 -- The payload after link extensions is the payload after the others in the payload of the first.
 pub open_step : (type : EtherType) (bytes left : List ℕ) (extension : LinkExtension) (others : List LinkExtension)
@@ -92,12 +92,12 @@ open_step type bytes left extension others outer inside is same =
     (ether_payload_after (Some (ending_by set inside)) others))
     (payload_after_exts inside.bytes others)) ends
     ∙ ap (λ x. open_part x (payload_after_exts inside.bytes others))
-    (sym (behind_again (source_after outer.len_source (extension ∷ others)) set inside others))
+    (sym (after_again (source_after outer.len_source (extension ∷ others)) set inside others))
     ∙ ap (λ x. open_part (option_map (ending_by (source_after outer.len_source (extension ∷ others)))
     (ether_payload_after x others)) (payload_after_exts inside.bytes others)) (sym same)
     ∙ ap (λ (b : List ℕ). open_part (option_map (ending_by (source_after outer.len_source (extension ∷ others)))
     (ether_payload_after (extension_ether_payload extension) others)) (payload_after_exts b others))
-    (sym (typed_there extension inside same).1)
+    (sym (typed_present extension inside same).1)
 
 -- ---- one link extension
 
@@ -106,53 +106,53 @@ abbrev pub with_tag : Headers → LinkExtension → Headers
 with_tag old extension = record old { link_exts = old.link_exts ++ extension_header extension ∷ [] }
 
 -- A decoded link extension, and the layers decoded in its payload, are the layers of the bytes.
-pub fills_one : (room rest : ℕ) (payload inside : EtherPayload) (left : List ℕ) (found : LinkExtension)
+pub fills_one : (space rest : ℕ) (payload inside : EtherPayload) (left : List ℕ) (found : LinkExtension)
     (old middle new : Headers)
-    → room ≡ suc rest → IsLinkExtension payload.ether_type payload.bytes (found, left)
+    → space ≡ suc rest → IsLinkExtension payload.ether_type payload.bytes (found, left)
     → extension_ether_payload found ≡ Some inside → middle ≡ with_tag old found
     → FillsInside rest (ending_by (limited_by payload.len_source inside.len_source) inside) middle new
-    → FillsInside room payload old new
-fills_one room rest payload inside left found old middle new more is same there behind =
-    let typed = typed_there found inside same in
+    → FillsInside space payload old new
+fills_one space rest payload inside left found old middle new more is same present after =
+    let typed = typed_present found inside same in
     let unread = ending_by (limited_by payload.len_source inside.len_source) inside in
-    let tags = map extension_header behind.extensions in
+    let tags = map extension_header after.extensions in
     record {
-      extensions = found ∷ behind.extensions;
-      net = behind.net;
-      transport = behind.transport;
-      inside = subst (λ (n : ℕ). IsInside headers n (Some payload.ether_type) payload.bytes (found ∷ behind.extensions)
-          behind.net behind.transport) (sym more) (
+      extensions = found ∷ after.extensions;
+      net = after.net;
+      transport = after.transport;
+      inside = subst (λ (n : ℕ). IsInside headers n (Some payload.ether_type) payload.bytes (found ∷ after.extensions)
+          after.net after.transport) (sym more) (
             (left, is),
-            subst (λ (t : Option EtherType). IsInside headers rest t (extension_payload found) behind.extensions
-                behind.net behind.transport) (sym typed.0)
-                (subst (λ (b : List ℕ). IsInside headers rest (Some inside.ether_type) b behind.extensions
-                behind.net behind.transport) (sym typed.1) behind.inside),
+            subst (λ (t : Option EtherType). IsInside headers rest t (extension_payload found) after.extensions
+                after.net after.transport) (sym typed.0)
+                (subst (λ (b : List ℕ). IsInside headers rest (Some inside.ether_type) b after.extensions
+                after.net after.transport) (sym typed.1) after.inside),
           );
-      filled = behind.filled
+      filled = after.filled
           ∙ ap (λ (h : Headers). with_net (record h { link_exts = h.link_exts ++ tags })
-          (open_after unread behind.extensions)
-          behind.net behind.transport) there
+          (open_after unread after.extensions)
+          after.net after.transport) present
           ∙ ap (λ (x : List LinkExtHeader). with_net (record old { link_exts = x })
-          (open_after unread behind.extensions)
-          behind.net behind.transport) (append_assoc old.link_exts (extension_header found ∷ []) tags)
+          (open_after unread after.extensions)
+          after.net after.transport) (append_assoc old.link_exts (extension_header found ∷ []) tags)
           ∙ ap (λ (p : PayloadPart). with_net
-          (record old { link_exts = old.link_exts ++ map extension_header (found ∷ behind.extensions) }) p
-          behind.net behind.transport)
-          (open_step payload.ether_type payload.bytes left found behind.extensions payload inside is same);
+          (record old { link_exts = old.link_exts ++ map extension_header (found ∷ after.extensions) }) p
+          after.net after.transport)
+          (open_step payload.ether_type payload.bytes left found after.extensions payload inside is same);
     }
 
 -- A decoded link extension with a payload of unknown type is the layers of the bytes.
-pub fills_modified : (room rest : ℕ) (payload : EtherPayload) (left : List ℕ) (found : LinkExtension)
+pub fills_modified : (space rest : ℕ) (payload : EtherPayload) (left : List ℕ) (found : LinkExtension)
     (old new : Headers)
-    → room ≡ suc rest → IsLinkExtension payload.ether_type payload.bytes (found, left)
+    → space ≡ suc rest → IsLinkExtension payload.ether_type payload.bytes (found, left)
     → extension_ether_payload found ≡ None
     → new ≡ record (with_tag old found) {
       net = None;
       transport = None;
       payload = macsec_modified (extension_payload found);
     }
-    → FillsInside room payload old new
-fills_modified room rest payload left found old new more is none filled = record {
+    → FillsInside space payload old new
+fills_modified space rest payload left found old new more is none filled = record {
   extensions = found ∷ [];
   net = None;
   transport = None;
@@ -160,7 +160,7 @@ fills_modified room rest payload left found old new more is none filled = record
       (found ∷ []) None None) (sym more) (
         (left, is),
         subst (λ (t : Option EtherType). IsInside headers rest t (extension_payload found) [] None None)
-            (sym (untyped_there found none)) (refl, refl, refl),
+            (sym (untyped_present found none)) (refl, refl, refl),
       );
   filled = filled
       ∙ ap (λ x. with_net (with_tag old found)
@@ -170,23 +170,23 @@ fills_modified room rest payload left found old new more is none filled = record
 }
 
 -- An error of the payload of a link extension is an error of the bytes.
-pub tag_refused : (room rest offset len : ℕ) (payload inside : EtherPayload) (left : List ℕ) (found : LinkExtension)
+pub tag_refused : (space rest offset len : ℕ) (payload inside : EtherPayload) (left : List ℕ) (found : LinkExtension)
     (error : SliceError)
-    → room ≡ suc rest → IsLinkExtension payload.ether_type payload.bytes (found, left)
+    → space ≡ suc rest → IsLinkExtension payload.ether_type payload.bytes (found, left)
     → extension_ether_payload found ≡ Some inside → len ≡ link_ext_header_len (extension_header found)
     → RefusesInside headers rest (offset + len) (Some inside.ether_type) inside.bytes error
-    → RefusesInside headers room offset (Some payload.ether_type) payload.bytes error
-tag_refused room rest offset len payload inside left found error more is same tag_len refused =
-    let typed = typed_there found inside same in
-    let behind = offset + link_ext_header_len (extension_header found) in
+    → RefusesInside headers space offset (Some payload.ether_type) payload.bytes error
+tag_refused space rest offset len payload inside left found error more is same tag_len refused =
+    let typed = typed_present found inside same in
+    let after = offset + link_ext_header_len (extension_header found) in
     subst (λ (n : ℕ). RefusesInside headers n offset (Some payload.ether_type) payload.bytes error) (sym more)
     (inr (inr (
       found,
       left,
       is,
-      subst (λ (t : Option EtherType). RefusesInside headers rest behind t (extension_payload found)
+      subst (λ (t : Option EtherType). RefusesInside headers rest after t (extension_payload found)
           error) (sym typed.0)
-          (subst (λ (b : List ℕ). RefusesInside headers rest behind (Some inside.ether_type) b error) (sym typed.1)
+          (subst (λ (b : List ℕ). RefusesInside headers rest after (Some inside.ether_type) b error) (sym typed.1)
           (subst (λ (n : ℕ). RefusesInside headers rest (offset + n) (Some inside.ether_type) inside.bytes error)
           tag_len refused)),
     )))

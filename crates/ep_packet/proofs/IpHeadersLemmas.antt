@@ -141,9 +141,9 @@ not_refused (variant.Ipv6 header extensions) parts last error leads refused =
 -- ---- writing and reading back
 
 -- An IPv4 header, its chain and the payload are the header and the rest, without trailing bytes.
-group : (front chain payload : List ℕ) → (front ++ chain) ++ payload ≡ (front ++ (chain ++ payload)) ++ []
-group front chain payload =
-    append_assoc front chain payload ∙ sym (append-nil (front ++ (chain ++ payload)))
+group : (prefix chain payload : List ℕ) → (prefix ++ chain) ++ payload ≡ (prefix ++ (chain ++ payload)) ++ []
+group prefix chain payload =
+    append_assoc prefix chain payload ∙ sym (append-nil (prefix ++ (chain ++ payload)))
 
 ipv4_len : (header : Ipv4Header) → FitsIpv4 header → length (ipv4_bytes header) ≡ ipv4_header_len header
 ipv4_len header fits = grind (arith, common_steps, fits.source_len, fits.destination_len)
@@ -170,8 +170,8 @@ checked header fits = record {
 }
 
 -- A packet without trailing bytes.
-abbrev whole_packet : {Header : Type 0} → Header → List ExtensionPart → IpPayload → IpPacket Header
-whole_packet header parts payload = record { header = header; extensions = parts; payload = payload; left = [] }
+abbrev complete_packet : {Header : Type 0} → Header → List ExtensionPart → IpPayload → IpPacket Header
+complete_packet header parts payload = record { header = header; extensions = parts; payload = payload; left = [] }
 
 read_ipv4 : (header : Ipv4Header) (extensions : Ipv4Extensions) (last : IpNumber) (payload : List ℕ)
     → FitsIpv4 header → FitParts (ipv4_parts (ipv4_linked extensions last))
@@ -183,19 +183,19 @@ read_ipv4 : (header : Ipv4Header) (extensions : Ipv4Extensions) (last : IpNumber
     AreReadAs (written_headers written (ip_headers_parts written) ++ payload) (with_checksum written)
     (payload_of_headers written last payload)
 read_ipv4 header extensions last payload fits fit protocol total other =
-    let there = record header { header_checksum = ipv4_checksum header } in
+    let present = record header { header_checksum = ipv4_checksum header } in
     let parts = ipv4_parts (ipv4_linked extensions last) in
     let content = parts_bytes parts ++ payload in
-    let whole = checked header fits in
+    let complete = checked header fits in
     let written = variant.Ipv4 header (ipv4_linked extensions last) in
     let is : IsIpv4 by_value (written_headers written parts ++ payload)
-    (whole_packet there parts (payload_of_headers written last payload)) = record {
+    (complete_packet present parts (payload_of_headers written last payload)) = record {
       content = content;
       cut = record {
-        encoded = ipv4_bytes there;
-        encodes = record { fits = whole; reserved = 0; flag = omega arith; same = refl };
-        parts = group (ipv4_bytes there) (parts_bytes parts) payload;
-        cut = omega (arith, total, ipv4_len there whole, length-append (parts_bytes parts) payload);
+        encoded = ipv4_bytes present;
+        encodes = record { fits = complete; reserved = 0; flag = omega arith; same = refl };
+        parts = group (ipv4_bytes present) (parts_bytes parts) payload;
+        cut = omega (arith, total, ipv4_len present complete, length-append (parts_bytes parts) payload);
       };
       chain = subst (λ (n : IpNumber). IsExtensionChain ipv4 by_value n.0 content (chain_of parts last.0 payload))
           (sym protocol) (linked_chain_4 extensions last payload fit other);
@@ -205,7 +205,8 @@ read_ipv4 header extensions last payload fits fit protocol total other =
     record {
       part = ipv4_part _;
       is = is;
-      same_headers = ap (variant.Ipv4 there) (ipv4_value (ipv4_linked extensions last));
+      same_headers = ap (variant.Ipv4 present) (ipv4_value (ipv4_linked extensions last));
+      same_extensions = refl;
       same_payload = refl;
       nothing_left = refl;
     }
@@ -239,7 +240,7 @@ read_ipv6 header extensions last payload fits fit next field other =
     omega (arith, field, length-append (parts_bytes parts) payload) in
     let written = variant.Ipv6 header (ipv6_linked extensions last) in
     let is : IsIpv6 by_value (written_headers written parts ++ payload)
-    (whole_packet header parts (payload_of_headers written last payload)) = record {
+    (complete_packet header parts (payload_of_headers written last payload)) = record {
       content = content;
       cut = record {
         fits = fits;
@@ -255,6 +256,7 @@ read_ipv6 header extensions last payload fits fit next field other =
       part = ipv6_part _;
       is = is;
       same_headers = ap (variant.Ipv6 header) (linked_value extensions last);
+      same_extensions = refl;
       same_payload = refl;
       nothing_left = refl;
     }
@@ -330,14 +332,14 @@ pub never_4 : (headers : IpHeaders) (header : Ipv4Header) (extensions : Ipv4Exte
     → ((error : Ipv4WalkError) → ipv4_walk extensions header.protocol ≡ Err error → ⊥)
     → (error : ExtsWalkError) → RefusesLeading headers error → ⊥
 never_4 headers header extensions is never error refused =
-    let there = subst (λ (h : IpHeaders). RefusesLeading h error) is refused in never there.0 there.1
+    let present = subst (λ (h : IpHeaders). RefusesLeading h error) is refused in never present.0 present.1
 
 pub never_6 : (headers : IpHeaders) (header : Ipv6Header) (extensions : Ipv6Extensions)
     → headers ≡ variant.Ipv6 header extensions
     → ((error : Ipv6WalkError) → RefusesWalk extensions header.next_header.0 error → ⊥)
     → (error : ExtsWalkError) → RefusesLeading headers error → ⊥
 never_6 headers header extensions is never error refused =
-    let there = subst (λ (h : IpHeaders). RefusesLeading h error) is refused in never there.0 there.1
+    let present = subst (λ (h : IpHeaders). RefusesLeading h error) is refused in never present.0 present.1
 
 -- The extension headers that the next header values lead through are as long as all extension headers.
 pub leading_len : (headers : IpHeaders) (parts : List ExtensionPart) (last : ℕ) → LeadThrough headers parts last
@@ -348,19 +350,19 @@ leading_len (variant.Ipv6 header extensions) parts last leads =
     walk_len extensions header.next_header.0 parts last leads
 
 -- Writing extension headers that the next header values lead to succeeds if the buffer has capacity for them.
-pub extensions_succeed : (headers : IpHeaders) (parts : List ExtensionPart) (last len room : ℕ)
+pub extensions_succeed : (headers : IpHeaders) (parts : List ExtensionPart) (last len space : ℕ)
     (answer : Result (Unit {0}) HeadersWriteError) → LeadThrough headers parts last
-    → len + ip_extensions_len headers ≤ room → TellsLeading headers answer
+    → len + ip_extensions_len headers ≤ space → TellsLeading headers answer
     → (answer ≡ Err write_error.OutOfMemory → (other : List ExtensionPart) × (end : ℕ) × LeadThrough headers other end
-    × (room < len + length (parts_bytes other))) → IsOk answer
-extensions_succeed headers parts last len room (Ok done) leads enough leading full = refl
-extensions_succeed headers parts last len room (Err write_error.OutOfMemory) leads enough leading full =
+    × (space < len + length (parts_bytes other))) → IsOk answer
+extensions_succeed headers parts last len space (Ok done) leads enough leading full = refl
+extensions_succeed headers parts last len space (Err write_error.OutOfMemory) leads enough leading full =
     let wanting = full refl in
     absurd (omega (arith, wanting.3, enough, leading_len headers wanting.0 wanting.1 wanting.2))
-extensions_succeed headers parts last len room (Err (write_error.Ipv4Exts error)) leads enough leading full =
+extensions_succeed headers parts last len space (Err (write_error.Ipv4Exts error)) leads enough leading full =
     absurd (not_refused headers parts last (walk_error.Ipv4Exts error) leads
     ((leading (walk_error.Ipv4Exts error)).1 refl))
-extensions_succeed headers parts last len room (Err (write_error.Ipv6Exts error)) leads enough leading full =
+extensions_succeed headers parts last len space (Err (write_error.Ipv6Exts error)) leads enough leading full =
     absurd (not_refused headers parts last (walk_error.Ipv6Exts error) leads
     ((leading (walk_error.Ipv6Exts error)).1 refl))
 

@@ -17,7 +17,7 @@ use Rattle.ep_ip.specs.Ip.{version_of}
 use Rattle.ep_ip.specs.Ipv4.{ipv4_header_rows}
 use Rattle.ep_ip.specs.Ipv6.{ipv6_header_rows}
 use Rattle.ep_ip.specs.LaxIp.{LaxIp, IsLaxIpv4In, IsLaxIpv6In, RefusesIpHeader, ip_header_rows, of_ipv4_header, of_ipv6_header}
-use Rattle.ep_ip.proofs.LaxIpLemmas.{lax_ipv4_decided, lax_ipv4_version, lax_ipv6_decided, lax_ipv6_version, one_refusal, refused_there, rows_of_ipv4, rows_of_ipv6}
+use Rattle.ep_ip.proofs.LaxIpLemmas.{lax_ipv4_decided, lax_ipv4_version, lax_ipv6_decided, lax_ipv6_version, one_refusal, refused_present, rows_of_ipv4, rows_of_ipv6}
 use Rattle.ep_packet.specs.LaxIpHeaders.{IsLaxIp, LaxIpPart, lax_ipv4_part, lax_ipv6_part}
 
 -- A packet whose version is 4 is an IPv4 packet.
@@ -49,18 +49,18 @@ lax_ip_decided reading bytes fits =
       | inl version ↦
           let rows = rows_of_ipv4 bytes version in
           decided_as lax_ipv4_part of_ipv4_header (lax_ipv4_decided reading false bytes fits)
-          (record { there = λ lax is. is; back = ipv4_back reading bytes version })
+          (record { present = λ lax is. is; back = ipv4_back reading bytes version })
           (record {
-            there = λ error refused. rows ∙ first_row-as_some of_ipv4_header (ipv4_header_rows bytes) error refused;
+            present = λ error refused. rows ∙ first_row-as_some of_ipv4_header (ipv4_header_rows bytes) error refused;
             back = λ error refused. refused_under of_ipv4_header (ipv4_header_rows bytes) error (sym rows ∙ refused);
           })
       | inr not_4 ↦ elim (cases_eq (version_of bytes) 6) [
         | inl version ↦
             let rows = rows_of_ipv6 bytes version in
             decided_as lax_ipv6_part of_ipv6_header (lax_ipv6_decided reading false bytes fits)
-            (record { there = λ lax is. is; back = ipv6_back reading bytes version })
+            (record { present = λ lax is. is; back = ipv6_back reading bytes version })
             (record {
-              there = λ error refused. rows ∙ first_row-as_some of_ipv6_header (ipv6_header_rows bytes) error refused;
+              present = λ error refused. rows ∙ first_row-as_some of_ipv6_header (ipv6_header_rows bytes) error refused;
               back = λ error refused. refused_under of_ipv6_header (ipv6_header_rows bytes) error (sym rows ∙ refused);
             })
         | inr not_6 ↦
@@ -68,7 +68,7 @@ lax_ip_decided reading bytes fits =
             (λ i. not (ne_eqb (version_of bytes) 4 not_4 i || ne_eqb (version_of bytes) 6 not_6 i)) in
             let none = no_lax_ip reading bytes not_4 not_6 in
             record {
-              some = inr (refused_there (length bytes == 0) (not (version_of bytes == 4 || version_of bytes == 6)) _ _
+              some = inr (refused_present (length bytes == 0) (not (version_of bytes == 4 || version_of bytes == 6)) _ _
                   (if version_of bytes == 4 then rows_as of_ipv4_header (ipv4_header_rows bytes)
                   else rows_as of_ipv6_header (ipv6_header_rows bytes)) unknown);
               one_value = λ part other a b. absurd (none part a);

@@ -18,6 +18,7 @@ pub mod SliceWalkLemmas
 pub mod NetWalkLemmas
 pub mod IpHeadersLemmas
 pub mod LaxIpHeadersLemmas
+pub mod LaxIpContentLemmas
 pub mod ReadingLemmas
 pub mod HeadersLemmas
 pub mod InsideHeadersLemmas

@@ -52,12 +52,12 @@ pub message_words : (source destination third fourth message : List ℕ) (a b c 
     → residue (256 * e) ≡ residue (256 * d + word_sum message)
     → residue (256 * e) ≡ ones_sum ((source ++ (destination ++ (third ++ fourth))) ++ message)
 unfolding ones_sum
-message_words source destination third fourth message a b c d e p q r s first second next last whole =
+message_words source destination third fourth message a b c d e p q r s first second next last complete =
     let one = first_words a (word_sum third) first in
     let two = more_words a b _ (word_sum fourth) one second in
     let three = more_words b c _ (word_sum source) two next in
     let four = more_words c d _ (word_sum destination) three last in
-    more_words d e _ (word_sum message) four whole
+    more_words d e _ (word_sum message) four complete
     ∙ ap residue (pseudo_words source destination third fourth message p q r s)
 
 -- A sum of little-endian words has the residue 65535 if and only if that of big-endian words has it.
@@ -78,8 +78,8 @@ same_truth false false on off = refl
 -- A sum that is not 0 has the residue 65535 if and only if it is a multiple of 65535, as is a part of it that differs by
 -- such a multiple.
 pub full : (n s k : ℕ) → n ≡ 65535 * k + s → 0 < s → nat_eq (s % 65535) 0 ≡ (residue (256 * n) == 65535)
-full zero s k whole some = absurd (omega arith)
-full (suc m) s k whole some =
+full zero s k complete some = absurd (omega arith)
+full (suc m) s k complete some =
     same_truth _ _ (λ zero_left.
     let none = eqb-true (s % 65535) 0 zero_left in
     let ones : residue (suc m) ≡ 65535 = omega arith in

@@ -149,8 +149,8 @@ transport_at reading offset headers total payload ends (transport_error.Len erro
     refused in
     let both = both_at_hand payload.source error.len_source known.1 at_hand in
     let short = known.0 (inl both.0) inexact in
-    let whole = ends both.1 in
-    record { available = omega (arith, short.available, whole); needed = short.needed }
+    let complete = ends both.1 in
+    record { available = omega (arith, short.available, complete); needed = short.needed }
 transport_at reading offset headers total payload ends (transport_error.Content error) refused = tt
 
 transport_in : (reading : Reading) (offset headers total : ℕ) (payload : IpPayload) → EndsWith total headers payload
@@ -179,37 +179,37 @@ ipv6_ends reading bytes packet is at_hand =
     )
 
 -- The errors of the transport layer after a network layer.
-abbrev pub RefusesBehind : Reading → ℕ → SliceError → NetLayer → Type 0
-RefusesBehind reading offset error layer =
+abbrev pub RefusesAfter : Reading → ℕ → SliceError → NetLayer → Type 0
+RefusesAfter reading offset error layer =
     RefusesTransportAfterNet reading (offset + net_payload_offset layer) (net_payload layer) error
 
-behind_ipv4 : (reading : Reading) (offset : ℕ) (bytes : List ℕ) (layer : NetLayer) (packet : IpPacket Ipv4Header)
+after_ipv4 : (reading : Reading) (offset : ℕ) (bytes : List ℕ) (layer : NetLayer) (packet : IpPacket Ipv4Header)
     → IsIpv4 reading bytes packet → layer ≡ ipv4_layer packet → (error : SliceError)
-    → RefusesBehind reading offset error layer → Counts (offset + length bytes) error
-behind_ipv4 reading offset bytes layer packet is same error refused =
+    → RefusesAfter reading offset error layer → Counts (offset + length bytes) error
+after_ipv4 reading offset bytes layer packet is same error refused =
     transport_in reading offset (ipv4_headers_len packet.header packet.extensions) (length bytes) packet.payload
-    (ipv4_ends reading bytes packet is) error (subst (RefusesBehind reading offset error) same refused)
+    (ipv4_ends reading bytes packet is) error (subst (RefusesAfter reading offset error) same refused)
 
-behind_ipv6 : (reading : Reading) (offset : ℕ) (bytes : List ℕ) (layer : NetLayer) (packet : IpPacket Ipv6Header)
+after_ipv6 : (reading : Reading) (offset : ℕ) (bytes : List ℕ) (layer : NetLayer) (packet : IpPacket Ipv6Header)
     → IsIpv6 reading bytes packet → layer ≡ ipv6_layer packet → (error : SliceError)
-    → RefusesBehind reading offset error layer → Counts (offset + length bytes) error
-behind_ipv6 reading offset bytes layer packet is same error refused =
+    → RefusesAfter reading offset error layer → Counts (offset + length bytes) error
+after_ipv6 reading offset bytes layer packet is same error refused =
     transport_in reading offset (ipv6_headers_len packet.extensions) (length bytes) packet.payload
-    (ipv6_ends reading bytes packet is) error (subst (RefusesBehind reading offset error) same refused)
+    (ipv6_ends reading bytes packet is) error (subst (RefusesAfter reading offset error) same refused)
 
-behind_counts : (reading : Reading) (kind : NetKind) (offset : ℕ) (bytes : List ℕ) (layer : NetLayer)
-    → IsNetLayer reading kind bytes layer → (error : SliceError) → RefusesBehind reading offset error layer
+after_counts : (reading : Reading) (kind : NetKind) (offset : ℕ) (bytes : List ℕ) (layer : NetLayer)
+    → IsNetLayer reading kind bytes layer → (error : SliceError) → RefusesAfter reading offset error layer
     → Counts (offset + length bytes) error
-behind_counts reading only_ipv4 offset bytes layer is error refused =
-    behind_ipv4 reading offset bytes layer is.0 is.1 is.2 error refused
-behind_counts reading only_ipv6 offset bytes layer is error refused =
-    behind_ipv6 reading offset bytes layer is.0 is.1 is.2 error refused
-behind_counts reading only_arp offset bytes layer is error refused =
-    absurd (subst (RefusesBehind reading offset error) is.2 refused)
-behind_counts reading any_ip offset bytes layer (ipv4_part packet, is, same) error refused =
-    behind_ipv4 reading offset bytes layer packet is same error refused
-behind_counts reading any_ip offset bytes layer (ipv6_part packet, is, same) error refused =
-    behind_ipv6 reading offset bytes layer packet is same error refused
+after_counts reading only_ipv4 offset bytes layer is error refused =
+    after_ipv4 reading offset bytes layer is.0 is.1 is.2 error refused
+after_counts reading only_ipv6 offset bytes layer is error refused =
+    after_ipv6 reading offset bytes layer is.0 is.1 is.2 error refused
+after_counts reading only_arp offset bytes layer is error refused =
+    absurd (subst (RefusesAfter reading offset error) is.2 refused)
+after_counts reading any_ip offset bytes layer (ipv4_part packet, is, same) error refused =
+    after_ipv4 reading offset bytes layer packet is same error refused
+after_counts reading any_ip offset bytes layer (ipv6_part packet, is, same) error refused =
+    after_ipv6 reading offset bytes layer packet is same error refused
 
 net_counts : (reading : Reading) (offset : ℕ) (kind : Option NetKind) (bytes : List ℕ) (error : SliceError)
     → RefusesNetPart reading offset kind bytes error → Counts (offset + length bytes) error
@@ -217,7 +217,7 @@ net_counts reading offset None bytes error refused = absurd refused
 net_counts reading offset (Some kind) bytes error (inl refused) =
     layer_counts reading kind offset bytes error refused
 net_counts reading offset (Some kind) bytes error (inr refused) =
-    behind_counts reading kind offset bytes refused.0 refused.1 error refused.2
+    after_counts reading kind offset bytes refused.0 refused.1 error refused.2
 
 -- ---- link extensions
 
@@ -239,29 +239,29 @@ uncut_left type bytes (vlan tag payload) left is uncut = is.1.cut
 uncut_left type bytes (macsec tag payload) left is uncut =
     elim is.1.cut [
       | inl counted ↦ absurd (omega (arith, counted.0, uncut))
-      | inr whole ↦ whole.1
+      | inr complete ↦ complete.1
     ]
 
-inside_counts : (reading : Reading) (room offset : ℕ) (type : Option EtherType) (bytes : List ℕ) (error : SliceError)
-    → RefusesInside reading room offset type bytes error → AreUncut room type bytes
+inside_counts : (reading : Reading) (space offset : ℕ) (type : Option EtherType) (bytes : List ℕ) (error : SliceError)
+    → RefusesInside reading space offset type bytes error → AreUncut space type bytes
     → Counts (offset + length bytes) error
-inside_counts reading room offset None bytes error refused uncut = absurd refused
+inside_counts reading space offset None bytes error refused uncut = absurd refused
 inside_counts reading zero offset (Some type) bytes error refused uncut =
     net_counts reading offset (net_kind type) bytes error refused
-inside_counts reading (suc room) offset (Some type) bytes error (inl refused) uncut =
+inside_counts reading (suc space) offset (Some type) bytes error (inl refused) uncut =
     net_counts reading offset (net_kind type) bytes error refused.1
-inside_counts reading (suc room) offset (Some type) bytes error (inr (inl refused)) uncut =
+inside_counts reading (suc space) offset (Some type) bytes error (inr (inl refused)) uncut =
     tag_counts offset type bytes error refused
-inside_counts reading (suc room) offset (Some type) bytes error (inr (inr refused)) uncut =
+inside_counts reading (suc space) offset (Some type) bytes error (inr (inr refused)) uncut =
     let extension = refused.0 in
-    let stands = uncut extension refused.1 refused.2 in
+    let holds = uncut extension refused.1 refused.2 in
     let header = link_ext_header_len (extension_header extension) in
-    let nothing = uncut_left type bytes extension refused.1 refused.2 stands.0 in
+    let nothing = uncut_left type bytes extension refused.1 refused.2 holds.0 in
     let same : offset + header + length (extension_payload extension) ≡ offset + length bytes =
     omega (arith, extension_len type bytes (extension, refused.1) refused.2, ap length nothing) in
     subst (λ (n : ℕ). Counts n error) same
-    (inside_counts reading room (offset + header) (extension_type extension) (extension_payload extension) error
-    refused.3 stands.1)
+    (inside_counts reading space (offset + header) (extension_type extension) (extension_payload extension) error
+    refused.3 holds.1)
 
 -- ---- offsets of errors
 
@@ -270,10 +270,10 @@ transport_starts : (offset start : ℕ) (limit : LenSource) (error : TransportEr
 transport_starts offset start limit (transport_error.Len error) within = omega (arith, within)
 transport_starts offset start limit (transport_error.Content error) within = tt
 
-behind_starts : (reading : Reading) (offset start : ℕ) (payload : Option IpPayload) (error : SliceError)
+after_starts : (reading : Reading) (offset start : ℕ) (payload : Option IpPayload) (error : SliceError)
     → offset ≤ start → RefusesTransportAfterNet reading start payload error → StartsAt offset error
-behind_starts reading offset start None error within refused = absurd refused
-behind_starts reading offset start (Some payload) error within refused =
+after_starts reading offset start None error within refused = absurd refused
+after_starts reading offset start (Some payload) error within refused =
     subst (StartsAt offset) (sym refused.2) (transport_starts offset start payload.source refused.0 within)
 
 ipv4_starts : (offset : ℕ) (error : Ipv4SliceError) → StartsAt offset (ipv4_refusal offset error)
@@ -311,7 +311,7 @@ net_starts : (reading : Reading) (offset : ℕ) (kind : Option NetKind) (bytes :
 net_starts reading offset None bytes error refused = absurd refused
 net_starts reading offset (Some kind) bytes error (inl refused) = layer_starts reading kind offset bytes error refused
 net_starts reading offset (Some kind) bytes error (inr refused) =
-    behind_starts reading offset (offset + net_payload_offset refused.0) (net_payload refused.0) error (omega arith)
+    after_starts reading offset (offset + net_payload_offset refused.0) (net_payload refused.0) error (omega arith)
     refused.2
 
 -- An error whose layer starts at `far` or later starts at `near` or later.
@@ -327,19 +327,19 @@ earlier near far (slice_error.Ipv6Exts error) within starts = tt
 earlier near far (slice_error.Tcp error) within starts = tt
 
 -- The layer of an error in a payload does not start before the payload.
-inside_starts : (reading : Reading) (room offset : ℕ) (type : Option EtherType) (bytes : List ℕ) (error : SliceError)
-    → RefusesInside reading room offset type bytes error → StartsAt offset error
-inside_starts reading room offset None bytes error refused = absurd refused
+inside_starts : (reading : Reading) (space offset : ℕ) (type : Option EtherType) (bytes : List ℕ) (error : SliceError)
+    → RefusesInside reading space offset type bytes error → StartsAt offset error
+inside_starts reading space offset None bytes error refused = absurd refused
 inside_starts reading zero offset (Some type) bytes error refused =
     net_starts reading offset (net_kind type) bytes error refused
-inside_starts reading (suc room) offset (Some type) bytes error (inl refused) =
+inside_starts reading (suc space) offset (Some type) bytes error (inl refused) =
     net_starts reading offset (net_kind type) bytes error refused.1
-inside_starts reading (suc room) offset (Some type) bytes error (inr (inl refused)) =
+inside_starts reading (suc space) offset (Some type) bytes error (inr (inl refused)) =
     subst (StartsAt offset) (sym refused.2) (extension_starts offset refused.0)
-inside_starts reading (suc room) offset (Some type) bytes error (inr (inr refused)) =
+inside_starts reading (suc space) offset (Some type) bytes error (inr (inr refused)) =
     let header = link_ext_header_len (extension_header refused.0) in
     earlier offset (offset + header) error (omega arith)
-    (inside_starts reading room (offset + header) (extension_type refused.0) (extension_payload refused.0) error
+    (inside_starts reading space (offset + header) (extension_type refused.0) (extension_payload refused.0) error
     refused.3)
 
 -- ---- valid layers with more bytes after them
@@ -434,50 +434,50 @@ tag_start offset type bytes error refused =
     start_of_tag offset refused.0 error (extension_at_start type bytes refused.0 refused.1) refused.2
 
 -- If bytes are rejected, and that check fails again with more bytes after them, it counts all of them.
-again_inside : (reading : Reading) (room offset : ℕ) (type : Option EtherType) (bytes more : List ℕ)
+again_inside : (reading : Reading) (space offset : ℕ) (type : Option EtherType) (bytes more : List ℕ)
     → AreBytes (bytes ++ more) → (error : LenError) (len : ℕ)
-    → RefusesInside reading room offset type bytes (slice_error.Len error) → AreUncut room type bytes
-    → RefusesInside reading room offset type (bytes ++ more) (Again error len)
+    → RefusesInside reading space offset type bytes (slice_error.Len error) → AreUncut space type bytes
+    → RefusesInside reading space offset type (bytes ++ more) (Again error len)
     → CountsMissing (offset + length (bytes ++ more)) (that_row error len)
-again_inside reading room offset None bytes more fits error len refused uncut again = absurd again
+again_inside reading space offset None bytes more fits error len refused uncut again = absurd again
 again_inside reading zero offset (Some type) bytes more fits error len refused uncut again =
     net_counts reading offset (net_kind type) (bytes ++ more) (Again error len) again
-again_inside reading (suc room) offset (Some type) bytes more fits error len refused uncut (inl again) =
+again_inside reading (suc space) offset (Some type) bytes more fits error len refused uncut (inl again) =
     net_counts reading offset (net_kind type) (bytes ++ more) (Again error len) again.1
-again_inside reading (suc room) offset (Some type) bytes more fits error len refused uncut (inr (inl again)) =
+again_inside reading (suc space) offset (Some type) bytes more fits error len refused uncut (inr (inl again)) =
     tag_counts offset type (bytes ++ more) (Again error len) again
-again_inside reading (suc room) offset (Some type) bytes more fits error len (inl refused) uncut (inr (inr again)) =
+again_inside reading (suc space) offset (Some type) bytes more fits error len (inl refused) uncut (inr (inr again)) =
     absurd (refused.0 (layer_laws.extension.begins type (bytes ++ more) (again.0, again.1) again.2))
-again_inside reading (suc room) offset (Some type) bytes more fits error len (inr (inl refused)) uncut
+again_inside reading (suc space) offset (Some type) bytes more fits error len (inr (inl refused)) uncut
     (inr (inr again)) =
     let header = link_ext_header_len (extension_header again.0) in
     let start = tag_start offset type bytes error refused in
-    let behind : offset + header ≤ error.layer_start_offset =
-    inside_starts reading room (offset + header) (extension_type again.0) (extension_payload again.0)
+    let after : offset + header ≤ error.layer_start_offset =
+    inside_starts reading space (offset + header) (extension_type again.0) (extension_payload again.0)
     (Again error len) again.3 in
-    absurd (omega (arith, tag_len (extension_header again.0), start, behind))
-again_inside reading (suc room) offset (Some type) bytes more fits error len (inr (inr refused)) uncut
+    absurd (omega (arith, tag_len (extension_header again.0), start, after))
+again_inside reading (suc space) offset (Some type) bytes more fits error len (inr (inr refused)) uncut
     (inr (inr again)) =
     let extension = refused.0 in
     let payload = extension_payload extension in
     let header = link_ext_header_len (extension_header extension) in
-    let stands = uncut extension refused.1 refused.2 in
-    let nothing = uncut_left type bytes extension refused.1 refused.2 stands.0 in
-    let longer = longer_extension type bytes more extension refused.1 refused.2 stands.0 in
+    let holds = uncut extension refused.1 refused.2 in
+    let nothing = uncut_left type bytes extension refused.1 refused.2 holds.0 in
+    let longer = longer_extension type bytes more extension refused.1 refused.2 holds.0 in
     let begins = layer_laws.extension.begins type (bytes ++ more) (longer.0, []) longer.1 in
     let same = (layer_laws.extension.decided type (bytes ++ more) fits begins).one_value (again.0, again.1)
     (longer.0, []) again.2 longer.1 in
     let refusal = Again error len in
-    let at_longer : RefusesInside reading room (offset + link_ext_header_len (extension_header longer.0))
+    let at_longer : RefusesInside reading space (offset + link_ext_header_len (extension_header longer.0))
     (extension_type longer.0) (extension_payload longer.0) refusal =
-    subst (λ (part : ExtensionPart). RefusesInside reading room
+    subst (λ (part : ExtensionPart). RefusesInside reading space
     (offset + link_ext_header_len (extension_header part.0)) (extension_type part.0) (extension_payload part.0)
     refusal) same again.3 in
-    let by_header = subst (λ (h : LinkExtHeader). RefusesInside reading room (offset + link_ext_header_len h)
+    let by_header = subst (λ (h : LinkExtHeader). RefusesInside reading space (offset + link_ext_header_len h)
     (extension_type longer.0) (extension_payload longer.0) refusal) longer.2.header at_longer in
-    let by_type = subst (λ (t : Option EtherType). RefusesInside reading room (offset + header) t
+    let by_type = subst (λ (t : Option EtherType). RefusesInside reading space (offset + header) t
     (extension_payload longer.0) refusal) longer.2.type by_header in
-    let by_payload = subst (λ (l : List ℕ). RefusesInside reading room (offset + header) (extension_type extension) l
+    let by_payload = subst (λ (l : List ℕ). RefusesInside reading space (offset + header) (extension_type extension) l
     refusal) longer.2.payload by_type in
     let parts = layer_laws.extension.bytes type (bytes ++ more) (longer.0, []) longer.1 in
     let payload_fits : AreBytes (payload ++ more) = subst AreBytes longer.2.payload
@@ -491,8 +491,8 @@ again_inside reading (suc room) offset (Some type) bytes more fits error len (in
       length-append bytes more,
     ) in
     subst (λ (n : ℕ). CountsMissing n (that_row error len)) total
-    (again_inside reading room (offset + header) (extension_type extension) payload more payload_fits error len
-    refused.3 stands.1 by_payload)
+    (again_inside reading space (offset + header) (extension_type extension) payload more payload_fits error len
+    refused.3 holds.1 by_payload)
 
 -- ---- frames
 
@@ -512,9 +512,9 @@ linux_sll_len header fits = omega (
 )
 
 -- Without trailing bytes, header and payload are as long as the bytes.
-pub whole_len : (bytes header payload left : List ℕ) → bytes ≡ (header ++ payload) ++ left → left ≡ []
+pub complete_len : (bytes header payload left : List ℕ) → bytes ≡ (header ++ payload) ++ left → left ≡ []
     → length header + length payload ≡ length bytes
-whole_len bytes header payload left parts nothing =
+complete_len bytes header payload left parts nothing =
     omega (
       arith,
       ap length parts,
@@ -536,7 +536,7 @@ frame_counts reading ethernet bytes error (inl refused) uncut =
     subst (Counts (length bytes)) (sym refused.2) (ethernet2_tells.counts bytes refused.0 refused.1)
 frame_counts reading ethernet bytes error (inr refused) uncut =
     let frame = refused.0 in
-    let len = whole_len bytes (ethernet2_bytes frame.header) frame.payload frame.left refused.1.parts refused.1.cut in
+    let len = complete_len bytes (ethernet2_bytes frame.header) frame.payload frame.left refused.1.parts refused.1.cut in
     let same : ethernet2_header_len + length frame.payload ≡ length bytes =
     omega (arith, len, ethernet2_len frame.header refused.1.fits) in
     subst (λ (n : ℕ). CountsMissing n error) same
@@ -546,7 +546,7 @@ frame_counts reading linux_sll bytes error (inl refused) uncut =
     subst (Counts (length bytes)) (sym refused.2) (sll_counts bytes refused.0 refused.1)
 frame_counts reading linux_sll bytes error (inr refused) uncut =
     let frame = refused.0 in
-    let len = whole_len bytes (linux_sll_bytes frame.header) frame.payload frame.left refused.1.parts refused.1.cut in
+    let len = complete_len bytes (linux_sll_bytes frame.header) frame.payload frame.left refused.1.parts refused.1.cut in
     let same : linux_sll_header_len + length frame.payload ≡ length bytes =
     omega (arith, len, linux_sll_len frame.header refused.1.fits) in
     subst (λ (n : ℕ). CountsMissing n error) same
@@ -609,22 +609,22 @@ again_frame reading ethernet bytes more fits error len refused uncut (inl again)
 again_frame reading ethernet bytes more fits error len (inl refused) uncut (inr again) =
     let known : error ≡ refused.0 = let one = refused.2 in cc in
     let start = ap (λ (e : LenError). e.layer_start_offset) known ∙ ethernet2_start bytes refused.0 refused.1 in
-    let behind : ethernet2_header_len ≤ error.layer_start_offset =
+    let after : ethernet2_header_len ≤ error.layer_start_offset =
     inside_starts reading most_link_exts ethernet2_header_len (Some again.0.header.ether_type) again.0.payload
     (Again error len) again.2 in
-    absurd (omega (arith, start, behind))
+    absurd (omega (arith, start, after))
 again_frame reading ethernet bytes more fits error len (inr refused) uncut (inr again) =
     let frame = refused.0 in
     let longer = parts_of frame.header (frame.payload ++ more) [] in
-    let stands = longer_ethernet2 bytes more frame refused.1 in
-    let same = (layer_laws.ethernet2 (bytes ++ more) fits).one_value again.0 longer again.1 stands in
-    let whole = whole_len (bytes ++ more) (ethernet2_bytes frame.header) (frame.payload ++ more) [] stands.parts
+    let holds = longer_ethernet2 bytes more frame refused.1 in
+    let same = (layer_laws.ethernet2 (bytes ++ more) fits).one_value again.0 longer again.1 holds in
+    let complete = complete_len (bytes ++ more) (ethernet2_bytes frame.header) (frame.payload ++ more) [] holds.parts
     refl in
     let total : ethernet2_header_len + length (frame.payload ++ more) ≡ length (bytes ++ more) =
-    omega (arith, whole, ethernet2_len frame.header refused.1.fits) in
+    omega (arith, complete, ethernet2_len frame.header refused.1.fits) in
     subst (λ (n : ℕ). CountsMissing n (that_row error len)) total
     (again_inside reading most_link_exts ethernet2_header_len (Some frame.header.ether_type) frame.payload more
-    (AreBytes-payload (bytes ++ more) (ethernet2_bytes frame.header) (frame.payload ++ more) [] fits stands.parts)
+    (AreBytes-payload (bytes ++ more) (ethernet2_bytes frame.header) (frame.payload ++ more) [] fits holds.parts)
     error len refused.2 (uncut frame refused.1)
     (subst (λ (f : Parts Ethernet2Header). RefusesInside reading most_link_exts ethernet2_header_len
     (Some f.header.ether_type) f.payload (Again error len)) same again.2))
@@ -632,23 +632,23 @@ again_frame reading linux_sll bytes more fits error len refused uncut (inl again
     subst (Counts (length (bytes ++ more))) (sym again.2) (sll_counts (bytes ++ more) again.0 again.1)
 again_frame reading linux_sll bytes more fits error len (inl refused) uncut (inr again) =
     let start = sll_start bytes refused.0 error refused.1 refused.2 in
-    let behind : linux_sll_header_len ≤ error.layer_start_offset =
+    let after : linux_sll_header_len ≤ error.layer_start_offset =
     inside_starts reading most_link_exts linux_sll_header_len (protocol_ether_type again.0.header.protocol_type)
     again.0.payload (Again error len) again.2 in
-    absurd (omega (arith, start, behind))
+    absurd (omega (arith, start, after))
 again_frame reading linux_sll bytes more fits error len (inr refused) uncut (inr again) =
     let frame = refused.0 in
     let longer = parts_of frame.header (frame.payload ++ more) [] in
-    let stands = longer_linux_sll bytes more frame refused.1 in
-    let same = (layer_laws.linux_sll (bytes ++ more) fits).one_value again.0 longer again.1 stands in
-    let whole = whole_len (bytes ++ more) (linux_sll_bytes frame.header) (frame.payload ++ more) [] stands.parts
+    let holds = longer_linux_sll bytes more frame refused.1 in
+    let same = (layer_laws.linux_sll (bytes ++ more) fits).one_value again.0 longer again.1 holds in
+    let complete = complete_len (bytes ++ more) (linux_sll_bytes frame.header) (frame.payload ++ more) [] holds.parts
     refl in
     let total : linux_sll_header_len + length (frame.payload ++ more) ≡ length (bytes ++ more) =
-    omega (arith, whole, linux_sll_len frame.header refused.1.fits) in
+    omega (arith, complete, linux_sll_len frame.header refused.1.fits) in
     subst (λ (n : ℕ). CountsMissing n (that_row error len)) total
     (again_inside reading most_link_exts linux_sll_header_len (protocol_ether_type frame.header.protocol_type)
     frame.payload more
-    (AreBytes-payload (bytes ++ more) (linux_sll_bytes frame.header) (frame.payload ++ more) [] fits stands.parts)
+    (AreBytes-payload (bytes ++ more) (linux_sll_bytes frame.header) (frame.payload ++ more) [] fits holds.parts)
     error len refused.2 (uncut frame refused.1)
     (subst (λ (f : Parts LinuxSllHeader). RefusesInside reading most_link_exts linux_sll_header_len
     (protocol_ether_type f.header.protocol_type) f.payload (Again error len)) same again.2))

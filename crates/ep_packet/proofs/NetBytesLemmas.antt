@@ -17,17 +17,17 @@ use Rattle.ep_packet.proofs.DeciderLemmas.{Deciders}
 
 -- The bytes of a network layer: its headers, the payload of an IP packet, and trailing bytes.
 pub record LayerBytes (bytes : List ℕ) (layer : NetLayer) : Type 0 where
-  pub front : List ℕ
+  pub prefix : List ℕ
   pub left : List ℕ
-  pub encodes : EncodesNet (Some layer) front
-  pub parts : bytes ≡ (front ++ after_net [] (Some layer)) ++ left
-  pub len_is : IfSome (net_payload layer) (λ payload. length front ≡ net_payload_offset layer)
+  pub encodes : EncodesNet (Some layer) prefix
+  pub parts : bytes ≡ (prefix ++ after_net [] (Some layer)) ++ left
+  pub len_is : IfSome (net_payload layer) (λ payload. length prefix ≡ net_payload_offset layer)
 
 -- The bytes of an IPv4 packet are those of its network layer.
 ipv4_layer_bytes : (bytes : List ℕ) (packet : IpPacket Ipv4Header) → AreIpv4Bytes bytes packet
     → LayerBytes bytes (ipv4_layer packet)
 ipv4_layer_bytes bytes packet are = record {
-  front = are.headers;
+  prefix = are.headers;
   left = packet.left;
   encodes = are.encodes;
   parts = are.parts;
@@ -38,7 +38,7 @@ ipv4_layer_bytes bytes packet are = record {
 ipv6_layer_bytes : (bytes : List ℕ) (packet : IpPacket Ipv6Header) → AreIpv6Bytes bytes packet
     → LayerBytes bytes (ipv6_layer packet)
 ipv6_layer_bytes bytes packet are = record {
-  front = are.headers;
+  prefix = are.headers;
   left = packet.left;
   encodes = are.encodes;
   parts = are.parts;
@@ -62,7 +62,7 @@ layer_bytes deciders reading only_ipv6 bytes layer (packet, is, same) =
     subst (LayerBytes bytes) (sym same) (ipv6_layer_bytes bytes packet (deciders.ipv6_bytes reading bytes packet is))
 layer_bytes deciders reading only_arp bytes layer (part, is, same) =
     subst (LayerBytes bytes) (sym same) (record {
-      front = arp_bytes part.0;
+      prefix = arp_bytes part.0;
       left = part.1;
       encodes = (is.fits, refl);
       parts = is.parts ∙ ap (λ (x : List ℕ). x ++ part.1) (sym (append-nil (arp_bytes part.0)));
@@ -72,8 +72,8 @@ layer_bytes deciders reading any_ip bytes layer (part, is, same) =
     subst (LayerBytes bytes) (sym same) (ip_layer_bytes deciders reading bytes part is)
 
 -- The payload of an IP packet is the bytes after its headers.
-pub behind_payload : (layer : NetLayer) (payload : IpPayload) → net_payload layer ≡ Some payload
+pub after_payload : (layer : NetLayer) (payload : IpPayload) → net_payload layer ≡ Some payload
     → after_net [] (Some layer) ≡ payload.bytes
-behind_payload (ipv4 header extensions inside) payload same = cc same
-behind_payload (ipv6 header extensions inside) payload same = cc same
-behind_payload (arp packet) payload same = absurd (cc same)
+after_payload (ipv4 header extensions inside) payload same = cc same
+after_payload (ipv6 header extensions inside) payload same = cc same
+after_payload (arp packet) payload same = absurd (cc same)

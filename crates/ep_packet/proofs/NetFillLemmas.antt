@@ -1,14 +1,18 @@
 -- Decoding IP headers in place: the headers of a packet, and that they were decoded.
-use Rattle.std.proofs.Common.{◌≡◌, ℕ, ◌+◌, false, List, [], length, refl}
+use Rattle.std.proofs.Common.{◌≡◌, ℕ, ◌+◌, ◌≤◌, false, List, [], length, refl, arith}
 use Rattle.ep_base.specs.Readings.{headers}
 use Rattle.ep_base.specs.Tables.{parts_of}
-use Rattle.ep_ext.specs.Chains.{IsExtensionChain, chain_fragments, chain_of, ipv6, is_ipv6_extension}
+use Rattle.ep_base.specs.declared.err.ipv6_exts.HeaderSliceError.{HeaderSliceError}
+use Rattle.ep_base.specs.declared.err.ipv6_exts.HeaderSliceError.TheVariants as header_error
+use Rattle.ep_base.specs.declared.err.len_error.LenError.{LenError}
+use Rattle.ep_ext.specs.Chains.{IsExtensionChain, RefusesExtensionChain, chain_fragments, chain_of, ipv6, is_ipv6_extension}
 use Rattle.ep_ext.specs.ExtensionParts.{ExtensionPart}
 use Rattle.ep_ext.proofs.ValueLemmas.{headers_end}
 use Rattle.ep_ip.specs.declared.ipv6_header.Ipv6Header.{Ipv6Header}
 use Rattle.ep_ip.specs.IpBytes.{ipv6_headers_len}
 use Rattle.ep_ip.specs.IpPackets.{IsIpv6}
 use Rattle.ep_ip.specs.Ipv6.{IsIpv6Packet, ipv6_payload_source}
+use Rattle.ep_ip.proofs.ExtensionLawLemmas.{exts_within}
 use Rattle.ep_ip.proofs.PacketLemmas.{shown_packet}
 use Rattle.ep_packet.proofs.HeadersLemmas.{ipv6_content}
 use Rattle.ep_packet.proofs.IpHeadersLemmas.{ipv6_by_value}
@@ -33,3 +37,10 @@ chain_content bytes content left header parts number rest cut chain =
     let is : IsIpv6 headers bytes packet =
     record { content = content; cut = cut; chain = chain; fragmented = refl; source = refl } in
     ipv6_content bytes packet is
+
+-- The length error of an IPv6 extension header starts within the packet.
+pub exts_start : (header : Ipv6Header) (content : List ℕ) (size : ℕ) (found : HeaderSliceError) (error : LenError)
+    → found ≡ header_error.Len error → RefusesExtensionChain ipv6 headers header.next_header.0 content found
+    → 40 + length content ≤ size → 40 + error.layer_start_offset ≤ size
+exts_start header content size found error same refused within =
+    omega (arith, exts_within headers header.next_header.0 content found error same refused, within)

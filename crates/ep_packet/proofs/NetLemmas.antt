@@ -14,7 +14,7 @@ use Rattle.ep_packet.specs.Frame.{NetKind, only_ipv4, only_ipv6, only_arp, any_i
 use Rattle.ep_packet.specs.FrameRefusals.{RefusesNetLayer, RefusesTransportAfterNet, RefusesNetPart, net_payload_offset, transport_refusal, ipv4_refusal, ipv6_refusal, ip_refusal, len_refusal}
 use Rattle.ep_packet.specs.FrameBytes.{after_net}
 use Rattle.ep_packet.proofs.DeciderLemmas.{Deciders}
-use Rattle.ep_packet.proofs.NetBytesLemmas.{behind_payload, layer_bytes}
+use Rattle.ep_packet.proofs.NetBytesLemmas.{after_payload, layer_bytes}
 
 -- ---- network layer alone
 
@@ -23,31 +23,31 @@ pub layer_decided : Deciders → (reading : Reading) (kind : NetKind) (offset : 
     → IsDecided (IsNetLayer reading kind bytes) (RefusesNetLayer reading kind offset bytes)
 layer_decided deciders reading only_ipv4 offset bytes fits =
     decided_as ipv4_layer (λ error. error) (refused_as (ipv4_refusal offset) (deciders.ipv4 reading bytes fits))
-    (record { there = λ packet is. (packet, is, refl); back = λ layer is. is })
+    (record { present = λ packet is. (packet, is, refl); back = λ layer is. is })
     (same_image (λ error refused. refused) (λ error refused. refused))
 layer_decided deciders reading only_ipv6 offset bytes fits =
     decided_as ipv6_layer (λ error. error) (refused_as (ipv6_refusal offset) (deciders.ipv6 reading bytes fits))
-    (record { there = λ packet is. (packet, is, refl); back = λ layer is. is })
+    (record { present = λ packet is. (packet, is, refl); back = λ layer is. is })
     (same_image (λ error refused. refused) (λ error refused. refused))
 layer_decided deciders reading only_arp offset bytes fits =
     decided_as (λ (part : Arp × List ℕ). arp part.0) (λ (error : SliceError). error)
     (refused_as (len_refusal offset) (deciders.arp bytes fits))
-    (record { there = λ part is. (part, is, refl); back = λ layer is. is })
+    (record { present = λ part is. (part, is, refl); back = λ layer is. is })
     (same_image (λ error refused. refused) (λ error refused. refused))
 layer_decided deciders reading any_ip offset bytes fits =
     decided_as ip_layer (λ error. error) (refused_as (ip_refusal offset) (deciders.ip reading bytes fits))
-    (record { there = λ part is. (part, is, refl); back = λ layer is. is })
+    (record { present = λ part is. (part, is, refl); back = λ layer is. is })
     (same_image (λ error refused. refused) (λ error refused. refused))
 
 -- ---- transport layer in it
 
 -- A payload of bytes has one transport layer, or is rejected.
-behind_decided : Deciders → (reading : Reading) (offset : ℕ) (payload : Option IpPayload)
+after_decided : Deciders → (reading : Reading) (offset : ℕ) (payload : Option IpPayload)
     → ((inside : IpPayload) → payload ≡ Some inside → AreBytes inside.bytes)
     → IsDecided (IsTransportAfterNet reading payload) (RefusesTransportAfterNet reading offset payload)
-behind_decided deciders reading offset None fits =
+after_decided deciders reading offset None fits =
     decided_by None refl (λ transport none. none) (λ error refused. refused)
-behind_decided deciders reading offset (Some payload) fits =
+after_decided deciders reading offset (Some payload) fits =
     refused_as (transport_refusal offset payload.source)
     (deciders.transport reading payload.number payload.fragmented payload.bytes (fits payload refl))
 
@@ -57,8 +57,8 @@ payload_fits : Deciders → (reading : Reading) (kind : NetKind) (bytes : List �
     → AreBytes inside.bytes
 payload_fits deciders reading kind bytes fits layer is inside same =
     let are = layer_bytes deciders reading kind bytes layer is in
-    subst AreBytes (behind_payload layer inside same)
-    (AreBytes-payload bytes are.front (after_net [] (Some layer)) are.left fits are.parts)
+    subst AreBytes (after_payload layer inside same)
+    (AreBytes-payload bytes are.prefix (after_net [] (Some layer)) are.left fits are.parts)
 
 -- ---- both layers
 
@@ -91,10 +91,10 @@ net_decided deciders reading offset None bytes fits =
 net_decided deciders reading offset (Some kind) bytes fits =
     decided_as net_part (λ error. error)
     (decided_then (layer_decided deciders reading kind offset bytes fits)
-    (λ layer is. behind_decided deciders reading (offset + net_payload_offset layer) (net_payload layer)
+    (λ layer is. after_decided deciders reading (offset + net_payload_offset layer) (net_payload layer)
     (payload_fits deciders reading kind bytes fits layer is)))
     (record {
-      there = λ part is. (part.0, is.0, refl, is.1);
+      present = λ part is. (part.0, is.0, refl, is.1);
       back = λ part is. ((is.0, part.1), (is.1, is.3), ap (λ (x : Option NetLayer). (x, part.1)) is.2);
     })
     (same_image (λ error refused. refused) (λ error refused. refused))

@@ -109,9 +109,9 @@ pub net_refused : (kind : NetKind) (offset : ℕ) (bytes : List ℕ) (net : NetS
 net_refused kind offset bytes net error shown refused = inr (net_layer_of net, shown.is, refused)
 
 -- The bytes before a payload are those of the header and of the extension headers.
-pub headers_len : (whole header content extensions payload : List ℕ) (len : ℕ) → header ++ content ≡ whole
-    → extensions ++ payload ≡ content → length whole ≡ len + length payload → length header + length extensions ≡ len
-headers_len whole header content extensions payload len first second total = omega (
+pub headers_len : (complete header content extensions payload : List ℕ) (len : ℕ) → header ++ content ≡ complete
+    → extensions ++ payload ≡ content → length complete ≡ len + length payload → length header + length extensions ≡ len
+headers_len complete header content extensions payload len first second total = omega (
   arith,
   ap length first,
   ap length second,

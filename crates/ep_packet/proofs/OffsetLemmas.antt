@@ -170,17 +170,17 @@ headers_len bytes layers order = omega (
 )
 
 -- The payload of the last layer of a frame starts at its offset.
-pub payload_there : (bytes : List ℕ) (layers : Layers) (offset : ℕ) → offset ≡ payload_offset layers
+pub payload_present : (bytes : List ℕ) (layers : Layers) (offset : ℕ) → offset ≡ payload_offset layers
     → AreInOrder bytes layers → BeginsWith (drop offset bytes) (last_payload layers)
-payload_there bytes layers offset same order =
+payload_present bytes layers offset same order =
     let headers = ((order.link ++ order.tags) ++ order.net) ++ order.transport in
-    let behind = last_payload layers ++ order.left in
-    let grouped : bytes ≡ headers ++ behind =
+    let after = last_payload layers ++ order.left in
+    let grouped : bytes ≡ headers ++ after =
     order.parts ∙ sym (append_assoc order.link order.tags _) ∙ sym (append_assoc (order.link ++ order.tags) order.net _)
     ∙ sym (append_assoc ((order.link ++ order.tags) ++ order.net) order.transport _) in (
       order.left,
       ap (λ (n : ℕ). drop n bytes) (same ∙ sym (headers_len bytes layers order))
-          ∙ ap (λ (b : List ℕ). drop (length headers) b) grouped ∙ drop-append_seam headers behind,
+          ∙ ap (λ (b : List ℕ). drop (length headers) b) grouped ∙ drop-append_seam headers after,
     )
 
 -- The secure channel identifier (SCI) of a MACsec tag is at most 8 bytes long.

@@ -24,18 +24,18 @@ get_last extension [] = refl
 get_last extension (next ∷ others) = get_last next others
 
 -- The payload after link extensions is the payload of the last one.
-behind_last : (extension : LinkExtension) (others : List LinkExtension)
+after_last : (extension : LinkExtension) (others : List LinkExtension)
     → payload_after_exts (extension_payload extension) others ≡ extension_payload (last_of extension others)
 unfolding last_of
-behind_last extension [] = refl
-behind_last extension (next ∷ others) = behind_last next others
+after_last extension [] = refl
+after_last extension (next ∷ others) = after_last next others
 
-ether_behind_last : (extension : LinkExtension) (others : List LinkExtension)
+ether_after_last : (extension : LinkExtension) (others : List LinkExtension)
     → ether_payload_after (extension_ether_payload extension) others
     ≡ extension_ether_payload (last_of extension others)
 unfolding last_of
-ether_behind_last extension [] = refl
-ether_behind_last extension (next ∷ others) = ether_behind_last next others
+ether_after_last extension [] = refl
+ether_after_last extension (next ∷ others) = ether_after_last next others
 
 -- The element at the last index of link extensions is the last one.
 found_last : (extension : LinkExtension) (others : List LinkExtension) (last : LinkExtension)
@@ -60,7 +60,7 @@ pub payload_of_last : (bytes : List ℕ) (extensions : List LinkExtension) (last
     → payload_after_exts bytes extensions ≡ extension_payload last
 payload_of_last bytes [] last is = absurd (cc is)
 payload_of_last bytes (extension ∷ others) last is =
-    behind_last extension others ∙ ap extension_payload (found_last extension others last is)
+    after_last extension others ∙ ap extension_payload (found_last extension others last is)
 
 -- A payload with the given source of its end.
 abbrev pub with_source : LenSource → EtherPayload → EtherPayload
@@ -74,4 +74,4 @@ pub ether_payload_of_last : (link : Option LinkLayer) (extensions : List LinkExt
 ether_payload_of_last link [] last is = absurd (cc is)
 ether_payload_of_last link (extension ∷ others) last is =
     ap (option_map (with_source (extensions_len_source (extension ∷ others))))
-    (ether_behind_last extension others ∙ ap extension_ether_payload (found_last extension others last is))
+    (ether_after_last extension others ∙ ap extension_ether_payload (found_last extension others last is))

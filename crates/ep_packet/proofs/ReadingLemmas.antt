@@ -98,21 +98,21 @@ part_reads : (number : ℕ) (fragmented : Bool) (bytes : List ℕ) (transport : 
     → (other : Option TransportLayer) × IsTransportPart headers number fragmented bytes other
     × TransportAgrees transport other
 part_reads number fragmented bytes None is = (None, is, refl)
-part_reads number fragmented bytes (Some layer) (whole, is) =
+part_reads number fragmented bytes (Some layer) (complete, is) =
     let reads = layer_reads number bytes layer.header layer.payload is in
     let second = transport_layer layer.header reads.0 in
-    (Some second, (whole, reads.1), (second, refl, refl, reads.2))
+    (Some second, (complete, reads.1), (second, refl, refl, reads.2))
 
 -- Two absent transport layers agree.
 none_agree : (transport : Option TransportLayer) → transport ≡ None → TransportAgrees transport None
 none_agree transport none = subst (λ (t : Option TransportLayer). TransportAgrees t None) (sym none) refl
 
 -- The payload of a network layer has a transport layer in both readings, and they agree.
-behind_reads : (payload : Option IpPayload) (transport : Option TransportLayer)
+after_reads : (payload : Option IpPayload) (transport : Option TransportLayer)
     → IsTransportAfterNet slices payload transport
     → (other : Option TransportLayer) × IsTransportAfterNet headers payload other × TransportAgrees transport other
-behind_reads None transport none = (None, refl, none_agree transport none)
-behind_reads (Some payload) transport is = part_reads payload.number payload.fragmented payload.bytes transport is
+after_reads None transport none = (None, refl, none_agree transport none)
+after_reads (Some payload) transport is = part_reads payload.number payload.fragmented payload.bytes transport is
 
 -- The last payloads agree if the transport layers do.
 last_agrees : (bytes : List ℕ) (net : Option NetLayer) (transport other : Option TransportLayer)
@@ -132,25 +132,25 @@ net_part_reads : ChainLaw → (kind : Option NetKind) (bytes : List ℕ) (net : 
     → (other : Option TransportLayer) × IsNetPart headers kind bytes net other × TransportAgrees transport other
 net_part_reads law None bytes net transport (no_net, none) once = (None, (no_net, refl), none_agree transport none)
 net_part_reads law (Some kind) bytes net transport (layer, is, same, inside) once =
-    let reads = behind_reads (net_payload layer) transport inside in
+    let reads = after_reads (net_payload layer) transport inside in
     (reads.0, (layer, net_reads law kind bytes layer is (subst HasNoSecondKind same once), same, reads.1), reads.2)
 
 -- The layers of bytes of an ether type are read in both readings, and agree.
-inside_reads : ChainLaw → (room : ℕ) (type : Option EtherType) (bytes : List ℕ) (extensions : List LinkExtension)
+inside_reads : ChainLaw → (space : ℕ) (type : Option EtherType) (bytes : List ℕ) (extensions : List LinkExtension)
     (net : Option NetLayer) (transport : Option TransportLayer)
-    → IsInside slices room type bytes extensions net transport → HasNoSecondKind net
-    → (other : Option TransportLayer) × IsInside headers room type bytes extensions net other
+    → IsInside slices space type bytes extensions net transport → HasNoSecondKind net
+    → (other : Option TransportLayer) × IsInside headers space type bytes extensions net other
     × TransportAgrees transport other
-inside_reads law room None bytes extensions net transport (no_tags, no_net, none) once =
+inside_reads law space None bytes extensions net transport (no_tags, no_net, none) once =
     (None, (no_tags, no_net, refl), none_agree transport none)
 inside_reads law zero (Some type) bytes [] net transport part once =
     net_part_reads law (net_kind type) bytes net transport part once
 inside_reads law zero (Some type) bytes (extension ∷ others) net transport part once = absurd part
-inside_reads law (suc room) (Some type) bytes [] net transport (begins, part) once =
+inside_reads law (suc space) (Some type) bytes [] net transport (begins, part) once =
     let reads = net_part_reads law (net_kind type) bytes net transport part once in
     (reads.0, (begins, reads.1), reads.2)
-inside_reads law (suc room) (Some type) bytes (extension ∷ others) net transport (tag, part) once =
-    let reads = inside_reads law room (extension_type extension) (extension_payload extension)
+inside_reads law (suc space) (Some type) bytes (extension ∷ others) net transport (tag, part) once =
+    let reads = inside_reads law space (extension_type extension) (extension_payload extension)
     others net transport part once in
     (reads.0, (tag, reads.1), reads.2)
 

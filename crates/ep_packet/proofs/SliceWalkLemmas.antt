@@ -20,15 +20,15 @@ use Rattle.ep_packet.proofs.WalkLemmas.{ends_at}
 
 -- Link extensions read at the start of the bytes, and the number of further ones that are read: the layers of the rest,
 -- and its errors, are those of the bytes after these link extensions.
-pub record Reads (offset : ℕ) (type : Option EtherType) (bytes : List ℕ) (extensions : List LinkExtSlice) (room : ℕ)
+pub record Reads (offset : ℕ) (type : Option EtherType) (bytes : List ℕ) (extensions : List LinkExtSlice) (space : ℕ)
     (rest_offset : ℕ) (rest_type : Option EtherType) (rest : List ℕ) : Type 0 where
   pub place : rest_offset + length rest ≤ offset + length bytes
   pub holds : (others : List LinkExtension) (net : Option NetLayer) (transport : Option TransportLayer)
-      → IsInside slices room rest_type rest others net transport
+      → IsInside slices space rest_type rest others net transport
       → IsInside slices most_link_exts type bytes (map link_extension_of extensions ++ others) net transport
   pub shows : (others : List LinkExtSlice) (net : Option NetSlice) (transport : Option TransportSlice)
       → ShowsInside rest others net transport → ShowsInside bytes (extensions ++ others) net transport
-  pub refused : (error : SliceError) → RefusesInside slices room rest_offset rest_type rest error
+  pub refused : (error : SliceError) → RefusesInside slices space rest_offset rest_type rest error
       → RefusesInside slices most_link_exts offset type bytes error
 
 -- The ether type, if known, is none of a link extension.
@@ -46,10 +46,10 @@ pub known_begins_none : (type : Option EtherType) (known : EtherType) → type �
 known_begins_none type known is none = subst BeginsNone (sym is) none
 
 -- At first, no link extension was read.
-pub reads_nothing : (offset room : ℕ) (type : Option EtherType) (bytes : List ℕ) (extensions : List LinkExtSlice)
-    → extensions ≡ [] → room ≡ most_link_exts → Reads offset type bytes extensions room offset type bytes
-reads_nothing offset room type bytes extensions none all =
-    subst (λ (x : List LinkExtSlice). Reads offset type bytes x room offset type bytes) (sym none)
+pub reads_nothing : (offset space : ℕ) (type : Option EtherType) (bytes : List ℕ) (extensions : List LinkExtSlice)
+    → extensions ≡ [] → space ≡ most_link_exts → Reads offset type bytes extensions space offset type bytes
+reads_nothing offset space type bytes extensions none all =
+    subst (λ (x : List LinkExtSlice). Reads offset type bytes x space offset type bytes) (sym none)
     (subst (λ (n : ℕ). Reads offset type bytes [] n offset type bytes) (sym all)
     (record {
       place = omega arith;
@@ -59,14 +59,14 @@ reads_nothing offset room type bytes extensions none all =
     }))
 
 -- After a link extension, one more was read.
-one_more : (offset : ℕ) (type : Option EtherType) (bytes : List ℕ) (old : List LinkExtSlice) (room at : ℕ)
+one_more : (offset : ℕ) (type : Option EtherType) (bytes : List ℕ) (old : List LinkExtSlice) (space at : ℕ)
     (known : EtherType) (here left : List ℕ) (found : LinkExtSlice)
-    → Reads offset type bytes old (suc room) at (Some known) here → BeginsWith here (link_ext_slice_bytes found)
+    → Reads offset type bytes old (suc space) at (Some known) here → BeginsWith here (link_ext_slice_bytes found)
     → IsLinkExtension known here (link_extension_of found, left)
-    → Reads offset type bytes (old ++ found ∷ []) room
+    → Reads offset type bytes (old ++ found ∷ []) space
     (at + link_ext_header_len (extension_header (link_extension_of found)))
     (extension_type (link_extension_of found)) (extension_payload (link_extension_of found))
-one_more offset type bytes old room at known here left found so_far begins part = record {
+one_more offset type bytes old space at known here left found so_far begins part = record {
   place = omega (arith, so_far.place, extension_len known here (link_extension_of found, left) part);
   holds = λ others net transport is.
       subst (λ (x : List LinkExtension). IsInside slices most_link_exts type bytes x net transport)
@@ -81,14 +81,14 @@ one_more offset type bytes old room at known here left found so_far begins part 
 
 -- One more was read, from the contracts of the functions.
 pub reads_one : (offset : ℕ) (type : Option EtherType) (bytes : List ℕ) (old new : List LinkExtSlice)
-    (room rest at after : ℕ) (here_type next_type : Option EtherType) (known : EtherType) (here left next : List ℕ)
+    (space rest at after : ℕ) (here_type next_type : Option EtherType) (known : EtherType) (here left next : List ℕ)
     (found : LinkExtSlice)
-    → Reads offset type bytes old room at here_type here → room ≡ suc rest → here_type ≡ Some known
+    → Reads offset type bytes old space at here_type here → space ≡ suc rest → here_type ≡ Some known
     → BeginsWith here (link_ext_slice_bytes found) → IsLinkExtension known here (link_extension_of found, left)
     → new ≡ old ++ found ∷ [] → after ≡ at + link_ext_header_len (extension_header (link_extension_of found))
     → next_type ≡ extension_type (link_extension_of found) → next ≡ extension_payload (link_extension_of found)
     → Reads offset type bytes new rest after next_type next
-reads_one offset type bytes old new room rest at after here_type next_type known here left next found so_far more is
+reads_one offset type bytes old new space rest at after here_type next_type known here left next found so_far more is
     begins part push place type_is payload_is =
     let first = subst (λ (t : Option EtherType). Reads offset type bytes old (suc rest) at t here) is
     (subst (λ (n : ℕ). Reads offset type bytes old n at here_type here) more so_far) in
@@ -103,45 +103,45 @@ reads_one offset type bytes old new room rest at after here_type next_type known
 
 -- Bytes with the ether type of a link extension, but which are no valid one, are rejected.
 pub reads_refused : (offset : ℕ) (type : Option EtherType) (bytes : List ℕ) (old : List LinkExtSlice)
-    (room rest at : ℕ) (here_type : Option EtherType) (known : EtherType) (here : List ℕ) (error : SliceError)
-    → Reads offset type bytes old room at here_type here → room ≡ suc rest → here_type ≡ Some known
+    (space rest at : ℕ) (here_type : Option EtherType) (known : EtherType) (here : List ℕ) (error : SliceError)
+    → Reads offset type bytes old space at here_type here → space ≡ suc rest → here_type ≡ Some known
     → RefusesExtensionAt at known here error → RefusesInside slices most_link_exts offset type bytes error
-reads_refused offset type bytes old room rest at here_type known here error so_far more is refused =
+reads_refused offset type bytes old space rest at here_type known here error so_far more is refused =
     let first = subst (λ (t : Option EtherType). Reads offset type bytes old (suc rest) at t here) is
     (subst (λ (n : ℕ). Reads offset type bytes old n at here_type here) more so_far) in
     first.refused error (inr (inl refused))
 
 -- If no further link extension is read, the layers of the bytes are those of the network layer.
-net_part_inside : (room : ℕ) (type : Option EtherType) (bytes : List ℕ) → ((room ≡ 0) ⊎ BeginsNone type)
+net_part_inside : (space : ℕ) (type : Option EtherType) (bytes : List ℕ) → ((space ≡ 0) ⊎ BeginsNone type)
     → (net : Option NetLayer) (transport : Option TransportLayer)
-    → IsNetPart slices (net_kind_in type) bytes net transport → IsInside slices room type bytes [] net transport
-net_part_inside room None bytes why net transport part = (refl, part.0, part.1)
-net_part_inside room (Some type) bytes why net transport part = ends_at slices room type bytes why net transport part
+    → IsNetPart slices (net_kind_in type) bytes net transport → IsInside slices space type bytes [] net transport
+net_part_inside space None bytes why net transport part = (refl, part.0, part.1)
+net_part_inside space (Some type) bytes why net transport part = ends_at slices space type bytes why net transport part
 
 -- If no further link extension is read, the errors of the bytes are those of the network layer.
-net_part_refused : (room offset : ℕ) (type : Option EtherType) (bytes : List ℕ) → ((room ≡ 0) ⊎ BeginsNone type)
+net_part_refused : (space offset : ℕ) (type : Option EtherType) (bytes : List ℕ) → ((space ≡ 0) ⊎ BeginsNone type)
     → (error : SliceError) → RefusesNetPart slices offset (net_kind_in type) bytes error
-    → RefusesInside slices room offset type bytes error
-net_part_refused room offset None bytes why error refused = refused
+    → RefusesInside slices space offset type bytes error
+net_part_refused space offset None bytes why error refused = refused
 net_part_refused zero offset (Some type) bytes why error refused = refused
-net_part_refused (suc room) offset (Some type) bytes (inl full) error refused = absurd (omega (arith, full))
-net_part_refused (suc room) offset (Some type) bytes (inr none) error refused = inl (none, refused)
+net_part_refused (suc space) offset (Some type) bytes (inl full) error refused = absurd (omega (arith, full))
+net_part_refused (suc space) offset (Some type) bytes (inr none) error refused = inl (none, refused)
 
 -- If no further link extension is read, these are all link extensions of the bytes.
 pub extensions_end : (offset : ℕ) (type : Option EtherType) (bytes : List ℕ) (extensions : List LinkExtSlice)
-    (room at : ℕ) (rest_type : Option EtherType) (rest : List ℕ)
-    → Reads offset type bytes extensions room at rest_type rest → ((room ≡ 0) ⊎ BeginsNone rest_type)
+    (space at : ℕ) (rest_type : Option EtherType) (rest : List ℕ)
+    → Reads offset type bytes extensions space at rest_type rest → ((space ≡ 0) ⊎ BeginsNone rest_type)
     → HasExtensions offset type bytes extensions at rest_type rest
-extensions_end offset type bytes extensions room at rest_type rest so_far why = record {
+extensions_end offset type bytes extensions space at rest_type rest so_far why = record {
   place = so_far.place;
   holds = λ net transport part. record {
     inside = subst
         (λ (x : List LinkExtension). IsInside slices most_link_exts type bytes x
         (option_map net_layer_of net) (option_map transport_layer_of transport))
         (append-nil (map link_extension_of extensions))
-        (so_far.holds [] _ _ (net_part_inside room rest_type rest why _ _ part.part));
+        (so_far.holds [] _ _ (net_part_inside space rest_type rest why _ _ part.part));
     shows = subst (λ (x : List LinkExtSlice). ShowsInside bytes x net transport) (append-nil extensions)
         (so_far.shows [] net transport part.shows);
   };
-  refused = λ error refused. so_far.refused error (net_part_refused room at rest_type rest why error refused);
+  refused = λ error refused. so_far.refused error (net_part_refused space at rest_type rest why error refused);
 }

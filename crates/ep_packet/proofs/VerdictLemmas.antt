@@ -33,7 +33,7 @@ pub header_len_is : (header : Ipv4HeaderSlice)
     → length (ipv4_header_slice_bytes header) ≡ ipv4_header_len (ipv4_header_slice_header header)
 header_len_is header =
     let words = header.bytes.words in
-    let whole = header.bytes.whole in
+    let complete = header.bytes.whole in
     grind (arith, common_steps)
 
 header_bytes_are : (slice : Ipv4HeaderSlice) (header : Ipv4Header) (content all : List ℕ)
@@ -89,9 +89,9 @@ pub after_option : (options : List ℕ) (n : ℕ) → 2 ≤ length options → n
 after_option [] n some is not_end not_single long fits none = absurd (omega arith)
 after_option (kind ∷ []) n some is not_end not_single long fits none = absurd (omega arith)
 after_option (kind ∷ len ∷ rest) n some is not_end not_single long fits none =
-    let whole : (nat_lt len 2 || nat_lt (2 + length rest) len) ≡ false = grind (arith, common_steps) in
+    let complete : (nat_lt len 2 || nat_lt (2 + length rest) len) ≡ false = grind (arith, common_steps) in
     let all : has_source_route (kind ∷ len ∷ rest) ≡ has_source_route_after (len - 1) (len ∷ rest) =
-    rw (not_end, not_single, whole, none) refl in
+    rw (not_end, not_single, complete, none) refl in
     let next : n ≡ suc (len - 1) = omega arith in
     ap (λ (k : ℕ). has_source_route (drop k (kind ∷ len ∷ rest))) next
     ∙ sym (all ∙ skipped_source_route (len - 1) (len ∷ rest))

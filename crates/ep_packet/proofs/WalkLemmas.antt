@@ -1,14 +1,18 @@
 -- One step of slicing or decoding a frame, from the contracts of the layers' functions.
-use Rattle.std.proofs.Common.{◌≡◌, ◌⊎◌, ℕ, zero, suc, List, [], ◌++◌, Option, Some, None, ap, subst, ◌∙◌, inl, inr, arith}
+use Rattle.std.proofs.Common.{◌≡◌, ◌⊎◌, Bool, ◌-◌, ◌<◌, ℕ, zero, suc, List, [], ◌∷◌, ◌++◌, length, length-append, Option, Some, None, sym, ap, subst, ◌∙◌, inl, inr, arith}
 use Rattle.std.specs.Prelude.{IfSome, IfNone}
 use Rattle.ep_base.specs.Readings.{Reading}
+use Rattle.ep_base.specs.declared.err.len_error.LenError.{LenError}
+use Rattle.ep_base.specs.declared.err.tcp.HeaderSliceError.{HeaderSliceError}
+use Rattle.ep_base.specs.declared.err.tcp.HeaderSliceError.TheVariants as tcp_error
 use Rattle.ep_base.specs.declared.ether_type.EtherType.{EtherType}
 use Rattle.ep_link.specs.declared.link_ext.link_ext_slice.LinkExtSlice.{LinkExtSlice}
 use Rattle.ep_link.specs.LinkExtensions.{LinkExtension, BeginsLinkExtension, IsLinkExtension, link_ext_slice_bytes, link_extension_of}
 use Rattle.ep_link.specs.LinkSlices.{LinkLayer}
-use Rattle.ep_transport.specs.TransportParts.{TransportLayer}
+use Rattle.ep_transport.specs.TransportParts.{TransportLayer, RefusesTransportPart}
+use Rattle.ep_transport.proofs.TransportPlaceLemmas.{at_start, transport_start}
 use Rattle.ep_packet.specs.Layers.{Layers, NetLayer}
-use Rattle.ep_packet.specs.Frame.{net_kind, IsInside, IsNetPart}
+use Rattle.ep_packet.specs.Frame.{most_link_exts, net_kind, IsInside, IsNetPart}
 
 -- A relation of two values holds for values equal to them.
 pub along : {A B : Type 0} (P : A → B → Type 0) (a b : A) (x y : B) → a ≡ b → x ≡ y → P a x → P b y
@@ -22,31 +26,46 @@ layers_with link extensions net transport =
 -- ---- link extensions
 
 -- Link extensions end at the greatest number, or at an ether type that is none of a link extension.
-pub ends_at : (reading : Reading) (room : ℕ) (type : EtherType) (bytes : List ℕ)
-    → ((room ≡ 0) ⊎ (¬ BeginsLinkExtension type)) → (net : Option NetLayer) (transport : Option TransportLayer)
+pub ends_at : (reading : Reading) (space : ℕ) (type : EtherType) (bytes : List ℕ)
+    → ((space ≡ 0) ⊎ (¬ BeginsLinkExtension type)) → (net : Option NetLayer) (transport : Option TransportLayer)
     → IsNetPart reading (net_kind type) bytes net transport
-    → IsInside reading room (Some type) bytes [] net transport
+    → IsInside reading space (Some type) bytes [] net transport
 ends_at reading zero type bytes why net transport part = part
-ends_at reading (suc room) type bytes (inl full) net transport part = absurd (omega (arith, full))
-ends_at reading (suc room) type bytes (inr none) net transport part = (none, part)
+ends_at reading (suc space) type bytes (inl full) net transport part = absurd (omega (arith, full))
+ends_at reading (suc space) type bytes (inr none) net transport part = (none, part)
 
 -- A link extension that was returned is at the start of the bytes.
-pub found_there : (type : EtherType) (bytes : List ℕ) (answer : Option LinkExtSlice) (found : LinkExtSlice)
+pub found_present : (type : EtherType) (bytes : List ℕ) (answer : Option LinkExtSlice) (found : LinkExtSlice)
     → answer ≡ Some found
     → IfSome answer (λ shown. (left : List ℕ) × (bytes ≡ link_ext_slice_bytes shown ++ left)
     × IsLinkExtension type bytes (link_extension_of shown, left))
     → (left : List ℕ) × (bytes ≡ link_ext_slice_bytes found ++ left)
     × IsLinkExtension type bytes (link_extension_of found, left)
-found_there type bytes answer found same ok =
+found_present type bytes answer found same ok =
     subst (λ (o : Option LinkExtSlice). IfSome o
     (λ shown. (left : List ℕ) × (bytes ≡ link_ext_slice_bytes shown ++ left)
     × IsLinkExtension type bytes (link_extension_of shown, left))) same ok
 
 -- If no link extension was returned, the ether type is none of one.
-pub none_there : (type : EtherType) (answer : Option LinkExtSlice) → answer ≡ None
+pub none_present : (type : EtherType) (answer : Option LinkExtSlice) → answer ≡ None
     → IfNone answer (¬ BeginsLinkExtension type) → ¬ BeginsLinkExtension type
-none_there type answer same none =
+none_present type answer same none =
     subst (λ (o : Option LinkExtSlice). IfNone o (¬ BeginsLinkExtension type)) same none
+
+-- After one more link extension, there is space for one less.
+pub space_after : {A : Type 0} (before after : List A) (tag : A) → after ≡ before ++ tag ∷ []
+    → length before < most_link_exts → most_link_exts - length before ≡ suc (most_link_exts - length after)
+space_after before after tag parts space =
+    omega (arith, ap length parts, length-append before (tag ∷ []), space)
+
+-- ---- transport layer
+
+-- The length error of a transport layer names a layer that starts where the transport layer does.
+pub transport_error_start : (reading : Reading) (number : ℕ) (fragmented : Bool) (bytes : List ℕ)
+    (found : HeaderSliceError) (error : LenError) → found ≡ tcp_error.Len error
+    → RefusesTransportPart reading number fragmented bytes found → error.layer_start_offset ≡ 0
+transport_error_start reading number fragmented bytes found error same refused =
+    sym (ap transport_start same) ∙ at_start reading number fragmented bytes found refused
 
 -- ---- whole packet
 

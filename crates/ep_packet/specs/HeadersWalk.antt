@@ -10,14 +10,15 @@ use Rattle.ep_link.specs.LinkExtensions.{LinkExtension, extension_header}
 use Rattle.ep_link.specs.declared.link.link_header.LinkHeader.{LinkHeader}
 use Rattle.ep_ip.specs.IpPackets.{IpPart}
 use Rattle.ep_transport.specs.TransportParts.{TransportLayer}
-use Rattle.ep_packet.specs.Frame.{NetKind, IsInside, IsNetPart, IsTransportIn}
+use Rattle.ep_packet.specs.Frame.{NetKind, IsFrameIn, IsInside, IsNetPart, IsTransportIn}
 use Rattle.ep_packet.specs.FrameBytes.{payload_after_exts}
 use Rattle.ep_packet.specs.IpHeaders.{ip_headers_of, ip_part_payload}
-use Rattle.ep_packet.specs.Layers.{NetLayer, ip_layer}
+use Rattle.ep_packet.specs.Layers.{Layers, NetLayer, ip_layer}
 use Rattle.ep_packet.specs.NetHeaders.{net_headers_of}
-use Rattle.ep_packet.specs.PacketHeaders.{Headers, net_header_in, transport_header_in}
+use Rattle.ep_packet.specs.PacketHeaders.{Headers, headers_in, net_header_in, transport_header_in}
 use Rattle.ep_packet.specs.PayloadParts.{PayloadPart, ip, innermost_part, open_part}
 use Rattle.ep_packet.specs.Payloads.{ether_payload_after, have_short_len}
+use Rattle.ep_packet.specs.declared.entry.Entry.{Entry}
 use Rattle.ep_packet.specs.declared.net_headers.NetHeaders.{NetHeaders}
 use Rattle.ep_packet.specs.FrameRefusals.{net_payload_offset}
 
@@ -82,3 +83,8 @@ pub record FillsInside (exts_left : ℕ) (payload : EtherPayload) (old new : Hea
   pub filled : new ≡ with_net
       (record old { link_exts = old.link_exts ++ map extension_header extensions })
       (open_after payload extensions) net transport
+
+-- The headers are those of a frame of these bytes.
+abbrev pub AreDecoded : Entry → List ℕ → Headers → Type 0
+AreDecoded entry bytes decoded =
+    (layers : Layers) × IsFrameIn headers entry bytes layers × (decoded ≡ headers_in layers)

@@ -58,6 +58,11 @@ abbrev pub ip_part_payload : IpPart → IpPayload
 ip_part_payload (ipv4_part packet) = packet.payload
 ip_part_payload (ipv6_part packet) = packet.payload
 
+-- The extension headers of a packet, in their order.
+abbrev pub ip_part_extensions : IpPart → List ExtensionPart
+ip_part_extensions (ipv4_part packet) = packet.extensions
+ip_part_extensions (ipv6_part packet) = packet.extensions
+
 -- The headers and the payload are those of the packet.
 abbrev pub AreOfPart : IpPart → IpHeaders × IpPayloadSlice → Type 0
 AreOfPart part read = (read.0 ≡ ip_headers_of part) × (ip_payload_of read.1 ≡ ip_part_payload part)
@@ -242,10 +247,12 @@ payload_of_headers headers last bytes = record {
   bytes = bytes;
 }
 
--- The bytes are a packet with these headers and this payload, without trailing bytes after its length field's limit.
+-- The bytes are a packet with these headers, in the order of RFC 8200, 4.1, and this payload, without trailing bytes
+-- after its length field's limit.
 pub record AreReadAs (bytes : List ℕ) (read : IpHeaders) (payload : IpPayload) : Type 0 where
   pub part : IpPart
   pub is : IsIp by_value bytes part
   pub same_headers : ip_headers_of part ≡ read
+  pub same_extensions : ip_part_extensions part ≡ ip_headers_parts read
   pub same_payload : ip_part_payload part ≡ payload
   pub nothing_left : ip_left part ≡ []

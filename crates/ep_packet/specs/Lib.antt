@@ -15,6 +15,7 @@ pub mod Walk
 pub mod LinkParts
 pub mod IpHeaders
 pub mod LaxIpHeaders
+pub mod LaxIpContents
 pub mod NetHeaders
 pub mod PayloadParts
 pub mod PacketHeaders

@@ -16,15 +16,14 @@ ghost use Rattle.ep_ip.specs.LaxIp.{LaxIp, IsLaxIpv4In, IsLaxIpv6In, RefusesIpHe
 ghost use Rattle.ep_packet.specs.LaxIpHeaders.{IsLaxIp, LaxIpPart, ShowsLaxIp, ShowsLaxIpv4, ShowsLaxIpv6, extension_stop, stop_with_layer};
 
 use crate::ip_headers::IpHeaders;
+use crate::lax_ip_content::{slice_ipv4_lax, slice_ipv6_lax};
 use ep_base::err::{Layer, LenError, ip, ip_auth, ip_exts, ipv4, ipv6, ipv6_exts};
-use ep_base::lax_cut::{LengthField, limit_by_length_field};
 use ep_base::{LaxIpPayloadSlice, LenSource};
 use ep_ext::{Ipv4Extensions, Ipv6Extensions};
+use ep_ip::Ipv6Header;
 use ep_ip::lax::{
-    auth_error_in_packet, exts_error_in_packet, ipv6_payload_source, of_ipv4_header,
-    of_ipv6_header, unsupported,
+    auth_error_in_packet, exts_error_in_packet, of_ipv4_header, of_ipv6_header, unsupported,
 };
-use ep_ip::{Ipv4HeaderSlice, Ipv6Header, Ipv6HeaderSlice};
 
 /// Result of [`IpHeaders::from_slice_lax`]: the headers, the payload after them, and the error of the first invalid
 /// extension header with its layer, if any.
@@ -164,30 +163,20 @@ fn read_ipv4(slice: &[u8]) -> Result<Ipv4WithStop<'_>, ipv4::HeaderSliceError>
         × ShowsLaxIpv4 lax read) }
     ensures err { IfErr result (RefusesIpv4Header slice.now) }
 {
-    let header = match Ipv4HeaderSlice::from_slice(slice) {
-        Ok(header) => header,
+    let (header, content) = match slice_ipv4_lax(slice, false) {
+        Ok(read) => read,
         Err(error) => return Err(error),
     };
-    let header_len = header.header_len();
-    let field = LengthField {
-        least: header_len,
-        stated: header.total_len() as usize,
-        source: LenSource::Ipv4HeaderTotalLen,
-    };
-    let content = limit_by_length_field(slice, header_len, field, false);
-    let fragmented = header.is_fragmenting_payload();
     let (extensions, ip_number, payload, refused) = Ipv4Extensions::from_slice_lax(
-        header.protocol(),
+        content.ip_number,
         content.payload,
     );
-    let stop = auth_error_in_packet(refused, header_len, content.len_source);
     let payload = LaxIpPayloadSlice {
-        incomplete: content.incomplete,
         ip_number,
-        fragmented,
-        len_source: content.len_source,
         payload,
+        ..content
     };
+    let stop = auth_error_in_packet(refused, header.header_len(), payload.len_source);
     Ok((
         IpHeaders::Ipv4(header.to_header(), extensions),
         payload,
@@ -202,29 +191,21 @@ fn read_ipv6(slice: &[u8]) -> Result<IpHeadersIpv6LaxFromSliceResult<'_>, ipv6::
         × ShowsLaxIpv6 lax read) }
     ensures err { IfErr result (RefusesIpv6Header slice.now) }
 {
-    let header = match Ipv6HeaderSlice::from_slice(slice) {
-        Ok(header) => header,
+    let (header, content) = match slice_ipv6_lax(slice, false) {
+        Ok(read) => read,
         Err(error) => return Err(error),
     };
-    let field = LengthField {
-        least: Ipv6Header::LEN + 1,
-        stated: Ipv6Header::LEN + header.payload_length() as usize,
-        source: LenSource::Ipv6HeaderPayloadLen,
-    };
-    let content = limit_by_length_field(slice, Ipv6Header::LEN, field, false);
-    let len_source = ipv6_payload_source(&header, &content);
     let (extensions, ip_number, payload, refused) = Ipv6Extensions::from_slice_lax(
-        header.next_header(),
+        content.ip_number,
         content.payload,
     );
-    let stop = exts_error_in_packet(refused, Ipv6Header::LEN, len_source);
     let payload = LaxIpPayloadSlice {
-        incomplete: content.incomplete,
         ip_number,
         fragmented: extensions.is_fragmenting_payload(),
-        len_source,
         payload,
+        ..content
     };
+    let stop = exts_error_in_packet(refused, Ipv6Header::LEN, payload.len_source);
     Ok((
         IpHeaders::Ipv6(header.to_header(), extensions),
         payload,

@@ -4,10 +4,12 @@
 mod checksum_verdict;
 mod entry;
 pub mod err;
+pub mod header_lens;
 mod ip_headers;
 mod ip_headers_read;
 mod ip_headers_read_lax;
 pub mod laws;
+pub mod lax_ip_content;
 mod link_part;
 mod little_endian_sum;
 mod net_headers;
@@ -20,6 +22,7 @@ mod sliced_packet;
 mod sliced_packet_checksums;
 mod sliced_packet_payload;
 mod sliced_packet_walk;
+pub mod vlan_tags;
 
 pub use arrayvec::ArrayVec;
 pub use checksum_verdict::{ChecksumVerdict, ChecksumVerdicts};

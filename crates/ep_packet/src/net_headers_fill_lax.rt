@@ -18,14 +18,14 @@ ghost use Rattle.ep_ip.specs.LaxIp.{LaxIp, IsLaxIpv4In, IsLaxIpv6In};
 ghost use Rattle.ep_packet.specs.declared.net_headers.NetHeaders.TheVariants as variant;
 ghost use Rattle.ep_packet.specs.LaxIpHeaders.{FillsLaxIp};
 
+use crate::lax_ip_content::{slice_ipv4_lax, slice_ipv6_lax};
 use crate::net_headers::NetHeaders;
 use crate::net_headers_fill::{store_ipv4_headers, store_ipv6};
 use ep_base::err::{Layer, ip_auth, ipv4, ipv6, ipv6_exts};
-use ep_base::lax_cut::{LengthField, limit_by_length_field};
-use ep_base::{IpNumber, LaxIpPayloadSlice, LenSource};
+use ep_base::{IpNumber, LaxIpPayloadSlice};
 use ep_ext::Ipv4ExtensionsSlice;
-use ep_ip::lax::{auth_error_in_packet, exts_error_in_packet, ipv6_payload_source};
-use ep_ip::{Ipv4HeaderSlice, Ipv6Header, Ipv6HeaderSlice};
+use ep_ip::Ipv6Header;
+use ep_ip::lax::{auth_error_in_packet, exts_error_in_packet};
 
 /// Payload of an IPv4 packet, its offset in the packet, and the error of an invalid authentication header, if any.
 type Ipv4Payload<'a> = (
@@ -58,31 +58,22 @@ impl NetHeaders {
         ensures err { IfErr result (RefusesIpv4Header slice.now) }
         ensures unchanged { OnErr result (net.new ≡ net.old) }
     {
-        let header = match Ipv4HeaderSlice::from_slice(slice) {
-            Ok(header) => header,
+        let (header, content) = match slice_ipv4_lax(slice, outer) {
+            Ok(read) => read,
             Err(error) => return Err(error),
         };
         let header_len = header.header_len();
-        let field = LengthField {
-            least: header_len,
-            stated: header.total_len() as usize,
-            source: LenSource::Ipv4HeaderTotalLen,
-        };
-        let content = limit_by_length_field(slice, header_len, field, outer);
-        let fragmented = header.is_fragmenting_payload();
         let (extensions, ip_number, payload, refused) = Ipv4ExtensionsSlice::from_slice_lax(
-            header.protocol(),
+            content.ip_number,
             content.payload,
         );
         let stop = auth_error_in_packet(refused, header_len, content.len_source);
         let offset = header_len + (content.payload.len() - payload.len());
         store_ipv4_headers(net, &header, &extensions);
         let payload = LaxIpPayloadSlice {
-            incomplete: content.incomplete,
             ip_number,
-            fragmented,
-            len_source: content.len_source,
             payload,
+            ..content
         };
         Ok((payload, offset, stop))
     }
@@ -102,30 +93,22 @@ impl NetHeaders {
         ensures err { IfErr result (RefusesIpv6Header slice.now) }
         ensures unchanged { OnErr result (net.new ≡ net.old) }
     {
-        let header = match Ipv6HeaderSlice::from_slice(slice) {
-            Ok(header) => header,
+        let (header, content) = match slice_ipv6_lax(slice, outer) {
+            Ok(read) => read,
             Err(error) => return Err(error),
         };
-        let field = LengthField {
-            least: Ipv6Header::LEN + 1,
-            stated: Ipv6Header::LEN + header.payload_length() as usize,
-            source: LenSource::Ipv6HeaderPayloadLen,
-        };
-        let content = limit_by_length_field(slice, Ipv6Header::LEN, field, outer);
-        let len_source = ipv6_payload_source(&header, &content);
         let (ip_number, fragmented, payload, refused) = store_ipv6_extensions(
             net,
             header.to_header(),
             content.payload,
         );
-        let stop = exts_error_in_packet(refused, Ipv6Header::LEN, len_source);
+        let stop = exts_error_in_packet(refused, Ipv6Header::LEN, content.len_source);
         let offset = Ipv6Header::LEN + (content.payload.len() - payload.len());
         let payload = LaxIpPayloadSlice {
-            incomplete: content.incomplete,
             ip_number,
             fragmented,
-            len_source,
             payload,
+            ..content
         };
         Ok((payload, offset, stop))
     }

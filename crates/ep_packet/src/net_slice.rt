@@ -1,17 +1,13 @@
 //! The network layer of a sliced packet: IPv4, IPv6 or ARP.
 
 ghost use Rattle.std.specs.Prelude.{◌≡◌, ◌<◌, ◌+◌, ◌^◌, length};
-ghost use Rattle.ep_ext.specs.ExtensionParts.{part_len};
-ghost use Rattle.ep_ext.specs.Ipv6ExtensionSlices.{extension_slice_bytes, extension_slice_part, ipv6_slice_parts};
 ghost use Rattle.ep_ip.specs.Ipv4.{ipv4_header_len};
 ghost use Rattle.ep_ip.specs.Ipv4Slices.{ipv4_slice_extensions, ipv4_slice_header};
-ghost use Rattle.ep_link.specs.Arp.{arp_len};
-ghost use Rattle.ep_link.specs.ArpSlices.{arp_slice_packet};
 ghost use Rattle.ep_packet.specs.Layers.{net_layer_of};
 ghost use Rattle.ep_packet.specs.Offsets.{net_layer_len, parts_len};
 
+use crate::header_lens::{arp_len, extensions_len};
 use ep_base::IpPayloadSlice;
-use ep_ext::{Ipv6ExtensionSlice, Ipv6ExtensionsSlice};
 use ep_ip::{IpSlice, Ipv4Slice, Ipv6Header, Ipv6Slice};
 use ep_link::ArpPacketSlice;
 
@@ -138,17 +134,6 @@ fn headers_len(net: &NetSlice<'_>) -> usize
     }
 }
 
-/// Returns the length of an ARP packet in bytes.
-fn arp_len(packet: &ArpPacketSlice<'_>) -> usize
-    ensures value { result ≡ arp_len (arp_slice_packet packet.now) }
-    ensures bound { result < 2 ^ 63 }
-{
-    let bytes = packet.slice();
-    let len = packet.packet_len();
-    prove!(len == bytes.len());
-    len
-}
-
 /// Returns the length in bytes of an IPv4 header and the authentication header after it, if present.
 fn ipv4_len(packet: &Ipv4Slice<'_>) -> usize
     ensures value { result
@@ -159,35 +144,6 @@ fn ipv4_len(packet: &Ipv4Slice<'_>) -> usize
     match &packet.extensions().auth {
         Some(header) => header_len + header.slice().len(),
         None => header_len,
-    }
-}
-
-/// Returns the summed length in bytes of the extension headers of an IPv6 packet, without the IPv6 header.
-fn extensions_len(extensions: Ipv6ExtensionsSlice<'_>) -> usize
-    ensures value { result ≡ parts_len (ipv6_slice_parts extensions.entry) }
-    ensures bound { result < 2 ^ 63 }
-{
-    let all = extensions.slice();
-    let mut len = 0;
-    for extension in extensions {
-        len += extension_len(&extension);
-    }
-    prove!(len <= all.len());
-    len
-}
-
-/// Returns the length of one IPv6 extension header in bytes.
-#[inline]
-fn extension_len(extension: &Ipv6ExtensionSlice<'_>) -> usize
-    ensures value { result ≡ part_len (extension_slice_part extension.now) }
-    ensures bytes { result ≡ length (extension_slice_bytes extension.now) }
-{
-    match extension {
-        Ipv6ExtensionSlice::HopByHop(header) => header.header_len(),
-        Ipv6ExtensionSlice::Routing(header) => header.header_len(),
-        Ipv6ExtensionSlice::Fragment(header) => header.header_len(),
-        Ipv6ExtensionSlice::DestinationOptions(header) => header.header_len(),
-        Ipv6ExtensionSlice::Authentication(header) => header.header_len(),
     }
 }
 

@@ -9,21 +9,22 @@ ghost use Rattle.ep_packet.specs.Frame.{most_link_exts, only_ipv4, only_ipv6, on
 ghost use Rattle.ep_packet.specs.PacketHeaders.{headers_of};
 ghost use Rattle.ep_packet.specs.PayloadParts.{ether, empty};
 ghost use Rattle.ep_packet.specs.FrameRefusals.{RefusesInside, RefusesNetPart, RefusesTransportIn};
-ghost use Rattle.ep_packet.specs.HeadersWalk.{FillsInside, FillsNet, FillsTransport, begun};
+ghost use Rattle.ep_packet.specs.HeadersWalk.{AreDecoded, FillsInside, FillsNet, FillsTransport, begun};
 
 use crate::entry::Entry;
 use crate::err::SliceError;
 use crate::net_headers::NetHeaders;
 use crate::net_headers_fill::{fill_ip, fill_ipv4, fill_ipv6};
 use crate::payload_slice::PayloadSlice;
+use crate::vlan_tags::{outer_vlan_headers, vlan_ids_of_headers};
 use arrayvec::ArrayVec;
 use ep_base::err::{ip, ipv4, ipv6, linux_sll, macsec, tcp};
 use ep_base::{EtherPayloadSlice, EtherType, IpPayloadSlice, LenSource, VlanId, ether_type};
 use ep_ext::Ipv4Extensions;
 use ep_ip::Ipv4Header;
 use ep_link::{
-    ArpPacketSlice, DoubleVlanHeader, Ethernet2Header, Ethernet2Slice, LinkExtHeader, LinkExtSlice,
-    LinkHeader, LinuxSllHeader, LinuxSllSlice, VlanHeader,
+    ArpPacketSlice, Ethernet2Header, Ethernet2Slice, LinkExtHeader, LinkExtSlice, LinkHeader,
+    LinuxSllHeader, LinuxSllSlice, VlanHeader,
 };
 use ep_transport::{TcpHeader, TransportHeader};
 
@@ -155,32 +156,14 @@ impl<'a> PacketHeaders<'a> {
     pub fn vlan(&self) -> Option<VlanHeader>
         ensures { result ≡ outer_headers (vlan_headers self.now.link_exts.items) }
     {
-        let mut outer = None;
-        for extension in self.link_exts.iter() {
-            if let LinkExtHeader::Vlan(tag) = extension {
-                match outer {
-                    None => outer = Some(tag.clone().unwrap()),
-                    Some(outer) => {
-                        let inner = tag.clone().unwrap();
-                        return Some(VlanHeader::Double(DoubleVlanHeader { outer, inner }));
-                    }
-                }
-            }
-        }
-        Some(VlanHeader::Single(outer?))
+        outer_vlan_headers(&self.link_exts)
     }
 
     /// Returns the VLAN identifiers of all VLAN tags of the packet, from the outside in.
     pub fn vlan_ids(&self) -> ArrayVec<VlanId, 3>
         ensures { result.items ≡ header_vlan_ids self.now.link_exts.items }
     {
-        let mut ids = ArrayVec::new();
-        for extension in self.link_exts.iter() {
-            if let LinkExtHeader::Vlan(tag) = extension {
-                ids.push(tag.vlan_id);
-            }
-        }
-        ids
+        vlan_ids_of_headers(&self.link_exts)
     }
 
     /// Returns a packet with default IPv4 and TCP headers, which the caller overwrites. Most packets have these
@@ -201,8 +184,7 @@ impl<'a> PacketHeaders<'a> {
     /// packet.
     #[inline(always)]
     fn fill(&mut self, entry: Entry, bytes: &'a [u8]) -> Result<(), SliceError>
-        ensures ok { OnOk result ((layers : Layers) × IsFrameIn headers entry bytes.now layers
-            × (headers_of self.new ≡ headers_in layers)) }
+        ensures ok { OnOk result (AreDecoded entry bytes.now (headers_of self.new)) }
         ensures only { (layers : Layers) → IsFrameIn headers entry bytes.now layers
             → IsOkAnd result (λ _. headers_of self.new ≡ headers_in layers) }
         ensures bytes { OnOk result (IsSubsliceOf (payload_part_bytes (payload_part_of self.new.payload)) bytes.now) }
@@ -215,8 +197,7 @@ impl<'a> PacketHeaders<'a> {
     /// inlined and call this one, so that a hot loop zeroes the packet once per frame, and moves it at most once.
     #[inline(never)]
     fn fill_outlined(&mut self, entry: Entry, bytes: &'a [u8]) -> Result<(), SliceError>
-        ensures ok { OnOk result ((layers : Layers) × IsFrameIn headers entry bytes.now layers
-            × (headers_of self.new ≡ headers_in layers)) }
+        ensures ok { OnOk result (AreDecoded entry bytes.now (headers_of self.new)) }
         ensures only { (layers : Layers) → IsFrameIn headers entry bytes.now layers
             → IsOkAnd result (λ _. headers_of self.new ≡ headers_in layers) }
         ensures bytes { OnOk result (IsSubsliceOf (payload_part_bytes (payload_part_of self.new.payload)) bytes.now) }
@@ -229,8 +210,7 @@ impl<'a> PacketHeaders<'a> {
     /// has two more contract clauses (`only` and `bytes`), which follow from the two here.
     #[inline(always)]
     fn fill_frame(&mut self, entry: Entry, bytes: &'a [u8]) -> Result<(), SliceError>
-        ensures ok { OnOk result ((layers : Layers) × IsFrameIn headers entry bytes.now layers
-            × (headers_of self.new ≡ headers_in layers)) }
+        ensures ok { OnOk result (AreDecoded entry bytes.now (headers_of self.new)) }
         ensures err { IfErr result (RefusesFrameIn headers entry bytes.now) }
     {
         match entry {

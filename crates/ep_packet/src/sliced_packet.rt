@@ -11,9 +11,10 @@ use crate::err::SliceError;
 use crate::link_part::LinkPart;
 use crate::net_slice::NetSlice;
 use crate::sliced_packet_walk::{fill_inside, fill_ip};
+use crate::vlan_tags::double_vlan;
 use arrayvec::ArrayVec;
 use ep_base::{EtherPayloadSlice, EtherType, IpPayloadSlice, LenSource, VlanId};
-use ep_link::{DoubleVlanSlice, LinkExtSlice, LinkSlice, VlanSlice};
+use ep_link::{LinkExtSlice, LinkSlice, VlanSlice};
 use ep_transport::TransportSlice;
 
 /// Packet sliced into its layers, from the outside in. `net` and `transport` are `None` if the packet doesn't have that
@@ -159,15 +160,23 @@ impl<'a> SlicedPacket<'a> {
         ensures err { IfErr result (RefusesFrame entry bytes.now) }
         ensures none { IfErr result (λ _. layers_of self.new ≡ no_layers) }
     {
-        if !self.link_exts.is_empty() {
-            self.link_exts.clear();
-        }
+        self.remove_link_exts();
         match self.fill(entry, bytes) {
             Ok(()) => Ok(()),
             Err(error) => {
                 self.clear();
                 Err(error)
             }
+        }
+    }
+
+    /// Removes the link extensions of the packet. Without link extensions, as most packets are, nothing is written.
+    #[inline(always)]
+    fn remove_link_exts(&mut self)
+        ensures { self.new.link_exts.items ≡ [] }
+    {
+        if !self.link_exts.is_empty() {
+            self.link_exts.clear();
         }
     }
 
@@ -327,10 +336,7 @@ impl<'a> SlicedPacket<'a> {
             if let LinkExtSlice::Vlan(tag) = extension {
                 match outer {
                     None => outer = Some(tag.clone().unwrap()),
-                    Some(outer) => {
-                        let inner = tag.clone().unwrap();
-                        return Some(VlanSlice::DoubleVlan(DoubleVlanSlice { outer, inner }));
-                    }
+                    Some(outer) => return Some(double_vlan(outer, tag)),
                 }
             }
         }

@@ -3,17 +3,15 @@
 ghost use Rattle.std.specs.Prelude.{◌≡◌, ◌≤◌, ◌<◌, ◌+◌, ◌^◌, ℕ, List, length, map, drop};
 ghost use Rattle.std.specs.Option.{option_map};
 ghost use Rattle.ep_link.specs.LinkExtensions.{link_extension_of};
-ghost use Rattle.ep_link.specs.LinkSlices.{link_layer_of};
-ghost use Rattle.ep_transport.specs.TransportParts.{transport_layer_of};
 ghost use Rattle.ep_packet.specs.FrameBytes.{AreInOrder, last_payload, link_payload, payload_after_exts};
-ghost use Rattle.ep_packet.specs.Offsets.{link_len, net_len, payload_offset, tag_len, tags_len, transport_len};
+ghost use Rattle.ep_packet.specs.Offsets.{net_len, payload_offset, tag_len, tags_len};
 ghost use Rattle.ep_packet.specs.ShownBytes.{BeginsWith};
 ghost use Rattle.ep_packet.specs.Layers.{layers_of, net_layer_of};
 
+use crate::header_lens::{link_len, link_payload, transport_len};
 use crate::net_slice::NetSlice;
 use crate::sliced_packet::SlicedPacket;
-use ep_link::{LinkExtSlice, LinkSlice};
-use ep_transport::TransportSlice;
+use ep_link::LinkExtSlice;
 
 impl<'a> SlicedPacket<'a> {
     /// Bytes of the payload of the packet's last (innermost) layer; empty if that is ARP.
@@ -53,10 +51,7 @@ impl<'a> SlicedPacket<'a> {
         if let Some(extension) = self.link_exts.last() {
             return extension.payload_slice();
         }
-        match &self.link {
-            Some(link) => link.payload_slice(),
-            None => &[],
-        }
+        link_payload(&self.link)
     }
 }
 
@@ -81,17 +76,6 @@ fn tag_len(extension: &LinkExtSlice<'_>) -> usize
     extension.header_len()
 }
 
-/// Returns the length of the link header in bytes, or 0 without one (Ethernet II: 14, Linux cooked capture: 16).
-fn link_len(link: &Option<LinkSlice<'_>>) -> usize
-    ensures value { result ≡ link_len (option_map link_layer_of link.now) }
-    ensures bound { result ≤ 16 }
-{
-    match link {
-        Some(link) => link.header_len(),
-        None => 0,
-    }
-}
-
 /// Returns the length in bytes of the IP header and its extension headers, or of the ARP packet; 0 without a network
 /// layer.
 fn net_len(net: &Option<NetSlice<'_>>) -> usize
@@ -100,17 +84,6 @@ fn net_len(net: &Option<NetSlice<'_>>) -> usize
 {
     match net {
         Some(net) => net.header_len(),
-        None => 0,
-    }
-}
-
-/// Returns the length of the transport header in bytes; 0 without a transport layer.
-fn transport_len(transport: &Option<TransportSlice<'_>>) -> usize
-    ensures value { result ≡ transport_len (option_map transport_layer_of transport.now) }
-    ensures bound { result ≤ 60 }
-{
-    match transport {
-        Some(layer) => layer.header_len(),
         None => 0,
     }
 }

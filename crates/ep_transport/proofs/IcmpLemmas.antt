@@ -47,19 +47,19 @@ kind_in-row row kinds type code (Some kind) found = kind_in-found row kinds type
 abbrev pub four_at : List ℕ → List ℕ
 four_at bytes = slice_index bytes 4 ∷ slice_index bytes 5 ∷ slice_index bytes 6 ∷ slice_index bytes 7 ∷ []
 
-pub four_there : (bytes : List ℕ) → 8 ≤ length bytes → drop 4 bytes ≡ four_at bytes ++ drop 8 bytes
+pub four_present : (bytes : List ℕ) → 8 ≤ length bytes → drop 4 bytes ≡ four_at bytes ++ drop 8 bytes
 unfolding elements
-four_there bytes long = drop-elements 4 4 bytes long
+four_present bytes long = drop-elements 4 4 bytes long
 
 pub four_range : (bytes : List ℕ) → 8 ≤ length bytes → slice_range bytes 4 8 ≡ four_at bytes
-four_range bytes long = ap (take 4) (four_there bytes long)
+four_range bytes long = ap (take 4) (four_present bytes long)
 
 -- The bytes of a message are its type, its code, its checksum and the bytes from 4 on.
-pub message_front : (bytes rest : List ℕ) (type code : ℕ) → AreBytes bytes → 8 ≤ length bytes
+pub message_prefix : (bytes rest : List ℕ) (type code : ℕ) → AreBytes bytes → 8 ≤ length bytes
     → slice_index bytes 0 ≡ type → slice_index bytes 1 ≡ code → drop 4 bytes ≡ rest
     → bytes ≡ type ∷ code ∷ (to_be_bytes w16 (word_at bytes 2) ++ rest)
 unfolding elements
-message_front bytes rest type code fits long is_type is_code is_rest =
+message_prefix bytes rest type code fits long is_type is_code is_rest =
     drop-elements 4 0 bytes (omega arith)
     ∙ (λ i. is_type i ∷ is_code i ∷ (word_cells bytes fits 2 refl i ++ is_rest i))
 

@@ -20,31 +20,31 @@ use Rattle.ep_transport.specs.declared.icmpv4_type.Icmpv4Type.TheVariants as mes
 use Rattle.ep_transport.specs.declared.icmpv4_header.Icmpv4Header.{Icmpv4Header}
 use Rattle.ep_transport.specs.Icmpv4.{icmpv4_row, icmpv4_kinds, icmpv4_kind_of, icmpv4_kind_at, icmpv4_kind, icmpv4_len, icmpv4_type_u8, icmpv4_code_u8, icmpv4_exceeded_u8, icmpv4_exceeded_of}
 use Rattle.ep_transport.specs.Icmpv4.{FitsIcmpv4, FitsIcmpv4Fields, FitsTimestamp, EndsIcmpv4, IsIcmpv4, icmpv4_bytes_with, icmpv4_header_of, icmpv4_parts, icmpv4_rest_with, icmpv4_rows, icmpv4_timestamp_rows, icmpv4_value_of, timestamp_bytes, timestamp_of}
-use Rattle.ep_transport.proofs.IcmpLemmas.{IsInRow, kind_in-row, four_at, four_there, four_range, message_front, echo_same, echo_fits, echo_read, message_bytes}
+use Rattle.ep_transport.proofs.IcmpLemmas.{IsInRow, kind_in-row, four_at, four_present, four_range, message_prefix, echo_same, echo_fits, echo_read, message_bytes}
 
 -- ---- lengths
 
 -- `n` bytes hold a complete header of this kind; a timestamp message has exactly 20.
-record Stands (found : Option Icmpv4Kind) (n : ℕ) : Type 0 where
+record IsValid (found : Option Icmpv4Kind) (n : ℕ) : Type 0 where
   long : 8 ≤ n
   whole : icmpv4_len found ≤ n
   exact : icmpv4_len found ≡ 20 → n ≡ 20
 
-timestamp_stands : (found : Option Icmpv4Kind) (n : ℕ) → 8 ≤ n → first_row (icmpv4_timestamp_rows found n) ≡ None
-    → Stands found n
-timestamp_stands None n long none = record { long = long; whole = long; exact = λ e. absurd (omega (arith, e)) }
-timestamp_stands (Some kind.TimestampRequest) n long none =
+timestamp_holds : (found : Option Icmpv4Kind) (n : ℕ) → 8 ≤ n → first_row (icmpv4_timestamp_rows found n) ≡ None
+    → IsValid found n
+timestamp_holds None n long none = record { long = long; whole = long; exact = λ e. absurd (omega (arith, e)) }
+timestamp_holds (Some kind.TimestampRequest) n long none =
     let same : n ≡ 20 = grind (arith, common_steps) in
     record { long = long; whole = omega (arith, same); exact = λ e. same }
-timestamp_stands (Some kind.TimestampReply) n long none =
+timestamp_holds (Some kind.TimestampReply) n long none =
     let same : n ≡ 20 = grind (arith, common_steps) in
     record { long = long; whole = omega (arith, same); exact = λ e. same }
-timestamp_stands (Some _) n long none = record { long = long; whole = long; exact = λ e. absurd (omega (arith, e)) }
+timestamp_holds (Some _) n long none = record { long = long; whole = long; exact = λ e. absurd (omega (arith, e)) }
 
-stands : (bytes : List ℕ) → first_row (icmpv4_rows bytes) ≡ None → Stands (icmpv4_kind_at bytes) (length bytes)
-stands bytes none =
+is_valid : (bytes : List ℕ) → first_row (icmpv4_rows bytes) ≡ None → IsValid (icmpv4_kind_at bytes) (length bytes)
+is_valid bytes none =
     let long : 8 ≤ length bytes = grind (arith, common_steps) in
-    timestamp_stands (icmpv4_kind_at bytes) (length bytes) long (grind (arith, common_steps))
+    timestamp_holds (icmpv4_kind_at bytes) (length bytes) long (grind (arith, common_steps))
 
 timestamp_none : (found : Option Icmpv4Kind) (n : ℕ) → (icmpv4_len found ≡ 20 → n ≡ 20)
     → first_row (icmpv4_timestamp_rows found n) ≡ None
@@ -124,9 +124,9 @@ timestamp_same bytes fits long =
 
 -- The bytes from 4 on are bytes 4 to 7 followed by the bytes from 8 on.
 four_same : (bytes back : List ℕ) → 8 ≤ length bytes → four_at bytes ≡ back → drop 4 bytes ≡ back ++ drop 8 bytes
-four_same bytes back long same = four_there bytes long ∙ ap (λ (s : List ℕ). s ++ drop 8 bytes) same
+four_same bytes back long same = four_present bytes long ∙ ap (λ (s : List ℕ). s ++ drop 8 bytes) same
 
-rest_same : (found : Option Icmpv4Kind) (bytes : List ℕ) → AreBytes bytes → Stands found (length bytes)
+rest_same : (found : Option Icmpv4Kind) (bytes : List ℕ) → AreBytes bytes → IsValid found (length bytes)
     → drop 4 bytes ≡ icmpv4_rest_with (four_at bytes) (icmpv4_value_of found bytes) ++ drop (icmpv4_len found) bytes
 rest_same None bytes fits a = four_same bytes _ a.long (sym (four_range bytes a.long))
 rest_same (Some kind.EchoReply) bytes fits a = four_same bytes _ a.long (echo_same bytes fits)
@@ -134,7 +134,7 @@ rest_same (Some kind.DestinationUnreachable) bytes fits a =
     four_same bytes _ a.long (mtu_same (slice_index bytes 1 == 4) bytes fits)
 rest_same (Some kind.Redirect) bytes fits a = four_same bytes _ a.long (sym (four_range bytes a.long))
 rest_same (Some kind.EchoRequest) bytes fits a = four_same bytes _ a.long (echo_same bytes fits)
-rest_same (Some kind.TimeExceeded) bytes fits a = four_there bytes a.long
+rest_same (Some kind.TimeExceeded) bytes fits a = four_present bytes a.long
 rest_same (Some kind.ParameterProblem) bytes fits a =
     four_same bytes _ a.long (pointer_same (slice_index bytes 1 == 0) bytes)
 rest_same (Some kind.TimestampRequest) bytes fits a = timestamp_same bytes fits a.whole
@@ -185,18 +185,18 @@ header_fits bytes fits long =
           ∙ sym (kind_same found bytes);
     }
 
-header_front : (bytes : List ℕ) → AreBytes bytes → Stands (icmpv4_kind_at bytes) (length bytes)
+header_prefix : (bytes : List ℕ) → AreBytes bytes → IsValid (icmpv4_kind_at bytes) (length bytes)
     → bytes ≡ icmpv4_bytes_with (four_at bytes) (icmpv4_header_of bytes)
     ++ drop (icmpv4_len (icmpv4_kind_at bytes)) bytes
-header_front bytes fits a =
+header_prefix bytes fits a =
     let found = icmpv4_kind_at bytes in
     let in_row = kind_in-row icmpv4_row icmpv4_kinds (slice_index bytes 0) (slice_index bytes 1) found refl in
-    message_front bytes _ _ _ fits a.long (type_same found bytes in_row) (code_same found bytes in_row)
+    message_prefix bytes _ _ _ fits a.long (type_same found bytes in_row) (code_same found bytes in_row)
     (rest_same found bytes fits a)
 
 reads : (bytes : List ℕ) → AreBytes bytes → first_row (icmpv4_rows bytes) ≡ None → IsIcmpv4 bytes (icmpv4_parts bytes)
 reads bytes fits none =
-    let a = stands bytes none in
+    let a = is_valid bytes none in
     let found = icmpv4_kind_at bytes in
     let ends : icmpv4_len (icmpv4_kind (icmpv4_value_of found bytes)) ≡ 20 → drop (icmpv4_len found) bytes ≡ [] =
     λ e. let len : icmpv4_len found ≡ 20 = sym (ap icmpv4_len (kind_same found bytes)) ∙ e in
@@ -209,7 +209,7 @@ reads bytes fits none =
         four = refl;
         same = refl;
       };
-      parts = header_front bytes fits a;
+      parts = header_prefix bytes fits a;
       ends = ends;
       whole = refl;
     }
@@ -223,7 +223,7 @@ exceeded_read exceeded.FragmentReassemblyTimeExceeded = refl
 -- The bytes are a header with this message, followed by the payload.
 record Holds (value : Icmpv4Type) (bytes payload : List ℕ) : Type 0 where
   read : value ≡ icmpv4_value_of (icmpv4_kind value) bytes
-  behind : payload ≡ drop (icmpv4_len (icmpv4_kind value)) bytes
+  after : payload ≡ drop (icmpv4_len (icmpv4_kind value)) bytes
   len : length bytes ≡ icmpv4_len (icmpv4_kind value) + length payload
 
 -- A destination unreachable message is read back if its MTU is used or 0.
@@ -237,7 +237,7 @@ mtu_holds true code a b c d checksum mtu payload same fits is =
     let number : mtu ≡ word_at bytes 6 = omega (arith, fits) in
     record {
       read = ap (message.DestinationUnreachable code) (number ∙ sym (cond-true (code == 4) (word_at bytes 6) 0 same));
-      behind = refl;
+      after = refl;
       len = omega arith;
     }
 mtu_holds false code a b c d checksum mtu payload same fits (inl used) = absurd (true≢false (sym used))
@@ -245,7 +245,7 @@ mtu_holds false code a b c d checksum mtu payload same fits (inr zero) =
     let bytes = message_bytes 3 code checksum (a ∷ b ∷ c ∷ d ∷ []) ++ payload in
     record {
       read = ap (message.DestinationUnreachable code) (zero ∙ sym (cond-false (code == 4) (word_at bytes 6) 0 same));
-      behind = refl;
+      after = refl;
       len = omega arith;
     }
 
@@ -256,14 +256,14 @@ pointer_holds : (used : Bool) (code a b c d checksum pointer : ℕ) (payload : L
 pointer_holds true code a b c d checksum pointer payload same is =
     record {
       read = ap (message.ParameterProblem code) (sym (cond-true (code == 0) pointer 0 same));
-      behind = refl;
+      after = refl;
       len = omega arith;
     }
 pointer_holds false code a b c d checksum pointer payload same (inl used) = absurd (true≢false (sym used))
 pointer_holds false code a b c d checksum pointer payload same (inr zero) =
     record {
       read = ap (message.ParameterProblem code) (zero ∙ sym (cond-false (code == 0) a 0 same));
-      behind = refl;
+      after = refl;
       len = omega arith;
     }
 
@@ -293,36 +293,36 @@ value_read : (a b c d : ℕ) (value : Icmpv4Type) (checksum : ℕ) (payload : Li
     → Holds value
     (icmpv4_bytes_with (a ∷ b ∷ c ∷ d ∷ []) (record { icmp_type = value; checksum = checksum }) ++ payload) payload
 value_read a b c d (message.Unknown type code (p ∷ q ∷ r ∷ s ∷ [])) checksum payload fits =
-    record { read = refl; behind = refl; len = omega arith }
+    record { read = refl; after = refl; len = omega arith }
 value_read a b c d (message.Unknown type code _) checksum payload fits = absurd (omega (arith, fits.2))
 value_read a b c d (message.EchoReply echo) checksum payload fits =
-    record { read = ap message.EchoReply (echo_read 0 checksum echo payload fits); behind = refl; len = omega arith }
+    record { read = ap message.EchoReply (echo_read 0 checksum echo payload fits); after = refl; len = omega arith }
 value_read a b c d (message.DestinationUnreachable code mtu) checksum payload fits =
     mtu_holds (code == 4) code a b c d checksum mtu payload refl fits.0 (used_by code 4 mtu fits.1)
 value_read a b c d (message.Redirect code (p ∷ q ∷ r ∷ s ∷ [])) checksum payload fits =
-    record { read = refl; behind = refl; len = omega arith }
+    record { read = refl; after = refl; len = omega arith }
 value_read a b c d (message.Redirect code _) checksum payload fits = absurd (omega (arith, fits.0))
 value_read a b c d (message.EchoRequest echo) checksum payload fits =
-    record { read = ap message.EchoRequest (echo_read 8 checksum echo payload fits); behind = refl; len = omega arith }
+    record { read = ap message.EchoRequest (echo_read 8 checksum echo payload fits); after = refl; len = omega arith }
 value_read a b c d (message.TimeExceeded code) checksum payload fits =
-    record { read = ap message.TimeExceeded (exceeded_read code); behind = refl; len = omega arith }
+    record { read = ap message.TimeExceeded (exceeded_read code); after = refl; len = omega arith }
 value_read a b c d (message.ParameterProblem code pointer) checksum payload fits =
     pointer_holds (code == 0) code a b c d checksum pointer payload refl (used_by code 0 pointer fits.1)
 value_read a b c d (message.TimestampRequest times) checksum payload fits = record {
   read = ap message.TimestampRequest (timestamp_read 13 checksum times payload fits);
-  behind = refl;
+  after = refl;
   len = omega arith;
 }
 value_read a b c d (message.TimestampReply times) checksum payload fits = record {
   read = ap message.TimestampReply (timestamp_read 14 checksum times payload fits);
-  behind = refl;
+  after = refl;
   len = omega arith;
 }
 
 -- The bytes are read as this header and payload.
 record IsRead (bytes : List ℕ) (header : Icmpv4Header) (payload : List ℕ) : Type 0 where
   same : header ≡ icmpv4_header_of bytes
-  behind : payload ≡ drop (icmpv4_len (icmpv4_kind_at bytes)) bytes
+  after : payload ≡ drop (icmpv4_len (icmpv4_kind_at bytes)) bytes
   len : length bytes ≡ icmpv4_len (icmpv4_kind_at bytes) + length payload
   ends : icmpv4_len (icmpv4_kind_at bytes) ≡ 20 → payload ≡ []
 
@@ -338,7 +338,7 @@ encoded_read (a ∷ b ∷ c ∷ d ∷ []) header payload four fits ends =
     ap icmpv4_len (sym fits.kind) in
     record {
       same = λ i. record { icmp_type = value i; checksum = checksum i };
-      behind = holds.behind ∙ ap (λ (k : ℕ). drop k bytes) n;
+      after = holds.after ∙ ap (λ (k : ℕ). drop k bytes) n;
       len = holds.len ∙ ap (λ (k : ℕ). k + length payload) n;
       ends = λ e. ends (n ∙ e);
     }
@@ -353,17 +353,17 @@ len_cases (Some _) = omega arith
 is_read : (bytes : List ℕ) (read : Parts Icmpv4Header) → IsIcmpv4 bytes read
     → (first_row (icmpv4_rows bytes) ≡ None) × (read ≡ icmpv4_parts bytes)
 is_read bytes read is =
-    let there =
+    let present =
     encoded_read is.encodes.unused read.header read.payload is.encodes.four is.encodes.fits is.ends in
     let same : bytes ≡ icmpv4_bytes_with is.encodes.unused read.header ++ read.payload =
     is.parts ∙ ap (λ (s : List ℕ). s ++ read.payload) is.encodes.same in
     let P : List ℕ → Type 0 = λ s. IsRead s read.header read.payload in
-    let whole : IsRead bytes read.header read.payload = subst P (sym same) there in
+    let complete : IsRead bytes read.header read.payload = subst P (sym same) present in
     let least = len_cases (icmpv4_kind_at bytes) in
     let exact : icmpv4_len (icmpv4_kind_at bytes) ≡ 20 → length bytes ≡ 20 =
-    λ e. omega (arith, e, whole.len, ap length (whole.ends e)) in (
-      none_refuses bytes (omega (arith, whole.len, least)) exact,
-      λ i. record { header = whole.same i; payload = whole.behind i; left = is.whole i },
+    λ e. omega (arith, e, complete.len, ap length (complete.ends e)) in (
+      none_refuses bytes (omega (arith, complete.len, least)) exact,
+      λ i. record { header = complete.same i; payload = complete.after i; left = is.whole i },
     )
 
 pub icmpv4_is_read : IsReadBy IsIcmpv4 icmpv4_rows icmpv4_parts

@@ -15,7 +15,7 @@ use Rattle.ep_transport.specs.declared.icmpv6_type.Icmpv6Type.TheVariants as mes
 use Rattle.ep_transport.specs.declared.icmpv6_header.Icmpv6Header.{Icmpv6Header}
 use Rattle.ep_transport.specs.Icmpv6.{icmpv6_row, icmpv6_kinds, icmpv6_kind_of, icmpv6_kind_at, icmpv6_kind, icmpv6_type_u8, icmpv6_code_u8, icmpv6_exceeded_u8, icmpv6_exceeded_of}
 use Rattle.ep_transport.specs.Icmpv6.{FitsIcmpv6, FitsIcmpv6Fields, IsIcmpv6, icmpv6_bytes_with, icmpv6_header_of, icmpv6_parts, icmpv6_rest_with, icmpv6_rows, icmpv6_value_of}
-use Rattle.ep_transport.proofs.IcmpLemmas.{IsInRow, kind_in-row, four_at, four_there, four_range, message_front, echo_same, echo_fits, echo_read}
+use Rattle.ep_transport.proofs.IcmpLemmas.{IsInRow, kind_in-row, four_at, four_present, four_range, message_prefix, echo_same, echo_fits, echo_read}
 
 -- ---- bytes are those of the header read from them
 
@@ -79,13 +79,13 @@ header_fits bytes fits long =
           ∙ sym (kind_same found bytes);
     }
 
-header_front : (bytes : List ℕ) → AreBytes bytes → 8 ≤ length bytes
+header_prefix : (bytes : List ℕ) → AreBytes bytes → 8 ≤ length bytes
     → bytes ≡ icmpv6_bytes_with (four_at bytes) (icmpv6_header_of bytes) ++ drop 8 bytes
-header_front bytes fits long =
+header_prefix bytes fits long =
     let found = icmpv6_kind_at bytes in
     let in_row = kind_in-row icmpv6_row icmpv6_kinds (slice_index bytes 0) (slice_index bytes 1) found refl in
-    message_front bytes _ _ _ fits long (type_same found bytes in_row) (code_same found bytes in_row)
-    (four_there bytes long ∙ ap (λ (s : List ℕ). s ++ drop 8 bytes) (rest_same found bytes fits long))
+    message_prefix bytes _ _ _ fits long (type_same found bytes in_row) (code_same found bytes in_row)
+    (four_present bytes long ∙ ap (λ (s : List ℕ). s ++ drop 8 bytes) (rest_same found bytes fits long))
 
 reads : (bytes : List ℕ) → AreBytes bytes → first_row (icmpv6_rows bytes) ≡ None → IsIcmpv6 bytes (icmpv6_parts bytes)
 reads bytes fits none =
@@ -93,7 +93,7 @@ reads bytes fits none =
     record {
       encoded = icmpv6_bytes_with (four_at bytes) (icmpv6_header_of bytes);
       encodes = record { fits = header_fits bytes fits long; unused = four_at bytes; four = refl; same = refl };
-      parts = header_front bytes fits long;
+      parts = header_prefix bytes fits long;
       whole = refl;
     }
 
@@ -106,38 +106,38 @@ exceeded_read exceeded.FragmentReassemblyTimeExceeded = refl
 -- The bytes are a header of 8 bytes with this message, followed by the payload.
 record Holds (value : Icmpv6Type) (bytes payload : List ℕ) : Type 0 where
   read : value ≡ icmpv6_value_of (icmpv6_kind value) bytes
-  behind : payload ≡ drop 8 bytes
+  after : payload ≡ drop 8 bytes
   long : 8 ≤ length bytes
 
 value_read : (a b c d : ℕ) (value : Icmpv6Type) (checksum : ℕ) (payload : List ℕ) → FitsIcmpv6Fields value
     → Holds value
     (icmpv6_bytes_with (a ∷ b ∷ c ∷ d ∷ []) (record { icmp_type = value; checksum = checksum }) ++ payload) payload
 value_read a b c d (message.Unknown type code (p ∷ q ∷ r ∷ s ∷ [])) checksum payload fits =
-    record { read = refl; behind = refl; long = omega arith }
+    record { read = refl; after = refl; long = omega arith }
 value_read a b c d (message.Unknown type code _) checksum payload fits = absurd (omega (arith, fits.2))
 value_read a b c d (message.DestinationUnreachable code) checksum payload fits =
-    record { read = refl; behind = refl; long = omega arith }
+    record { read = refl; after = refl; long = omega arith }
 value_read a b c d (message.PacketTooBig mtu) checksum payload fits =
     let bytes =
     icmpv6_bytes_with [] (record { icmp_type = message.PacketTooBig mtu; checksum = checksum }) ++ payload in
     let number : mtu ≡ long_at bytes 4 = omega (arith, fits) in
-    record { read = ap message.PacketTooBig number; behind = refl; long = omega arith }
+    record { read = ap message.PacketTooBig number; after = refl; long = omega arith }
 value_read a b c d (message.TimeExceeded code) checksum payload fits =
-    record { read = ap message.TimeExceeded (exceeded_read code); behind = refl; long = omega arith }
+    record { read = ap message.TimeExceeded (exceeded_read code); after = refl; long = omega arith }
 value_read a b c d (message.ParameterProblem code pointer) checksum payload fits =
     let bytes =
     icmpv6_bytes_with [] (record { icmp_type = message.ParameterProblem code pointer; checksum = checksum })
     ++ payload in
     let number : pointer ≡ long_at bytes 4 = omega (arith, fits) in
-    record { read = ap (message.ParameterProblem code) number; behind = refl; long = omega arith }
+    record { read = ap (message.ParameterProblem code) number; after = refl; long = omega arith }
 value_read a b c d (message.EchoRequest echo) checksum payload fits = record {
   read = ap message.EchoRequest (echo_read 128 checksum echo payload fits);
-  behind = refl;
+  after = refl;
   long = omega arith;
 }
 value_read a b c d (message.EchoReply echo) checksum payload fits = record {
   read = ap message.EchoReply (echo_read 129 checksum echo payload fits);
-  behind = refl;
+  after = refl;
   long = omega arith;
 }
 
@@ -145,7 +145,7 @@ value_read a b c d (message.EchoReply echo) checksum payload fits = record {
 record IsRead (bytes : List ℕ) (header : Icmpv6Header) (payload : List ℕ) : Type 0 where
   long : 8 ≤ length bytes
   same : header ≡ icmpv6_header_of bytes
-  behind : payload ≡ drop 8 bytes
+  after : payload ≡ drop 8 bytes
 
 encoded_read : (unused : List ℕ) (header : Icmpv6Header) (payload : List ℕ) → length unused ≡ 4 → FitsIcmpv6 header
     → IsRead (icmpv6_bytes_with unused header ++ payload) header payload
@@ -158,7 +158,7 @@ encoded_read (a ∷ b ∷ c ∷ d ∷ []) header payload four fits =
     record {
       long = holds.long;
       same = λ i. record { icmp_type = value i; checksum = checksum i };
-      behind = holds.behind;
+      after = holds.after;
     }
 encoded_read _ header payload four fits = absurd (omega (arith, four))
 
@@ -168,12 +168,12 @@ none_refuses bytes long = grind (arith, common_steps)
 is_read : (bytes : List ℕ) (read : Parts Icmpv6Header) → IsIcmpv6 bytes read
     → (first_row (icmpv6_rows bytes) ≡ None) × (read ≡ icmpv6_parts bytes)
 is_read bytes read is =
-    let there = encoded_read is.encodes.unused read.header read.payload is.encodes.four is.encodes.fits in
+    let present = encoded_read is.encodes.unused read.header read.payload is.encodes.four is.encodes.fits in
     let same : bytes ≡ icmpv6_bytes_with is.encodes.unused read.header ++ read.payload =
     is.parts ∙ ap (λ (s : List ℕ). s ++ read.payload) is.encodes.same in
     let P : List ℕ → Type 0 = λ s. IsRead s read.header read.payload in
-    let whole : IsRead bytes read.header read.payload = subst P (sym same) there in
-    (none_refuses bytes whole.long, λ i. record { header = whole.same i; payload = whole.behind i; left = is.whole i })
+    let complete : IsRead bytes read.header read.payload = subst P (sym same) present in
+    (none_refuses bytes complete.long, λ i. record { header = complete.same i; payload = complete.after i; left = is.whole i })
 
 pub icmpv6_is_read : IsReadBy IsIcmpv6 icmpv6_rows icmpv6_parts
 icmpv6_is_read = record { reads = reads; is_read = is_read }

@@ -46,18 +46,18 @@ all_of_udp_length : (bytes : List ℕ) → AllErrors IsUdpLengthError (udp_lengt
 all_of_udp_length bytes = (inl refl, (inr refl, tt))
 
 -- If the first of two tables is extended by more rows, it still rejects with the same error.
-longer : (condition : Bool) (front back others : List (Bool × HeaderSliceError)) (error : HeaderSliceError)
-    → first_row (if condition then front else others) ≡ Some error
-    → first_row (if condition then front ++ back else others) ≡ Some error
-longer true front back others error refused = first_row-append_some front back error refused
-longer false front back others error refused = refused
+longer : (condition : Bool) (prefix back others : List (Bool × HeaderSliceError)) (error : HeaderSliceError)
+    → first_row (if condition then prefix else others) ≡ Some error
+    → first_row (if condition then prefix ++ back else others) ≡ Some error
+longer true prefix back others error refused = first_row-append_some prefix back error refused
+longer false prefix back others error refused = refused
 
 -- If only the extended table rejects, one of the added rows does.
-shorter : (condition : Bool) (front back others : List (Bool × HeaderSliceError)) (error : HeaderSliceError)
-    → first_row (if condition then front ++ back else others) ≡ Some error
-    → (first_row (if condition then front else others) ≡ Some error) ⊎ (first_row back ≡ Some error)
-shorter true front back others error refused = first_row-either front back error refused
-shorter false front back others error refused = inl refused
+shorter : (condition : Bool) (prefix back others : List (Bool × HeaderSliceError)) (error : HeaderSliceError)
+    → first_row (if condition then prefix ++ back else others) ≡ Some error
+    → (first_row (if condition then prefix else others) ≡ Some error) ⊎ (first_row back ≡ Some error)
+shorter true prefix back others error refused = first_row-either prefix back error refused
+shorter false prefix back others error refused = inl refused
 
 -- Bytes rejected in the reading `headers` are rejected in `slices`.
 pub refused_in_slices : (number : ℕ) (fragmented : Bool) (bytes : List ℕ) (error : HeaderSliceError)
@@ -102,21 +102,21 @@ udp_left bytes fits header payload left is =
     other_is is))
     (λ error never. never)
 
-left_behind : (reading : Reading) (number : ℕ) (bytes : List ℕ) → AreBytes bytes → (header : TransportHeader)
+left_after : (reading : Reading) (number : ℕ) (bytes : List ℕ) → AreBytes bytes → (header : TransportHeader)
     (payload : List ℕ) → IsTransportLayer reading number bytes header payload
     → IsDecided (AreTrailingBytesAfter reading bytes header payload) (λ (error : HeaderSliceError). ⊥)
-left_behind slices number bytes fits (Udp header) payload is = udp_left bytes fits header payload is.1.0 is.1.1
-left_behind headers number bytes fits (Udp header) payload is = nothing_left
-left_behind reading number bytes fits (Tcp header) payload is = nothing_left
-left_behind reading number bytes fits (Icmpv4 header) payload is = nothing_left
-left_behind reading number bytes fits (Icmpv6 header) payload is = nothing_left
+left_after slices number bytes fits (Udp header) payload is = udp_left bytes fits header payload is.1.0 is.1.1
+left_after headers number bytes fits (Udp header) payload is = nothing_left
+left_after reading number bytes fits (Tcp header) payload is = nothing_left
+left_after reading number bytes fits (Icmpv4 header) payload is = nothing_left
+left_after reading number bytes fits (Icmpv6 header) payload is = nothing_left
 
 left_by : (reading : Reading) (number : ℕ) (fragmented : Bool) (bytes : List ℕ) → AreBytes bytes
     → (part : Option TransportLayer) → IsTransportPart reading number fragmented bytes part
     → IsDecided (IsLeftBy reading bytes part) (λ (error : HeaderSliceError). ⊥)
 left_by reading number fragmented bytes fits None is = nothing_left
 left_by reading number fragmented bytes fits (Some layer) is =
-    left_behind reading number bytes fits layer.header layer.payload is.1
+    left_after reading number bytes fits layer.header layer.payload is.1
 
 -- Bytes either have exactly one transport layer, or none, with exactly one list of trailing bytes, or are rejected.
 pub cut_decided : (reading : Reading) (number : ℕ) (fragmented : Bool) (bytes : List ℕ) → AreBytes bytes
@@ -128,6 +128,6 @@ cut_decided reading number fragmented bytes fits =
     (left_by reading number fragmented bytes fits))
     (same_image (λ read is. is) (λ read is. is))
     (record {
-      there = λ error refused. elim refused [ inl part ↦ part | inr left ↦ absurd left.2 ];
+      present = λ error refused. elim refused [ inl part ↦ part | inr left ↦ absurd left.2 ];
       back = λ error refused. (error, inl refused, refl);
     })

@@ -14,7 +14,7 @@ use Rattle.ep_transport.specs.Tcp.{FitsTcp, EncodesTcp, IsTcp, tcp_bytes_with, t
 -- ---- the bytes of a header are read as this header
 
 -- The bytes are a complete header: as long as their data offset states, and at least 20.
-pub record IsWhole (bytes : List ℕ) : Type 0 where
+pub record IsComplete (bytes : List ℕ) : Type 0 where
   pub words : 5 ≤ data_offset_of bytes
   pub whole : length bytes ≡ 4 * data_offset_of bytes
 
@@ -65,8 +65,8 @@ encoded_is_read r h three fits =
       options = options i;
     }
 
-encoded_is_whole : (r : ℕ) (h : TcpHeader) → r < 2 ^ 3 → FitsTcp h → IsWhole (tcp_bytes_with r h)
-encoded_is_whole r h three fits =
+encoded_is_complete : (r : ℕ) (h : TcpHeader) → r < 2 ^ 3 → FitsTcp h → IsComplete (tcp_bytes_with r h)
+encoded_is_complete r h three fits =
     let nonce = bit_le h.ns in
     record {
       words = omega (arith, fits.options_len, nonce);
@@ -76,13 +76,13 @@ encoded_is_whole r h three fits =
 encoded_read : (e : List ℕ) (h : TcpHeader) → EncodesTcp e h → h ≡ tcp_header_of e
 encoded_read e h a = encoded_is_read a.reserved h a.three_bits a.fits ∙ ap tcp_header_of (sym a.same)
 
-encoded_whole : (e : List ℕ) (h : TcpHeader) → EncodesTcp e h → IsWhole e
-encoded_whole e h a = subst IsWhole (sym a.same) (encoded_is_whole a.reserved h a.three_bits a.fits)
+encoded_complete : (e : List ℕ) (h : TcpHeader) → EncodesTcp e h → IsComplete e
+encoded_complete e h a = subst IsComplete (sym a.same) (encoded_is_complete a.reserved h a.three_bits a.fits)
 
 -- ---- bytes of a complete header are those of the header read from them
 
-whole_fits : (e : List ℕ) → AreBytes e → IsWhole e → FitsTcp (tcp_header_of e)
-whole_fits e fits a =
+complete_fits : (e : List ℕ) → AreBytes e → IsComplete e → FitsTcp (tcp_header_of e)
+complete_fits e fits a =
     let n = 4 * data_offset_of e - 20 in
     let len : length (take n (drop 20 e)) ≡ n = omega (arith, length-take n (drop 20 e), length-drop 20 e, a.whole) in
     record {
@@ -108,14 +108,14 @@ bits_together n byte =
     let b : (i : ℕ) → bit (n / 2 ^ i % 2 == 1) ≡ n / 2 ^ i % 2 = λ i. bit_of_read (n / 2 ^ i % 2) (omega arith) in
     omega (arith, byte, b 0, b 1, b 2, b 3, b 4, b 5, b 6, b 7)
 
-pub whole_encodes : (e : List ℕ) → AreBytes e → IsWhole e → EncodesTcp e (tcp_header_of e)
+pub complete_encodes : (e : List ℕ) → AreBytes e → IsComplete e → EncodesTcp e (tcp_header_of e)
 unfolding elements
-whole_encodes e fits a =
+complete_encodes e fits a =
     let rest = drop 20 e in
     let options = take (4 * data_offset_of e - 20) rest in
     let all : options ≡ rest = take_all (4 * data_offset_of e - 20) rest (omega (arith, length-drop 20 e, a.whole)) in
     let len : length options ≡ 4 * data_offset_of e - 20 = omega (arith, ap length all, length-drop 20 e, a.whole) in
-    let front : e ≡ elements 20 0 e ++ rest = drop-elements 20 0 e (omega (arith, a.whole, a.words)) in
+    let prefix : e ≡ elements 20 0 e ++ rest = drop-elements 20 0 e (omega (arith, a.whole, a.words)) in
     let reserved = slice_index e 12 / 2 % 8 in
     let ns : bit (slice_index e 12 % 2 == 1) ≡ slice_index e 12 % 2 =
     bit_of_read (slice_index e 12 % 2) (omega arith) in
@@ -126,7 +126,7 @@ whole_encodes e fits a =
     word_cells e fits 0 refl i ++ word_cells e fits 2 refl i ++ long_cells e fits 4 refl i ++ long_cells e fits 8 refl i
     ++ b12 i ∷ b13 i ∷ (word_cells e fits 14 refl i ++ word_cells e fits 16 refl i ++ word_cells e fits 18 refl i
     ++ sym all i) in
-    record { fits = whole_fits e fits a; reserved = reserved; three_bits = omega arith; same = front ∙ joined }
+    record { fits = complete_fits e fits a; reserved = reserved; three_bits = omega arith; same = prefix ∙ joined }
 
 -- ---- a complete header at the start of bytes
 
@@ -147,44 +147,44 @@ begins_none : (bytes : List ℕ) → Begins bytes → first_row (tcp_rows bytes)
 begins_none bytes a = grind (arith, common_steps)
 
 -- The data offset of a complete header is that of all bytes.
-front_offset : (e rest : List ℕ) → IsWhole e → slice_index (e ++ rest) 12 ≡ slice_index e 12
-front_offset e rest a = get_or_append_left e rest 0 12 (omega (arith, a.words, a.whole))
+prefix_offset : (e rest : List ℕ) → IsComplete e → slice_index (e ++ rest) 12 ≡ slice_index e 12
+prefix_offset e rest a = get_or_append_left e rest 0 12 (omega (arith, a.words, a.whole))
 
-front_begins : (e rest : List ℕ) → IsWhole e → Begins (e ++ rest)
-front_begins e rest a =
-    let same = front_offset e rest a in
+prefix_begins : (e rest : List ℕ) → IsComplete e → Begins (e ++ rest)
+prefix_begins e rest a =
+    let same = prefix_offset e rest a in
     record {
       fixed = omega (arith, a.words, a.whole, length-append e rest);
       words = omega (arith, a.words, same);
       whole = omega (arith, a.whole, length-append e rest, same);
     }
 
-begins_whole : (bytes : List ℕ) → Begins bytes → IsWhole (take (4 * data_offset_of bytes) bytes)
-begins_whole bytes a =
+begins_complete : (bytes : List ℕ) → Begins bytes → IsComplete (take (4 * data_offset_of bytes) bytes)
+begins_complete bytes a =
     let n = 4 * data_offset_of bytes in
     let same : get_or (take n bytes) 12 0 ≡ get_or bytes 12 0 = get_or-take n bytes 12 0 (omega (arith, a.words)) in
     record { words = omega (arith, a.words, same); whole = omega (arith, a.whole, same, length-take n bytes) }
 
 -- ---- the header at the start of a segment is that of its bytes
 
-front_options : (e rest : List ℕ) → IsWhole e → (tcp_header_of (e ++ rest)).options ≡ (tcp_header_of e).options
-front_options e rest a =
+prefix_options : (e rest : List ℕ) → IsComplete e → (tcp_header_of (e ++ rest)).options ≡ (tcp_header_of e).options
+prefix_options e rest a =
     let n = 4 * data_offset_of e - 20 in
     let len : length (drop 20 e) ≡ n = omega (arith, length-drop 20 e, a.whole) in
-    ap (λ (b : ℕ). take (4 * (b / 16) - 20) (drop 20 (e ++ rest))) (front_offset e rest a)
+    ap (λ (b : ℕ). take (4 * (b / 16) - 20) (drop 20 (e ++ rest))) (prefix_offset e rest a)
     ∙ ap (take n) (drop-append-le 20 e rest (omega (arith, a.words, a.whole)))
     ∙ take_at (drop 20 e) rest n len
     ∙ sym (take_all n (drop 20 e) (omega (arith, len)))
 
-front_header : (e rest : List ℕ) → IsWhole e → tcp_header_of (e ++ rest) ≡ tcp_header_of e
-front_header e rest a =
+prefix_header : (e rest : List ℕ) → IsComplete e → tcp_header_of (e ++ rest) ≡ tcp_header_of e
+prefix_header e rest a =
     let s : (k : ℕ) → k < 20 → slice_index (e ++ rest) k ≡ slice_index e k =
     λ k below. get_or_append_left e rest 0 k (omega (arith, below, a.words, a.whole)) in
     let w : (k : ℕ) → k + 1 < 20 → word_at (e ++ rest) k ≡ word_at e k =
     λ k below. omega (arith, s k (omega arith), s (k + 1) below) in
     let flag : (k : ℕ) → flag_at (e ++ rest) k ≡ flag_at e k =
     λ k. ap (λ (b : ℕ). b / 2 ^ k % 2 == 1) (s 13 (omega arith)) in
-    let options = front_options e rest a in
+    let options = prefix_options e rest a in
     λ i. record {
       source_port = w 0 (omega arith) i;
       destination_port = w 2 (omega arith) i;
@@ -211,13 +211,13 @@ reads : (bytes : List ℕ) → AreBytes bytes → first_row (tcp_rows bytes) ≡
 reads bytes fits none =
     let n = 4 * data_offset_of bytes in
     let e = take n bytes in
-    let whole = begins_whole bytes (none_begins bytes none) in
+    let complete = begins_complete bytes (none_begins bytes none) in
     let parts : bytes ≡ e ++ drop n bytes = sym (take-append-drop n bytes) in
     let same : tcp_header_of e ≡ tcp_header_of bytes =
-    sym (front_header e (drop n bytes) whole) ∙ ap tcp_header_of (sym parts) in
+    sym (prefix_header e (drop n bytes) complete) ∙ ap tcp_header_of (sym parts) in
     record {
       encoded = e;
-      encodes = subst (EncodesTcp e) same (whole_encodes e (AreBytes-take n bytes fits) whole);
+      encodes = subst (EncodesTcp e) same (complete_encodes e (AreBytes-take n bytes fits) complete);
       parts = parts;
       whole = refl;
     }
@@ -226,25 +226,25 @@ is_read : (bytes : List ℕ) (segment : Parts TcpHeader) → IsTcp bytes segment
     × (segment ≡ tcp_parts bytes)
 is_read bytes segment is =
     let e = is.encoded in
-    let whole = encoded_whole e segment.header is.encodes in
-    let begins : Begins bytes = subst Begins (sym is.parts) (front_begins e segment.payload whole) in
+    let complete = encoded_complete e segment.header is.encodes in
+    let begins : Begins bytes = subst Begins (sym is.parts) (prefix_begins e segment.payload complete) in
     let header : segment.header ≡ tcp_header_of bytes =
-    encoded_read e segment.header is.encodes ∙ sym (front_header e segment.payload whole)
+    encoded_read e segment.header is.encodes ∙ sym (prefix_header e segment.payload complete)
     ∙ ap tcp_header_of (sym is.parts) in
     let offset : data_offset_of bytes ≡ data_offset_of e =
-    ap data_offset_of is.parts ∙ ap (λ (b : ℕ). b / 16) (front_offset e segment.payload whole) in
+    ap data_offset_of is.parts ∙ ap (λ (b : ℕ). b / 16) (prefix_offset e segment.payload complete) in
     let payload : drop (4 * data_offset_of bytes) bytes ≡ segment.payload =
     ap (drop (4 * data_offset_of bytes)) is.parts
-    ∙ drop_at e segment.payload (4 * data_offset_of bytes) (omega (arith, offset, whole.whole)) in
+    ∙ drop_at e segment.payload (4 * data_offset_of bytes) (omega (arith, offset, complete.whole)) in
     (begins_none bytes begins, λ i. record { header = header i; payload = sym payload i; left = is.whole i })
 
 pub tcp_is_read : IsReadBy IsTcp tcp_rows tcp_parts
 tcp_is_read = record { reads = reads; is_read = is_read }
 
 -- Bytes that begin with a complete header are exactly one segment.
-pub segment_there : (bytes : List ℕ) → AreBytes bytes → 20 ≤ length bytes → 5 ≤ data_offset_of bytes
+pub segment_present : (bytes : List ℕ) → AreBytes bytes → 20 ≤ length bytes → 5 ≤ data_offset_of bytes
     → 4 * data_offset_of bytes ≤ length bytes
     → IsTcp bytes (tcp_parts bytes) × ((segment : Parts TcpHeader) → IsTcp bytes segment → tcp_parts bytes ≡ segment)
-segment_there bytes fits fixed words whole =
-    let none = begins_none bytes (record { fixed = fixed; words = words; whole = whole }) in
+segment_present bytes fits fixed words complete =
+    let none = begins_none bytes (record { fixed = fixed; words = words; whole = complete }) in
     (reads bytes fits none, λ segment is. sym (is_read bytes segment is).1)

@@ -55,9 +55,9 @@ some_items (suc n) bytes fits short =
       | inr (error, refused) ↦ (Err error ∷ [], (refused, refl), refused_len bytes error refused)
     ]
 
-pub items_there : (bytes : List ℕ) → AreBytes bytes → (items : List Item) × AreItems bytes items
+pub items_present : (bytes : List ℕ) → AreBytes bytes → (items : List Item) × AreItems bytes items
     × (length items ≤ length bytes)
-items_there bytes fits = some_items (length bytes) bytes fits (omega arith)
+items_present bytes fits = some_items (length bytes) bytes fits (omega arith)
 
 pub one_list : (bytes : List ℕ) (items others : List Item) → AreItems bytes items → AreItems bytes others
     → items ≡ others
@@ -90,21 +90,21 @@ one_list bytes (Err error ∷ items) (Err other ∷ others) a b =
 -- ---- reading back
 
 -- The blocks present in a list of present and then absent blocks are the present ones.
-present_front : (blocks : List Block) (n : ℕ) → present (map Some blocks ++ replicate n None) ≡ blocks
-present_front [] zero = refl
-present_front [] (suc n) = present_front [] n
-present_front (block ∷ blocks) n = ap (λ (others : List Block). block ∷ others) (present_front blocks n)
+present_prefix : (blocks : List Block) (n : ℕ) → present (map Some blocks ++ replicate n None) ≡ blocks
+present_prefix [] zero = refl
+present_prefix [] (suc n) = present_prefix [] n
+present_prefix (block ∷ blocks) n = ap (λ (others : List Block). block ∷ others) (present_prefix blocks n)
 
-present_in_front : (blocks : List (Option Block)) → present (present_first blocks) ≡ present blocks
-present_in_front blocks = present_front (present blocks) (length blocks - length (present blocks))
+present_before : (blocks : List (Option Block)) → present (present_first blocks) ≡ present blocks
+present_before blocks = present_prefix (present blocks) (length blocks - length (present blocks))
 
 present_len : (blocks : List (Option Block)) → length (present blocks) ≤ length blocks
 present_len [] = omega arith
 present_len (None ∷ others) = omega (arith, present_len others)
 present_len (Some block ∷ others) = omega (arith, present_len others)
 
-in_front_len : (blocks : List (Option Block)) → length (present_first blocks) ≡ length blocks
-in_front_len blocks =
+preceding_len : (blocks : List (Option Block)) → length (present_first blocks) ≡ length blocks
+preceding_len blocks =
     let none : List (Option Block) = replicate (length blocks - length (present blocks)) None in
     let place : Option Block = None in
     let some : Block → Option Block = Some in
@@ -116,18 +116,18 @@ in_front_len blocks =
       present_len blocks,
     )
 
-in_front_twice : (blocks : List (Option Block)) → present_first (present_first blocks) ≡ present_first blocks
-in_front_twice blocks =
-    let same = present_in_front blocks in
-    let len = in_front_len blocks in
+preceding_twice : (blocks : List (Option Block)) → present_first (present_first blocks) ≡ present_first blocks
+preceding_twice blocks =
+    let same = present_before blocks in
+    let len = preceding_len blocks in
     λ i. map Some (same i) ++ replicate (len i - length (same i)) None
 
-fits_in_front : (blocks : List (Option Block)) (n : ℕ) → FitsBlocks blocks
+fits_present_first : (blocks : List (Option Block)) (n : ℕ) → FitsBlocks blocks
     → FitsBlocks (map Some (present blocks) ++ replicate n None)
-fits_in_front [] zero fits = tt
-fits_in_front [] (suc n) fits = fits_in_front [] n fits
-fits_in_front (None ∷ others) n fits = fits_in_front others n fits
-fits_in_front (Some block ∷ others) n fits = (fits.0, fits_in_front others n fits.1)
+fits_present_first [] zero fits = tt
+fits_present_first [] (suc n) fits = fits_present_first [] n fits
+fits_present_first (None ∷ others) n fits = fits_present_first others n fits
+fits_present_first (Some block ∷ others) n fits = (fits.0, fits_present_first others n fits.1)
 
 -- A written option is read back as `as_read` states.
 written_is : (option : TcpOptionElement) (bytes rest : List ℕ) → FitsOption option → bytes ≡ option_bytes option ++ rest
@@ -138,13 +138,13 @@ written_is (WindowScale shift) bytes rest fits parts = record { fits = fits; blo
 written_is SelectiveAcknowledgementPermitted bytes rest fits parts = record { fits = tt; blocks = refl; parts = parts }
 written_is (Timestamp time echo) bytes rest fits parts = record { fits = fits; blocks = refl; parts = parts }
 written_is (SelectiveAcknowledgement first others) bytes rest fits parts =
-    let same = sym (present_in_front others) in
+    let same = sym (present_before others) in
     record {
       fits =
-          (fits.0, in_front_len others ∙ fits.1, fits_in_front others (length others - length (present others)) fits.2);
-      blocks = ap (SelectiveAcknowledgement first) (in_front_twice others);
+          (fits.0, preceding_len others ∙ fits.1, fits_present_first others (length others - length (present others)) fits.2);
+      blocks = ap (SelectiveAcknowledgement first) (preceding_twice others);
       parts =
-          parts ∙ ap (λ (there : List Block). (5 ∷ (10 + 8 * length there) ∷ (block_bytes first ++ blocks_bytes there))
+          parts ∙ ap (λ (available : List Block). (5 ∷ (10 + 8 * length available) ∷ (block_bytes first ++ blocks_bytes available))
           ++ rest) same;
     }
 

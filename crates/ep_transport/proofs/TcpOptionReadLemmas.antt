@@ -24,9 +24,9 @@ block_fits bytes i fits = (
 )
 
 -- At least 8 bytes begin with the bytes of the block read from them.
-block_front : (s : List ℕ) → AreBytes s → 8 ≤ length s → s ≡ block_bytes (block_at s 0) ++ drop 8 s
+block_prefix : (s : List ℕ) → AreBytes s → 8 ≤ length s → s ≡ block_bytes (block_at s 0) ++ drop 8 s
 unfolding elements
-block_front s fits long =
+block_prefix s fits long =
     drop-elements 8 0 s long ∙ (λ i. long_cells s fits 0 refl i ++ long_cells s fits 4 refl i ++ drop 8 s)
 
 block_drop : (bytes : List ℕ) (i : ℕ) → block_at (drop i bytes) 0 ≡ block_at bytes i
@@ -52,30 +52,30 @@ block_drop bytes i =
     λ j. (a j, b j)
 
 -- The bytes from an index on are those of the block there, followed by the rest.
-block_there : (bytes : List ℕ) (i j : ℕ) → i + 8 ≡ j → AreBytes bytes → j ≤ length bytes
+block_present : (bytes : List ℕ) (i j : ℕ) → i + 8 ≡ j → AreBytes bytes → j ≤ length bytes
     → drop i bytes ≡ block_bytes (block_at bytes i) ++ drop j bytes
-block_there bytes i j next fits within =
-    let behind : drop 8 (drop i bytes) ≡ drop j bytes = drop-drop 8 i bytes ∙ ap (λ (k : ℕ). drop k bytes) next in
-    block_front (drop i bytes) (AreBytes-drop i bytes fits) (omega (arith, length-drop i bytes, next, within))
-    ∙ ap₂ (λ (b : Block) (s : List ℕ). block_bytes b ++ s) (block_drop bytes i) behind
+block_present bytes i j next fits within =
+    let after : drop 8 (drop i bytes) ≡ drop j bytes = drop-drop 8 i bytes ∙ ap (λ (k : ℕ). drop k bytes) next in
+    block_prefix (drop i bytes) (AreBytes-drop i bytes fits) (omega (arith, length-drop i bytes, next, within))
+    ∙ ap₂ (λ (b : Block) (s : List ℕ). block_bytes b ++ s) (block_drop bytes i) after
 
 -- ---- options at the start of bytes
 
 -- At least 2 bytes begin with their first two.
-two_front : (bytes : List ℕ) (kind size : ℕ) → 2 ≤ length bytes → slice_index bytes 0 ≡ kind
+two_prefix : (bytes : List ℕ) (kind size : ℕ) → 2 ≤ length bytes → slice_index bytes 0 ≡ kind
     → slice_index bytes 1 ≡ size → bytes ≡ kind ∷ size ∷ drop 2 bytes
 unfolding elements
-two_front bytes kind size long a b = drop-elements 2 0 bytes long ∙ (λ i. a i ∷ b i ∷ drop 2 bytes)
+two_prefix bytes kind size long a b = drop-elements 2 0 bytes long ∙ (λ i. a i ∷ b i ∷ drop 2 bytes)
 
-pub timestamp_there : (bytes : List ℕ) → AreBytes bytes → 10 ≤ length bytes → slice_index bytes 0 ≡ 8
+pub timestamp_present : (bytes : List ℕ) → AreBytes bytes → 10 ≤ length bytes → slice_index bytes 0 ≡ 8
     → slice_index bytes 1 ≡ 10
     → IsOption bytes (Timestamp (long_at bytes 2) (long_at bytes 6), drop 10 bytes)
-timestamp_there bytes fits long kind size =
-    let block = block_there bytes 2 10 refl fits long in
+timestamp_present bytes fits long kind size =
+    let block = block_present bytes 2 10 refl fits long in
     record {
       fits = block_fits bytes 2 fits;
       blocks = refl;
-      parts = two_front bytes 8 10 (omega arith) kind size ∙ ap (λ (s : List ℕ). 8 ∷ 10 ∷ s) block;
+      parts = two_prefix bytes 8 10 (omega arith) kind size ∙ ap (λ (s : List ℕ). 8 ∷ 10 ∷ s) block;
     }
 
 -- the block at index `at`, or `None` if an option of `size` bytes ends there
@@ -89,40 +89,40 @@ others_at bytes size = block_within bytes size 10 ∷ block_within bytes size 18
 size_cases : (size : ℕ) → is_blocks_size size ≡ true → (size ≡ 10) ⊎ ((size ≡ 18) ⊎ ((size ≡ 26) ⊎ (size ≡ 34)))
 size_cases size is = grind (arith, common_steps)
 
-pub blocks_there : (bytes : List ℕ) (size : ℕ) → AreBytes bytes → slice_index bytes 0 ≡ 5 → slice_index bytes 1 ≡ size
+pub blocks_present : (bytes : List ℕ) (size : ℕ) → AreBytes bytes → slice_index bytes 0 ≡ 5 → slice_index bytes 1 ≡ size
     → is_blocks_size size ≡ true → size ≤ length bytes
     → IsOption bytes (SelectiveAcknowledgement (block_at bytes 2) (others_at bytes size), drop size bytes)
-blocks_there bytes size fits kind second is within =
+blocks_present bytes size fits kind second is within =
     let P : ℕ → Type 0 =
     λ n. n ≤ length bytes → slice_index bytes 1 ≡ n
     → IsOption bytes (SelectiveAcknowledgement (block_at bytes 2) (others_at bytes n), drop n bytes) in
-    let front : (n : ℕ) → 10 ≤ n → n ≤ length bytes → slice_index bytes 1 ≡ n
+    let prefix : (n : ℕ) → 10 ≤ n → n ≤ length bytes → slice_index bytes 1 ≡ n
     → bytes ≡ 5 ∷ n ∷ (block_bytes (block_at bytes 2) ++ drop 10 bytes) =
-    λ n least long same. two_front bytes 5 n (omega arith) kind same
-    ∙ ap (λ (s : List ℕ). 5 ∷ n ∷ s) (block_there bytes 2 10 refl fits (omega arith)) in
+    λ n least long same. two_prefix bytes 5 n (omega arith) kind same
+    ∙ ap (λ (s : List ℕ). 5 ∷ n ∷ s) (block_present bytes 2 10 refl fits (omega arith)) in
     let second_block : 18 ≤ length bytes → drop 10 bytes ≡ block_bytes (block_at bytes 10) ++ drop 18 bytes =
-    λ long. block_there bytes 10 18 refl fits long in
+    λ long. block_present bytes 10 18 refl fits long in
     let third_block : 26 ≤ length bytes → drop 18 bytes ≡ block_bytes (block_at bytes 18) ++ drop 26 bytes =
-    λ long. block_there bytes 18 26 refl fits long in
+    λ long. block_present bytes 18 26 refl fits long in
     let fourth_block : 34 ≤ length bytes → drop 26 bytes ≡ block_bytes (block_at bytes 26) ++ drop 34 bytes =
-    λ long. block_there bytes 26 34 refl fits long in
+    λ long. block_present bytes 26 34 refl fits long in
     let b2 = block_bytes (block_at bytes 2) in
     let b10 = block_bytes (block_at bytes 10) in
     let b18 = block_bytes (block_at bytes 18) in
     let at_10 : P 10 = λ long same. record {
       fits = (block_fits bytes 2 fits, refl, tt);
       blocks = refl;
-      parts = front 10 (omega arith) long same;
+      parts = prefix 10 (omega arith) long same;
     } in
     let at_18 : P 18 = λ long same. record {
       fits = (block_fits bytes 2 fits, refl, (block_fits bytes 10 fits, tt));
       blocks = refl;
-      parts = front 18 (omega arith) long same ∙ ap (λ (s : List ℕ). 5 ∷ 18 ∷ (b2 ++ s)) (second_block long);
+      parts = prefix 18 (omega arith) long same ∙ ap (λ (s : List ℕ). 5 ∷ 18 ∷ (b2 ++ s)) (second_block long);
     } in
     let at_26 : P 26 = λ long same. record {
       fits = (block_fits bytes 2 fits, refl, (block_fits bytes 10 fits, (block_fits bytes 18 fits, tt)));
       blocks = refl;
-      parts = front 26 (omega arith) long same
+      parts = prefix 26 (omega arith) long same
           ∙ ap (λ (s : List ℕ). 5 ∷ 26 ∷ (b2 ++ s)) (second_block (omega arith))
           ∙ ap (λ (s : List ℕ). 5 ∷ 26 ∷ (b2 ++ (b10 ++ s))) (third_block long);
     } in
@@ -133,7 +133,7 @@ blocks_there bytes size fits kind second is within =
         (block_fits bytes 10 fits, (block_fits bytes 18 fits, (block_fits bytes 26 fits, tt))),
       );
       blocks = refl;
-      parts = front 34 (omega arith) long same
+      parts = prefix 34 (omega arith) long same
           ∙ ap (λ (s : List ℕ). 5 ∷ 34 ∷ (b2 ++ s)) (second_block (omega arith))
           ∙ ap (λ (s : List ℕ). 5 ∷ 34 ∷ (b2 ++ (b10 ++ s))) (third_block (omega arith))
           ∙ ap (λ (s : List ℕ). 5 ∷ 34 ∷ (b2 ++ (b10 ++ (b18 ++ s)))) (fourth_block long);
@@ -220,36 +220,36 @@ option_read [] = None
 option_read (kind ∷ rest) = kind_read kind (kind ∷ rest)
 
 -- Bytes that no row for a fixed length rejects have this length.
-sized_there : (kind size : ℕ) (bytes : List ℕ) → first_row (sized_rows kind size bytes) ≡ None → (size ≤ length bytes)
+sized_present : (kind size : ℕ) (bytes : List ℕ) → first_row (sized_rows kind size bytes) ≡ None → (size ≤ length bytes)
     × (slice_index bytes 1 ≡ size)
-sized_there kind size bytes none = grind (arith, common_steps)
+sized_present kind size bytes none = grind (arith, common_steps)
 
 sized_none : (kind size : ℕ) (bytes : List ℕ) → size ≤ length bytes → slice_index bytes 1 ≡ size
     → first_row (sized_rows kind size bytes) ≡ None
 sized_none kind size bytes long same = grind (arith, common_steps)
 
-blocks_rows_there : (bytes : List ℕ) → first_row (blocks_rows bytes) ≡ None
+blocks_rows_present : (bytes : List ℕ) → first_row (blocks_rows bytes) ≡ None
     → (is_blocks_size (slice_index bytes 1) ≡ true) × (slice_index bytes 1 ≤ length bytes)
-blocks_rows_there bytes none = grind (arith, common_steps)
+blocks_rows_present bytes none = grind (arith, common_steps)
 
 blocks_rows_none : (bytes : List ℕ) (size : ℕ) → slice_index bytes 1 ≡ size → 2 ≤ length bytes
     → is_blocks_size size ≡ true → size ≤ length bytes → first_row (blocks_rows bytes) ≡ None
 blocks_rows_none bytes size same two is within = grind (arith, common_steps)
 
 -- Bytes with the kind and length of an option of fixed length are that option with the data read from them.
-size_there : (bytes : List ℕ) → AreBytes bytes → 4 ≤ length bytes → slice_index bytes 0 ≡ 2 → slice_index bytes 1 ≡ 4
+size_present : (bytes : List ℕ) → AreBytes bytes → 4 ≤ length bytes → slice_index bytes 0 ≡ 2 → slice_index bytes 1 ≡ 4
     → IsOption bytes (MaximumSegmentSize (word_at bytes 2), drop 4 bytes)
 unfolding elements
-size_there bytes fits long kind size = record {
+size_present bytes fits long kind size = record {
   fits = omega (arith, fits 2, fits 3);
   blocks = refl;
   parts = drop-elements 4 0 bytes long ∙ (λ i. kind i ∷ size i ∷ (word_cells bytes fits 2 refl i ++ drop 4 bytes));
 }
 
-shift_there : (bytes : List ℕ) → AreBytes bytes → 3 ≤ length bytes → slice_index bytes 0 ≡ 3 → slice_index bytes 1 ≡ 3
+shift_present : (bytes : List ℕ) → AreBytes bytes → 3 ≤ length bytes → slice_index bytes 0 ≡ 3 → slice_index bytes 1 ≡ 3
     → IsOption bytes (WindowScale (slice_index bytes 2), drop 3 bytes)
 unfolding elements
-shift_there bytes fits long kind size = record {
+shift_present bytes fits long kind size = record {
   fits = omega (arith, fits 2);
   blocks = refl;
   parts = drop-elements 3 0 bytes long ∙ (λ i. kind i ∷ size i ∷ slice_index bytes 2 ∷ drop 3 bytes);
@@ -265,21 +265,21 @@ reads (kind ∷ rest) fits none =
     let at_0 : P 0 = λ bytes_fit passed. refl in
     let at_1 : P 1 = λ bytes_fit passed. record { fits = tt; blocks = refl; parts = refl } in
     let at_2 : P 2 =
-    λ bytes_fit passed. let there = sized_there 2 4 (2 ∷ rest) passed in
-    size_there (2 ∷ rest) bytes_fit there.0 refl there.1 in
+    λ bytes_fit passed. let present = sized_present 2 4 (2 ∷ rest) passed in
+    size_present (2 ∷ rest) bytes_fit present.0 refl present.1 in
     let at_3 : P 3 =
-    λ bytes_fit passed. let there = sized_there 3 3 (3 ∷ rest) passed in
-    shift_there (3 ∷ rest) bytes_fit there.0 refl there.1 in
+    λ bytes_fit passed. let present = sized_present 3 3 (3 ∷ rest) passed in
+    shift_present (3 ∷ rest) bytes_fit present.0 refl present.1 in
     let at_4 : P 4 = λ bytes_fit passed.
-    let there = sized_there 4 2 (4 ∷ rest) passed in
-    record { fits = tt; blocks = refl; parts = two_front (4 ∷ rest) 4 2 there.0 refl there.1 }
+    let present = sized_present 4 2 (4 ∷ rest) passed in
+    record { fits = tt; blocks = refl; parts = two_prefix (4 ∷ rest) 4 2 present.0 refl present.1 }
     in
     let at_5 : P 5 =
-    λ bytes_fit passed. let there = blocks_rows_there (5 ∷ rest) passed in
-    blocks_there (5 ∷ rest) (slice_index (5 ∷ rest) 1) bytes_fit refl refl there.0 there.1 in
+    λ bytes_fit passed. let present = blocks_rows_present (5 ∷ rest) passed in
+    blocks_present (5 ∷ rest) (slice_index (5 ∷ rest) 1) bytes_fit refl refl present.0 present.1 in
     let at_8 : P 8 =
-    λ bytes_fit passed. let there = sized_there 8 10 (8 ∷ rest) passed in
-    timestamp_there (8 ∷ rest) bytes_fit there.0 refl there.1 in
+    λ bytes_fit passed. let present = sized_present 8 10 (8 ∷ rest) passed in
+    timestamp_present (8 ∷ rest) bytes_fit present.0 refl present.1 in
     let others : (k : ℕ) → IsUnknown k → P k =
     λ k u bytes_fit passed. absurd
     (none-some (UnknownId k) (sym passed ∙ ap first_row (unknown_rows k (k ∷ rest) u))) in
@@ -300,45 +300,45 @@ block_read : (b : Block) (s : List ℕ) → FitsBlock b → b ≡ block_at (bloc
 block_read b s fits = λ i. (long_read b.0 fits.0 i, long_read b.1 fits.1 i)
 
 -- whether the second block of a selective acknowledgment is present
-abbrev first_there : TcpOptionElement → Bool
-first_there (SelectiveAcknowledgement first (Some block ∷ others)) = true
-first_there _ = false
+abbrev first_present : TcpOptionElement → Bool
+first_present (SelectiveAcknowledgement first (Some block ∷ others)) = true
+first_present _ = false
 
-abbrev second_there : TcpOptionElement → Bool
-second_there (SelectiveAcknowledgement first (place ∷ Some block ∷ others)) = true
-second_there _ = false
+abbrev second_present : TcpOptionElement → Bool
+second_present (SelectiveAcknowledgement first (place ∷ Some block ∷ others)) = true
+second_present _ = false
 
 option_is : (option : TcpOptionElement) (rest : List ℕ) → FitsOption option → as_read option ≡ option
     → IsReadAs (option_bytes option ++ rest) option rest
 unfolding IsReadAs
-option_is Noop rest fits front = (refl, refl)
-option_is (MaximumSegmentSize size) rest fits front =
+option_is Noop rest fits prefix = (refl, refl)
+option_is (MaximumSegmentSize size) rest fits prefix =
     let bytes = option_bytes (MaximumSegmentSize size) ++ rest in
     let word : size ≡ word_at bytes 2 = omega (arith, fits) in
     (sized_none 2 4 bytes (omega arith) refl, λ i. Some (MaximumSegmentSize (word i), rest))
-option_is (WindowScale shift) rest fits front =
+option_is (WindowScale shift) rest fits prefix =
     (sized_none 3 3 (option_bytes (WindowScale shift) ++ rest) (omega arith) refl, refl)
-option_is SelectiveAcknowledgementPermitted rest fits front =
+option_is SelectiveAcknowledgementPermitted rest fits prefix =
     (sized_none 4 2 (option_bytes SelectiveAcknowledgementPermitted ++ rest) (omega arith) refl, refl)
-option_is (Timestamp time echo) rest fits front =
+option_is (Timestamp time echo) rest fits prefix =
     let bytes = option_bytes (Timestamp time echo) ++ rest in (
       sized_none 8 10 bytes (omega arith) refl,
       λ i. Some (Timestamp (long_read time fits.0 i) (long_read echo fits.1 i), rest),
     )
-option_is (SelectiveAcknowledgement first (None ∷ None ∷ None ∷ [])) rest fits front =
+option_is (SelectiveAcknowledgement first (None ∷ None ∷ None ∷ [])) rest fits prefix =
     let bytes = option_bytes (SelectiveAcknowledgement first (None ∷ None ∷ None ∷ [])) ++ rest in
     let b = block_read first rest fits.0 in (
       blocks_rows_none bytes 10 refl (omega arith) refl (omega arith),
       λ i. Some (SelectiveAcknowledgement (b i) (None ∷ None ∷ None ∷ []), rest),
     )
-option_is (SelectiveAcknowledgement first (Some second ∷ None ∷ None ∷ [])) rest fits front =
+option_is (SelectiveAcknowledgement first (Some second ∷ None ∷ None ∷ [])) rest fits prefix =
     let bytes = option_bytes (SelectiveAcknowledgement first (Some second ∷ None ∷ None ∷ [])) ++ rest in
     let b = block_read first rest fits.0 in
     let d = block_read second rest fits.2.0 in (
       blocks_rows_none bytes 18 refl (omega arith) refl (omega arith),
       λ i. Some (SelectiveAcknowledgement (b i) (Some (d i) ∷ None ∷ None ∷ []), rest),
     )
-option_is (SelectiveAcknowledgement first (Some second ∷ Some third ∷ None ∷ [])) rest fits front =
+option_is (SelectiveAcknowledgement first (Some second ∷ Some third ∷ None ∷ [])) rest fits prefix =
     let bytes = option_bytes (SelectiveAcknowledgement first (Some second ∷ Some third ∷ None ∷ [])) ++ rest in
     let b = block_read first rest fits.0 in
     let d = block_read second rest fits.2.0 in
@@ -346,7 +346,7 @@ option_is (SelectiveAcknowledgement first (Some second ∷ Some third ∷ None �
       blocks_rows_none bytes 26 refl (omega arith) refl (omega arith),
       λ i. Some (SelectiveAcknowledgement (b i) (Some (d i) ∷ Some (e i) ∷ None ∷ []), rest),
     )
-option_is (SelectiveAcknowledgement first (Some second ∷ Some third ∷ Some fourth ∷ [])) rest fits front =
+option_is (SelectiveAcknowledgement first (Some second ∷ Some third ∷ Some fourth ∷ [])) rest fits prefix =
     let bytes = option_bytes (SelectiveAcknowledgement first (Some second ∷ Some third ∷ Some fourth ∷ [])) ++ rest in
     let b = block_read first rest fits.0 in
     let d = block_read second rest fits.2.0 in
@@ -355,13 +355,13 @@ option_is (SelectiveAcknowledgement first (Some second ∷ Some third ∷ Some f
       blocks_rows_none bytes 34 refl (omega arith) refl (omega arith),
       λ i. Some (SelectiveAcknowledgement (b i) (Some (d i) ∷ Some (e i) ∷ Some (f i) ∷ []), rest),
     )
-option_is (SelectiveAcknowledgement first (None ∷ Some second ∷ others)) rest fits front =
-    absurd (true≢false (ap first_there front))
-option_is (SelectiveAcknowledgement first (None ∷ None ∷ Some second ∷ others)) rest fits front =
-    absurd (true≢false (ap first_there front))
-option_is (SelectiveAcknowledgement first (Some second ∷ None ∷ Some third ∷ others)) rest fits front =
-    absurd (true≢false (ap second_there front))
-option_is (SelectiveAcknowledgement first others) rest fits front = absurd (omega (arith, fits.1))
+option_is (SelectiveAcknowledgement first (None ∷ Some second ∷ others)) rest fits prefix =
+    absurd (true≢false (ap first_present prefix))
+option_is (SelectiveAcknowledgement first (None ∷ None ∷ Some second ∷ others)) rest fits prefix =
+    absurd (true≢false (ap first_present prefix))
+option_is (SelectiveAcknowledgement first (Some second ∷ None ∷ Some third ∷ others)) rest fits prefix =
+    absurd (true≢false (ap second_present prefix))
+option_is (SelectiveAcknowledgement first others) rest fits prefix = absurd (omega (arith, fits.1))
 
 is_read : (bytes : List ℕ) (value : Option (TcpOptionElement × List ℕ)) → IsNextOption bytes value
     → (first_row (option_rows bytes) ≡ None) × (value ≡ option_read bytes)

@@ -165,7 +165,7 @@ udp_part_is_read slices bytes header payload is =
 udp_part_is_read headers bytes header payload is =
     let read = udp_header_is_read.is_read bytes (header, payload) is in (
       first_row-as_none Len (udp_part_rows headers bytes) read.0,
-      ap (λ (front : UdpHeader × List ℕ). Some (transport_layer (Udp front.0) front.1)) read.1,
+      ap (λ (prefix : UdpHeader × List ℕ). Some (transport_layer (Udp prefix.0) prefix.1)) read.1,
     )
 
 layer_is_read : (reading : Reading) (number : ℕ) (bytes : List ℕ) (header : TransportHeader) (payload : List ℕ)
@@ -226,10 +226,10 @@ transport_is_read reading number fragmented =
 pub icmpv4_refused : (reading : Reading) (number : ℕ) (fragmented : Bool) (bytes : List ℕ) (error : LenError)
     → fragmented ≡ false → number ≡ icmpv4_number → first_row (icmpv4_rows bytes) ≡ Some error
     → RefusesTransportPart reading number fragmented bytes (Len error)
-icmpv4_refused reading number fragmented bytes error whole same refused =
+icmpv4_refused reading number fragmented bytes error complete same refused =
     let P : Bool → ℕ → Type 0 = λ f n. RefusesTransportPart reading n f bytes (Len error) in
     let at_icmpv4 : P false icmpv4_number = first_row-as_some Len (icmpv4_rows bytes) error refused in
-    subst (λ f. P f number) (sym whole) (subst (P false) (sym same) at_icmpv4)
+    subst (λ f. P f number) (sym complete) (subst (P false) (sym same) at_icmpv4)
 
 -- ---- bytes
 
@@ -241,9 +241,9 @@ record AreLayer (bytes : List ℕ) (header : TransportHeader) (payload : List �
   parts : bytes ≡ encoded ++ (payload ++ left)
 
 -- A header and payload without trailing bytes are such bytes.
-whole_layer : (bytes encoded payload : List ℕ) (header : TransportHeader) → EncodesTransportHeader header encoded
+complete_layer : (bytes encoded payload : List ℕ) (header : TransportHeader) → EncodesTransportHeader header encoded
     → bytes ≡ encoded ++ payload → AreLayer bytes header payload
-whole_layer bytes encoded payload header encodes parts = record {
+complete_layer bytes encoded payload header encodes parts = record {
   encoded = encoded;
   left = [];
   encodes = encodes;
@@ -261,13 +261,13 @@ layer_bytes slices number bytes (Udp header) payload is =
       parts = datagram.parts ∙ append_assoc (udp_bytes header) payload is.1.0;
     }
 layer_bytes headers number bytes (Udp header) payload is =
-    whole_layer bytes (udp_bytes header) payload (Udp header) (is.1.fits, refl) is.1.parts
+    complete_layer bytes (udp_bytes header) payload (Udp header) (is.1.fits, refl) is.1.parts
 layer_bytes reading number bytes (Tcp header) payload is =
-    whole_layer bytes is.1.encoded payload (Tcp header) is.1.encodes is.1.parts
+    complete_layer bytes is.1.encoded payload (Tcp header) is.1.encodes is.1.parts
 layer_bytes reading number bytes (Icmpv4 header) payload is =
-    whole_layer bytes is.1.encoded payload (Icmpv4 header) is.1.encodes is.1.parts
+    complete_layer bytes is.1.encoded payload (Icmpv4 header) is.1.encodes is.1.parts
 layer_bytes reading number bytes (Icmpv6 header) payload is =
-    whole_layer bytes is.1.encoded payload (Icmpv6 header) is.1.encodes is.1.parts
+    complete_layer bytes is.1.encoded payload (Icmpv6 header) is.1.encodes is.1.parts
 
 pub transport_bytes_are : (reading : Reading) (number : ℕ) (fragmented : Bool) (bytes : List ℕ)
     (part : Option TransportLayer)

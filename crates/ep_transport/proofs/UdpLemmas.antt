@@ -7,7 +7,7 @@ use Rattle.ep_base.specs.LaxCut.{LaxCut, IsLaxCut}
 use Rattle.ep_base.specs.Tables.{Parts, first_row}
 use Rattle.ep_base.specs.declared.len_source.LenSource.TheVariants as source
 use Rattle.ep_base.proofs.BytesLemmas.{AreBytes-take}
-use Rattle.ep_base.proofs.LaxCutLemmas.{cut_there, cut_nowhere, one_lax_cut}
+use Rattle.ep_base.proofs.LaxCutLemmas.{cut_present, cut_nowhere, one_lax_cut}
 use Rattle.ep_base.proofs.TableLemmas.{IsReadBy, cut_at, cut_same, one_value}
 use Rattle.ep_transport.specs.declared.udp_header.UdpHeader.{UdpHeader}
 use Rattle.ep_transport.specs.Udp.{FitsUdp, IsLaxUdp, IsUdp, IsUdpHeader, udp_bytes, udp_header_of, udp_parts, udp_header_rows, udp_rows}
@@ -22,9 +22,9 @@ udp_fits bytes fits =
       checksum = omega (arith, fits 6, fits 7);
     }
 
-udp_front : (bytes : List ℕ) → AreBytes bytes → 8 ≤ length bytes
+udp_prefix : (bytes : List ℕ) → AreBytes bytes → 8 ≤ length bytes
     → bytes ≡ udp_bytes (udp_header_of bytes) ++ drop 8 bytes
-udp_front bytes fits long = grind (arith, common_steps)
+udp_prefix bytes fits long = grind (arith, common_steps)
 
 -- ---- header
 
@@ -52,19 +52,19 @@ abbrev pub udp_read : List ℕ → Parts UdpHeader
 udp_read bytes = cut_at udp_len_of udp_parts bytes
 
 -- Bytes that no row rejects have a valid length field.
-stands : (bytes : List ℕ) → first_row (udp_rows bytes) ≡ None → (8 ≤ udp_len_of bytes)
+holds : (bytes : List ℕ) → first_row (udp_rows bytes) ≡ None → (8 ≤ udp_len_of bytes)
     × (udp_len_of bytes ≤ length bytes)
-stands bytes none = grind (arith, common_steps)
+holds bytes none = grind (arith, common_steps)
 
 reads : (bytes : List ℕ) → AreBytes bytes → first_row (udp_rows bytes) ≡ None → IsUdp bytes (udp_read bytes)
 reads bytes fits none =
-    let there = stands bytes none in
+    let present = holds bytes none in
     let n = udp_len_of bytes in
     let seen_fits : AreBytes (take n bytes) = AreBytes-take n bytes fits in
-    let front = udp_front (take n bytes) seen_fits (omega (arith, length-take n bytes)) in
+    let prefix = udp_prefix (take n bytes) seen_fits (omega (arith, length-take n bytes)) in
     record {
       fits = udp_fits (take n bytes) seen_fits;
-      parts = sym (take-append-drop n bytes) ∙ ap (λ (s : List ℕ). s ++ drop n bytes) front;
+      parts = sym (take-append-drop n bytes) ∙ ap (λ (s : List ℕ). s ++ drop n bytes) prefix;
       cut = grind (arith, common_steps);
     }
 
@@ -96,15 +96,15 @@ udp_is_read = record { reads = reads; is_read = is_read }
 -- ---- datagrams that may be truncated
 
 -- The header read from the first `end` bytes, at least 8, is the header of all bytes.
-front_stands : (bytes : List ℕ) (end : ℕ) → AreBytes bytes → 8 ≤ end → end ≤ length bytes
+prefix_holds : (bytes : List ℕ) (end : ℕ) → AreBytes bytes → 8 ≤ end → end ≤ length bytes
     → IsUdpHeader bytes (udp_header_of (take end bytes), drop 8 (take end bytes) ++ drop end bytes)
-front_stands bytes end fits enough within =
+prefix_holds bytes end fits enough within =
     let seen = take end bytes in
     let seen_fits : AreBytes seen = AreBytes-take end bytes fits in
-    let front = udp_front seen seen_fits (omega (arith, length-take end bytes)) in
+    let prefix = udp_prefix seen seen_fits (omega (arith, length-take end bytes)) in
     record {
       fits = udp_fits seen seen_fits;
-      parts = sym (take-append-drop end bytes) ∙ ap (λ (s : List ℕ). s ++ drop end bytes) front
+      parts = sym (take-append-drop end bytes) ∙ ap (λ (s : List ℕ). s ++ drop end bytes) prefix
           ∙ append_assoc (udp_bytes (udp_header_of seen)) (drop 8 seen) (drop end bytes);
     }
 
@@ -116,8 +116,8 @@ pub record ShowsLaxUdp (outer : Bool) (bytes seen : List ℕ) : Type 0 where
   pub payload : drop 8 seen ≡ cut.payload
 
 -- The length field of the first `end` bytes, at least 8, is that of all bytes.
-length_there : (bytes : List ℕ) (end : ℕ) → 8 ≤ end → word_at (take end bytes) 4 ≡ word_at bytes 4
-length_there bytes end enough =
+length_present : (bytes : List ℕ) (end : ℕ) → 8 ≤ end → word_at (take end bytes) 4 ≡ word_at bytes 4
+length_present bytes end enough =
     let high = get_or-take end bytes 4 0 (omega arith) in
     let low = get_or-take end bytes 5 0 (omega arith) in
     omega (arith, high, low)
@@ -127,7 +127,7 @@ pub lax_udp_cut : (outer : Bool) (bytes : List ℕ) (end : ℕ) → AreBytes byt
     → end ≤ length bytes → ShowsLaxUdp outer bytes (take end bytes)
 lax_udp_cut outer bytes end fits stated enough within =
     let seen = take end bytes in
-    let field = length_there bytes end enough in
+    let field = length_present bytes end enough in
     let len = length-take end bytes in
     let payload_len = length-drop 8 seen in
     let all = length-append (drop 8 seen) (drop end bytes) in
@@ -137,20 +137,20 @@ lax_udp_cut outer bytes end fits stated enough within =
       parts = sym (take-append-drop end bytes);
       is = record {
         rest = drop 8 seen ++ drop end bytes;
-        header = front_stands bytes end fits enough within;
-        cut = cut_there 8 (word_at seen 4) source.UdpHeaderLen outer 8 (drop 8 seen) (drop end bytes)
+        header = prefix_holds bytes end fits enough within;
+        cut = cut_present 8 (word_at seen 4) source.UdpHeaderLen outer 8 (drop 8 seen) (drop end bytes)
             (omega arith) (omega arith) (omega arith);
       };
       payload = refl;
     }
 
 -- If the length field does not apply, the datagram has all bytes.
-pub lax_udp_whole : (outer : Bool) (bytes : List ℕ) → AreBytes bytes → 8 ≤ length bytes
+pub lax_udp_complete : (outer : Bool) (bytes : List ℕ) → AreBytes bytes → 8 ≤ length bytes
     → (word_at bytes 4 < 8) ⊎ (length bytes < word_at bytes 4) → ShowsLaxUdp outer bytes bytes
-lax_udp_whole outer bytes fits enough why =
-    let front = udp_front bytes fits enough in
+lax_udp_complete outer bytes fits enough why =
+    let prefix = udp_prefix bytes fits enough in
     let none = append-nil (drop 8 bytes) in
-    let there : length (drop 8 bytes ++ []) ≡ length bytes - 8 = ap length none ∙ length-drop 8 bytes in
+    let present : length (drop 8 bytes ++ []) ≡ length bytes - 8 = ap length none ∙ length-drop 8 bytes in
     record {
       cut = record {
         payload = drop 8 bytes;
@@ -163,7 +163,7 @@ lax_udp_whole outer bytes fits enough why =
         rest = drop 8 bytes ++ [];
         header = record {
           fits = udp_fits bytes fits;
-          parts = front ∙ ap (λ (s : List ℕ). udp_bytes (udp_header_of bytes) ++ s) (sym none);
+          parts = prefix ∙ ap (λ (s : List ℕ). udp_bytes (udp_header_of bytes) ++ s) (sym none);
         };
         cut = cut_nowhere 8 (word_at bytes 4) source.UdpHeaderLen outer 8 (drop 8 bytes) []
             (elim why [ inl short ↦ inl short | inr long ↦ inr (omega arith) ]) refl;

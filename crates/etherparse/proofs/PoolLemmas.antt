@@ -27,11 +27,11 @@ pub holds_one_more : OneMoreCall → (pool : IpDefragPool ℕ ℕ) (limit : ℕ)
     (call : Call ℕ ℕ ℕ) → HoldsTable nat_eq pool (table_with limit nat_eq nat_le (table_after limit nat_eq nat_le calls)
     call)
     → HoldsCalls limit (calls ++ call ∷ []) pool
-holds_one_more law pool limit calls call held = record {
-  apart = held.apart;
+holds_one_more law pool limit calls call stored = record {
+  apart = stored.apart;
   each = λ name.
       subst (λ kept. HoldsEntry (limit_of pool) (stream_named nat_eq name pool) kept)
-      (sym (law limit nat_le calls call name)) (held.each name);
+      (sym (law limit nat_le calls call name)) (stored.each name);
 }
 
 -- The state of a pool after a frame for which no allocation failed.
@@ -40,14 +40,14 @@ pub holds_frame : OneMoreCall → (old new : IpDefragPool ℕ ℕ) (carried : Op
     → TakesFrame nat_eq old new carried timestamp channel result → IsFalse (is_allocation_failure_in result)
     → (limit : ℕ) (calls : List (Call ℕ ℕ ℕ)) → limit_of old ≡ limit → HoldsCalls limit calls old
     → (limit_of new ≡ limit) × HoldsCalls limit (calls ++ gives_frame carried timestamp channel ∷ []) new
-holds_frame law old new None timestamp channel result takes enough limit calls is held = (
+holds_frame law old new None timestamp channel result takes enough limit calls is stored = (
   ap limit_of takes.1 ∙ is,
-  holds_one_more law new limit calls (gives_frame None timestamp channel) (rw takes.1 held),
+  holds_one_more law new limit calls (gives_frame None timestamp channel) (rw takes.1 stored),
 )
-holds_frame law old new (Some carried) timestamp channel result takes enough limit calls is held = (
+holds_frame law old new (Some carried) timestamp channel result takes enough limit calls is stored = (
   takes.limit ∙ is,
   holds_one_more law new limit calls (gives_frame (Some carried) timestamp channel)
-      (rw is at (takes.holds enough (table_after limit nat_eq nat_le calls) held)),
+      (rw is at (takes.holds enough (table_after limit nat_eq nat_le calls) stored)),
 )
 
 pub frame_answered : (old new : IpDefragPool ℕ ℕ) (carried : Option PacketFragment) (timestamp channel : ℕ)
@@ -55,6 +55,6 @@ pub frame_answered : (old new : IpDefragPool ℕ ℕ) (carried : Option PacketFr
     → TakesFrame nat_eq old new carried timestamp channel result → IsFalse (is_allocation_failure_in result)
     → (limit : ℕ) (table : IpFragId ℕ → Option (Kept ℕ)) → limit_of old ≡ limit → HoldsTable nat_eq old table
     → plain_frame_answer result ≡ answer_to {V = ℕ} limit table (gives_frame carried timestamp channel)
-frame_answered old new None timestamp channel result takes enough limit table is held = ap plain_frame_answer takes.0
-frame_answered old new (Some carried) timestamp channel result takes enough limit table is held =
-    rw is at (takes.answer enough table held)
+frame_answered old new None timestamp channel result takes enough limit table is stored = ap plain_frame_answer takes.0
+frame_answered old new (Some carried) timestamp channel result takes enough limit table is stored =
+    rw is at (takes.answer enough table stored)

@@ -124,15 +124,16 @@ pub use Rattle.ep_build.specs.BuildErrors
 pub use Rattle.ep_build.specs.BuiltFragments
 pub use Rattle.ep_build.specs.BuiltFrames
 pub use Rattle.ep_build.specs.Fits
+pub use Rattle.ep_build.specs.KeptFields
 pub use Rattle.ep_build.specs.Placing
 pub use Rattle.ep_build.specs.ReadBack
 pub use Rattle.ep_build.specs.Steps
 -- reassembly of fragments
 pub use Rattle.ep_defrag.specs.Buffers
-pub use Rattle.ep_defrag_laws.specs.BuiltCuts
+pub use Rattle.ep_defrag.specs.BuiltCuts
 pub use Rattle.ep_defrag.specs.Calls
 pub use Rattle.ep_defrag.specs.DefragComparisons
-pub use Rattle.ep_defrag_laws.specs.Completing
+pub use Rattle.ep_defrag.specs.Completing
 pub use Rattle.ep_defrag.specs.PayloadCuts
 pub use Rattle.ep_defrag.specs.IpFragments
 pub use Rattle.ep_defrag.specs.FrameCalls
@@ -149,10 +150,10 @@ pub use Rattle.ep_defrag.specs.BoundedLimits
 pub use Rattle.ep_defrag.specs.BoundedErrorTexts
 pub use Rattle.ep_defrag.specs.BoundedOverlaps
 pub use Rattle.ep_defrag.specs.BoundedSteps
-pub use Rattle.ep_defrag_laws.specs.BoundedDiscards
+pub use Rattle.ep_defrag.specs.BoundedDiscards
 pub use Rattle.ep_defrag.specs.BoundedRuns
 pub use Rattle.ep_defrag.specs.BoundedCounts
-pub use Rattle.ep_defrag_laws.specs.BoundedGiven
+pub use Rattle.ep_defrag.specs.BoundedGiven
 pub use Rattle.ep_defrag.specs.BoundedNames
 pub use Rattle.ep_defrag.specs.BoundedAnswers
 pub use Rattle.ep_defrag.specs.BoundedPools

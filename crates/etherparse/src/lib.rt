@@ -248,7 +248,7 @@ pub mod err {
 pub mod laws {
     pub use ep_base::laws as base;
     pub use ep_build::laws as build;
-    pub use ep_defrag_laws as defrag;
+    pub use ep_defrag::laws as defrag;
     pub use ep_ext::laws as ext;
     pub use ep_ip::laws as ip;
     pub use ep_lax::laws as lax;

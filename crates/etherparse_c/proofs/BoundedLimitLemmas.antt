@@ -29,7 +29,7 @@ use Rattle.etherparse.specs.Types.OverlapPolicy.TheVariants.{LastWins, FirstWins
 use Rattle.etherparse_c.specs.BoundedPoolAnswers.{IsBoundedPush, IsBoundedPushWith, IsBoundedPushed, IsBoundedResultAnswer}
 use Rattle.etherparse_c.specs.declared.bounded_state.BoundedState.{BoundedState}
 use Rattle.etherparse_c.specs.declared.pool_answer.PoolAnswer.{PoolAnswer}
-use Rattle.etherparse_c.proofs.LimitLemmas.{ends_within}
+use Rattle.etherparse_c.proofs.LimitLemmas.{ends_within, none_returned}
 
 -- ---- fragments that end within the limit
 
@@ -108,11 +108,11 @@ state_fits limits (Some buffer) (Some content) holds accepted is =
 
 rows_fit : {C : Type 0} (limits : DefragLimits) (names : List (HeldName C)) (rows : List (Row C))
     → AllZip (HoldsRow limits) names rows → AllFit limits rows
-rows_fit limits [] [] held = tt
-rows_fit limits [] (row ∷ rows) held = absurd held
-rows_fit limits (name ∷ names) [] held = absurd held
-rows_fit limits (name ∷ names) (row ∷ rows) held =
-    (state_fits limits name.1.buffer row.accepted held.0.state, rows_fit limits names rows held.1)
+rows_fit limits [] [] kept = tt
+rows_fit limits [] (row ∷ rows) kept = absurd kept
+rows_fit limits (name ∷ names) [] kept = absurd kept
+rows_fit limits (name ∷ names) (row ∷ rows) kept =
+    (state_fits limits name.1.buffer row.accepted kept.0.state, rows_fit limits names rows kept.1)
 
 one_found : {C : Type 0} (limits : DefragLimits) (found : Bool) (row : Row C) (rest : Option (Row C)) → Fits limits row
     → IfSome rest (Fits limits) → IfSome (cond found (Some row) rest) (Fits limits)
@@ -195,7 +195,7 @@ fated_within : {C : Type 0} (limits : DefragLimits) (eq : C → C → Bool) (row
 fated_within limits eq rows name fragment now number granted (is_rejected error) fits is = no_bytes limits.payload
 fated_within limits eq rows name fragment now number granted discards fits is = no_bytes limits.payload
 fated_within limits eq rows name fragment now number None is_accepted fits is = no_bytes limits.payload
-fated_within limits eq rows name fragment now number (Some room) is_accepted fits is =
+fated_within limits eq rows name fragment now number (Some space) is_accepted fits is =
     accepting_within limits _ _ _ _ (at_within limits (row_named eq name rows) fragment fits is)
 
 -- A payload that a step returns is no longer than the limit.
@@ -213,12 +213,12 @@ payload_within : (old new : BoundedDefragPool ℕ) (carried : Option PacketFragm
     (payload : IpDefragPayloadVec) (rows : List (Row ℕ)) → HoldsRows nat_eq old rows
     → TakesBoundedFrame nat_eq old new carried timestamp channel (Ok (Some payload))
     → length payload.payload.items ≤ (limits_in old).payload
-payload_within old new None timestamp channel payload rows held takes = grind arith
-payload_within old new (Some carried) timestamp channel payload rows held takes =
-    let taken = takes.step rows 0 held in
+payload_within old new None timestamp channel payload rows kept takes = grind arith
+payload_within old new (Some carried) timestamp channel payload rows kept takes =
+    let taken = takes.step rows 0 kept in
     subst (λ (answer : BoundedAnswer). length (answered_bytes answer) ≤ (limits_in old).payload) (sym taken.2)
     (step_within (limits_in old) nat_eq rows (name_of carried channel) carried.fragment timestamp 0 taken.0
-    (rows_fit (limits_in old) _ rows held.each))
+    (rows_fit (limits_in old) _ rows kept.each))
 
 none_in_answer : (result : Result (Option IpDefragPayloadVec) BoundedDefragError) (waiting : Option IpDefragPayloadVec)
     (old_buffer new_buffer : List ℕ) (answer : PoolAnswer) (status : ℕ)
@@ -226,17 +226,14 @@ none_in_answer : (result : Result (Option IpDefragPayloadVec) BoundedDefragError
     → IsBoundedResultAnswer result waiting old_buffer new_buffer answer status → waiting ≡ None
 none_in_answer (Ok None) waiting old_buffer new_buffer answer status fits answered = answered.1
 none_in_answer (Ok (Some payload)) waiting old_buffer new_buffer answer status fits answered =
-    elim answered.1 [
-      | inl complete ↦ complete.1
-      | inr longer ↦ absurd (omega (arith, fits payload refl, longer.2))
-    ]
+    none_returned payload waiting old_buffer new_buffer answer status (fits payload refl) answered
 none_in_answer (Err error) waiting old_buffer new_buffer answer status fits answered = answered.1
 
 none_pushed : (entry : Entry) (bytes : List ℕ) (timestamp channel : ℕ) (old new : BoundedState)
     (old_buffer new_buffer : List ℕ) (answer : PoolAnswer) (status : ℕ) (rows : List (Row ℕ))
     → HoldsRows nat_eq old.pool rows → old.waiting ≡ None → (limits_in old.pool).payload ≤ length old_buffer
     → IsBoundedPushed entry bytes timestamp channel old new old_buffer new_buffer answer status → new.waiting ≡ None
-none_pushed entry bytes timestamp channel old new old_buffer new_buffer answer status rows held empty fits pushed =
+none_pushed entry bytes timestamp channel old new old_buffer new_buffer answer status rows kept empty fits pushed =
     elim pushed [
       | inl refused ↦ refused.1.waiting ∙ empty
       | inr taken ↦
@@ -244,7 +241,7 @@ none_pushed entry bytes timestamp channel old new old_buffer new_buffer answer s
           none_in_answer taken.2.0 new.waiting old_buffer new_buffer answer status
           (λ payload is.
           let takes = subst (TakesBoundedFrame nat_eq old.pool new.pool carried timestamp channel) is taken.2.1 in
-          let short = payload_within old.pool new.pool carried timestamp channel payload rows held takes in
+          let short = payload_within old.pool new.pool carried timestamp channel payload rows kept takes in
           omega (arith, fits, short)) taken.2.2
     ]
 
@@ -253,17 +250,17 @@ none_answered : (entry : Option Entry) (bytes : List ℕ) (timestamp channel : �
     → HoldsRows nat_eq old.pool rows → old.waiting ≡ None → (limits_in old.pool).payload ≤ length old_buffer
     → IsBoundedPushWith entry None bytes timestamp channel old new old_buffer new_buffer answer status
     → new.waiting ≡ None
-none_answered None bytes timestamp channel old new old_buffer new_buffer answer status rows held empty fits answered =
+none_answered None bytes timestamp channel old new old_buffer new_buffer answer status rows kept empty fits answered =
     answered.1.waiting ∙ empty
-none_answered (Some entry) bytes timestamp channel old new old_buffer new_buffer answer status rows held empty fits
+none_answered (Some entry) bytes timestamp channel old new old_buffer new_buffer answer status rows kept empty fits
     answered =
-    none_pushed entry bytes timestamp channel old new old_buffer new_buffer answer status rows held empty fits answered
+    none_pushed entry bytes timestamp channel old new old_buffer new_buffer answer status rows kept empty fits answered
 
 pub none_waits : (entry : Option Entry) (bytes : List ℕ) (timestamp channel : ℕ) (old new : BoundedState)
     (old_buffer new_buffer : List ℕ) (answer : PoolAnswer) (status : ℕ) (rows : List (Row ℕ))
     → HoldsRows nat_eq old.pool rows → old.waiting ≡ None → (limits_in old.pool).payload ≤ length old_buffer
     → IsBoundedPush entry bytes timestamp channel old_buffer new_buffer answer status old new → new.waiting ≡ None
-none_waits entry bytes timestamp channel old new old_buffer new_buffer answer status rows held empty fits pushed =
-    none_answered entry bytes timestamp channel old new old_buffer new_buffer answer status rows held empty fits
+none_waits entry bytes timestamp channel old new old_buffer new_buffer answer status rows kept empty fits pushed =
+    none_answered entry bytes timestamp channel old new old_buffer new_buffer answer status rows kept empty fits
     (subst (λ waiting. IsBoundedPushWith entry waiting bytes timestamp channel old new old_buffer new_buffer answer
     status) empty pushed.answered)

@@ -117,10 +117,10 @@ net_at : (net : Option NetLayer) (bytes : List ℕ) (offset : ℕ) → offset + 
     → IsNetAt (part (net_kind net) offset (net_len net)) (ip_in net) bytes (ip_fields_in offset net)
     (arp_fields_in offset net)
 net_at None bytes offset within encodes = inl (refl, (refl, refl))
-net_at (Some (ipv4 header extensions payload)) bytes offset within (front, after, encodes, parts, same) =
+net_at (Some (ipv4 header extensions payload)) bytes offset within (prefix, after, encodes, parts, same) =
     inr (inr (inl (
       refl,
-      ((within, ((header, after), record { encoded = front; encodes = encodes; parts = same }, refl)), refl),
+      ((within, ((header, after), record { encoded = prefix; encodes = encodes; parts = same }, refl)), refl),
     )))
 net_at (Some (ipv6 header extensions payload)) bytes offset within (fits, (after, encodes, same)) = inr (inr (inr (
   refl,

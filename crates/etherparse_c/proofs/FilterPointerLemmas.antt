@@ -24,7 +24,7 @@ use Rattle.etherparse_c.specs.FilterOwnership.{owns_filter}
 use Rattle.etherparse_c.specs.HeldFilterOwnership.{owns_held_filter}
 use Rattle.etherparse_c.specs.declared.held_filter.HeldFilter.{HeldFilter}
 use Rattle.packet_filter.specs.Step.{Step as FilterStep}
-use Rattle.etherparse_c.specs.contracts.held_filter.HeldFilter.{the_row as held_row}
+use Rattle.etherparse_c.specs.contracts.held_filter.HeldFilter.{the_row as kept_row}
 use Rattle.packet_filter.specs.contracts.filter.Filter.{the_row}
 use Rattle.etherparse_c.specs.contracts.filter_handle.FilterHandle as handle
 use Rattle.etherparse_c.specs.contracts.filter_pointer.FilterPointer as filter_pointer
@@ -61,11 +61,11 @@ module _ {M : Type 1} {𝓤 : Ura M} {𝓛 : Logic 𝓤} {K : Type 0} {Γ : List
       (subst (λ (ws : List Val). vs ≡ vstruct (of_list (ptr_val d.at ∷ (ws ++ []))) ∷ []) ea (subst (λ (ps : List Val). vs ≡ vstruct (of_list (ps ++ (vss.1.0 ++ []))) ∷ []) ep ev))) fits)))))
 
   pub filter_handle_out : K → (d : FilterHandle.Denot) (x : HeldFilter) → d.filter ≡ Some x → (vs : List Val)
-      → ((b o : ℕ) (h : Val) → d.at ≡ block_ptr b o → vs ≡ both (vptr b o) h ∷ [] → Good (layout Heap) h → Seq K 𝓛 (‵ (box_owns (ghosts.dealloc_token d.alloc) held_row (block_ptr b o) x) ∷ ‵ (Heap.own_val d.alloc (h ∷ [])) ∷ Γ) G)
+      → ((b o : ℕ) (h : Val) → d.at ≡ block_ptr b o → vs ≡ both (vptr b o) h ∷ [] → Good (layout Heap) h → Seq K 𝓛 (‵ (box_owns (ghosts.dealloc_token d.alloc) kept_row (block_ptr b o) x) ∷ ‵ (Heap.own_val d.alloc (h ∷ [])) ∷ Γ) G)
       → Seq K 𝓛 (‵ (FilterHandle.own_val d vs) ∷ Γ) G
   filter_handle_out t d x is vs k =
       fsplit t $ move t (1 ∷ []) $ rewrite t 0 (λ (s : Option HeldFilter). ‵ (owns_held_filter s d.alloc d.at)) is refl $ move t (1 ∷ []) $
       fpick t (λ vss. fsplit t $ feq_l t (λ ev. fsplit t $ feq_l t (λ ep. fsplit t $ handle_tells heap_al t d.alloc vss.1.0 (λ h ea fits. move t (1 ∷ []) $ drop t $ move t (1 ∷ []) $
-      in_a_block t d.at (λ p. box_owns (ghosts.dealloc_token d.alloc) held_row p x) (fst∗ 𝓤 (never 𝓤) (sem 𝓛 (ghosts.dealloc_token d.alloc (bare (lone held_row.mir)) null_ptr))) (λ b o e. k b o h e
+      in_a_block t d.at (λ p. box_owns (ghosts.dealloc_token d.alloc) kept_row p x) (fst∗ 𝓤 (never 𝓤) (sem 𝓛 (ghosts.dealloc_token d.alloc (bare (lone kept_row.mir)) null_ptr))) (λ b o e. k b o h e
       (subst (λ (p : Ptr). vs ≡ vstruct (of_list (ptr_val p ∷ h ∷ [])) ∷ []) e
       (subst (λ (ws : List Val). vs ≡ vstruct (of_list (ptr_val d.at ∷ (ws ++ []))) ∷ []) ea (subst (λ (ps : List Val). vs ≡ vstruct (of_list (ps ++ (vss.1.0 ++ []))) ∷ []) ep ev))) fits)))))

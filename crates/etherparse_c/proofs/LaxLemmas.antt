@@ -188,6 +188,6 @@ complete_same read end complete stop = λ i. record (description (layers_in read
 
 pub described_the_same : (entry : Entry) (bytes : List ℕ) (layers : Layers) (read : LaxLayers)
     → IsFrame entry bytes layers → layers_in read ≡ layers → IsWhole read → lax_description read ≡ description layers
-described_the_same entry bytes layers read frame same whole =
+described_the_same entry bytes layers read frame same entire =
     let end = subst (λ (l : Layers). lax_end l ≡ payload_end l) (sym same) (frame_end_same entry bytes layers frame) in
-    complete_same read end whole.inside whole.stop ∙ ap description same
+    complete_same read end entire.inside entire.stop ∙ ap description same

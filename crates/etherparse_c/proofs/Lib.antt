@@ -1,6 +1,7 @@
 pub mod AnswerLemmas
 pub mod BoundedAnswerLemmas
 pub mod PointerStepLemmas
+pub mod PointerWalkLemmas
 pub mod BoundedPointerLemmas
 pub mod LaxLemmas
 pub mod ManyLemmas

@@ -18,7 +18,7 @@ use Rattle.etherparse.specs.Types.IpDefragError.{IpDefragError}
 use Rattle.etherparse.specs.Types.IpDefragPayloadVec.{IpDefragPayloadVec}
 use Rattle.etherparse.specs.Types.IpDefragPool.{IpDefragPool}
 use Rattle.etherparse.specs.Types.IpFragId.{IpFragId}
-use Rattle.etherparse_c.specs.PoolAnswers.{IsPoolResultAnswer, IsPushAnswer, IsPushAnswerWith, IsPushed, Table}
+use Rattle.etherparse_c.specs.PoolAnswers.{IsPoolResultAnswer, IsPushAnswer, IsPushAnswerWith, IsPushed, ReturnsPayload, Table}
 use Rattle.etherparse_c.specs.declared.pool_answer.PoolAnswer.{PoolAnswer}
 use Rattle.etherparse_c.specs.declared.state.State.{State}
 
@@ -65,18 +65,28 @@ payload_within : DataWithinLimit → (old new : IpDefragPool ℕ ℕ) (carried :
     (timestamp channel : ℕ) (payload : IpDefragPayloadVec) (table : Table) → HoldsTable nat_eq old table
     → TakesFrame nat_eq old new carried timestamp channel (Ok (Some payload))
     → length payload.payload.items ≤ limit_of old
-payload_within law old new None timestamp channel payload table held takes = grind arith
-payload_within law old new (Some carried) timestamp channel payload table held takes =
+payload_within law old new None timestamp channel payload table kept takes = grind arith
+payload_within law old new (Some carried) timestamp channel payload table kept takes =
     let name = name_of carried channel in
     let accepted = accepted_in (table name) in
-    let answered = takes.answer refl table held in
+    let answered = takes.answer refl table kept in
     let fits = not_refused _ name (accepted ++ carried.fragment ∷ []) _ answered in
-    let short = data_in_within (limit_of old) (stream_named nat_eq name old) (law old table name held) in
-    subst (λ items. length items ≤ limit_of old) (sym (takes.entry held.apart).1)
+    let short = data_in_within (limit_of old) (stream_named nat_eq name old) (law old table name kept) in
+    subst (λ items. length items ≤ limit_of old) (sym (takes.entry kept.apart).1)
     (data_after_within (limit_of old) _ carried.fragment short
     (ends_within (limit_of old) accepted carried.fragment fits))
 
 -- ---- after a push
+
+-- A payload that fits into the buffer does not wait.
+pub none_returned : (payload : IpDefragPayloadVec) (waiting : Option IpDefragPayloadVec) (old_buffer new_buffer : List ℕ)
+    (answer : PoolAnswer) (status : ℕ) → length payload.payload.items ≤ length old_buffer
+    → ReturnsPayload payload waiting old_buffer new_buffer answer status → waiting ≡ None
+none_returned payload waiting old_buffer new_buffer answer status fits returned =
+    elim returned.1 [
+      | inl complete ↦ complete.1
+      | inr longer ↦ absurd (omega (arith, fits, longer.2))
+    ]
 
 none_in_answer : (result : Result (Option IpDefragPayloadVec) IpDefragError) (waiting : Option IpDefragPayloadVec)
     (old_buffer new_buffer : List ℕ) (answer : PoolAnswer) (status : ℕ)
@@ -84,17 +94,14 @@ none_in_answer : (result : Result (Option IpDefragPayloadVec) IpDefragError) (wa
     → IsPoolResultAnswer result waiting old_buffer new_buffer answer status → waiting ≡ None
 none_in_answer (Ok None) waiting old_buffer new_buffer answer status fits answered = answered.1
 none_in_answer (Ok (Some payload)) waiting old_buffer new_buffer answer status fits answered =
-    elim answered.1 [
-      | inl complete ↦ complete.1
-      | inr longer ↦ absurd (omega (arith, fits payload refl, longer.2))
-    ]
+    none_returned payload waiting old_buffer new_buffer answer status (fits payload refl) answered
 none_in_answer (Err error) waiting old_buffer new_buffer answer status fits answered = answered.1
 
 none_pushed : DataWithinLimit → (entry : Entry) (bytes : List ℕ) (timestamp channel : ℕ) (old new : State)
     (old_buffer new_buffer : List ℕ) (answer : PoolAnswer) (status : ℕ) (table : Table)
     → HoldsTable nat_eq old.pool table → old.waiting ≡ None → limit_of old.pool ≤ length old_buffer
     → IsPushed entry bytes timestamp channel old new old_buffer new_buffer answer status → new.waiting ≡ None
-none_pushed law entry bytes timestamp channel old new old_buffer new_buffer answer status table held empty fits pushed =
+none_pushed law entry bytes timestamp channel old new old_buffer new_buffer answer status table kept empty fits pushed =
     elim pushed [
       | inl refused ↦ ap (λ (state : State). state.waiting) refused.1 ∙ empty
       | inr taken ↦
@@ -102,7 +109,7 @@ none_pushed law entry bytes timestamp channel old new old_buffer new_buffer answ
           none_in_answer taken.2.0 new.waiting old_buffer new_buffer answer status
           (λ payload is.
           let takes = subst (TakesFrame nat_eq old.pool new.pool carried timestamp channel) is taken.2.1 in
-          let short = payload_within law old.pool new.pool carried timestamp channel payload table held takes in
+          let short = payload_within law old.pool new.pool carried timestamp channel payload table kept takes in
           omega (arith, fits, short)) taken.2.2
     ]
 
@@ -110,10 +117,10 @@ pub none_waits : DataWithinLimit → (entry : Option Entry) (bytes : List ℕ) (
     (old_buffer new_buffer : List ℕ) (answer : PoolAnswer) (status : ℕ) (table : Table)
     → HoldsTable nat_eq old.pool table → old.waiting ≡ None → limit_of old.pool ≤ length old_buffer
     → IsPushAnswer entry bytes timestamp channel old new old_buffer new_buffer answer status → new.waiting ≡ None
-none_waits law None bytes timestamp channel old new old_buffer new_buffer answer status table held empty fits pushed =
+none_waits law None bytes timestamp channel old new old_buffer new_buffer answer status table kept empty fits pushed =
     ap (λ (state : State). state.waiting) pushed.1 ∙ empty
-none_waits law (Some entry) bytes timestamp channel old new old_buffer new_buffer answer status table held empty fits
+none_waits law (Some entry) bytes timestamp channel old new old_buffer new_buffer answer status table kept empty fits
     pushed =
-    none_pushed law entry bytes timestamp channel old new old_buffer new_buffer answer status table held empty fits
+    none_pushed law entry bytes timestamp channel old new old_buffer new_buffer answer status table kept empty fits
     (subst (λ waiting. IsPushAnswerWith (Some entry) waiting bytes timestamp channel old new old_buffer new_buffer
     answer status) empty pushed)

@@ -155,7 +155,7 @@ pub keeps_names : {given : StreamId} {old new : BoundedState} (id : IpFragId ℕ
     → stream_part id ≡ given → is_some (row_named nat_eq id rows) ≡ false → FitCounters (statistics_in old.pool)
     → HoldsRows nat_eq old.pool rows → DoesStep nat_eq old.pool new.pool (removes_name id) 0 None rows
     → KeepsNames given old new rows
-keeps_names {given} {old} {new} id rows named absent fit held does =
+keeps_names {given} {old} {new} id rows named absent fit kept does =
     let test = λ (row : Row ℕ). same_stream nat_eq row.id id in
     let none = is_none (row_named nat_eq id rows) absent in
     let other : (row : Row ℕ) → test row ≡ false → IsStreamId row.id → stream_part row.id ≡ given → ⊥ =
@@ -167,7 +167,7 @@ keeps_names {given} {old} {new} id rows named absent fit held does =
       others = All-weaker (λ row. test row ≡ false) (λ row. IsStreamId row.id → stream_part row.id ≡ given → ⊥) other
           rows (all_fail test rows none);
       alike = record {
-        first = held;
+        first = kept;
         second = subst (HoldsRows nat_eq new.pool) (all_stay test rows none) does.holds;
         limits = does.limits;
         statistics = does.statistics

@@ -28,15 +28,8 @@ pub(crate) fn describe(described: &mut Packet, packet: &SlicedPacket<'_>)
     let count = packet.link_exts.len() as u32;
     let net = net_part(&packet.net, tags.end);
     let ip = ip_part(&packet.net);
-    let offset = describe_headers(
-        described,
-        link,
-        tags.slots,
-        count,
-        net,
-        ip,
-        &packet.transport,
-    );
+    let transport = &packet.transport;
+    let offset = describe_headers(described, link, tags.slots, count, net, ip, transport);
     described.payload = Payload {
         len_source: source_number(payload_end(packet)),
         incomplete: 0,

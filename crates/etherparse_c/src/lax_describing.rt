@@ -38,15 +38,8 @@ pub(crate) fn describe_lax(described: &mut Packet, packet: &LaxSlicedPacket<'_>)
     let count = tag_count(packet);
     let net = lax_net_part(&packet.net, tags.end);
     let ip = lax_ip_part(&packet.net);
-    let offset = describe_headers(
-        described,
-        link,
-        tags.slots,
-        count,
-        net,
-        ip,
-        &packet.transport,
-    );
+    let transport = &packet.transport;
+    let offset = describe_headers(described, link, tags.slots, count, net, ip, transport);
     described.payload = Payload {
         len_source: source_number(lax_end(packet)),
         incomplete: u32::from(flag(packet.is_incomplete())),

@@ -185,13 +185,12 @@ fn read_icmpv4(bytes: &[u8], fields: &mut TransportFields) -> bool
 fn icmpv4_fields(message: &Icmpv4Slice<'_>) -> TransportFields
     ensures { result ≡ icmpv4_fields (icmpv4_slice_bytes message.now) (icmpv4_slice_header message.now) }
 {
-    TransportFields {
-        checksum: message.checksum(),
-        icmp_type: message.type_u8(),
-        icmp_code: message.code_u8(),
-        icmp_rest: message.bytes5to8(),
-        ..no_transport_fields()
-    }
+    icmp_fields(
+        message.checksum(),
+        message.type_u8(),
+        message.code_u8(),
+        message.bytes5to8(),
+    )
 }
 
 /// Reads the fields of an ICMPv6 header.
@@ -209,11 +208,29 @@ fn read_icmpv6(bytes: &[u8], fields: &mut TransportFields) -> bool
 fn icmpv6_fields(message: &Icmpv6Slice<'_>) -> TransportFields
     ensures { result ≡ icmpv6_fields (icmpv6_slice_bytes message.now) (icmpv6_slice_header message.now) }
 {
+    icmp_fields(
+        message.checksum(),
+        message.type_u8(),
+        message.code_u8(),
+        message.bytes5to8(),
+    )
+}
+
+/// Returns the fields of an ICMP or ICMPv6 header: its checksum, type, code, and bytes 4 to 7.
+#[inline(always)]
+fn icmp_fields(checksum: u16, icmp_type: u8, icmp_code: u8, icmp_rest: [u8; 4]) -> TransportFields
+    ensures { result ≡ record no_transport_fields {
+      checksum = checksum;
+      icmp_type = icmp_type;
+      icmp_code = icmp_code;
+      icmp_rest = icmp_rest;
+    } }
+{
     TransportFields {
-        checksum: message.checksum(),
-        icmp_type: message.type_u8(),
-        icmp_code: message.code_u8(),
-        icmp_rest: message.bytes5to8(),
+        checksum,
+        icmp_type,
+        icmp_code,
+        icmp_rest,
         ..no_transport_fields()
     }
 }

@@ -23,21 +23,21 @@ same_transport link known_link headers known_headers transport_header link_is he
     ∙ ap (λ (ip : IpHeaders). transport_frame_headers known_link ip transport_header) headers_are
 
 -- Writing a step appends the frame with the headers that the step is known to have.
-pub appends_known : {Z : Type 0} (held known : FrameHeaders) (payload : List ℕ) (old new : Vec ℕ Z)
-    (result : Result (Unit {0}) BuildWriteError) → held ≡ known
-    → OnOk result (IsBuildable held (length payload) × (new.items ≡ old.items ++ built_frame held payload))
-    → OnErr result (new.items ≡ old.items) → IfErr result (IsBuildError held (length payload))
-    → (result ≡ Err OutOfMemory → vec_capacity old < vec_len old + built_size held (length payload))
+pub appends_known : {Z : Type 0} (kept known : FrameHeaders) (payload : List ℕ) (old new : Vec ℕ Z)
+    (result : Result (Unit {0}) BuildWriteError) → kept ≡ known
+    → OnOk result (IsBuildable kept (length payload) × (new.items ≡ old.items ++ built_frame kept payload))
+    → OnErr result (new.items ≡ old.items) → IfErr result (IsBuildError kept (length payload))
+    → (result ≡ Err OutOfMemory → vec_capacity old < vec_len old + built_size kept (length payload))
     → AppendsFrame known payload old new result
-appends_known held known payload old new result same ok err refused full =
+appends_known kept known payload old new result same ok err refused full =
     subst (λ (h : FrameHeaders). AppendsFrame h payload old new result) same
     (record { ok = ok; err = err; refused = refused; full = full })
 
 -- If there are headers, the frame with them is appended.
-pub appends_some : {Z : Type 0} (found : Option FrameHeaders) (held : FrameHeaders) (payload : List ℕ) (old new : Vec ℕ Z)
-    (result : Result (Unit {0}) BuildWriteError) → found ≡ Some held → AppendsFrame held payload old new result
+pub appends_some : {Z : Type 0} (found : Option FrameHeaders) (kept : FrameHeaders) (payload : List ℕ) (old new : Vec ℕ Z)
+    (result : Result (Unit {0}) BuildWriteError) → found ≡ Some kept → AppendsFrame kept payload old new result
     → AppendsIfSome found payload old new (Some result)
-appends_some found held payload old new result found_is appends = rw found_is appends
+appends_some found kept payload old new result found_is appends = rw found_is appends
 
 -- If there are no headers, nothing is appended.
 pub appends_none : {Z : Type 0} (found : Option FrameHeaders) (payload : List ℕ) (buf : Vec ℕ Z)
@@ -50,8 +50,8 @@ abbrev pub with_tcp : (TcpHeader → TcpHeader) → Inside → Inside
 with_tcp change (transport_packet headers (header.Tcp tcp)) = transport_packet headers (header.Tcp (change tcp))
 with_tcp change inside = inside
 
-abbrev pub held_with_tcp : (TcpHeader → TcpHeader) → FrameHeaders → FrameHeaders
-held_with_tcp change held = record { link = held.link; inside = with_tcp change held.inside }
+abbrev pub kept_with_tcp : (TcpHeader → TcpHeader) → FrameHeaders → FrameHeaders
+kept_with_tcp change kept = record { link = kept.link; inside = with_tcp change kept.inside }
 
 -- A property of all `Ok` values of a result holds of the unwrapped value.
 pub unwrapped : {T E : Type 0} (result : Result T E) (value : T) (P : T → Type 0) (Q : E → Type 0)

@@ -3,7 +3,7 @@ use Rattle.std.proofs.Common.{◌≡◌, ℕ, ◌<◌, ◌≤◌, ◌==◌, List
 use Rattle.std.specs.List.{after_first, before_first, position_or_len}
 use Rattle.filter_tokens.specs.declared.network.Network.{Network}
 use Rattle.filter_tokens.specs.Values.{IsDecimal, IsLeadingNumbers, leading_network}
-use Rattle.filter_tokens.proofs.ValueLemmas.{decimal_lacks, decimal_whole, split_is, split_only}
+use Rattle.filter_tokens.proofs.ValueLemmas.{decimal_lacks, decimal_complete, split_is, split_only}
 
 -- Where the first dot of a text is.
 abbrev pub dot_place : List ℕ → ℕ
@@ -22,7 +22,7 @@ dot_parts text rest a is small =
     (decimal_lacks 255 (decimal a) a 46 (lit< tt) (lit≤ tt) (refl, small)) is
 
 no_dot : (text : List ℕ) (a : ℕ) → text ≡ decimal a → a ≤ 255 → dot_place text ≡ length text
-no_dot text a is small = decimal_whole 255 text a 46 (lit< tt) (lit≤ tt) (is, small)
+no_dot text a is small = decimal_complete 255 text a 46 (lit< tt) (lit≤ tt) (is, small)
 
 two_dotted : (text : List ℕ) (a b : ℕ) → text ≡ decimal a ++ codes "." ++ decimal b → text ≡ decimal a ++ 46 ∷ decimal b
 two_dotted text a b is = is ∙ append_assoc (decimal a) (46 ∷ []) (decimal b)
@@ -85,7 +85,7 @@ pub one_leading_network : (text : List ℕ) (result : Option Network)
     → IfSome result (λ network. (a : ℕ) × IsDecimal 255 text a × (1 ≤ a) × (network ≡ leading_network (a ∷ [])))
     → IfSome result (λ network. (numbers : List ℕ) × IsLeadingNumbers text numbers
     × (network ≡ leading_network numbers))
-one_leading_network text None said = tt
+one_leading_network text None stated = tt
 one_leading_network text (Some network) (a, is, some, same) = (a ∷ [], (is.0, some, is.1), same)
 
 dotted : (text first second : List ℕ) (a b : ℕ) → dot_place text < length text → first ≡ before_dot text
@@ -99,7 +99,7 @@ pub two_leading_network : (text first second : List ℕ) (result : Option Networ
     × (network ≡ leading_network (a ∷ b ∷ [])))
     → IfSome result (λ network. (numbers : List ℕ) × IsLeadingNumbers text numbers
     × (network ≡ leading_network numbers))
-two_leading_network text first second None inside first_is second_is said = tt
+two_leading_network text first second None inside first_is second_is stated = tt
 two_leading_network text first second (Some network) inside first_is second_is (a, b, a_is, b_is, same) = (
   a ∷ b ∷ [],
   (
@@ -118,7 +118,7 @@ pub three_leading_network : (text first others second third : List ℕ) (result 
     × (network ≡ leading_network (a ∷ b ∷ c ∷ [])))
     → IfSome result (λ network. (numbers : List ℕ) × IsLeadingNumbers text numbers
     × (network ≡ leading_network numbers))
-three_leading_network text first others second third None inside first_is others_is more second_is third_is said = tt
+three_leading_network text first others second third None inside first_is others_is more second_is third_is stated = tt
 three_leading_network text first others second third (Some network) inside first_is others_is more second_is third_is
     (a, b, c, a_is, b_is, c_is, same) =
     let tail : others ≡ decimal b ++ 46 ∷ decimal c =

@@ -60,18 +60,18 @@ eight text segments (inr elided) =
 -- A text that is no IPv4 address is no mask.
 pub no_mask : (text : List ℕ) → ((a : Ipv4Addr) → IsIpv4Text text a → ⊥) → (mask : IpAddr) (bits : ℕ)
     → IsMaskOf text mask bits → ⊥
-no_mask text none (V4 m) bits said = none m said.0
-no_mask text none (V6 m) bits said =
-    let four : length (octets_of (ipv6_segments m)) ≡ 4 = ap length said.2 in
-    omega (arith, four, octets_length (ipv6_segments m), eight text (ipv6_segments m) said.0)
+no_mask text none (V4 m) bits stated = none m stated.0
+no_mask text none (V6 m) bits stated =
+    let four : length (octets_of (ipv6_segments m)) ≡ 4 = ap length stated.2 in
+    omega (arith, four, octets_length (ipv6_segments m), eight text (ipv6_segments m) stated.0)
 
 -- The length of a mask is the number of its ones.
 pub mask_is : (text : List ℕ) (m : Ipv4Addr) (n : ℕ) → IsIpv4Text text m → n ≡ sum_by count_ones (ipv4_octets m)
     → (mask : IpAddr) (bits : ℕ) → IsMaskOf text mask bits → (n ≡ bits) × (mask_bytes bits ≡ ipv4_octets m)
-mask_is text m n there count mask bits said =
-    let same : mask ≡ V4 m = IsIpText_unique text mask (V4 m) said.0 there in
-    let bytes : mask_bytes bits ≡ ipv4_octets m = sym said.2 ∙ ap address_bytes same in
-    (count ∙ ap (sum_by count_ones) (sym bytes) ∙ mask_ones bits said.1, bytes)
+mask_is text m n present count mask bits stated =
+    let same : mask ≡ V4 m = IsIpText_unique text mask (V4 m) stated.0 present in
+    let bytes : mask_bytes bits ≡ ipv4_octets m = sym stated.2 ∙ ap address_bytes same in
+    (count ∙ ap (sum_by count_ones) (sym bytes) ∙ mask_ones bits stated.1, bytes)
 
 pub mask_equals : (n : ℕ) (octets : List ℕ) → bytes_eq (mask_bytes n) octets ≡ true → octets ≡ mask_bytes n
 mask_equals n octets is = sym ((bytes_eq-Decides (mask_bytes n) octets).0 is)

@@ -128,8 +128,8 @@ low_lost byte high rest size less some =
     let split : times * size + left ≡ byte = div-add-mod' byte size in
     let number : byte * high + rest ≡ times * (size * high) + (left * high + rest) =
     omega (arith, ap (λ (b : ℕ). b * high) (sym split), add-mul (times * size) left high, mul_assoc times size high) in
-    let room : (left + 1) * high ≤ size * high = mul-le-mul_right high (omega (arith, mod-lt byte some)) in
-    let small : left * high + rest < size * high = omega (arith, room, less, add-mul left 1 high) in
+    let space : (left + 1) * high ≤ size * high = mul-le-mul_right high (omega (arith, mod-lt byte some)) in
+    let small : left * high + rest < size * high = omega (arith, space, less, add-mul left 1 high) in
     let lost : (byte * high + rest) % (size * high) ≡ left * high + rest =
     ap (λ (n : ℕ). n % (size * high)) number ∙ mod-mul-add times (size * high) (left * high + rest) small in
     let kept : (byte - left) * high ≡ times * (size * high) =

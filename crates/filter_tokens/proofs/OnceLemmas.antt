@@ -77,10 +77,10 @@ one_length address text bits bits' is is' =
 
 pub one_mask : (address : IpAddr) (text : List ℕ) (bits bits' : ℕ) → IsMask address text bits
     → IsMask address text bits' → bits ≡ bits'
-one_mask (V4 address) text bits bits' (mask, said) (mask', said') =
-    let same : mask ≡ mask' = IsIpText_unique text mask mask' said.0 said'.0 in
-    let bytes : mask_bytes bits ≡ mask_bytes bits' = sym said.2 ∙ ap address_bytes same ∙ said'.2 in
-    sym (mask_ones bits said.1) ∙ ap (sum_by count_ones) bytes ∙ mask_ones bits' said'.1
+one_mask (V4 address) text bits bits' (mask, stated) (mask', stated') =
+    let same : mask ≡ mask' = IsIpText_unique text mask mask' stated.0 stated'.0 in
+    let bytes : mask_bytes bits ≡ mask_bytes bits' = sym stated.2 ∙ ap address_bytes same ∙ stated'.2 in
+    sym (mask_ones bits stated.1) ∙ ap (sum_by count_ones) bytes ∙ mask_ones bits' stated'.1
 one_mask (V6 address) text bits bits' is is' = absurd is
 
 one_width : (width width' : Width) → bytes_of width ≡ bytes_of width' → width ≡ width'
@@ -115,8 +115,8 @@ range_parts text first second is fits =
 no_dash : (text : List ℕ) (port first second : ℕ) → IsDecimal 65535 text port
     → text ≡ decimal first ++ codes "-" ++ decimal second → first ≤ 65535 → ⊥
 no_dash text port first second is two fits =
-    let whole = place_of_none (λ b. b == 45) text (decimal_lacks 65535 text port 45 (lit< tt) (lit≤ tt) is) in
-    omega (arith, whole, (range_parts text first second two fits).0)
+    let complete = place_of_none (λ b. b == 45) text (decimal_lacks 65535 text port 45 (lit< tt) (lit≤ tt) is) in
+    omega (arith, complete, (range_parts text first second two fits).0)
 
 pub one_range : (text : List ℕ) (low high low' high' : ℕ) → IsRangeText text low high → IsRangeText text low' high'
     → (low ≡ low') × (high ≡ high')
@@ -140,11 +140,11 @@ one_range text low high low' high' (inr (a, b, is, a_fits, b_fits, low_is, high_
 -- ---- MAC addresses
 
 -- An octet has no colon.
-octet_whole : (text first rest : List ℕ) (octet octet' : ℕ) → IsOctet text octet → text ≡ first ++ codes ":" ++ rest
+octet_complete : (text first rest : List ℕ) (octet octet' : ℕ) → IsOctet text octet → text ≡ first ++ codes ":" ++ rest
     → IsOctet first octet' → ⊥
-octet_whole text first rest octet octet' is split is' =
-    let whole = place_of_none (λ b. b == 58) text (digits_lack 16 58 text (lit≤ tt) is.0.1) in
-    omega (arith, whole, (octet_first text first rest octet' split is').0)
+octet_complete text first rest octet octet' is split is' =
+    let complete = place_of_none (λ b. b == 58) text (digits_lack 16 58 text (lit≤ tt) is.0.1) in
+    omega (arith, complete, (octet_first text first rest octet' split is').0)
 
 -- A text has one list of octets.
 pub one_octets : (text octets octets' : List ℕ) → IsOctets text octets → IsOctets text octets' → octets ≡ octets'
@@ -152,10 +152,10 @@ one_octets text [] octets' is is' = absurd is
 one_octets text (a ∷ []) [] is is' = absurd is'
 one_octets text (a ∷ []) (b ∷ []) is is' = ap (λ (o : ℕ). o ∷ []) (sym is.2 ∙ is'.2)
 one_octets text (a ∷ []) (b ∷ b' ∷ octets') is (first', rest', split', octet', is') =
-    absurd (octet_whole text first' rest' a b is split' octet')
+    absurd (octet_complete text first' rest' a b is split' octet')
 one_octets text (a ∷ a' ∷ octets) [] is is' = absurd is'
 one_octets text (a ∷ a' ∷ octets) (b ∷ []) (first, rest, split, octet, is) is' =
-    absurd (octet_whole text first rest b a is' split octet)
+    absurd (octet_complete text first rest b a is' split octet)
 one_octets text (a ∷ a' ∷ octets) (b ∷ b' ∷ octets') (first, rest, split, octet, is)
     (first', rest', split', octet', is') =
     let parts = octet_first text first rest a split octet in
@@ -237,9 +237,9 @@ address_dotted text octets is =
 pub one_numbers : (text numbers numbers' : List ℕ) → IsLeadingNumbers text numbers → IsLeadingNumbers text numbers'
     → numbers ≡ numbers'
 one_numbers text numbers numbers' is is' =
-    let there = leading_dotted text numbers is in
-    let there' = leading_dotted text numbers' is' in
-    one_dotted numbers numbers' there.1 there'.1 (sym there.0 ∙ there'.0)
+    let present = leading_dotted text numbers is in
+    let present' = leading_dotted text numbers' is' in
+    one_dotted numbers numbers' present.1 present'.1 (sym present.0 ∙ present'.0)
 
 -- ---- colons
 
@@ -254,11 +254,11 @@ or_right : (b c : Bool) → c ≡ true → (b || c) ≡ true
 or_right true c is = refl
 or_right false c is = is
 
-colon_left : (front back : List ℕ) → has_colon front ≡ true → has_colon (front ++ back) ≡ true
-colon_left front back is = list_any-append (λ b. b == 58) front back ∙ or_left (has_colon front) (has_colon back) is
+colon_left : (prefix back : List ℕ) → has_colon prefix ≡ true → has_colon (prefix ++ back) ≡ true
+colon_left prefix back is = list_any-append (λ b. b == 58) prefix back ∙ or_left (has_colon prefix) (has_colon back) is
 
-colon_right : (front back : List ℕ) → has_colon back ≡ true → has_colon (front ++ back) ≡ true
-colon_right front back is = list_any-append (λ b. b == 58) front back ∙ or_right (has_colon front) (has_colon back) is
+colon_right : (prefix back : List ℕ) → has_colon back ≡ true → has_colon (prefix ++ back) ≡ true
+colon_right prefix back is = list_any-append (λ b. b == 58) prefix back ∙ or_right (has_colon prefix) (has_colon back) is
 
 -- Numbers with dots have no colon.
 no_colon : (numbers : List ℕ) → AreBytes numbers → has_colon (dotted_after numbers) ≡ false
@@ -296,16 +296,16 @@ address_colon text segments (inr elided) =
 -- The first numbers of an address are no address.
 pub no_address : (text numbers : List ℕ) (address : IpAddr) → IsLeadingNumbers text numbers → IsIpText text address
     → ⊥
-no_address text numbers (V4 address) is said =
-    let there = leading_dotted text numbers is in
-    let four = address_dotted text (ipv4_octets address) said in
+no_address text numbers (V4 address) is stated =
+    let present = leading_dotted text numbers is in
+    let four = address_dotted text (ipv4_octets address) stated in
     let same : numbers ≡ ipv4_octets address =
-    one_dotted numbers (ipv4_octets address) there.1 four.1 (sym there.0 ∙ four.0) in
-    omega (arith, there.2, four.2, ap length same)
-no_address text numbers (V6 address) is said =
-    let there = leading_dotted text numbers is in
-    let holds : has_colon text ≡ true = address_colon text (ipv6_segments address) said in
-    let fails : has_colon (46 ∷ text) ≡ false = ap has_colon there.0 ∙ no_colon numbers there.1 in
+    one_dotted numbers (ipv4_octets address) present.1 four.1 (sym present.0 ∙ four.0) in
+    omega (arith, present.2, four.2, ap length same)
+no_address text numbers (V6 address) is stated =
+    let present = leading_dotted text numbers is in
+    let holds : has_colon text ≡ true = address_colon text (ipv6_segments address) stated in
+    let fails : has_colon (46 ∷ text) ≡ false = ap has_colon present.0 ∙ no_colon numbers present.1 in
     let clash : true ≡ false = sym holds ∙ fails in cc
 
 same_network : (network network' : Network) → network.address ≡ network'.address → network.bits ≡ network'.bits

@@ -41,17 +41,17 @@ prefix_or_length p list = place_or_length (λ x. not (p x)) list ∙ prefix_of_n
 pub prefix_found : {A : Type 0} (p : A → Bool) (list : List A) (found : Option ℕ) (n : ℕ)
     → n ≡ unwrap_or found (length list) → found ≡ position_from (λ x. not (p x)) 0 list
     → (n ≡ prefix_len p list) × (n ≤ length list)
-prefix_found p list found n is there =
+prefix_found p list found n is present =
     let same : n ≡ prefix_len p list =
-    is ∙ ap (λ o. unwrap_or o (length list)) there ∙ prefix_or_length p list in
+    is ∙ ap (λ o. unwrap_or o (length list)) present ∙ prefix_or_length p list in
     (same, omega (arith, same, prefix_len-le-length p list))
 
 pub place_found : {A : Type 0} (p : A → Bool) (list : List A) (found : Option ℕ) (n : ℕ)
     → n ≡ unwrap_or found (length list) → found ≡ position_from p 0 list
     → (n ≡ position_or_len p list) × (n ≤ length list)
-place_found p list found n is there =
+place_found p list found n is present =
     let same : n ≡ position_or_len p list =
-    is ∙ ap (λ o. unwrap_or o (length list)) there ∙ place_or_length p list in
+    is ∙ ap (λ o. unwrap_or o (length list)) present ∙ place_or_length p list in
     (same, omega (arith, same, prefix_len-le-length (λ x. not (p x)) list))
 
 -- The longest start that passes has this length.

@@ -14,13 +14,13 @@ use Rattle.filter_tokens.specs.ShownTokens.{shown_first, shown_token}
 use Rattle.filter_tokens.proofs.TokenLemmas.{length_of_run}
 
 -- Tokens that a text begins with, up to an offset: with the tokens of the rest they are those of the text.
-abbrev pub IsFront : List ℕ → List Placed → ℕ → Type 0
-IsFront text front at =
+abbrev pub IsStart : List ℕ → List Placed → ℕ → Type 0
+IsStart text prefix at =
     (at ≤ length text)
-    × ((others : List Placed) → IsTokens at (drop at text) others → IsTokens 0 text (front ++ others))
+    × ((others : List Placed) → IsTokens at (drop at text) others → IsTokens 0 text (prefix ++ others))
 
-pub no_front : (text : List ℕ) → IsFront text [] 0
-no_front text = (omega arith, λ others are. are)
+pub no_prefix : (text : List ℕ) → IsStart text [] 0
+no_prefix text = (omega arith, λ others are. are)
 
 drop_to : (at end : ℕ) (text : List ℕ) → at ≤ end → drop (end - at) (drop at text) ≡ drop end text
 drop_to zero end text before = let same : end - 0 ≡ end = omega arith in ap (λ n. drop n text) same
@@ -31,17 +31,17 @@ drop_to (suc at) (suc end) (byte ∷ text) before =
     ap (λ n. drop n (drop at text)) same ∙ drop_to at end text (omega (arith, before))
 
 -- With the next token, they are the tokens up to its end.
-pub front_more : (text : List ℕ) (front : List Placed) (at : ℕ) (first : Placed) → IsFront text front at
+pub prefix_more : (text : List ℕ) (prefix : List Placed) (at : ℕ) (first : Placed) → IsStart text prefix at
     → first.start ≡ at + length (take_while is_blank (drop at text)) → first.start < first.end → first.end ≤ length text
     → first_token (drop first.start text) ≡ (first.end - first.start, first.token)
-    → IsFront text (front ++ first ∷ []) first.end
-front_more text front at first is start some inside here =
+    → IsStart text (prefix ++ first ∷ []) first.end
+prefix_more text prefix at first is start some inside here =
     let to_start : drop (first.start - at) (drop at text) ≡ drop first.start text =
     drop_to at first.start text (omega (arith, start)) in
     let to_end : drop (first.end - at) (drop at text) ≡ drop first.end text =
     drop_to at first.end text (omega (arith, start, some)) in (
       inside,
-      λ others are. subst (λ (list : List Placed). IsTokens 0 text list) (sym (append_assoc front (first ∷ []) others))
+      λ others are. subst (λ (list : List Placed). IsTokens 0 text list) (sym (append_assoc prefix (first ∷ []) others))
           (is.1 (first ∷ others) (
             start,
             some,
@@ -243,10 +243,10 @@ word_first kind len [] read some is read_is shown long = absurd (omega (arith, s
 word_first kind len (byte ∷ text) read some is read_is shown long =
     let same : take len (byte ∷ text) ≡ read =
     ap (λ (n : ℕ). take n (byte ∷ text)) (long ∙ ap length read_is) ∙ word_is_start (byte ∷ text) ∙ sym read_is in
-    let there : ◌≡◌ {A = ℕ × Token} (len, shown_token kind (take len (byte ∷ text)))
+    let present : ◌≡◌ {A = ℕ × Token} (len, shown_token kind (take len (byte ∷ text)))
     (length (word_of (byte ∷ text)), word_token (word_of (byte ∷ text))) =
     λ i. ((long ∙ ap length read_is) i, (ap (shown_token kind) same ∙ shown ∙ ap word_token read_is) i) in
-    there ∙ sym (when (is_alphanumeric byte) _ _ is)
+    present ∙ sym (when (is_alphanumeric byte) _ _ is)
 
 -- The token of a text that begins with a colon.
 colon_here : (kind : TokenKind) (len : ℕ) (text : List ℕ) (two : Bool) → has_two_colons (run_of (58 ∷ text)) ≡ two
@@ -256,8 +256,8 @@ colon_here : (kind : TokenKind) (len : ℕ) (text : List ℕ) (two : Bool) → h
     → shown_first kind len (58 ∷ text) ≡ first_token (58 ∷ text)
 colon_here kind len text true is more one = more is ∙ sym (when (has_two_colons (run_of (58 ∷ text))) _ _ is)
 colon_here kind len text false is more one =
-    let there = one is in
-    ap₂ (λ k n. shown_first k n (58 ∷ text)) there.0 there.1
+    let present = one is in
+    ap₂ (λ k n. shown_first k n (58 ∷ text)) present.0 present.1
     ∙ sym (unless (has_two_colons (run_of (58 ∷ text))) _ _ is)
 
 pub colon_first : (kind : TokenKind) (len : ℕ) (text : List ℕ) → 0 < length text → get_or text 0 0 ≡ 58
@@ -421,16 +421,16 @@ at_end (byte ∷ text) len is =
     absurd (subst IsNoEnd same (first_no_end byte text))
 
 -- Where the next token is that of the end, the tokens that were read are those of the text.
-pub all_read : (text : List ℕ) (front : List Placed) (at start len : ℕ) → IsFront text front at
+pub all_read : (text : List ℕ) (prefix : List Placed) (at start len : ℕ) → IsStart text prefix at
     → start ≡ at + length (take_while is_blank (drop at text))
-    → (len, wrong kind.End) ≡ first_token (drop start text) → IsTokens 0 text front
-all_read text front at start len is place here =
+    → (len, wrong kind.End) ≡ first_token (drop start text) → IsTokens 0 text prefix
+all_read text prefix at start len is place here =
     let count = length_of_run is_blank (drop at text) in
     let same : start - at ≡ prefix_len is_blank (drop at text) = omega (arith, place, count) in
     let none : drop (prefix_len is_blank (drop at text)) (drop at text) ≡ [] =
     ap (λ n. drop n (drop at text)) (sym same) ∙ drop_to at start text (omega (arith, place))
     ∙ at_end (drop start text) len here in
-    subst (IsTokens 0 text) (append-nil front) (is.1 [] (all_blank (drop at text) none))
+    subst (IsTokens 0 text) (append-nil prefix) (is.1 [] (all_blank (drop at text) none))
 
 -- ---- every list of tokens
 

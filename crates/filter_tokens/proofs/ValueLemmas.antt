@@ -58,9 +58,9 @@ pub decimal_digits : (most : ℕ) (text : List ℕ) (number : ℕ) → most < 2 
     → IsNumeral 10 text × (digits_value 10 text ≡ number) × (leads text ≡ false)
 decimal_digits most text number bound is =
     let fits : number < 2 ^ 64 = omega (arith, is.1, bound) in
-    let there = decimal_is_IsNumeral number fits in
+    let present = decimal_is_IsNumeral number fits in
     subst (λ t. IsNumeral 10 t × (digits_value 10 t ≡ number) × (leads t ≡ false)) (sym is.0)
-    (there.0, there.1, leads_not number fits)
+    (present.0, present.1, leads_not number fits)
 
 -- A text with a leading zero is no decimal number.
 pub no_decimal : (text : List ℕ) (number : ℕ) → leads text ≡ true → IsDecimal most_number text number → ⊥
@@ -92,22 +92,22 @@ rest_after text digits (inr is) = sym (ap (drop 2) is)
 
 no_mark : (most first second : ℕ) (text digits : List ℕ) (number : ℕ) → most < 2 ^ 64 → 10 ≤ digit_value second
     → text ≡ first ∷ second ∷ digits → IsDecimal most text number → ⊥
-no_mark most first second text digits number bound large is said =
-    let all = subst (AllDigits 10) is (decimal_digits most text number bound said).0.1 in omega (arith, all.1.0, large)
+no_mark most first second text digits number bound large is stated =
+    let all = subst (AllDigits 10) is (decimal_digits most text number bound stated).0.1 in omega (arith, all.1.0, large)
 
 -- A text with a hexadecimal mark is no decimal number.
 pub no_decimal_mark : (most : ℕ) (text digits : List ℕ) (number : ℕ) → most < 2 ^ 64
     → IsAfterHexadecimalMark text digits → IsDecimal most text number → ⊥
-no_decimal_mark most text digits number bound (inl is) said =
-    no_mark most 48 120 text digits number bound (lit≤ tt) is said
-no_decimal_mark most text digits number bound (inr is) said =
-    no_mark most 48 88 text digits number bound (lit≤ tt) is said
+no_decimal_mark most text digits number bound (inl is) stated =
+    no_mark most 48 120 text digits number bound (lit≤ tt) is stated
+no_decimal_mark most text digits number bound (inr is) stated =
+    no_mark most 48 88 text digits number bound (lit≤ tt) is stated
 
 number_digits : (text digits : List ℕ) (value : ℕ) → IsAfterHexadecimalMark text digits
     → IsNumberText most_number text value
     → IsNumeral 16 digits × (digits_value 16 digits ≤ most_number) × (digits_value 16 digits ≡ value)
-number_digits text digits value mark (inl said) =
-    absurd (no_decimal_mark most_number text digits value (lit< tt) mark said)
+number_digits text digits value mark (inl stated) =
+    absurd (no_decimal_mark most_number text digits value (lit< tt) mark stated)
 number_digits text digits value mark (inr (other, other_mark, numeral, is, small)) =
     let same : other ≡ digits = rest_after text other other_mark ∙ sym (rest_after text digits mark) in
     subst (λ d. IsNumeral 16 d × (digits_value 16 d ≤ most_number) × (digits_value 16 d ≡ value)) same
@@ -119,10 +119,10 @@ pub hexadecimal_number : (text digits : List ℕ) (result : Option ℕ) → IsAf
     → IfSome result (λ value. IsNumberText most_number text value)
     × ((value : ℕ) → IsNumberText most_number text value → result ≡ Some value)
 hexadecimal_number text digits None mark refused =
-    (tt, λ value said. let there = number_digits text digits value mark said in absurd (refused (there.0, there.1)))
+    (tt, λ value stated. let present = number_digits text digits value mark stated in absurd (refused (present.0, present.1)))
 hexadecimal_number text digits (Some number) mark answer = (
   inr (digits, mark, answer.0.0, sym answer.1, omega (arith, answer.0.1, answer.1)),
-  λ value said. ap Some (answer.1 ∙ (number_digits text digits value mark said).2),
+  λ value stated. ap Some (answer.1 ∙ (number_digits text digits value mark stated).2),
 )
 
 -- A text without a hexadecimal mark is no number but a decimal one.
@@ -325,9 +325,9 @@ decimal_lacks most text number separator bound large is =
     digits_lack 10 separator text large (decimal_digits most text number bound is).0.1
 
 -- A decimal number has no separator.
-pub decimal_whole : (most : ℕ) (text : List ℕ) (number separator : ℕ) → most < 2 ^ 64 → 10 ≤ digit_value separator
+pub decimal_complete : (most : ℕ) (text : List ℕ) (number separator : ℕ) → most < 2 ^ 64 → 10 ≤ digit_value separator
     → IsDecimal most text number → position_or_len (λ b. b == separator) text ≡ length text
-decimal_whole most text number separator bound large is =
+decimal_complete most text number separator bound large is =
     place_of_none (λ b. b == separator) text (decimal_lacks most text number separator bound large is)
 
 -- ---- ranges of ports
@@ -341,12 +341,12 @@ dashed text first rest is = is ∙ sym (append_assoc first (45 ∷ []) rest)
 -- A range without `-` is one port.
 pub one_port : (text : List ℕ) (low high : ℕ) → position_or_len (λ b. b == 45) text ≡ length text
     → IsRangeText text low high → IsDecimal 65535 text low × (high ≡ low)
-one_port text low high whole (inl is) = is
-one_port text low high whole (inr (first, second, is, first_fits, second_fits, low_is, high_is)) =
-    let there = split_only 45 text (decimal first) (decimal second)
+one_port text low high complete (inl is) = is
+one_port text low high complete (inr (first, second, is, first_fits, second_fits, low_is, high_is)) =
+    let present = split_only 45 text (decimal first) (decimal second)
     (decimal_lacks 65535 (decimal first) first 45 (lit< tt) (lit≤ tt) (refl, first_fits))
     (with_dash text (decimal first) (decimal second) is) in
-    absurd (omega (arith, there.0, whole))
+    absurd (omega (arith, present.0, complete))
 
 -- A range with `-` is two ports.
 pub two_ports : (text : List ℕ) (low high : ℕ) → position_or_len (λ b. b == 45) text < length text
@@ -354,12 +354,12 @@ pub two_ports : (text : List ℕ) (low high : ℕ) → position_or_len (λ b. b 
     → (first second : ℕ) × IsDecimal 65535 (before_first (λ b. b == 45) text) first
     × IsDecimal 65535 (after_first (λ b. b == 45) text) second × (low ≡ min first second) × (high ≡ max first second)
 two_ports text low high inside (inl is) =
-    absurd (omega (arith, inside, decimal_whole 65535 text low 45 (lit< tt) (lit≤ tt) is.0))
+    absurd (omega (arith, inside, decimal_complete 65535 text low 45 (lit< tt) (lit≤ tt) is.0))
 two_ports text low high inside (inr (first, second, is, first_fits, second_fits, low_is, high_is)) =
-    let there = split_only 45 text (decimal first) (decimal second)
+    let present = split_only 45 text (decimal first) (decimal second)
     (decimal_lacks 65535 (decimal first) first 45 (lit< tt) (lit≤ tt) (refl, first_fits))
     (with_dash text (decimal first) (decimal second) is) in
-    (first, second, (there.1, first_fits), (there.2, second_fits), low_is, high_is)
+    (first, second, (present.1, first_fits), (present.2, second_fits), low_is, high_is)
 
 -- The text of two ports.
 pub ports_text : (text : List ℕ) (first second : ℕ) → position_or_len (λ b. b == 45) text < length text
@@ -384,7 +384,7 @@ pub pair_range : (text first second : List ℕ) (result : Option (ℕ × ℕ))
     → IfSome result (λ range. (a b : ℕ) × IsDecimal 65535 first a × IsDecimal 65535 second b × (range.0 ≡ min a b)
     × (range.1 ≡ max a b))
     → IfSome result (λ range. IsRangeText text range.0 range.1)
-pair_range text first second None inside first_is second_is said = tt
+pair_range text first second None inside first_is second_is stated = tt
 pair_range text first second (Some range) inside first_is second_is (a, b, a_is, b_is, low_is, high_is) =
     subst₂ (λ low high. IsRangeText text low high) (sym low_is) (sym high_is)
     (ports_text text a b inside (subst (λ t. IsDecimal 65535 t a) first_is a_is)
@@ -401,8 +401,8 @@ one_result port low high is same =
 pub octet_first : (text first rest : List ℕ) (octet : ℕ) → text ≡ first ++ codes ":" ++ rest → IsOctet first octet
     → (position_or_len (λ b. b == 58) text < length text)
     × (before_first (λ b. b == 58) text ≡ first) × (after_first (λ b. b == 58) text ≡ rest)
-octet_first text first rest octet is said =
-    split_only 58 text first rest (digits_lack 16 58 first (lit≤ tt) said.0.1)
+octet_first text first rest octet is stated =
+    split_only 58 text first rest (digits_lack 16 58 first (lit≤ tt) stated.0.1)
     (is ∙ append_assoc first (58 ∷ []) rest)
 
 pub colon_split : (text first rest : List ℕ) → position_or_len (λ b. b == 58) text < length text
@@ -420,35 +420,35 @@ pub after_octet : (n : ℕ) (text rest : List ℕ) (a : ℕ)
     → (a ≡ value) × (rest ≡ rest'))
     → (octets : List ℕ) → IsOctets text octets × (length octets ≡ suc (suc n))
     → (others : List ℕ) × (octets ≡ a ∷ others) × (IsOctets rest others × (length others ≡ suc n))
-after_octet n text rest a only [] said = absurd said.0
-after_octet n text rest a only (b ∷ []) said = absurd (omega (arith, said.1))
+after_octet n text rest a only [] stated = absurd stated.0
+after_octet n text rest a only (b ∷ []) stated = absurd (omega (arith, stated.1))
 after_octet n text rest a only (b ∷ b' ∷ octets) ((first, rest', split, octet, others), count) =
-    let there = only first rest' b split octet in (
+    let present = only first rest' b split octet in (
       b' ∷ octets,
-      (λ i. sym there.0 i ∷ b' ∷ octets),
-      (subst (λ t. IsOctets t (b' ∷ octets)) (sym there.1) others, omega (arith, count)),
+      (λ i. sym present.0 i ∷ b' ∷ octets),
+      (subst (λ t. IsOctets t (b' ∷ octets)) (sym present.1) others, omega (arith, count)),
     )
 
 -- A text that begins with no octet and colon is no list of octets.
 pub no_octet : (n : ℕ) (text : List ℕ)
     → ((first rest : List ℕ) (value : ℕ) → text ≡ first ++ codes ":" ++ rest → IsOctet first value → ⊥)
     → (octets : List ℕ) → IsOctets text octets × (length octets ≡ suc (suc n)) → ⊥
-no_octet n text none [] said = said.0
-no_octet n text none (b ∷ []) said = omega (arith, said.1)
+no_octet n text none [] stated = stated.0
+no_octet n text none (b ∷ []) stated = omega (arith, stated.1)
 no_octet n text none (b ∷ b' ∷ octets) ((first, rest, split, octet, others), count) = none first rest b split octet
 
 -- A text that is read as no octet is no last octet; otherwise the last octet is the number that was read.
 pub no_last_octet : (text octets : List ℕ) → ((value : ℕ) → IsOctet text value → ◌≡◌ {A = Option ℕ} None (Some value))
     → IsOctets text octets × (length octets ≡ 1) → ⊥
-no_last_octet text [] only said = said.0
-no_last_octet text (b ∷ []) only said = none_is_some (only b said.0)
-no_last_octet text (b ∷ b' ∷ octets) only said = omega (arith, said.1)
+no_last_octet text [] only stated = stated.0
+no_last_octet text (b ∷ []) only stated = none_is_some (only b stated.0)
+no_last_octet text (b ∷ b' ∷ octets) only stated = omega (arith, stated.1)
 
 pub last_octet : (text octets : List ℕ) (a : ℕ) → ((value : ℕ) → IsOctet text value → Some a ≡ Some value)
     → IsOctets text octets × (length octets ≡ 1) → octets ≡ a ∷ []
-last_octet text [] a only said = absurd said.0
-last_octet text (b ∷ []) a only said = ap (λ (o : ℕ). o ∷ []) (sym (some_is a b (only b said.0)))
-last_octet text (b ∷ b' ∷ octets) a only said = absurd (omega (arith, said.1))
+last_octet text [] a only stated = absurd stated.0
+last_octet text (b ∷ []) a only stated = ap (λ (o : ℕ). o ∷ []) (sym (some_is a b (only b stated.0)))
+last_octet text (b ∷ b' ∷ octets) a only stated = absurd (omega (arith, stated.1))
 
 -- Six octets, each found before the rest of them.
 pub six_octets : (octets others-a others-b others-c others-d others-e : List ℕ) (a b c d e f : ℕ)

@@ -5,7 +5,7 @@
 The tables are read from the standards' pictures of headers, and from nothing else. A row of a frame's table is (below,
 required, source, layer, start): cut to fewer than `below` bytes, and to no fewer than the row before says, the frame
 lacks bytes of the layer that begins at `start`, which needs `required` of them. The last line of output counts the
-differences, of which each is shown.
+differences, each of them shown before it.
 """
 
 import argparse
@@ -83,14 +83,14 @@ TAG = (20, 6, "Slice", "MacsecHeader", 14)
 TAG_AND_TYPE = (22, 8, "Slice", "MacsecHeader", 14)
 
 
-def behind_ipv6(required, layer):
+def after_ipv6(required, layer):
     """Returns rows for a packet of payload length 0 that ends with its header: no byte of the next layer is present."""
     return [VERSION, IPV6, (41, required, "Ipv6HeaderPayloadLen", layer, 40)]
 
 
 def messages(number, kinds, layer):
     """Returns cases of messages with a header of eight bytes."""
-    table = [*behind_ipv6(8, layer), (48, 8, "Slice", layer, 40)]
+    table = [*after_ipv6(8, layer), (48, 8, "Slice", layer, 40)]
     return [("ip", message(number, kind), table) for kind in kinds]
 
 
@@ -123,7 +123,7 @@ CUTS = [
         "ip",
         open_packet(0, EXTENSIONS),
         [
-            *behind_ipv6(8, "Ipv6ExtHeader"),
+            *after_ipv6(8, "Ipv6ExtHeader"),
             (48, 8, "Slice", "Ipv6ExtHeader", 40),
             (56, 8, "Slice", "Ipv6ExtHeader", 48),
             (64, 16, "Slice", "Ipv6ExtHeader", 48),
@@ -138,7 +138,7 @@ CUTS = [
         "ip",
         open_packet(6, TCP_OPTIONS),
         [
-            *behind_ipv6(20, "TcpHeader"),
+            *after_ipv6(20, "TcpHeader"),
             (60, 20, "Slice", "TcpHeader", 40),
             (68, 28, "Slice", "TcpHeader", 40),
         ],
@@ -147,13 +147,13 @@ CUTS = [
     (
         "ip",
         open_packet(1, "0800000000010002"),
-        [*behind_ipv6(8, "Icmpv4"), (48, 8, "Slice", "Icmpv4", 40)],
+        [*after_ipv6(8, "Icmpv4"), (48, 8, "Slice", "Icmpv4", 40)],
     ),
     (
         "ip",
         open_packet(1, "0d00000000010002" + TIMES),
         [
-            *behind_ipv6(8, "Icmpv4"),
+            *after_ipv6(8, "Icmpv4"),
             (48, 8, "Slice", "Icmpv4", 40),
             (60, 20, "Slice", "Icmpv4Timestamp", 40),
         ],
@@ -162,7 +162,7 @@ CUTS = [
         "ip",
         open_packet(1, "0e00000000010002" + TIMES),
         [
-            *behind_ipv6(8, "Icmpv4"),
+            *after_ipv6(8, "Icmpv4"),
             (48, 8, "Slice", "Icmpv4", 40),
             (60, 20, "Slice", "Icmpv4TimestampReply", 40),
         ],
@@ -170,7 +170,7 @@ CUTS = [
     (
         "ip",
         open_packet(58, "8000000000010002"),
-        [*behind_ipv6(8, "Icmpv6"), (48, 8, "Slice", "Icmpv6", 40)],
+        [*after_ipv6(8, "Icmpv6"), (48, 8, "Slice", "Icmpv6", 40)],
     ),
     ("ip", AUTHENTICATED, [VERSION, IPV4, (52, 52, "Slice", "Ipv4Packet", 0)]),
     ("ip", OPTIONS, [VERSION, IPV4, (24, 24, "Slice", "Ipv4Header", 0)]),

@@ -4,7 +4,7 @@
         [--only WORD]
 
 Each flood is one run of the program. It prints a row for each, and ends with status 1 where an answer is not the one
-that stands here. Memory is the resident size of the process, the greatest and that behind its last answer (VmHWM and
+that stands here. Memory is the resident size of the process, the greatest and that after its last answer (VmHWM and
 VmRSS of Linux).
 """
 
@@ -155,10 +155,10 @@ def floods(options):
         ],
         lines,
     )
-    yield f"{lines:,} lines, a drop behind each first fragment", cycle(
+    yield f"{lines:,} lines, a drop after each first fragment", cycle(
         [(pool_line(FIRST), "none"), ("drop 2", "ok")], lines
     )
-    yield f"{lines:,} fragments, each second of which completes a payload", cycle(
+    yield f"{lines:,} fragments, each second one completes a payload", cycle(
         [(pool_line(FIRST), "none"), (pool_line(LAST), WHOLE)], lines
     )
     yield f"{options.open:,} streams that are all open, and then completed in turn", names(

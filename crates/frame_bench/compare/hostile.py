@@ -4,7 +4,7 @@
 
 The lines of a batch depend on the seed and the batch's number alone, and each batch is one run of the program. The last
 lines of output count the answers by what they say (the kinds, and how often the least of them came), and the
-differences, of which the first are shown.
+differences, the first of them shown before it.
 """
 
 import argparse
@@ -69,8 +69,8 @@ class Frames:
     def icmpv4(self):
         kind = self.chance.choice([0, 3, 5, 8, 11, 12, 13, 14, 13, 14, self.chance.randrange(256)])
         code = 0 if self.seldom(0.7) else self.chance.randrange(18)
-        behind = self.chance.randbytes(12) if kind in (13, 14) and not self.seldom(0.3) else self.some_bytes()
-        return 1, bytes([kind, code]) + self.chance.randbytes(6) + behind
+        rest = self.chance.randbytes(12) if kind in (13, 14) and not self.seldom(0.3) else self.some_bytes()
+        return 1, bytes([kind, code]) + self.chance.randbytes(6) + rest
 
     def icmpv6(self):
         kind = self.chance.choice([1, 2, 3, 4, 128, 129, 135, self.chance.randrange(256)])
@@ -252,10 +252,10 @@ class Lines:
         tags = self.chance.choice(STREAM_TAGS)
         address = int(self.frames.seldom(0.2))
         number = self.chance.choice([17, 17, 17, 253, 6])
-        behind = []
+        extensions = []
         if self.frames.seldom(0.15):
-            behind = [51] if version == 4 else self.chance.choice([[60], [43], [44], [51], [60, 44], [51, 60]])
-        return version, tags, address, identification, number, behind
+            extensions = [51] if version == 4 else self.chance.choice([[60], [43], [44], [51], [60, 44], [51, 60]])
+        return version, tags, address, identification, number, extensions
 
     def beside(self, stream):
         """Returns a stream that differs from another at most in its tags."""
@@ -264,12 +264,12 @@ class Lines:
 
     def fragment(self, stream, offset, more, data):
         """Returns a frame that carries a fragment."""
-        version, tags, address, identification, number, behind = stream
+        version, tags, address, identification, number, extensions = stream
         if version == 4:
             names = (bytes([192, 168, 1, 1, 192, 168, 1, 2 + address]), identification)
-            kind, packet = self.frames.ipv4(number, data, (offset, int(more)), names, bool(behind))
+            kind, packet = self.frames.ipv4(number, data, (offset, int(more)), names, bool(extensions))
         else:
-            for kind in reversed(behind):
+            for kind in reversed(extensions):
                 data = self.frames.extension(kind, number) + data
                 number = kind
             header = bytes([number, self.chance.randrange(256)])

@@ -34,38 +34,38 @@ HasOne-is value = record { some = (value, refl); one = λ x y a b. a ∙ sym b }
 -- Exactly one value is determined by another if that one is determined.
 HasOne-by : {X Y : Type 0} (P : Y → Type 0) (Q : Y → X → Type 0) → HasOne P → ((y : Y) → HasOne (Q y))
     → HasOne (λ x. (y : Y) × P y × Q y x)
-HasOne-by P Q told each = record {
-  some = (((each told.some.0).some).0, (told.some.0, told.some.1, ((each told.some.0).some).1));
+HasOne-by P Q reported each = record {
+  some = (((each reported.some.0).some).0, (reported.some.0, reported.some.1, ((each reported.some.0).some).1));
   one = λ x z a b.
-      (each a.0).one x z a.2 (subst (λ y. Q y z) (sym (told.one a.0 b.0 a.1 b.1)) b.2);
+      (each a.0).one x z a.2 (subst (λ y. Q y z) (sym (reported.one a.0 b.0 a.1 b.1)) b.2);
 }
 
 -- Holds if the value is that of the frame that the bytes are, or that of the error that rejects them.
-abbrev IsToldOf : {X : Type 0} → Entry → List ℕ → (Layers → X) → (SliceError → X) → X → Type 0
-IsToldOf entry bytes of_layers of_error x =
+abbrev IsReportedOf : {X : Type 0} → Entry → List ℕ → (Layers → X) → (SliceError → X) → X → Type 0
+IsReportedOf entry bytes of_layers of_error x =
     ((layers : Layers) × IsFrame entry bytes layers × (x ≡ of_layers layers))
     ⊎ ((error : SliceError) × RefusesFrame entry bytes error × (x ≡ of_error error))
 
-told_one : {X : Type 0} (entry : Entry) (bytes : List ℕ) (of_layers : Layers → X) (of_error : SliceError → X)
+answer_is_unique : {X : Type 0} (entry : Entry) (bytes : List ℕ) (of_layers : Layers → X) (of_error : SliceError → X)
     → IsDecided (IsFrame entry bytes) (RefusesFrame entry bytes)
-    → (x y : X) → IsToldOf entry bytes of_layers of_error x → IsToldOf entry bytes of_layers of_error y → x ≡ y
-told_one entry bytes of_layers of_error frame x y (inl a) (inl b) =
+    → (x y : X) → IsReportedOf entry bytes of_layers of_error x → IsReportedOf entry bytes of_layers of_error y → x ≡ y
+answer_is_unique entry bytes of_layers of_error frame x y (inl a) (inl b) =
     a.2 ∙ ap of_layers (frame.one_value a.0 b.0 a.1 b.1) ∙ sym b.2
-told_one entry bytes of_layers of_error frame x y (inl a) (inr b) = absurd (frame.not_both a.0 b.0 a.1 b.1)
-told_one entry bytes of_layers of_error frame x y (inr a) (inl b) = absurd (frame.not_both b.0 a.0 b.1 a.1)
-told_one entry bytes of_layers of_error frame x y (inr a) (inr b) =
+answer_is_unique entry bytes of_layers of_error frame x y (inl a) (inr b) = absurd (frame.not_both a.0 b.0 a.1 b.1)
+answer_is_unique entry bytes of_layers of_error frame x y (inr a) (inl b) = absurd (frame.not_both b.0 a.0 b.1 a.1)
+answer_is_unique entry bytes of_layers of_error frame x y (inr a) (inr b) =
     a.2 ∙ ap of_error (frame.one_error a.0 b.0 a.1 b.1) ∙ sym b.2
 
-HasOne-told : {X : Type 0} (entry : Entry) (bytes : List ℕ) (of_layers : Layers → X) (of_error : SliceError → X)
+HasOne-reported : {X : Type 0} (entry : Entry) (bytes : List ℕ) (of_layers : Layers → X) (of_error : SliceError → X)
     → IsDecided (IsFrame entry bytes) (RefusesFrame entry bytes)
-    → HasOne (IsToldOf entry bytes of_layers of_error)
-HasOne-told entry bytes of_layers of_error frame = record {
+    → HasOne (IsReportedOf entry bytes of_layers of_error)
+HasOne-reported entry bytes of_layers of_error frame = record {
   some =
       elim frame.some [
         | inl layers ↦ (of_layers layers.0, inl (layers.0, layers.1, refl))
         | inr error ↦ (of_error error.0, inr (error.0, error.1, refl))
       ];
-  one = told_one entry bytes of_layers of_error frame;
+  one = answer_is_unique entry bytes of_layers of_error frame;
 }
 
 -- Holds if the value is that of a line's request, or the default if the line is none.
@@ -105,7 +105,7 @@ module _ (decided : (entry : Entry) (bytes : List ℕ) → AreBytes bytes
       → HasOne (IsAfterRequest before request bytes)
   after_request before (Slice entry) bytes are = HasOne-is before
   after_request before (Fragment entry timestamp channel) bytes are =
-      HasOne-told entry bytes (λ layers. with_call before (frame_call layers timestamp channel)) (λ error. before)
+      HasOne-reported entry bytes (λ layers. with_call before (frame_call layers timestamp channel)) (λ error. before)
       (decided entry bytes are)
   after_request before (Drop timestamp) bytes are = HasOne-is (with_call before (drops_streams timestamp))
   after_request before (Limit max) bytes are = HasOne-is (new_pool max)
@@ -113,9 +113,9 @@ module _ (decided : (entry : Entry) (bytes : List ℕ) → AreBytes bytes
   request_reply : (history : PoolHistory) (request : Request) (bytes : List ℕ) → AreBytes bytes
       → HasOne (IsReply history request bytes)
   request_reply history (Slice entry) bytes are =
-      HasOne-told entry bytes layers_text refusal_text (decided entry bytes are)
+      HasOne-reported entry bytes layers_text refusal_text (decided entry bytes are)
   request_reply history (Fragment entry timestamp channel) bytes are =
-      HasOne-told entry bytes (λ layers. call_reply history (frame_call layers timestamp channel)) refusal_text
+      HasOne-reported entry bytes (λ layers. call_reply history (frame_call layers timestamp channel)) refusal_text
       (decided entry bytes are)
   request_reply history (Drop timestamp) bytes are = HasOne-is (call_reply history (drops_streams timestamp))
   request_reply history (Limit max) bytes are = HasOne-is (codes "ok")

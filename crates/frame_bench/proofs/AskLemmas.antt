@@ -20,13 +20,13 @@ use Rattle.frame_bench.proofs.RequestLemmas.{asks_fragment}
 use Rattle.frame_bench.proofs.TextLemmas.{NumberAt, number_at_cases, number_cases, number_one, limit_cases, limit_one}
 
 -- A text begins with a word or does not.
-front_cases : (word text : List ℕ) → ((rest : List ℕ) × (text ≡ word ++ rest)) ⊎ ((rest : List ℕ) → text ≢ word ++ rest)
-front_cases [] text = inl (text, refl)
-front_cases (w ∷ word) [] = inr (λ rest e. cc e)
-front_cases (w ∷ word) (x ∷ text) =
+prefix_cases : (word text : List ℕ) → ((rest : List ℕ) × (text ≡ word ++ rest)) ⊎ ((rest : List ℕ) → text ≢ word ++ rest)
+prefix_cases [] text = inl (text, refl)
+prefix_cases (w ∷ word) [] = inr (λ rest e. cc e)
+prefix_cases (w ∷ word) (x ∷ text) =
     elim (cases_eq x w) [
       | inl same ↦
-          elim (front_cases word text) [
+          elim (prefix_cases word text) [
             | inl found ↦ inl (found.0, rw (same, ← found.1) refl)
             | inr other ↦ inr (λ rest e. let tail : text ≡ word ++ rest = cc e in other rest tail)
           ]
@@ -77,11 +77,11 @@ entry_cases : (text : List ℕ)
     → ((entry : Entry) × (rest : List ℕ) × EntryAt text entry rest)
     ⊎ ((entry : Entry) (rest : List ℕ) → EntryAt text entry rest → ⊥)
 entry_cases text =
-    elim (front_cases (codes "eth" ++ space ∷ []) text) [
+    elim (prefix_cases (codes "eth" ++ space ∷ []) text) [
       | inl found ↦ inl (Ethernet, found.0, (codes "eth", refl, found.1))
-      | inr no_ethernet ↦ elim (front_cases (codes "sll" ++ space ∷ []) text) [
+      | inr no_ethernet ↦ elim (prefix_cases (codes "sll" ++ space ∷ []) text) [
         | inl found ↦ inl (LinuxSll, found.0, (codes "sll", refl, found.1))
-        | inr no_linux_sll ↦ elim (front_cases (codes "ip" ++ space ∷ []) text) [
+        | inr no_linux_sll ↦ elim (prefix_cases (codes "ip" ++ space ∷ []) text) [
           | inl found ↦ inl (Ip, found.0, (codes "ip", refl, found.1))
           | inr no_ip ↦ inr (no_entry text no_ethernet no_linux_sll no_ip)
         ]
@@ -194,13 +194,13 @@ no_ask line no_slice no_fragment no_drop no_limit (Limit max) bytes asks = no_li
 -- A line is a request or is none.
 pub ask_cases : (line : List ℕ) → AsksOrNot line
 ask_cases line =
-    elim (front_cases (codes "slice" ++ space ∷ []) line) [
+    elim (prefix_cases (codes "slice" ++ space ∷ []) line) [
       | inl found ↦ subst AsksOrNot (sym found.1) (slice_cases found.0)
-      | inr no_slice ↦ elim (front_cases (codes "frag" ++ space ∷ []) line) [
+      | inr no_slice ↦ elim (prefix_cases (codes "frag" ++ space ∷ []) line) [
         | inl found ↦ subst AsksOrNot (sym found.1) (fragment_cases found.0)
-        | inr no_fragment ↦ elim (front_cases (codes "drop" ++ space ∷ []) line) [
+        | inr no_fragment ↦ elim (prefix_cases (codes "drop" ++ space ∷ []) line) [
           | inl found ↦ subst AsksOrNot (sym found.1) (drop_cases found.0)
-          | inr no_drop ↦ elim (front_cases (codes "limit" ++ space ∷ []) line) [
+          | inr no_drop ↦ elim (prefix_cases (codes "limit" ++ space ∷ []) line) [
             | inl found ↦ subst AsksOrNot (sym found.1) (limit_line_cases found.0)
             | inr no_limit ↦ inr (no_ask line no_slice no_fragment no_drop no_limit)
           ]

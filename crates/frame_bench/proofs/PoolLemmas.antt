@@ -28,5 +28,5 @@ IsAfterLines-push (first ∷ lines) line before history after (next, is_first, i
 pub HoldsLines-push : (lines : List (List ℕ)) (line : List ℕ) (history after : PoolHistory)
     (pool : IpDefragPool ℕ ℕ) → IsHistory lines history → IsAfterLine history line after → HoldsHistory after pool
     → HoldsLines (lines ++ line ∷ []) pool
-HoldsLines-push lines line history after pool are makes held =
-    (after, IsAfterLines-push lines line (new_pool 65535) history after are makes, held)
+HoldsLines-push lines line history after pool are makes kept =
+    (after, IsAfterLines-push lines line (new_pool 65535) history after are makes, kept)

@@ -35,8 +35,6 @@ mod pool_requests;
 mod replies;
 mod requests;
 mod slice_replies;
-#[cfg(test)]
-mod tests;
 mod texts;
 
 use crate::ending::Ending;

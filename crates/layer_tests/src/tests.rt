@@ -4,6 +4,7 @@ mod base;
 mod checks;
 mod derives;
 mod ext;
+mod figures;
 mod ip;
 mod link;
 mod lru_tables;

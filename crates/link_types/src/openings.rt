@@ -10,6 +10,9 @@ use ep_base::EtherType;
 use ep_base::bytes::word_at;
 use ep_packet::Entry;
 
+/// Greatest valid packet type of a Linux cooked capture header (version 1).
+const MAX_PACKET_TYPE: u16 = 7;
+
 /// Start of parsing in a packet: the library `etherparse` gets the bytes after the first `skipped` ones, and begins at
 /// the layer `entry`. The skipped bytes, if any, are a link header that the library does not parse.
 #[derive(Clone, Copy)]
@@ -151,7 +154,7 @@ pub fn skips_sll(bytes: &[u8]) -> bool
     ensures value { result ≡ skips_sll bytes.now }
     ensures long { result ≡ true → 16 ≤ length bytes.now }
 {
-    bytes.len() >= 16 && word_at(bytes, 0) <= 7 && skips_hardware(word_at(bytes, 2))
+    bytes.len() >= 16 && word_at(bytes, 0) <= MAX_PACKET_TYPE && skips_hardware(word_at(bytes, 2))
 }
 
 /// Returns where the library starts to parse a Linux cooked capture packet (version 1): after the header of 16 bytes if

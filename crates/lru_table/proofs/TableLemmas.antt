@@ -101,11 +101,11 @@ module _ {K V : Type 0} where
   reversed_free slot es d free =
       let here = misses slot es (subst (λ l. Free slot l) (reverse-reverse es)
       (none_reversed (same_slot slot) (reverse es) free)) in
-      let there = misses slot (reverse es) free in
+      let present = misses slot (reverse es) free in
       record {
-        value = here.value ∙ sym there.value;
-        removed = ap reverse here.removed ∙ sym there.removed;
-        newest = ap reverse here.promoted ∙ sym there.newest;
+        value = here.value ∙ sym present.value;
+        removed = ap reverse here.removed ∙ sym present.removed;
+        newest = ap reverse here.promoted ∙ sym present.newest;
         written = λ p w h. let no = h ∙ here.value in absurd cc;
         keeps_removed = subst (λ l. Keeps (reverse es) (reverse l)) (sym here.removed) (keeps_all (reverse es) d);
         keeps_promoted = subst (λ l. Keeps (reverse es) (reverse l)) (sym here.promoted) (keeps_all (reverse es) d);
@@ -120,27 +120,27 @@ module _ {K V : Type 0} where
       sym (reverse-reverse es) ∙ ap reverse cut.is ∙ reverse_cut_of us x vs in
       let here = hits slot (reverse vs) e (reverse us) es back
       (none_reversed (same_slot slot) vs (free_after slot (reverse es) e cut d)) in
-      let there = (hits slot us e vs (reverse es) cut.is cut.free_before).at in
-      let whole = subst (λ l. IsDistinct same_slot (keys_of l)) cut.is d in
+      let present = (hits slot us e vs (reverse es) cut.is cut.free_before).at in
+      let complete = subst (λ l. IsDistinct same_slot (keys_of l)) cut.is d in
       let both : reverse (reverse vs ++ reverse us) ≡ us ++ vs =
       reverse-append (reverse vs) (reverse us) ∙ (λ i. reverse-reverse us i ++ reverse-reverse vs i) in
       let removed_is : reverse (remove_entry (same_slot slot) es) ≡ us ++ vs = ap reverse here.at.removed ∙ both in
       let promoted_is : reverse (promoted (same_slot slot) es) ≡ us ++ vs ++ x ∷ [] =
       ap reverse here.promoted ∙ reverse-append (x ∷ []) (reverse vs ++ reverse us) ∙ ap (λ l. l ++ x ∷ []) both in
       record {
-        value = here.at.found ∙ sym there.found;
-        removed = removed_is ∙ sym there.removed;
-        newest = promoted_is ∙ sym there.touched;
+        value = here.at.found ∙ sym present.found;
+        removed = removed_is ∙ sym present.removed;
+        newest = promoted_is ∙ sym present.touched;
         written = λ p w h.
             let key : p.0 ≡ e.0 = same_key p e (h ∙ here.at.found) in
             ap reverse (here.set (p.0, w)) ∙ reverse_cut us (slot, (p.0, w)) vs
-            ∙ ap (λ j. us ++ (slot, (j, w)) ∷ vs) key ∙ sym (there.written w);
-        keeps_removed = subst2 cut.is removed_is (keeps_others us x vs whole);
-        keeps_promoted = subst2 cut.is promoted_is (keeps_last us x vs whole);
+            ∙ ap (λ j. us ++ (slot, (j, w)) ∷ vs) key ∙ sym (present.written w);
+        keeps_removed = subst2 cut.is removed_is (keeps_others us x vs complete);
+        keeps_promoted = subst2 cut.is promoted_is (keeps_last us x vs complete);
         keeps_written = λ p w h.
             let key : p.0 ≡ e.0 = same_key p e (h ∙ here.at.found) in
             subst2 cut.is (ap reverse (here.set (p.0, w)) ∙ reverse_cut us (slot, (p.0, w)) vs ∙ ap
-            (λ j. us ++ (slot, (j, w)) ∷ vs) key) (keeps_written us slot e.0 e.1 w vs whole);
+            (λ j. us ++ (slot, (j, w)) ∷ vs) key) (keeps_written us slot e.0 e.1 w vs complete);
       }
     where
       reverse_cut_of : (us : Entries K V) (x : Slot × (K × V)) (vs : Entries K V)

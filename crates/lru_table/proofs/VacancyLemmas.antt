@@ -40,11 +40,11 @@ module _ {K V : Type 0} where
         → IsTable eq (es ++ (slot, (key, value)) ∷ [])
     table_insert es slot key value t at =
         let x : Slot × (K × V) = (slot, (key, value)) in
-        let whole = sym (append-nil es) in
+        let complete = sym (append-nil es) in
         let free = none_passes_from_lookup (same_slot slot) es at.free in
         record {
-          distinct = distinct_with (λ e. e.0) same_slot same_slot-flips es x [] (subst (λ l. Free slot l) whole free)
-              (subst (λ l. IsDistinct same_slot (keys_of l)) whole t.distinct);
+          distinct = distinct_with (λ e. e.0) same_slot same_slot-flips es x [] (subst (λ l. Free slot l) complete free)
+              (subst (λ l. IsDistinct same_slot (keys_of l)) complete t.distinct);
           unambiguous = λ a b in_a in_b hash same. elim (Contains-append_cases es (x ∷ []) a in_a) [
             | inl old_a ↦ elim (Contains-append_cases es (x ∷ []) b in_b) [
               | inl old_b ↦ t.unambiguous a b old_a old_b hash same
@@ -68,9 +68,9 @@ module _ {K V : Type 0} where
         → eq key e.1.0 ≡ y → y ≡ false
     other_key es slot p key cut t same e in_e hash false h = refl
     other_key es slot p key cut t same e in_e hash true h =
-        let whole = sym cut.is in
-        let in_es = subst (λ l. Contains l e) whole (Contains-with cut.before (slot, p) cut.after e in_e) in
-        let in_slot = subst (λ l. Contains l (slot, p)) whole (Contains-middle cut.before (slot, p) cut.after) in
+        let complete = sym cut.is in
+        let in_es = subst (λ l. Contains l e) complete (Contains-with cut.before (slot, p) cut.after e in_e) in
+        let in_slot = subst (λ l. Contains l (slot, p)) complete (Contains-middle cut.before (slot, p) cut.after) in
         let one = t.unambiguous (slot, p) e in_slot in_es (sym hash) (sym (laws.congr key p.0 e.1.0 same) ∙ h) in
         let apart = all_at (λ f. same_slot slot f.0 ≡ false) (cut.before ++ cut.after) e
         (all_both (λ f. same_slot slot f.0 ≡ false) cut.before cut.after cut.free_before

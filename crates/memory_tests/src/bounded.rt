@@ -98,46 +98,57 @@ fn ends(rt: &(impl Abort + Print), pool: &mut Bounded, call: &str, identificatio
     same(rt, &whole.payload.as_slice(), &b"abcdefghijkl".as_slice());
 }
 
-/// Tests a datagram in three fragments, the one in the middle last, under each policy.
+/// A fragment in a test: the call that is named if an allocation fails, the offset in units of 8 bytes, the
+/// more-fragments flag and the bytes.
+type Step = (&'static str, u16, bool, &'static [u8]);
+
+/// Asserts that the given fragments, passed in order to a new bounded pool, complete the payload `bytes` with the last
+/// one.
+fn completes(
+    rt: &(impl Abort + Print),
+    alloc: Global,
+    limits: DefragLimits,
+    (steps, (call, units, more_fragments, payload)): (&[Step], Step),
+    bytes: &[u8],
+) {
+    let mut pool = new_pool(rt, alloc, limits);
+    for (call, units, more_fragments, payload) in steps {
+        let fragment = fragment(rt, *units, *more_fragments, *payload);
+        same(rt, &answer(rt, &mut pool, *call, 1, &fragment), &None);
+    }
+    let last = fragment(rt, units, more_fragments, payload);
+    let whole = answer(rt, &mut pool, call, 1, &last).expect(rt, "incomplete");
+    same(rt, &whole.payload.as_slice(), &bytes);
+}
+
+/// Tests a datagram in three fragments, the one in the middle last; fragments under `FirstWins` that overlap earlier
+/// ones and fill gaps; and a datagram in one fragment, which allocates only its payload and its list of ranges.
 #[test]
 fn one_stream(rt: HostRuntime) {
-    let mut pool = new_pool(&rt, rt.alloc(), limits(2, OverlapPolicy::LastWins));
-    begins(&rt, &mut pool, 1);
-    let last = fragment(&rt, 2, false, b"qrst");
-    same(&rt, &answer(&rt, &mut pool, LATER, 1, &last), &None);
-    let middle = fragment(&rt, 1, true, b"ijklmnop");
-    let whole = answer(&rt, &mut pool, "setup", 1, &middle).expect(&rt, "whole");
-    same(
-        &rt,
-        &whole.payload.as_slice(),
-        &b"abcdefghijklmnopqrst".as_slice(),
-    );
+    let rows: [(DefragLimits, &[Step], Step, &[u8]); 3] = [
+        (
+            limits(2, OverlapPolicy::LastWins),
+            &[(FIRST, 0, true, b"abcdefgh"), (LATER, 2, false, b"qrst")],
+            ("setup", 1, true, b"ijklmnop"),
+            b"abcdefghijklmnopqrst",
+        ),
+        (
+            limits(2, OverlapPolicy::FirstWins),
+            &[(FIRST, 0, true, b"abcdefgh"), (LATER, 2, true, b"qrstuvwx")],
+            (LATER, 0, false, b"________ijklmnop________yz"),
+            b"abcdefghijklmnopqrstuvwxyz",
+        ),
+        (
+            DefragLimits::default(),
+            &[],
+            (FIRST, 0, false, b"abc"),
+            b"abc",
+        ),
+    ];
+    for (limits, steps, last, bytes) in rows {
+        completes(&rt, rt.alloc(), limits, (steps, last), bytes);
+    }
     asks_once(&rt, rt.alloc());
-}
-
-/// Tests fragments under `FirstWins` that overlap earlier ones and fill gaps.
-#[test]
-fn first_wins(rt: HostRuntime) {
-    let mut pool = new_pool(&rt, rt.alloc(), limits(2, OverlapPolicy::FirstWins));
-    begins(&rt, &mut pool, 1);
-    let apart = fragment(&rt, 2, true, b"qrstuvwx");
-    same(&rt, &answer(&rt, &mut pool, LATER, 1, &apart), &None);
-    let over_both = fragment(&rt, 0, false, b"________ijklmnop________yz");
-    let whole = answer(&rt, &mut pool, LATER, 1, &over_both).expect(&rt, "whole");
-    same(
-        &rt,
-        &whole.payload.as_slice(),
-        &b"abcdefghijklmnopqrstuvwxyz".as_slice(),
-    );
-}
-
-/// Tests that a datagram in one fragment allocates only its payload and its list of ranges.
-#[test]
-fn whole_at_once(rt: HostRuntime) {
-    let mut pool = new_pool(&rt, rt.alloc(), DefragLimits::default());
-    let only = fragment(&rt, 0, false, b"abc");
-    let whole = answer(&rt, &mut pool, FIRST, 1, &only).expect(&rt, "whole");
-    same(&rt, &whole.payload.as_slice(), &b"abc".as_slice());
 }
 
 /// Tests five streams in a pool for two: each later one evicts the oldest. The last two are completed.

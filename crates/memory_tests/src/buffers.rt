@@ -51,33 +51,11 @@ const IN_ORDER: [Step; 3] = [
     (2, false, b"qrst"),
 ];
 
-#[test]
-fn in_order(rt: HostRuntime) {
-    makes(
-        &rt,
-        rt.alloc(),
-        "add, in order",
-        &IN_ORDER,
-        b"abcdefghijklmnopqrst",
-    );
-}
-
 const REVERSED: [Step; 3] = [
     (2, false, b"qrst"),
     (1, true, b"ijklmnop"),
     (0, true, b"abcdefgh"),
 ];
-
-#[test]
-fn reversed(rt: HostRuntime) {
-    makes(
-        &rt,
-        rt.alloc(),
-        "add, reversed",
-        &REVERSED,
-        b"abcdefghijklmnopqrst",
-    );
-}
 
 const MIDDLE_LAST: [Step; 3] = [
     (0, true, b"abcdefgh"),
@@ -85,33 +63,11 @@ const MIDDLE_LAST: [Step; 3] = [
     (1, true, b"ijklmnop"),
 ];
 
-#[test]
-fn middle_last(rt: HostRuntime) {
-    makes(
-        &rt,
-        rt.alloc(),
-        "add, apart",
-        &MIDDLE_LAST,
-        b"abcdefghijklmnopqrst",
-    );
-}
-
 const OVERLAPPING: [Step; 3] = [
     (0, true, b"abcdefghijklmnop"),
     (1, false, b"IJKLMNOPqrst"),
     (0, true, b"ABCDEFGHi_______"),
 ];
-
-#[test]
-fn overlapping(rt: HostRuntime) {
-    makes(
-        &rt,
-        rt.alloc(),
-        "add, overlapping",
-        &OVERLAPPING,
-        b"ABCDEFGHi_______qrst",
-    );
-}
 
 /// Fragments of a payload of 20 bytes: the first two are sent twice each, then one fragment overwrites both, and a
 /// final one follows.
@@ -124,17 +80,6 @@ const REPEATED: [Step; 6] = [
     (2, false, b"qrst"),
 ];
 
-#[test]
-fn repeated(rt: HostRuntime) {
-    makes(
-        &rt,
-        rt.alloc(),
-        "add, repeated",
-        &REPEATED,
-        b"ABCDEFGHIJKLMNOPqrst",
-    );
-}
-
 /// Fragments of a payload of 48 bytes. The third one is final (without the more-fragments flag) and overwrites the
 /// second one; the fourth one fills the gap between the first two.
 const LAST_FILLS: [Step; 4] = [
@@ -144,29 +89,28 @@ const LAST_FILLS: [Step; 4] = [
     (2, true, b"qrstuvwxyzqrstuv"),
 ];
 
-#[test]
-fn last_fills(rt: HostRuntime) {
-    makes(
-        &rt,
-        rt.alloc(),
-        "add, the gap last",
-        &LAST_FILLS,
-        b"abcdefghijklmnopqrstuvwxyzqrstuv0123456789ABCDEF",
-    );
-}
-
 /// Fragments of a payload of 2,000 bytes: one with all bytes, and an empty final fragment.
 const LARGE_AND_EMPTY: [Step; 2] = [(0, true, &[7; 2000]), (250, false, b"")];
 
+/// Tests payloads whose fragments are added in several orders, and overlap.
 #[test]
-fn large_and_empty(rt: HostRuntime) {
-    makes(
-        &rt,
-        rt.alloc(),
-        "add, large and empty",
-        &LARGE_AND_EMPTY,
-        &[7; 2000],
-    );
+fn payloads(rt: HostRuntime) {
+    let rows: [(&str, &[Step], &[u8]); 7] = [
+        ("add, in order", &IN_ORDER, b"abcdefghijklmnopqrst"),
+        ("add, reversed", &REVERSED, b"abcdefghijklmnopqrst"),
+        ("add, apart", &MIDDLE_LAST, b"abcdefghijklmnopqrst"),
+        ("add, overlapping", &OVERLAPPING, b"ABCDEFGHi_______qrst"),
+        ("add, repeated", &REPEATED, b"ABCDEFGHIJKLMNOPqrst"),
+        (
+            "add, the gap last",
+            &LAST_FILLS,
+            b"abcdefghijklmnopqrstuvwxyzqrstuv0123456789ABCDEF",
+        ),
+        ("add, large and empty", &LARGE_AND_EMPTY, &[7; 2000]),
+    ];
+    for (name, steps, bytes) in rows {
+        makes(&rt, rt.alloc(), name, steps, bytes);
+    }
 }
 
 /// Returns a clone of a reassembly buffer. If an allocation fails, it prints so and clones a second time.

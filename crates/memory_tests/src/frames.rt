@@ -6,7 +6,6 @@ use crate::checks::*;
 use crate::samples::*;
 use etherparse::err::packet::BuildWriteError;
 use etherparse::*;
-use std::alloc::Global;
 use std::process::Abort;
 
 /// Last header of a frame that a test builds. It chooses among eight test frames.
@@ -66,13 +65,13 @@ fn append(rt: &impl Abort, last: Last, buf: &mut Vec<u8>) -> Result<(), BuildWri
     }
 }
 
-/// Asserts that the builder appends a frame of `len` bytes to a vector. If the allocation fails, it prints so, and
+/// Asserts that the builder appends a frame of `len` bytes to a vector. If the allocation fails, it prints `name`, and
 /// asserts that the vector's length is unchanged and a second try succeeds.
-fn builds(rt: &(impl Abort + Print), buf: &mut Vec<u8>, last: Last, len: usize) {
+fn builds(rt: &(impl Abort + Print), buf: &mut Vec<u8>, name: &str, last: Last, len: usize) {
     let before = buf.len();
     let mut answer = append(rt, last, buf);
     if answer == Err(BuildWriteError::OutOfMemory) {
-        refused(rt, "write of the builder");
+        refused(rt, name);
         same(rt, &buf.len(), &before);
         answer = append(rt, last, buf);
     }
@@ -80,55 +79,45 @@ fn builds(rt: &(impl Abort + Print), buf: &mut Vec<u8>, last: Last, len: usize) 
     same(rt, &buf.len().saturating_sub(before), &len);
 }
 
-/// Asserts that the builder writes a frame of `len` bytes to an empty vector, at the second try if an allocation fails.
-fn builds_alone(rt: &(impl Abort + Print), alloc: Global, last: Last, len: usize) {
-    builds(rt, &mut Vec::new(alloc), last, len);
-}
-
+/// Tests that the builder writes each frame to an empty vector, at the second try if an allocation fails.
 #[test]
-fn of_arp(rt: HostRuntime) {
-    builds_alone(&rt, rt.alloc(), Last::Arp, 14 + 4 + 1028);
-}
-
-#[test]
-fn of_ip(rt: HostRuntime) {
-    builds_alone(&rt, rt.alloc(), Last::Ipv4, 14 + 20 + 8);
-}
-
-#[test]
-fn of_udp(rt: HostRuntime) {
-    builds_alone(&rt, rt.alloc(), Last::Udp, 14 + 20 + 8 + 8);
-}
-
-#[test]
-fn of_tcp(rt: HostRuntime) {
-    builds_alone(&rt, rt.alloc(), Last::Tcp, 20 + 20 + 8);
-}
-
-#[test]
-fn of_icmpv4(rt: HostRuntime) {
-    builds_alone(&rt, rt.alloc(), Last::Icmpv4, 14 + 8 + 20 + 8 + 8);
-}
-
-#[test]
-fn of_icmpv6(rt: HostRuntime) {
-    builds_alone(&rt, rt.alloc(), Last::Icmpv6, 40 + 8 + 8);
-}
-
-#[test]
-fn of_extension_headers(rt: HostRuntime) {
-    builds_alone(&rt, rt.alloc(), Last::Extensions, 14 + 9268 + 8 + 8);
-}
-
-#[test]
-fn of_cooked_captures(rt: HostRuntime) {
-    builds_alone(&rt, rt.alloc(), Last::Cooked, 16 + 1088 + 8 + 8);
+fn of_each_kind(rt: HostRuntime) {
+    for (name, last, len) in [
+        ("write of the builder, ARP", Last::Arp, 14 + 4 + 1028),
+        ("write of the builder, IPv4", Last::Ipv4, 14 + 20 + 8),
+        ("write of the builder, UDP", Last::Udp, 14 + 20 + 8 + 8),
+        ("write of the builder, TCP", Last::Tcp, 20 + 20 + 8),
+        (
+            "write of the builder, ICMPv4",
+            Last::Icmpv4,
+            14 + 8 + 20 + 8 + 8,
+        ),
+        ("write of the builder, ICMPv6", Last::Icmpv6, 40 + 8 + 8),
+        (
+            "write of the builder, extension headers",
+            Last::Extensions,
+            14 + 9268 + 8 + 8,
+        ),
+        (
+            "write of the builder, Linux cooked capture",
+            Last::Cooked,
+            16 + 1088 + 8 + 8,
+        ),
+    ] {
+        builds(&rt, &mut Vec::new(rt.alloc()), name, last, len);
+    }
 }
 
 /// Tests that the builder appends a frame to a vector of 3 bytes without spare capacity, and that these bytes stay.
 #[test]
 fn after_existing_bytes(rt: HostRuntime) {
     let mut buf = full(&rt, rt.alloc(), b"abc");
-    builds(&rt, &mut buf, Last::Udp, 14 + 20 + 8 + 8);
+    builds(
+        &rt,
+        &mut buf,
+        "write of the builder",
+        Last::Udp,
+        14 + 20 + 8 + 8,
+    );
     same(&rt, &buf.get(..3), &Some(b"abc".as_slice()));
 }

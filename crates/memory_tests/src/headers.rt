@@ -256,10 +256,6 @@ fn extension_headers(rt: HostRuntime) {
         IpNumber::AUTHENTICATION_HEADER,
     );
     writes_alone(&rt, rt.alloc(), "Ipv4Extensions::write", &extensions, 1028);
-}
-
-#[test]
-fn chain_of_extension_headers(rt: HostRuntime) {
     let extensions = longest_extensions(&rt);
     writes_alone(&rt, rt.alloc(), "Ipv6Extensions::write", &extensions, 9228);
 }
@@ -285,10 +281,6 @@ fn ip(rt: HostRuntime) {
         &longest_ipv4(&rt),
         1088,
     );
-}
-
-#[test]
-fn ip_with_extensions(rt: HostRuntime) {
     writes_alone(
         &rt,
         rt.alloc(),
@@ -306,7 +298,7 @@ fn after_existing_bytes(rt: HostRuntime) {
     writes(
         &rt,
         &mut buf,
-        "IpHeaders::write behind bytes",
+        "IpHeaders::write after bytes",
         &longest_ipv6(&rt),
         9268,
     );

@@ -5,6 +5,7 @@ use crate::checks::*;
 use crate::samples::*;
 use etherparse::defrag::*;
 use etherparse::*;
+use std::alloc::Global;
 use std::cell::Cell;
 use std::process::Abort;
 
@@ -52,35 +53,46 @@ const FIRST: &str = "process_sliced_packet, a stream's first frame";
 
 const LATER: &str = "process_sliced_packet, a later frame";
 
-/// Tests two datagrams whose keys differ only in the VLAN identifier. Both are completed, and one begins a second time.
-#[test]
-fn streams_by_vlan(rt: HostRuntime) {
-    let mut pool = IpDefragPool::new(rt.alloc());
-    answers(&rt, &mut pool, FIRST, (VLAN_1_FIRST, 1), 8, b"");
-    answers(&rt, &mut pool, FIRST, (VLAN_2_FIRST, 1), 8, b"");
-    answers(&rt, &mut pool, LATER, (VLAN_1_LAST, 1), 16, VLAN_1_PAYLOAD);
-    answers(&rt, &mut pool, FIRST, (VLAN_1_LAST, 1), 16, b"");
-    answers(&rt, &mut pool, LATER, (VLAN_2_LAST, 1), 16, VLAN_2_PAYLOAD);
-    same(&rt, &streams(&mut pool), &1);
+/// A frame in a test: the call that is named if an allocation fails, its bytes, the end of its fragment, and the payload
+/// that it completes, or no bytes.
+type Step<'a> = (&'static str, &'a [u8], usize, &'static [u8]);
+
+/// Passes the given frames in order to a new reassembly pool, and asserts the number of incomplete datagrams after them.
+fn leaves(rt: &(impl Abort + Print), alloc: Global, steps: &[Step], count: u32) {
+    let mut pool = IpDefragPool::new(alloc);
+    for (name, frame, len, payload) in steps {
+        answers(rt, &mut pool, *name, (*frame, 1), *len, *payload);
+    }
+    same(rt, &streams(&mut pool), &count);
 }
 
-/// Tests only the first frame of a datagram, so that each of its allocations is made to fail.
+/// Tests the first frame of a datagram. Then two datagrams whose keys differ only in the VLAN identifier: both are
+/// completed, and one begins a second time. Then a frame with the first 2,000 bytes of a payload, before a frame with an
+/// empty first fragment of another payload.
 #[test]
-fn first_frame(rt: HostRuntime) {
-    let mut pool = IpDefragPool::new(rt.alloc());
-    answers(&rt, &mut pool, FIRST, (VLAN_1_FIRST, 1), 8, b"");
-    same(&rt, &streams(&mut pool), &1);
-}
-
-/// Tests a frame with the first 2,000 bytes of a payload, and a frame with an empty first fragment of another payload.
-#[test]
-fn large_and_empty(rt: HostRuntime) {
-    let mut pool = IpDefragPool::new(rt.alloc());
+fn datagrams(rt: HostRuntime) {
     let mut large = [7; 2034];
     large[..34].copy_from_slice(&LARGE_HEADERS);
-    answers(&rt, &mut pool, FIRST, (&large, 1), 2000, b"");
-    answers(&rt, &mut pool, FIRST, (EMPTY_FIRST, 1), 0, b"");
-    same(&rt, &streams(&mut pool), &2);
+    let rows: [(&[Step], u32); 3] = [
+        (&[(FIRST, VLAN_1_FIRST, 8, b"")], 1),
+        (
+            &[
+                (FIRST, VLAN_1_FIRST, 8, b""),
+                (FIRST, VLAN_2_FIRST, 8, b""),
+                (LATER, VLAN_1_LAST, 16, VLAN_1_PAYLOAD),
+                (FIRST, VLAN_1_LAST, 16, b""),
+                (LATER, VLAN_2_LAST, 16, VLAN_2_PAYLOAD),
+            ],
+            1,
+        ),
+        (
+            &[(FIRST, &large, 2000, b""), (FIRST, EMPTY_FIRST, 0, b"")],
+            2,
+        ),
+    ];
+    for (steps, count) in rows {
+        leaves(&rt, rt.alloc(), steps, count);
+    }
 }
 
 /// Asserts that a reassembly pool rejects the fragment in a frame with the given error.

@@ -83,16 +83,13 @@ fn long_then_short(rt: &(impl Abort + Print), alloc: Global, is_returned: bool) 
     asks_once(rt, alloc);
 }
 
+/// Tests a payload that is given back to the reassembly pool, and one that is not: then the reassembly of the second
+/// datagram allocates again.
 #[test]
-fn given_back(rt: HostRuntime) {
-    long_then_short(&rt, rt.alloc(), true);
-}
-
-/// Tests that the reassembly of a second datagram allocates again if the payload of the first one was not given back to
-/// the reassembly pool.
-#[test]
-fn not_given_back(rt: HostRuntime) {
-    long_then_short(&rt, rt.alloc(), false);
+fn long_and_short(rt: HostRuntime) {
+    for is_returned in [true, false] {
+        long_then_short(&rt, rt.alloc(), is_returned);
+    }
 }
 
 /// Tests that a payload given back to a reassembly pool that never had a stream is freed, which does not allocate.

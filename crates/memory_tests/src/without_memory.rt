@@ -17,15 +17,19 @@ fn reads(rt: &impl Abort, entry: Entry, bytes: &[u8], is_frame: bool) {
 
 #[test]
 fn parsing(rt: HostRuntime) {
-    reads(&rt, Entry::Ethernet, UNFRAGMENTED_PACKET, true);
-    reads(&rt, Entry::Ethernet, VLAN_1_FIRST, true);
-    reads(&rt, Entry::LinuxSll, UNFRAGMENTED_PACKET, false);
     let packet = UNFRAGMENTED_PACKET
         .get(14..)
         .expect(&rt, "an Ethernet II header");
-    reads(&rt, Entry::EtherType(EtherType::IPV4), packet, true);
-    reads(&rt, Entry::Ip, packet, true);
-    reads(&rt, Entry::Ip, b"\x50", false);
+    for (entry, bytes, is_frame) in [
+        (Entry::Ethernet, UNFRAGMENTED_PACKET, true),
+        (Entry::Ethernet, VLAN_1_FIRST, true),
+        (Entry::LinuxSll, UNFRAGMENTED_PACKET, false),
+        (Entry::EtherType(EtherType::IPV4), packet, true),
+        (Entry::Ip, packet, true),
+        (Entry::Ip, b"\x50".as_slice(), false),
+    ] {
+        reads(&rt, entry, bytes, is_frame);
+    }
     asks_once(&rt, rt.alloc());
 }
 

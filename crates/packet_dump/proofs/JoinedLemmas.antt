@@ -17,27 +17,27 @@ use Rattle.packet_dump.proofs.ValueLemmas.{IsWord, branch, is_word, some_of}
 -- ---- position of `=`
 
 -- the two parts of a text, with a byte added before the first
-abbrev behind_byte : ℕ → List ℕ × List ℕ → List ℕ × List ℕ
-behind_byte byte parts = (byte ∷ parts.0, parts.1)
+abbrev after_byte : ℕ → List ℕ × List ℕ → List ℕ × List ℕ
+after_byte byte parts = (byte ∷ parts.0, parts.1)
 
 -- A text without `=` has no parts.
 pub no_parts : (text : List ℕ) → ((i : ℕ) → i < length text → get_or text i 0 ≡ 61 → ⊥) → parts_at_equals text ≡ None
 no_parts [] never = refl
 no_parts (byte ∷ bytes) never =
-    branch (λ o. o ≡ None) (nat_eq byte 61) (Some ([], bytes)) (option_map (behind_byte byte) (parts_at_equals bytes))
+    branch (λ o. o ≡ None) (nat_eq byte 61) (Some ([], bytes)) (option_map (after_byte byte) (parts_at_equals bytes))
     (λ same. absurd (never 0 (omega arith) (eqb-true byte 61 same)))
-    (λ other. ap (option_map (behind_byte byte)) (no_parts bytes (λ i within is. never (suc i) (omega (arith, within)) is)))
+    (λ other. ap (option_map (after_byte byte)) (no_parts bytes (λ i within is. never (suc i) (omega (arith, within)) is)))
 
 -- The first part, which has no `=`, and the second are the parts of the text.
-pub these_parts : (front behind : List ℕ) → ((i : ℕ) → i < length front → get_or front i 0 ≡ 61 → ⊥)
-    → parts_at_equals (front ++ (61 ∷ behind)) ≡ Some (front, behind)
-these_parts [] behind never = refl
-these_parts (byte ∷ front) behind never =
-    branch (λ o. o ≡ Some (byte ∷ front, behind)) (nat_eq byte 61) (Some ([], front ++ (61 ∷ behind)))
-    (option_map (behind_byte byte) (parts_at_equals (front ++ (61 ∷ behind))))
+pub these_parts : (prefix after : List ℕ) → ((i : ℕ) → i < length prefix → get_or prefix i 0 ≡ 61 → ⊥)
+    → parts_at_equals (prefix ++ (61 ∷ after)) ≡ Some (prefix, after)
+these_parts [] after never = refl
+these_parts (byte ∷ prefix) after never =
+    branch (λ o. o ≡ Some (byte ∷ prefix, after)) (nat_eq byte 61) (Some ([], prefix ++ (61 ∷ after)))
+    (option_map (after_byte byte) (parts_at_equals (prefix ++ (61 ∷ after))))
     (λ same. absurd (never 0 (omega arith) (eqb-true byte 61 same)))
-    (λ other. ap (option_map (behind_byte byte))
-    (these_parts front behind (λ i within is. never (suc i) (omega (arith, within)) is)))
+    (λ other. ap (option_map (after_byte byte))
+    (these_parts prefix after (λ i within is. never (suc i) (omega (arith, within)) is)))
 
 -- A text is its first part, `=`, and its second part.
 parts_are : (text : List ℕ) (parts : List ℕ × List ℕ) → parts_at_equals text ≡ Some parts
@@ -45,32 +45,32 @@ parts_are : (text : List ℕ) (parts : List ℕ × List ℕ) → parts_at_equals
 parts_are [] parts is = let never : ⊥ = cc in absurd never
 parts_are (byte ∷ bytes) parts is =
     branch (λ o. o ≡ Some parts → byte ∷ bytes ≡ parts.0 ++ (61 ∷ parts.1)) (nat_eq byte 61) (Some ([], bytes))
-    (option_map (behind_byte byte) (parts_at_equals bytes))
+    (option_map (after_byte byte) (parts_at_equals bytes))
     (λ same here.
     let e : ([], bytes) ≡ parts = cc in
     subst (λ (p : List ℕ × List ℕ). byte ∷ bytes ≡ p.0 ++ (61 ∷ p.1)) e (ap (λ b. b ∷ bytes) (eqb-true byte 61 same)))
     (λ other later.
-    let found = some_of (behind_byte byte) (parts_at_equals bytes) parts later in
+    let found = some_of (after_byte byte) (parts_at_equals bytes) parts later in
     subst (λ (p : List ℕ × List ℕ). byte ∷ bytes ≡ p.0 ++ (61 ∷ p.1)) found.2
     (ap (λ b. byte ∷ b) (parts_are bytes found.0 found.1))) is
 
 -- ---- the option before `=`
 
-option_word_is : (w : Word) (behind value : List ℕ) (option : Awaited) → option_with w behind ≡ Some (option, value)
-    → (w ≡ word.Option option) × (behind ≡ value)
-option_word_is (word.Option found) behind value option is =
-    let e : (found, behind) ≡ (option, value) = cc in
+option_word_is : (w : Word) (after value : List ℕ) (option : Awaited) → option_with w after ≡ Some (option, value)
+    → (w ≡ word.Option option) × (after ≡ value)
+option_word_is (word.Option found) after value option is =
+    let e : (found, after) ≡ (option, value) = cc in
     (ap (λ (p : Awaited × List ℕ). word.Option p.0) e, ap (λ (p : Awaited × List ℕ). p.1) e)
-option_word_is w behind value option is = let never : ⊥ = cc in absurd never
+option_word_is w after value option is = let never : ⊥ = cc in absurd never
 
 joined_from_is : (text : List ℕ) (option : Awaited) (value : List ℕ) (found : Option (List ℕ × List ℕ))
     → parts_at_equals text ≡ found → joined_from found ≡ Some (option, value) → IsJoined option value text
 joined_from_is text option value None parts is = let never : ⊥ = cc in absurd never
-joined_from_is text option value (Some (name, behind)) parts is =
-    let said = option_word_is (word_named name) behind value option is in (
+joined_from_is text option value (Some (name, after)) parts is =
+    let stated = option_word_is (word_named name) after value option is in (
       name,
-      subst (λ (w : Word). IsWord name w) said.0 (is_word name),
-      parts_are text (name, behind) parts ∙ ap (λ (b : List ℕ). name ++ (61 ∷ b)) said.1
+      subst (λ (w : Word). IsWord name w) stated.0 (is_word name),
+      parts_are text (name, after) parts ∙ ap (λ (b : List ℕ). name ++ (61 ∷ b)) stated.1
           ∙ sym (append_assoc name (61 ∷ []) value),
     )
 
@@ -78,13 +78,13 @@ pub joined_is : (text : List ℕ) (option : Awaited) (value : List ℕ) → join
     → IsJoined option value text
 joined_is text option value is = joined_from_is text option value (parts_at_equals text) refl is
 
-no_pair : (o : Option (Awaited × List ℕ)) → ((said : Awaited × List ℕ) → o ≡ Some said → ⊥) → o ≡ None
+no_pair : (o : Option (Awaited × List ℕ)) → ((stated : Awaited × List ℕ) → o ≡ Some stated → ⊥) → o ≡ None
 no_pair None never = refl
-no_pair (Some said) never = absurd (never said refl)
+no_pair (Some stated) never = absurd (never stated refl)
 
 pub joined_none : (text : List ℕ) → ((option : Awaited) (value : List ℕ) → IsJoined option value text → ⊥)
     → joined_in text ≡ None
-joined_none text never = no_pair (joined_in text) (λ said is. never said.0 said.1 (joined_is text said.0 said.1 is))
+joined_none text never = no_pair (joined_in text) (λ stated is. never stated.0 stated.1 (joined_is text stated.0 stated.1 is))
 
 -- The argument is in no row of the table, and is the option joined to the value.
 abbrev pub JoinedSo : Awaited → List ℕ → List ℕ → Type 0

@@ -63,10 +63,10 @@ forget-gone_for : (cause : EvictionCause) (rows : List (Row ℕ))
 forget-gone_for cause [] = refl
 forget-gone_for cause (row ∷ rows) = ap (λ l. gone_for cause (without_memory row) ∷ l) (forget-gone_for cause rows)
 
-no_room : (rows : List (Row ℕ)) → room_held (forget rows) ≡ 0
-no_room [] = refl
-no_room (row ∷ rows) =
-    sum_by-cons (λ (r : Row ℕ). r.room) (without_memory row) (forget rows) ∙ ap (λ n. 0 + n) (no_room rows)
+no_space : (rows : List (Row ℕ)) → room_held (forget rows) ≡ 0
+no_space [] = refl
+no_space (row ∷ rows) =
+    sum_by-cons (λ (r : Row ℕ). r.room) (without_memory row) (forget rows) ∙ ap (λ n. 0 + n) (no_space rows)
 
 discarded_or_not : (b : Bool) (row : Row ℕ)
     → without_memory (cond b (discarded_row row) row) ≡ cond b (discarded_row (without_memory row)) (without_memory row)
@@ -93,7 +93,7 @@ within_without : (limits : DefragLimits) (rows : List (Row ℕ))
 within_without limits rows =
     ap (λ n. nat_le n (most_names limits) && nat_le (room_held (forget rows)) limits.bytes)
     (length-map rows without_memory)
-    ∙ ap (λ n. nat_le (length rows) (most_names limits) && nat_le n limits.bytes) (no_room rows)
+    ∙ ap (λ n. nat_le (length rows) (most_names limits) && nat_le n limits.bytes) (no_space rows)
     ∙ always (nat_le (length rows) (most_names limits)) (nat_le 0 limits.bytes) (grind (arith, nat_tests))
 
 abbrev is_memory : List (Gone ℕ) → Bool
@@ -172,11 +172,11 @@ fate_without : (limits : DefragLimits) (old : Option (Row ℕ)) (fragment : IpFr
 fate_without limits None fragment = refl
 fate_without limits (Some row) fragment = refl
 
-row_without : (old : Option (Row ℕ)) (name : IpFragId ℕ) (fragment : IpFragment) (now number room : ℕ)
-    → without_memory (row_with old name fragment now number room)
+row_without : (old : Option (Row ℕ)) (name : IpFragId ℕ) (fragment : IpFragment) (now number space : ℕ)
+    → without_memory (row_with old name fragment now number space)
     ≡ row_with (option_map without_memory old) name fragment now number 0
-row_without None name fragment now number room = refl
-row_without (Some row) name fragment now number room = refl
+row_without None name fragment now number space = refl
+row_without (Some row) name fragment now number space = refl
 
 accepted_without : (old : Option (Row ℕ)) → accepted_before (option_map without_memory old) ≡ accepted_before old
 accepted_without None = refl
@@ -251,28 +251,28 @@ accepting_without limits old others own accepted none =
     (is_complete accepted)) (sym (no_more limits.bytes))
 
 fated_without : (limits : DefragLimits) (rows : List (Row ℕ)) (name : IpFragId ℕ) (fragment : IpFragment)
-    (now number room : ℕ) (fate : Fate)
-    → EvictsNoneForMemory (fated_step limits nat_eq rows name fragment now number (Some room) fate)
-    → step_without_memory (fated_step limits nat_eq rows name fragment now number (Some room) fate)
+    (now number space : ℕ) (fate : Fate)
+    → EvictsNoneForMemory (fated_step limits nat_eq rows name fragment now number (Some space) fate)
+    → step_without_memory (fated_step limits nat_eq rows name fragment now number (Some space) fate)
     ≡ fated_step limits nat_eq (forget rows) name fragment now number (Some 0) fate
-fated_without limits rows name fragment now number room (is_rejected error) none = refl
-fated_without limits rows name fragment now number room discards none =
+fated_without limits rows name fragment now number space (is_rejected error) none = refl
+fated_without limits rows name fragment now number space discards none =
     let own : Row ℕ → Bool = λ row. same_stream nat_eq row.id name in
     λ i. record (rejecting_step (forget-discarding name rows i) Discarded) {
       gone = (forget-gone_for Overlap (filter own rows)
           ∙ ap (map (gone_for Overlap)) (forget-filter own (λ row. refl) rows)) i;
     }
-fated_without limits rows name fragment now number room is_accepted none =
+fated_without limits rows name fragment now number space is_accepted none =
     let old = row_named nat_eq name rows in
     let found = forget-find name rows in
     let accepted : accepted_before old ++ fragment ∷ []
     ≡ accepted_before (row_named nat_eq name (forget rows)) ++ fragment ∷ [] =
     ap (λ (l : List IpFragment). l ++ fragment ∷ [])
     (sym (accepted_without old) ∙ ap (λ (o : Option (Row ℕ)). accepted_before o) found) in
-    let own = row_without old name fragment now number room
+    let own = row_without old name fragment now number space
     ∙ ap (λ (o : Option (Row ℕ)). row_with o name fragment now number 0) found in
     let others = forget-filter (λ row. not (same_stream nat_eq row.id name)) (λ row. refl) rows in
-    accepting_without limits old (other_rows nat_eq name rows) (row_with old name fragment now number room)
+    accepting_without limits old (other_rows nat_eq name rows) (row_with old name fragment now number space)
     (accepted_before old ++ fragment ∷ []) none
     ∙ (λ i. accepting_step limits (found i) (others i) (own i) (accepted i))
 
@@ -282,21 +282,21 @@ skip_expired [] gone = refl
 skip_expired (row ∷ rows) gone = skip_expired rows gone
 
 fragment_without : (limits : DefragLimits) (rows : List (Row ℕ)) (name : IpFragId ℕ) (fragment : IpFragment)
-    (now number room : ℕ)
-    → EvictsNoneForMemory (fragment_step limits nat_eq rows name fragment now number (Some room))
-    → step_without_memory (fragment_step limits nat_eq rows name fragment now number (Some room))
+    (now number space : ℕ)
+    → EvictsNoneForMemory (fragment_step limits nat_eq rows name fragment now number (Some space))
+    → step_without_memory (fragment_step limits nat_eq rows name fragment now number (Some space))
     ≡ fragment_step limits nat_eq (forget rows) name fragment now number (Some 0)
-fragment_without limits rows name fragment now number room none =
+fragment_without limits rows name fragment now number space none =
     let expires : Row ℕ → Bool = expires_for limits nat_eq now name in
     let stays : Row ℕ → Bool = λ row. not (expires row) in
     let left = filter stays rows in
     let fate = fate_at limits (row_named nat_eq name left) fragment in
-    let step = fated_step limits nat_eq left name fragment now number (Some room) fate in
+    let step = fated_step limits nat_eq left name fragment now number (Some space) fate in
     let same = forget-filter stays (λ row. refl) rows in
     let fates : fate ≡ fate_at limits (row_named nat_eq name (forget left)) fragment =
     sym (fate_without limits (row_named nat_eq name left) fragment)
     ∙ ap (λ (o : Option (Row ℕ)). fate_at limits o fragment) (forget-find name left) in
-    let steps = fated_without limits left name fragment now number room fate
+    let steps = fated_without limits left name fragment now number space fate
     (sym (skip_expired (filter expires rows) step.gone) ∙ none)
     ∙ ap (λ f. fated_step limits nat_eq (forget left) name fragment now number (Some 0) f) fates
     ∙ ap
@@ -311,33 +311,33 @@ fragment_without limits rows name fragment now number room none =
 
 -- ---- calls
 
-call_without : (limits : DefragLimits) (rows : List (Row ℕ)) (call : BoundedCall ℕ) (number room : ℕ)
-    → EvictsNoneForMemory (granted_step limits rows call number room)
-    → step_without_memory (granted_step limits rows call number room) ≡ granted_step limits (forget rows) call number 0
-call_without limits rows (gives_fragment None now) number room none = refl
-call_without limits rows (gives_fragment (Some given) now) number room none =
-    fragment_without limits rows given.0 given.1 now number room none
-call_without limits rows (expires_names now idle) number room none =
+call_without : (limits : DefragLimits) (rows : List (Row ℕ)) (call : BoundedCall ℕ) (number space : ℕ)
+    → EvictsNoneForMemory (granted_step limits rows call number space)
+    → step_without_memory (granted_step limits rows call number space) ≡ granted_step limits (forget rows) call number 0
+call_without limits rows (gives_fragment None now) number space none = refl
+call_without limits rows (gives_fragment (Some given) now) number space none =
+    fragment_without limits rows given.0 given.1 now number space none
+call_without limits rows (expires_names now idle) number space none =
     let leaves : Row ℕ → Bool = is_due limits now idle in
     let stay = forget-filter (λ row. not (leaves row)) (λ row. refl) rows in
     let leave = forget-gone_for Expired (filter leaves rows)
     ∙ ap (map (gone_for Expired)) (forget-filter leaves (λ row. refl) rows) in
     λ i. record (quiet_step (stay i)) { gone = leave i }
-call_without limits rows (removes_name name) number room none =
+call_without limits rows (removes_name name) number space none =
     let own : Row ℕ → Bool = λ row. same_stream nat_eq row.id name in
     let stay = forget-filter (λ row. not (own row)) (λ row. refl) rows in
     let leave = forget-filter own (λ row. refl) rows in
     λ i. record (quiet_step (stay i)) { removed = leave i }
-call_without limits rows clears_names number room none = refl
+call_without limits rows clears_names number space none = refl
 
 -- If no stream is evicted for its memory, neither the memory of the streams nor that of a fragment has an influence.
 pub memory_changes_nothing : (limits : DefragLimits) (rows other_rows : List (Row ℕ)) (call : BoundedCall ℕ)
-    (number room other_room : ℕ) → map without_memory rows ≡ map without_memory other_rows
-    → EvictsNoneForMemory (granted_step limits rows call number room)
-    → EvictsNoneForMemory (granted_step limits other_rows call number other_room)
-    → step_without_memory (granted_step limits rows call number room)
-    ≡ step_without_memory (granted_step limits other_rows call number other_room)
-memory_changes_nothing limits rows other_rows call number room other_room same none other_none =
-    call_without limits rows call number room none
+    (number space other_space : ℕ) → map without_memory rows ≡ map without_memory other_rows
+    → EvictsNoneForMemory (granted_step limits rows call number space)
+    → EvictsNoneForMemory (granted_step limits other_rows call number other_space)
+    → step_without_memory (granted_step limits rows call number space)
+    ≡ step_without_memory (granted_step limits other_rows call number other_space)
+memory_changes_nothing limits rows other_rows call number space other_space same none other_none =
+    call_without limits rows call number space none
     ∙ ap (λ (l : List (Row ℕ)). granted_step limits l call number 0) same
-    ∙ sym (call_without limits other_rows call number other_room other_none)
+    ∙ sym (call_without limits other_rows call number other_space other_none)

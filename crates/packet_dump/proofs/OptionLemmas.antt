@@ -90,9 +90,9 @@ value_item Streams value (streams number) own spelled says = (Streams, value, sp
 value_item FragmentBytes value (fragment_bytes number) own spelled says = (FragmentBytes, value, spelled, says)
 value_item FragmentAge value (fragment_age number) own spelled says = (FragmentAge, value, spelled, says)
 value_item Overlap value (overlap policy) own spelled says = (Overlap, value, spelled, says)
-value_item (Filter kind) value (filter other said) own spelled says = (Filter kind, value, spelled, says)
+value_item (Filter kind) value (filter other stated) own spelled says = (Filter kind, value, spelled, says)
 value_item Input value (file name) own spelled says = (Input, value, spelled, says)
-value_item Explain value (explain said) own spelled says = (Explain, value, spelled, says)
+value_item Explain value (explain stated) own spelled says = (Explain, value, spelled, says)
 value_item option value item own spelled says = absurd says
 
 -- A value that is taken is a second input: that of its option, and an option named the input before.
@@ -109,8 +109,8 @@ taken_value settings Streams value (streams number) says is = let never : ⊥ = 
 taken_value settings FragmentBytes value (fragment_bytes number) says is = let never : ⊥ = cc in absurd never
 taken_value settings FragmentAge value (fragment_age number) says is = let never : ⊥ = cc in absurd never
 taken_value settings Overlap value (overlap policy) says is = let never : ⊥ = cc in absurd never
-taken_value settings (Filter kind) value (filter other said) says is = let never : ⊥ = cc in absurd never
-taken_value settings Explain value (explain said) says is = let never : ⊥ = cc in absurd never
+taken_value settings (Filter kind) value (filter other stated) says is = let never : ⊥ = cc in absurd never
+taken_value settings Explain value (explain stated) says is = let never : ⊥ = cc in absurd never
 taken_value settings option value item says is = absurd says
 
 not_both : {A : Type 0} (o : Option A) (x : A) → o ≡ Some x → o ≡ None → ⊥
@@ -130,10 +130,10 @@ sound_item words settings awaited option value own spelled item says true is lat
     (inr (own, words, subst (λ (o : Awaited). AreSpelled o value own) input spelled, refl, named))
 
 sound_value : (words : List (List ℕ)) (settings : Settings) (awaited : Option Awaited) (option : Awaited)
-    (value : List ℕ) (own : List (List ℕ)) → AreSpelled option value own → (said : Option Item) → value_in option value ≡ said
+    (value : List ℕ) (own : List (List ℕ)) → AreSpelled option value own → (stated : Option Item) → value_in option value ≡ stated
     → ((item : Item) → From (with_item settings item) words (outcome words (at (with_item settings item) None)))
     → From settings (own ++ words)
-    (continue (λ next. outcome words next) (value_step (at settings awaited) option value said))
+    (continue (λ next. outcome words next) (value_step (at settings awaited) option value stated))
 sound_value words settings awaited option value own spelled (Some item) is later =
     sound_item words settings awaited option value own spelled item (value_in-is option value item is)
     (is_taken settings item) refl (later item)
@@ -241,22 +241,22 @@ same_item : (settings : Settings) (awaited : Option Awaited) (value : List ℕ) 
 same_item settings awaited value item true = refl
 same_item settings awaited value item false = refl
 
-same_value : (settings : Settings) (awaited : Option Awaited) (option : Awaited) (value : List ℕ) (said : Option Item)
-    → value_step (at settings awaited) option value said ≡ value_step (at settings None) option value said
+same_value : (settings : Settings) (awaited : Option Awaited) (option : Awaited) (value : List ℕ) (stated : Option Item)
+    → value_step (at settings awaited) option value stated ≡ value_step (at settings None) option value stated
 same_value settings awaited option value None = refl
 same_value settings awaited option value (Some item) = same_item settings awaited value item (is_taken settings item)
 
 -- The step of an option and its value.
 spelled_value_step : (option : Awaited) (value : List ℕ) (own words : List (List ℕ)) (settings : Settings)
-    → AreSpelled option value own → (said : Option Item) → value_in option value ≡ said
+    → AreSpelled option value own → (stated : Option Item) → value_in option value ≡ stated
     → outcome (own ++ words) (at settings None)
-    ≡ continue (λ next. outcome words next) (value_step (at settings None) option value said)
-spelled_value_step option value own words settings (inl (name, fits, spelled)) said is =
+    ≡ continue (λ next. outcome words next) (value_step (at settings None) option value stated)
+spelled_value_step option value own words settings (inl (name, fits, spelled)) stated is =
     ap (λ o. outcome (o ++ words) (at settings None)) spelled
     ∙ one_step (value ∷ words) settings name (word.Option option) (option_named option name fits)
     ∙ ap (λ o. continue (λ next. outcome words next) (value_step (at settings (Some option)) option value o)) is
-    ∙ ap (λ s. continue (λ next. outcome words next) s) (same_value settings (Some option) option value said)
-spelled_value_step option value own words settings (inr (text, joined, spelled)) said is =
+    ∙ ap (λ s. continue (λ next. outcome words next) s) (same_value settings (Some option) option value stated)
+spelled_value_step option value own words settings (inr (text, joined, spelled)) stated is =
     let so = joined_so option value text joined in
     ap (λ o. outcome (o ++ words) (at settings None)) spelled
     ∙ one_step words settings text word.Unknown so.0
@@ -427,11 +427,11 @@ set_item Overlap text (overlap policy) state options says is plain =
 set_item Write text (write name) state options says is plain =
     ap (λ o. filtered (record state { settings = record state.settings { options = o } }) Write text) is
     ∙ ap (λ t. record state { settings = with_item state.settings (write t) }) says
-set_item (Filter kind) text (filter other said) state options says is plain =
+set_item (Filter kind) text (filter other stated) state options says is plain =
     ap (λ o. filtered (record state { settings = record state.settings { options = o } }) (Filter kind) text) is
     ∙ ap (λ k. record state { settings = with_item state.settings (filter k text) }) says.0
     ∙ ap (λ t. record state { settings = with_item state.settings (filter other t) }) says.1
-set_item Explain text (explain said) state options says is plain =
+set_item Explain text (explain stated) state options says is plain =
     ap (λ o. filtered (record state { settings = record state.settings { options = o } }) Explain text) is
     ∙ ap (λ t. record state { settings = with_item state.settings (explain t) }) says
 set_item Input text (file name) state options says is plain = absurd (plain refl)
@@ -451,8 +451,8 @@ no_input settings Streams value (streams number) says never = refl
 no_input settings FragmentBytes value (fragment_bytes number) says never = refl
 no_input settings FragmentAge value (fragment_age number) says never = refl
 no_input settings Overlap value (overlap policy) says never = refl
-no_input settings (Filter kind) value (filter other said) says never = refl
-no_input settings Explain value (explain said) says never = refl
+no_input settings (Filter kind) value (filter other stated) says never = refl
+no_input settings Explain value (explain stated) says never = refl
 no_input settings option value item says never = absurd says
 
 -- ---- one argument of several
@@ -464,21 +464,21 @@ word_first words i text within is =
     ∙ rw add-one (ap (λ t. string_bytes t ∷ texts (drop (suc i) words)) (sym is))
 
 -- The answer does not depend on the arguments after it.
-pub stops : {A : Type 0} (words : List (String A)) (i : ℕ) (text : String A) (said : List ℕ) (state : State)
-    (answer : Result Asked Fault) → i < length words → text ≡ get_or words i text → said ≡ string_bytes text
-    → step state said ≡ done answer → outcome (texts (drop i words)) state ≡ outcome (texts words) first_state
+pub stops : {A : Type 0} (words : List (String A)) (i : ℕ) (text : String A) (stated : List ℕ) (state : State)
+    (answer : Result Asked Fault) → i < length words → text ≡ get_or words i text → stated ≡ string_bytes text
+    → step state stated ≡ done answer → outcome (texts (drop i words)) state ≡ outcome (texts words) first_state
     → outcome (texts words) first_state ≡ answer
-stops words i text said state answer within is reads steps before =
+stops words i text stated state answer within is reads steps before =
     sym before ∙ ap (λ w. outcome w state) (word_first words i text within is)
     ∙ ap (λ t. continue (λ n. outcome (texts (drop (i + 1) words)) n) (step state t)) (sym reads)
     ∙ ap (λ s. continue (λ n. outcome (texts (drop (i + 1) words)) n) s) steps
 
 -- The remaining arguments have the answer of all arguments.
-pub goes_on : {A : Type 0} (words : List (String A)) (i : ℕ) (text : String A) (said : List ℕ) (state next : State)
-    → i < length words → text ≡ get_or words i text → said ≡ string_bytes text → step state said ≡ more next
+pub goes_on : {A : Type 0} (words : List (String A)) (i : ℕ) (text : String A) (stated : List ℕ) (state next : State)
+    → i < length words → text ≡ get_or words i text → stated ≡ string_bytes text → step state stated ≡ more next
     → outcome (texts (drop i words)) state ≡ outcome (texts words) first_state
     → outcome (texts (drop (i + 1) words)) next ≡ outcome (texts words) first_state
-goes_on words i text said state next within is reads steps before =
+goes_on words i text stated state next within is reads steps before =
     sym (ap (λ w. outcome w state) (word_first words i text within is)
     ∙ ap (λ t. continue (λ n. outcome (texts (drop (i + 1) words)) n) (step state t)) (sym reads)
     ∙ ap (λ s. continue (λ n. outcome (texts (drop (i + 1) words)) n) s) steps)

@@ -31,11 +31,11 @@ pub decoded_more : (options : DumpOptions) (items : List Item) (before : Progres
     → AreDecoded options before (items ++ item ∷ []) (packets ++ one)
 decoded_more options [] before item packets one none is =
     (one, [], is, ap (λ (p : List DecodedPacket). p ++ one) none ∙ sym (append-nil one), refl)
-decoded_more options (first ∷ items) before item packets one (front, rest, of_first, parts, others) is = (
-  front,
+decoded_more options (first ∷ items) before item packets one (prefix, rest, of_first, parts, others) is = (
+  prefix,
   rest ++ one,
   of_first,
-  ap (λ (p : List DecodedPacket). p ++ one) parts ∙ append_assoc front rest one,
+  ap (λ (p : List DecodedPacket). p ++ one) parts ∙ append_assoc prefix rest one,
   decoded_more options items (progress_after before first) item rest one others is,
 )
 
@@ -52,9 +52,9 @@ lines_more options [] pool next after one text answer (none, same) passes = (
   rw (none, append-nil),
   (refl, refl),
 )
-lines_more options (first ∷ packets) pool next after one text answer (front, rest, middle, of_first, parts, others)
+lines_more options (first ∷ packets) pool next after one text answer (prefix, rest, middle, of_first, parts, others)
     passes = (
-      front,
+      prefix,
       rest ++ line_of options one ++ answer,
       middle,
       of_first,

@@ -120,26 +120,26 @@ pub holds_step : (old new : Pooling) (before : PoolHistory) (call : BoundedCall 
     (granted : Option ℕ) → HoldsPooling before old
     → DoesStep nat_eq old.pool new.pool call number granted before.rows → new.swept ≡ swept
     → HoldsPooling (with_step (record before { swept = swept }) call (step_of before call number granted)) new
-holds_step old new before call number swept granted held does same = record {
-  limits = does.limits ∙ held.limits;
+holds_step old new before call number swept granted kept does same = record {
+  limits = does.limits ∙ kept.limits;
   swept = same;
   rows = subst
       (λ (l : DefragLimits). HoldsRows nat_eq new.pool (call_step l nat_eq before.rows call number granted).rows)
-      held.limits does.holds;
+      kept.limits does.holds;
   statistics = does.statistics
-      ∙ (λ i. statistics_with (held.statistics i) call
-      (call_step (held.limits i) nat_eq before.rows call number granted));
+      ∙ (λ i. statistics_with (kept.statistics i) call
+      (call_step (kept.limits i) nat_eq before.rows call number granted));
 }
 
 -- It reports the streams that left the table.
 reports_step : (old new : Pooling) (before : PoolHistory) (call : BoundedCall ℕ) (number : ℕ) (granted : Option ℕ)
     → HoldsPooling before old → DoesStep nat_eq old.pool new.pool call number granted before.rows
     → AllZip (Reports nat_eq) (evicted_in new.pool) (step_of before call number granted).gone
-reports_step old new before call number granted held does =
+reports_step old new before call number granted kept does =
     subst
     (λ (l : DefragLimits).
     AllZip (Reports nat_eq) (evicted_in new.pool) (call_step l nat_eq before.rows call number granted).gone)
-    held.limits does.evicted
+    kept.limits does.evicted
 
 -- ---- expiry
 
@@ -152,14 +152,14 @@ pub expires : (options : DumpOptions) (packet : Decoded) (old new : Pooling) (it
     → (before : PoolHistory) → HoldsPooling before old
     → HoldsPooling (swept_at options before (packet_of packet)) new
     × (last ≡ items ++ expired_text options before (packet_of packet))
-expires options packet old new items last later swept does lines before held =
+expires options packet old new items last later swept does lines before kept =
     let one = packet_of packet in
     let call = expiry options one.latest in
-    let done = does before.rows one.number held.rows in
-    let reports = reports_step old new before call one.number None held done in
-    let is_later = rw held.swept at later in
+    let done = does before.rows one.number kept.rows in
+    let reports = reports_step old new before call one.number None kept done in
+    let is_later = rw kept.swept at later in
     rw is_later (
-      holds_step old new before call one.number (second_of one) None held done swept,
+      holds_step old new before call one.number (second_of one) None kept done swept,
       lines ∙ ap (λ (t : List ℕ). items ++ t)
           (reported_lines options (moment_of options one) (evicted_in new.pool)
           (step_of before call one.number None).gone reports),
@@ -170,19 +170,19 @@ pub expires_none : (options : DumpOptions) (packet : Decoded) (old : Pooling) (i
     → nat_lt old.swept (second_of (packet_of packet)) ≡ false → (before : PoolHistory) → HoldsPooling before old
     → HoldsPooling (swept_at options before (packet_of packet)) old
     × (items ≡ items ++ expired_text options before (packet_of packet))
-expires_none options packet old items same before held =
-    let not_later = rw held.swept at same in rw not_later (held, sym (append-nil items))
+expires_none options packet old items same before kept =
+    let not_later = rw kept.swept at same in rw not_later (kept, sym (append-nil items))
 
 -- ---- fragments
 
 -- Effect of a fragment on the pool, for which the allocator granted this memory.
-record Taken (old new : Pooling) (before : PoolHistory) (given : IpFragId ℕ × IpFragment) (now number room : ℕ)
+record Taken (old new : Pooling) (before : PoolHistory) (given : IpFragId ℕ × IpFragment) (now number space : ℕ)
     (answer : Result (Option IpDefragPayloadVec) BoundedDefragError) : Type 0 where
-  is : plain_bounded answer ≡ (step_of before (fragment_call given now) number (Some room)).answer
+  is : plain_bounded answer ≡ (step_of before (fragment_call given now) number (Some space)).answer
   reports : AllZip (Reports nat_eq) (evicted_in new.pool)
-      (step_of before (fragment_call given now) number (Some room)).gone
+      (step_of before (fragment_call given now) number (Some space)).gone
   holds : HoldsPooling
-      (with_step before (fragment_call given now) (step_of before (fragment_call given now) number (Some room))) new
+      (with_step before (fragment_call given now) (step_of before (fragment_call given now) number (Some space))) new
 
 taken_by : (old new : Pooling) (before : PoolHistory) (given : IpFragId ℕ × IpFragment) (now number : ℕ)
     (answer : Result (Option IpDefragPayloadVec) BoundedDefragError) (granted : Option ℕ) → HoldsPooling before old
@@ -190,15 +190,15 @@ taken_by : (old new : Pooling) (before : PoolHistory) (given : IpFragId ℕ × I
     → DoesStep nat_eq old.pool new.pool (fragment_call given now) number granted before.rows
     → plain_bounded answer
     ≡ (call_step before.limits nat_eq before.rows (fragment_call given now) number granted).answer
-    → is_some granted ≡ true → (room : ℕ) × Taken old new before given now number room answer
-taken_by old new before given now number answer None held same does is some = absurd (false≢true some)
-taken_by old new before given now number answer (Some room) held same does is some = (
-  room,
+    → is_some granted ≡ true → (space : ℕ) × Taken old new before given now number space answer
+taken_by old new before given now number answer None kept same does is some = absurd (false≢true some)
+taken_by old new before given now number answer (Some space) kept same does is some = (
+  space,
   record {
     is = is;
-    reports = reports_step old new before (fragment_call given now) number (Some room) held does;
-    holds = holds_step old new before (fragment_call given now) number before.swept (Some room) held does
-        (same ∙ held.swept);
+    reports = reports_step old new before (fragment_call given now) number (Some space) kept does;
+    holds = holds_step old new before (fragment_call given now) number before.swept (Some space) kept does
+        (same ∙ kept.swept);
   },
 )
 
@@ -206,13 +206,13 @@ taken_by old new before given now number answer (Some room) held same does is so
 taken : (old new : Pooling) (before : PoolHistory) (given : IpFragId ℕ × IpFragment) (now number : ℕ)
     (answer : Result (Option IpDefragPayloadVec) BoundedDefragError) → HoldsPooling before old
     → new.swept ≡ old.swept → TakesBounded nat_eq old.pool new.pool given.0 given.1 now answer
-    → IsFalse (is_starved answer) → (room : ℕ) × Taken old new before given now number room answer
-taken old new before given now number answer held same takes enough =
-    let step = takes.step before.rows number held.rows in
-    taken_by old new before given now number answer step.0 held same step.1
+    → IsFalse (is_starved answer) → (space : ℕ) × Taken old new before given now number space answer
+taken old new before given now number answer kept same takes enough =
+    let step = takes.step before.rows number kept.rows in
+    taken_by old new before given now number answer step.0 kept same step.1
     (subst
     (λ (l : DefragLimits). plain_bounded answer
-    ≡ (call_step l nat_eq before.rows (fragment_call given now) number step.0).answer) held.limits step.2)
+    ≡ (call_step l nat_eq before.rows (fragment_call given now) number step.0).answer) kept.limits step.2)
     (step.3 ∙ ap not enough)
 
 joined : (a b c d : List ℕ) → ((a ++ b) ++ c) ++ d ≡ a ++ (b ++ c ++ d)
@@ -235,12 +235,12 @@ pub processes_fragment : (options : DumpOptions) (packet : Decoded) (old between
     → last ≡ answered ++ cleared_text options (moment_of options (packet_of packet)) name (plain_bounded answer)
     → (before : PoolHistory) → HoldsPooling before old → ProcessesFrame options packet before new items last
 processes_fragment options packet old between new name fragment answer items evictions answered last given takes enough
-    same keeps evicts appended ends cleared before held =
+    same keeps evicts appended ends cleared before kept =
     let one = packet_of packet in
     let layers = layers_of packet in
     let moment = moment_of options one in
     let call = fragment_call (name, fragment) one.latest in
-    let done = taken old between before (name, fragment) one.latest one.number answer held same takes enough in
+    let done = taken old between before (name, fragment) one.latest one.number answer kept same takes enough in
     let step = step_of before call one.number (Some done.0) in
     let after = with_eviction options (with_step before call step) one.number in
     let gone = gone_lines options moment step.gone in
@@ -276,12 +276,12 @@ processes_fragment options packet old between new name fragment answer items evi
 pub processes_none : (options : DumpOptions) (packet : Decoded) (old : Pooling) (items : List ℕ)
     → None ≡ fragment_in_frame (layers_of packet) → (before : PoolHistory) → HoldsPooling before old
     → ProcessesFrame options packet before old items items
-processes_none options packet old items none before held = (
+processes_none options packet old items none before kept = (
   [],
   before,
   subst (λ (f : Option (IpFragId ℕ × IpFragment)). PassesIfFragment options before (packet_of packet)
       (layers_of packet) f [] before) none (refl, refl),
-  held,
+  kept,
   sym (append-nil items),
 )
 

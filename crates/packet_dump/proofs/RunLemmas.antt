@@ -188,14 +188,14 @@ pub run_prefix : {old session : Session} {first now : Streams} (next : Session) 
     (output : Option (List ℕ)) (lines : List ℕ) → HasRun old first now session → Draining session next capture_state
     → lines ≡ next.output.items → AppendsPrefix now.output output lines
     → Moves (BeginsDump old.options) first.input now.input first.output output
-run_prefix {old} {first} {now} next capture_state output lines ran drain same (front, rest, more, parts) = (
+run_prefix {old} {first} {now} next capture_state output lines ran drain same (prefix, rest, more, parts) = (
   ran.read,
-  ran.lines ++ front,
+  ran.lines ++ prefix,
   ran.consumed,
-  Appends-trans first.output now.output output ran.lines front ran.appended more,
-  subst (λ (b : List ℕ). BeginsDump old.options b (ran.lines ++ front)) (append-nil ran.read)
-      (begins_dump old.options next ran.read [] (ran.lines ++ front) rest _ (drain _ ran.read _ ran.processed).0
-      (ap (λ (t : List ℕ). ran.lines ++ t) (sym same ∙ parts) ∙ sym (append_assoc ran.lines front rest))),
+  Appends-trans first.output now.output output ran.lines prefix ran.appended more,
+  subst (λ (b : List ℕ). BeginsDump old.options b (ran.lines ++ prefix)) (append-nil ran.read)
+      (begins_dump old.options next ran.read [] (ran.lines ++ prefix) rest _ (drain _ ran.read _ ran.processed).0
+      (ap (λ (t : List ℕ). ran.lines ++ t) (sym same ∙ parts) ∙ sym (append_assoc ran.lines prefix rest))),
 )
 
 -- The capture file begins the capture of the selected packets, also if more of the input was read.

@@ -32,8 +32,8 @@ use Rattle.packet_dump.specs.declared.dump_options.TimeForm.TheVariants.{Relativ
 
 pub branch : {A : Type 0} (P : A → Type 0) (b : Bool) (x y : A) → (b ≡ true → P x) → (b ≡ false → P y)
     → P (cond b x y)
-branch P true x y here there = here refl
-branch P false x y here there = there refl
+branch P true x y here present = here refl
+branch P false x y here present = present refl
 
 some_if : (b : Bool) (value : ℕ) → b ≡ true → cond b (Some value) None ≡ Some value
 some_if true value holds = refl
@@ -76,9 +76,9 @@ number_in-some : (bits : ℕ) (text : List ℕ) (number : ℕ) → IsNumber bits
     → number_in bits text ≡ Some number
 unfolding is_number_in
 number_in-some bits text number (numeral, says, fits) =
-    let fits_there : digits_value 10 (without_leading_plus text) < 2 ^ bits = omega (arith, says, fits) in
+    let fits_present : digits_value 10 (without_leading_plus text) < 2 ^ bits = omega (arith, says, fits) in
     some_if (is_number_in bits (without_leading_plus text)) (digits_value 10 (without_leading_plus text))
-    ((number_decides bits (without_leading_plus text)).1 (numeral, fits_there))
+    ((number_decides bits (without_leading_plus text)).1 (numeral, fits_present))
     ∙ ap Some says
 
 number_in-is : (bits : ℕ) (text : List ℕ) (number : ℕ) → number_in bits text ≡ Some number
@@ -156,17 +156,17 @@ value_in-some Only text (only sought) says = ap (option_map only) (kind_named-so
 value_in-some Time text (time sought) says = ap (option_map time) (form_named-some text sought says)
 value_in-some Timeout text (timeout number) says = ap (option_map timeout) (number_in-some 32 text number says)
 value_in-some Limit text (limit number) says = ap (option_map limit) (number_in-some 16 text number says)
-value_in-some Write text (write said) says = ap (λ t. Some (write t)) says
+value_in-some Write text (write stated) says = ap (λ t. Some (write t)) says
 value_in-some Streams text (streams number) says = ap (option_map streams) (number_in-some 64 text number says)
 value_in-some FragmentBytes text (fragment_bytes number) says =
     ap (option_map fragment_bytes) (number_in-some 64 text number says)
 value_in-some FragmentAge text (fragment_age number) says =
     ap (option_map fragment_age) (number_in-some 32 text number says)
 value_in-some Overlap text (overlap sought) says = ap (option_map overlap) (policy_named-some text sought says)
-value_in-some (Filter kind) text (filter other said) says =
+value_in-some (Filter kind) text (filter other stated) says =
     ap (λ k. Some (filter k text)) says.0 ∙ ap (λ t. Some (filter other t)) says.1
 value_in-some Input text (file name) says = ap (λ t. Some (file t)) says
-value_in-some Explain text (explain said) says = ap (λ t. Some (explain t)) says
+value_in-some Explain text (explain stated) says = ap (λ t. Some (explain t)) says
 value_in-some option text item says = absurd says
 
 -- The text of a filter primitive is the value of its option.
@@ -186,35 +186,35 @@ explain_value option text is = subst (λ (o : Awaited). IsValue o text (explain 
 pub value_in-is : (option : Awaited) (text : List ℕ) (item : Item) → value_in option text ≡ Some item
     → IsValue option text item
 value_in-is Count text item is =
-    let (number, there, same) = some_of count (number_in 64 text) item is in
-    subst (λ (i : Item). IsValue Count text i) same (number_in-is 64 text number there)
+    let (number, present, same) = some_of count (number_in 64 text) item is in
+    subst (λ (i : Item). IsValue Count text i) same (number_in-is 64 text number present)
 value_in-is Only text item is =
-    let (sought, there, same) = some_of only (kind_named text) item is in
-    subst (λ (i : Item). IsValue Only text i) same (kind_named-is text sought there)
+    let (sought, present, same) = some_of only (kind_named text) item is in
+    subst (λ (i : Item). IsValue Only text i) same (kind_named-is text sought present)
 value_in-is Time text item is =
-    let (sought, there, same) = some_of time (form_named text) item is in
-    subst (λ (i : Item). IsValue Time text i) same (form_named-is text sought there)
+    let (sought, present, same) = some_of time (form_named text) item is in
+    subst (λ (i : Item). IsValue Time text i) same (form_named-is text sought present)
 value_in-is Timeout text item is =
-    let (number, there, same) = some_of timeout (number_in 32 text) item is in
-    subst (λ (i : Item). IsValue Timeout text i) same (number_in-is 32 text number there)
+    let (number, present, same) = some_of timeout (number_in 32 text) item is in
+    subst (λ (i : Item). IsValue Timeout text i) same (number_in-is 32 text number present)
 value_in-is Limit text item is =
-    let (number, there, same) = some_of limit (number_in 16 text) item is in
-    subst (λ (i : Item). IsValue Limit text i) same (number_in-is 16 text number there)
+    let (number, present, same) = some_of limit (number_in 16 text) item is in
+    subst (λ (i : Item). IsValue Limit text i) same (number_in-is 16 text number present)
 value_in-is Write text item is =
     let same : write text ≡ item = cc in
     subst (λ (i : Item). IsValue Write text i) same refl
 value_in-is Streams text item is =
-    let (number, there, same) = some_of streams (number_in 64 text) item is in
-    subst (λ (i : Item). IsValue Streams text i) same (number_in-is 64 text number there)
+    let (number, present, same) = some_of streams (number_in 64 text) item is in
+    subst (λ (i : Item). IsValue Streams text i) same (number_in-is 64 text number present)
 value_in-is FragmentBytes text item is =
-    let (number, there, same) = some_of fragment_bytes (number_in 64 text) item is in
-    subst (λ (i : Item). IsValue FragmentBytes text i) same (number_in-is 64 text number there)
+    let (number, present, same) = some_of fragment_bytes (number_in 64 text) item is in
+    subst (λ (i : Item). IsValue FragmentBytes text i) same (number_in-is 64 text number present)
 value_in-is FragmentAge text item is =
-    let (number, there, same) = some_of fragment_age (number_in 32 text) item is in
-    subst (λ (i : Item). IsValue FragmentAge text i) same (number_in-is 32 text number there)
+    let (number, present, same) = some_of fragment_age (number_in 32 text) item is in
+    subst (λ (i : Item). IsValue FragmentAge text i) same (number_in-is 32 text number present)
 value_in-is Overlap text item is =
-    let (sought, there, same) = some_of overlap (policy_named text) item is in
-    subst (λ (i : Item). IsValue Overlap text i) same (policy_named-is text sought there)
+    let (sought, present, same) = some_of overlap (policy_named text) item is in
+    subst (λ (i : Item). IsValue Overlap text i) same (policy_named-is text sought present)
 value_in-is (Filter kind) text item is =
     let same : filter kind text ≡ item = cc in
     subst (λ (i : Item). IsValue (Filter kind) text i) same (refl, refl)

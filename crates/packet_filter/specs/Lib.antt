@@ -1,4 +1,11 @@
--- Definitions and types of the `filter_` crates that contracts use
+pub mod Packets
+pub mod Shown
+pub mod Meaning
+pub mod Running
+pub mod HostRuns
+pub mod HostSets
+pub mod Laws
+-- Definitions and types of the crates below that contracts use
 pub use Rattle.filter_tokens.specs.KindTexts
 pub use Rattle.filter_tokens.specs.Networks
 pub use Rattle.filter_tokens.specs.PrimitiveTexts
@@ -8,13 +15,9 @@ pub use Rattle.filter_tokens.specs.declared.filter_error.FilterError
 pub use Rattle.filter_tokens.specs.declared.filter_error.FilterErrorKind
 pub use Rattle.filter_tokens.specs.declared.network.Network
 pub use Rattle.filter_tokens.specs.declared.primitive.Primitive
-pub use Rattle.filter_expressions.specs.Trees
-pub use Rattle.filter_expressions.specs.Primitives
-pub use Rattle.filter_expressions.specs.Grammar
-pub use Rattle.filter_expressions.specs.Refusals
-pub use Rattle.filter_expressions.specs.Printing
-pub use Rattle.filter_expressions.specs.declared.step.Step
-pub use Rattle.filter_packets.specs.Packets
-pub use Rattle.filter_packets.specs.Shown
-pub use Rattle.filter_packets.specs.Meaning
-pub use Rattle.filter_packets.specs.HostSets
+pub use Rattle.filter_language.specs.Trees
+pub use Rattle.filter_language.specs.Primitives
+pub use Rattle.filter_language.specs.Grammar
+pub use Rattle.filter_language.specs.Refusals
+pub use Rattle.filter_language.specs.Printing
+pub use Rattle.filter_language.specs.declared.step.Step

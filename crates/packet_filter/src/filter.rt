@@ -2,26 +2,25 @@
 
 ghost use Rattle.std.specs.Prelude.{◌≡◌, ◌≤◌, ◌⊎◌, ◌++◌, [], ◌∷◌, is_none, length, IfErr, IfOk, OnOk};
 ghost use Rattle.ep_lax.specs.LaxPackets.{lax_layers_of};
+ghost use Rattle.filter_language.specs.Printing.{canonical, printed};
+ghost use Rattle.filter_language.specs.Refusals.{IsFilterText, RefusesText};
+ghost use Rattle.filter_language.specs.Trees.{both_of, tree_of};
+ghost use Rattle.filter_language.specs.declared.step.Step.TheVariants as step;
 ghost use Rattle.filter_tokens.specs.declared.filter_error.FilterErrorKind.{FilterErrorKind};
-ghost use Rattle.filter_packets.specs.Meaning.{meaning};
-ghost use Rattle.filter_packets.specs.Packets.{packet_of, reassembled_packet};
-ghost use Rattle.filter_expressions.specs.Printing.{canonical, printed};
-ghost use Rattle.filter_expressions.specs.Refusals.{IsFilterText, RefusesText};
-ghost use Rattle.filter_packets.specs.Shown.{shown_packet};
-ghost use Rattle.filter_expressions.specs.Trees.{both_of, tree_of};
-ghost use Rattle.filter_expressions.specs.declared.step.Step.TheVariants as step;
+ghost use Rattle.packet_filter.specs.Meaning.{meaning};
+ghost use Rattle.packet_filter.specs.Packets.{packet_of, reassembled_packet};
+ghost use Rattle.packet_filter.specs.Shown.{shown_packet};
 
+use crate::host_set::HostSet;
+use crate::host_sets::{host_sets, later_sets};
+use crate::matching::matches_primitive;
+use crate::step::{Step, later_steps, steps_if_true};
+use crate::subject::Subject;
 use ep_base::{IpNumber, LaxIpPayloadSlice, LenSource};
 use ep_lax::LaxSlicedPacket;
-use filter_expressions::canonical::append_canonical;
-use filter_expressions::printing::append_expression;
-use filter_expressions::step::Step;
-use filter_matching::matching::matches_primitive;
-use filter_matching::step::{later_steps, steps_if_true};
-use filter_packets::host_set::HostSet;
-use filter_packets::host_sets::{host_sets, later_sets};
-use filter_packets::subject::Subject;
-use filter_parser::parser;
+use filter_language::canonical::append_canonical;
+use filter_language::parser;
+use filter_language::printing::append_expression;
 use filter_tokens::filter_error::{FilterError, FilterErrorKind};
 use std::alloc::{AllocError, Global};
 use std::marker::Model;
@@ -40,9 +39,9 @@ pub struct Filter {
 impl Model for Filter {
     ghost use Rattle.std.specs.Prelude.{◌≡◌, List};
     ghost use Rattle.std.specs.List.{All};
-    ghost use Rattle.filter_packets.specs.HostSets.{HasHostSet};
-    ghost use Rattle.filter_expressions.specs.declared.step.Step.{Step};
-    ghost use Rattle.filter_expressions.specs.Trees.{steps_of_text, tree_of};
+    ghost use Rattle.filter_language.specs.Trees.{steps_of_text, tree_of};
+    ghost use Rattle.filter_language.specs.declared.step.Step.{Step};
+    ghost use Rattle.packet_filter.specs.HostSets.{HasHostSet};
 
     ghost Value = { List Step };
 
@@ -160,7 +159,7 @@ impl Filter {
     }
 
     /// Returns true if the filter matches a packet.
-    #[tactic(auto, using(filter_packets::proofs::StepLemmas::skips))]
+    #[tactic(auto, using(crate::proofs::StepLemmas::skips))]
     fn matches_subject(&self, subject: &Subject<'_, '_>) -> bool
         ensures { result ≡ meaning (tree_of self.now) (shown_packet subject.now) }
     {

@@ -63,9 +63,16 @@
 //! A primitive does not match if its layer is missing, and then its `not` matches.
 #![tactic(auto)]
 
+mod addresses;
+mod fields;
 pub mod filter;
+mod host_set;
+mod host_sets;
+pub mod laws;
+mod matching;
 pub mod network;
 pub mod step;
+mod subject;
 
 pub use crate::filter::Filter;
 pub use crate::network::Network;

@@ -122,22 +122,22 @@ take_part text part after at count within fits =
     (take-append-add (take at text) (part ++ after) count
     ∙ ap (λ t. take at text ++ t) (take-append-le count part after fits))
 
-behind_dot : (front text : List ℕ) → front ++ 46 ∷ text ≡ front ++ codes "." ++ text
-behind_dot front text = sym (append_assoc front (46 ∷ []) text)
+after_dot : (prefix text : List ℕ) → prefix ++ 46 ∷ text ≡ prefix ++ codes "." ++ text
+after_dot prefix text = sym (append_assoc prefix (46 ∷ []) text)
 
 -- Four texts written with a dot before each are the texts separated by dots, from the second byte on.
 pub four_dotted : (a b c d first second third text : List ℕ) (end : ℕ) → first ≡ 46 ∷ a → second ≡ first ++ 46 ∷ b
     → third ≡ second ++ 46 ∷ c → take end text ≡ third ++ 46 ∷ d → 0 < end
     → take (end - 1) (drop 1 text) ≡ a ++ codes "." ++ b ++ codes "." ++ c ++ codes "." ++ d
 four_dotted a b c d first second third text end is_first is_second is_third is some =
-    let whole : 1 + (end - 1) ≡ end = omega (arith, some) in
+    let complete : 1 + (end - 1) ≡ end = omega (arith, some) in
     let seconds : second ≡ 46 ∷ (a ++ 46 ∷ b) = is_second ∙ ap (λ t. t ++ 46 ∷ b) is_first in
     let thirds : third ≡ 46 ∷ (a ++ 46 ∷ b ++ 46 ∷ c) = is_third ∙ ap (λ t. t ++ 46 ∷ c) seconds in
     let all : take end text ≡ 46 ∷ (a ++ 46 ∷ b ++ 46 ∷ c ++ 46 ∷ d) = is ∙ ap (λ t. t ++ 46 ∷ d) thirds in
-    sym (drop-take 1 (end - 1) text) ∙ ap (λ n. drop 1 (take n text)) whole ∙ ap (λ t. drop 1 t) all
-    ∙ ap (λ t. t ++ 46 ∷ c ++ 46 ∷ d) (behind_dot a b)
-    ∙ ap (λ t. t ++ 46 ∷ d) (behind_dot (a ++ codes "." ++ b) c)
-    ∙ behind_dot (a ++ codes "." ++ b ++ codes "." ++ c) d
+    sym (drop-take 1 (end - 1) text) ∙ ap (λ n. drop 1 (take n text)) complete ∙ ap (λ t. drop 1 t) all
+    ∙ ap (λ t. t ++ 46 ∷ c ++ 46 ∷ d) (after_dot a b)
+    ∙ ap (λ t. t ++ 46 ∷ d) (after_dot (a ++ codes "." ++ b) c)
+    ∙ after_dot (a ++ codes "." ++ b ++ codes "." ++ c) d
 
 -- ---- hexadecimal digits
 
@@ -221,17 +221,17 @@ put_two text at first second least within =
     ∙ ap (λ n. first ∷ second ∷ drop n text) last
 
 -- Groups written with `::` in place of the first longest run of zeros are the text of the address.
-pub compressed_groups : (groups : List ℕ) (run : ℕ × ℕ) (tail joined whole : List ℕ) → run ≡ longest_zero_run groups
+pub compressed_groups : (groups : List ℕ) (run : ℕ × ℕ) (tail joined complete : List ℕ) → run ≡ longest_zero_run groups
     → 1 < run.1 → length groups ≡ 8 → tail ≡ groups_text (take (8 - (run.0 + run.1)) (drop (run.0 + run.1) groups)) ++ []
-    → joined ≡ 58 ∷ 58 ∷ tail → whole ≡ groups_text (take run.0 groups) ++ joined
-    → whole ≡ hex_groups_text groups
+    → joined ≡ 58 ∷ 58 ∷ tail → complete ≡ groups_text (take run.0 groups) ++ joined
+    → complete ≡ hex_groups_text groups
 unfolding hex_groups_text
-compressed_groups groups run tail joined whole longest some eight is_tail is_joined is_whole =
+compressed_groups groups run tail joined complete longest some eight is_tail is_joined is_complete =
     let long : nat_lt 1 run.1 ≡ true = grind (arith, nat_tests) in
     let after : take (8 - (run.0 + run.1)) (drop (run.0 + run.1) groups) ≡ drop (run.0 + run.1) groups =
     take_all (8 - (run.0 + run.1)) (drop (run.0 + run.1) groups)
     (omega (arith, length-drop (run.0 + run.1) groups, eight)) in
-    is_whole ∙ ap (λ t. groups_text (take run.0 groups) ++ t)
+    is_complete ∙ ap (λ t. groups_text (take run.0 groups) ++ t)
     (is_joined ∙ ap (λ t. 58 ∷ 58 ∷ t)
     (is_tail ∙ append-nil (groups_text (take (8 - (run.0 + run.1)) (drop (run.0 + run.1) groups)))
     ∙ ap groups_text after))
@@ -239,9 +239,9 @@ compressed_groups groups run tail joined whole longest some eight is_tail is_joi
     ∙ rw (← longest, long) refl
 
 -- Without a run of two or more zeros, the text of the address is that of all groups.
-pub whole_groups : (groups : List ℕ) (run : ℕ × ℕ) → run ≡ longest_zero_run groups → run.1 ≤ 1
+pub complete_groups : (groups : List ℕ) (run : ℕ × ℕ) → run ≡ longest_zero_run groups → run.1 ≤ 1
     → groups_text groups ≡ hex_groups_text groups
 unfolding hex_groups_text
-whole_groups groups run longest none =
+complete_groups groups run longest none =
     let short : nat_lt 1 run.1 ≡ false = grind (arith, nat_tests) in
     rw (← longest, short) refl

@@ -49,9 +49,9 @@ same_type : (type : Option EtherType) (with_type : EtherType → LaxEtherPayload
 same_type None with_type is = refl
 same_type (Some type) with_type is = ap (λ t. Some t) (is type)
 
-whole_type : (payload : Option EtherPayload) → lax_type_of (option_map complete_payload payload) ≡ type_of payload
-whole_type None = refl
-whole_type (Some payload) = refl
+complete_type : (payload : Option EtherPayload) → lax_type_of (option_map complete_payload payload) ≡ type_of payload
+complete_type None = refl
+complete_type (Some payload) = refl
 
 -- The source of the length does not change the ether type.
 type_kept : (end : LenSource) (payload : Option EtherPayload)
@@ -63,7 +63,7 @@ type_kept end (Some payload) = refl
 type_in : (link : Option LinkLayer) (extensions : List (LinkExtension × Bool))
     → lax_type_of (lax_ether_payload_after link extensions)
     ≡ type_of (ether_payload_of_parts link (map extension_in extensions))
-type_in link [] = whole_type (option_and_then link_ether_payload link)
+type_in link [] = complete_type (option_and_then link_ether_payload link)
 type_in link (first ∷ others) =
     let end = source_after source.Slice (map extension_in (first ∷ others)) in
     same_type (extension_type (last_after first others).0) (typed_payload end (last_after first others)) (λ t. refl)

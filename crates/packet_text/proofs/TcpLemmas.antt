@@ -18,12 +18,12 @@ pub begins : (start bytes : List ℕ) → IsAppending start start bytes bytes
 begins start bytes = λ rest is. (rest, is, refl)
 
 -- Appending an option keeps the invariant.
-pub goes_on : (start now next bytes left behind : List ℕ) (option : TcpOptionElement)
-    → IsAppending start now bytes left → IsOption left (option, behind) → next ≡ now ++ option_text option
-    → IsAppending start next bytes behind
-goes_on start now next bytes left behind option before is appended =
+pub goes_on : (start now next bytes left after : List ℕ) (option : TcpOptionElement)
+    → IsAppending start now bytes left → IsOption left (option, after) → next ≡ now ++ option_text option
+    → IsAppending start next bytes after
+goes_on start now next bytes left after option before is appended =
     λ rest others.
-    let more = before (Ok option ∷ rest) (behind, is, others) in (
+    let more = before (Ok option ∷ rest) (after, is, others) in (
       more.0,
       more.1,
       ap (λ t. t ++ items_text rest) appended ∙ append_assoc now (option_text option) (items_text rest) ∙ more.2,

@@ -64,9 +64,9 @@ months_with : (leap : Bool) → 31 + cond leap 29 28 + 31 + 30 + 31 + 30 + 31 + 
 months_with true = refl
 months_with false = refl
 
-pub months_whole : (year : ℕ) → days_of_months year 11 + 31 ≡ days_in_year year
+pub months_of_year : (year : ℕ) → days_of_months year 11 + 31 ≡ days_in_year year
 unfolding days_of_months
-months_whole year = months_with (is_leap year)
+months_of_year year = months_with (is_leap year)
 
 -- The days before a year lead to its first day.
 pub years_on : (year : ℕ) → date_of (days_before_year year) ≡ date_at year 1 1
@@ -75,7 +75,7 @@ years_on zero = refl
 years_on (suc year) =
     let here = days_before_year year in
     let last = here + days_of_months year 11 in
-    date_of-more (here + days_in_year year) (last + 30) (omega (arith, months_whole year))
+    date_of-more (here + days_in_year year) (last + 30) (omega (arith, months_of_year year))
     ∙ ap day_after (days_on 30 last year 12 (months_on 11 here year (years_on year) (omega arith)) (omega arith))
     ∙ next_year year (30 + 1) (omega arith)
     ∙ ap (λ (y : ℕ). date_at y 1 1) (omega arith)
@@ -165,7 +165,7 @@ twelfth days year month left is within more =
           let rest : 31 ≤ left = subst (λ (m : ℕ). days_in_month year m ≤ left) same more in
           let counted : days ≡ days_before_year year + days_of_months year 11 + left =
           subst (λ (m : ℕ). days ≡ days_before_year year + days_of_months year (m - 1) + left) same is.counted in
-          absurd (omega (arith, counted, rest, within, days_before_year-more year, months_whole year))
+          absurd (omega (arith, counted, rest, within, days_before_year-more year, months_of_year year))
       | inr before ↦ before
     ]
 

@@ -75,10 +75,10 @@ fn calendar_seconds(seconds: u128) -> Option<u64>
     ensures value { result ≡ calendar_seconds seconds }
     ensures bound { IfSome result (λ seconds. seconds < 3652425 * 86400) }
 {
-    let behind = seconds + TO_1970;
+    let since_year_0 = seconds + TO_1970;
     let first = EPOCH / SECOND;
-    if behind >= first && behind < first + u128::from(MOST_DAYS) * DAY {
-        Some((behind - first) as u64)
+    if since_year_0 >= first && since_year_0 < first + u128::from(MOST_DAYS) * DAY {
+        Some((since_year_0 - first) as u64)
     } else {
         None
     }

@@ -22,30 +22,15 @@ fn is_displayed(rt: &impl Abort, alloc: Global, error: SliceError) {
 
 #[test]
 fn contents(rt: HostRuntime) {
-    let alloc = rt.alloc();
-    is_displayed(
-        &rt,
-        alloc,
+    for error in [
         SliceError::Macsec(macsec::HeaderError::UnexpectedVersion),
-    );
-    is_displayed(
-        &rt,
-        alloc,
         SliceError::Macsec(macsec::HeaderError::InvalidUnmodifiedShortLen),
-    );
-    let in_auth = ip_auth::HeaderError::ZeroPayloadLen;
-    is_displayed(&rt, alloc, SliceError::Ipv4Exts(in_auth));
-    is_displayed(
-        &rt,
-        alloc,
+        SliceError::Ipv4Exts(ip_auth::HeaderError::ZeroPayloadLen),
         SliceError::Ipv6Exts(ipv6_exts::HeaderError::HopByHopNotAtStart),
-    );
-    let in_auth = ip_auth::HeaderError::ZeroPayloadLen;
-    is_displayed(
-        &rt,
-        alloc,
-        SliceError::Ipv6Exts(ipv6_exts::HeaderError::IpAuth(in_auth)),
-    );
+        SliceError::Ipv6Exts(ipv6_exts::HeaderError::IpAuth(ip_auth::HeaderError::ZeroPayloadLen)),
+    ] {
+        is_displayed(&rt, rt.alloc(), error);
+    }
 }
 
 #[test]

@@ -7,7 +7,7 @@ the rounds and the items. Prints the tables of docs/SPEED.md, or the one that is
 
 - frames: of each corpus each measurement of frames, and the walk in C;
 - building: what building a frame takes;
-- fragments: what a fragment takes that is put together, and the same by hand in C;
+- fragments: what reassembly takes for each fragment, and the same by hand in C;
 - beside: what the library is measured by, beside C by hand in the same run, and beside what the Rust crate took where
   both could be measured. Times are in it too, as times.py takes them, memory, what building takes through the
   interface for C, and a drop, where etherparse_c and frame_bench are built.

@@ -7,7 +7,7 @@ several runs on one processor:
 
 - of each corpus each measurement of frames, and the walk in C, which run by turns;
 - of building a frame, and the same by hand in C;
-- of each fragment that is put together, what some rounds take less what one takes, so that reading the file is not in
+- of each reassembled fragment, what some rounds take less what one takes, so that reading the file is not in
   it, and the same by hand in C.
 
 With measurements of frames as further arguments, prints those alone, of each corpus, by turns in more and shorter runs.

@@ -66,7 +66,7 @@ impl fmt::Display for PushError {
         f.write_str(match self {
             PushError::Refused(_) => "the bytes are no frame",
             PushError::Unaligned => "the fragment's length is no multiple of 8",
-            PushError::TooBig => "the fragment ends behind the limit",
+            PushError::TooBig => "the fragment ends beyond the limit",
             PushError::ConflictingEnd => "the fragment ends elsewhere than others say",
             PushError::OutOfMemory => return OutOfMemory.fmt(f),
             PushError::Discarded => "the stream is discarded, since its fragments contradict each other",

@@ -3,96 +3,109 @@
 ghost use Rattle.std.specs.Prelude.{◌≡◌, ◌<◌, ◌≤◌, ◌^◌, ◌-◌, length, min, true, MatchResult};
 ghost use Rattle.ep_transport.specs.TcpOptionBytes.{in_words, options_bytes};
 ghost use Rattle.ep_transport.specs.declared.tcp_options.TcpOptionWriteError.TheVariants.{NotEnoughSpace};
-ghost use Rattle.ep_build.specs.Steps.{transport_header, with_header};
+ghost use Rattle.ep_build.specs.Steps.{SetsFlag, transport_header, with_header};
 
 use super::PacketBuilderStep;
 use ep_transport::{TcpHeader, TcpOptionElement, TcpOptionWriteError};
 
 impl PacketBuilderStep<TcpHeader> {
-    /// Sets the TCP flag NS: the nonce sum of explicit congestion notification (RFC 3540).
+    /// Sets the TCP flag NS (byte 12, bit 0): the nonce sum of explicit congestion notification (RFC 3540).
     #[inline(always)]
     pub fn ns(mut self) -> PacketBuilderStep<TcpHeader>
-        ensures { result ≡ with_header self (record (transport_header self) { ns = true }) }
+        ensures header { result ≡ with_header self (record (transport_header self) { ns = true }) }
+        ensures wire { SetsFlag 12 1 (transport_header self) (transport_header result) }
     {
         self.last.ns = true;
         self
     }
 
-    /// Sets the TCP flag FIN: no more data from the sender.
+    /// Sets the TCP flag FIN (byte 13, bit 0): no more data from the sender.
     #[inline(always)]
     pub fn fin(mut self) -> PacketBuilderStep<TcpHeader>
-        ensures { result ≡ with_header self (record (transport_header self) { fin = true }) }
+        ensures header { result ≡ with_header self (record (transport_header self) { fin = true }) }
+        ensures wire { SetsFlag 13 1 (transport_header self) (transport_header result) }
     {
         self.last.fin = true;
         self
     }
 
-    /// Sets the TCP flag SYN: synchronize sequence numbers.
+    /// Sets the TCP flag SYN (byte 13, bit 1): synchronize sequence numbers.
     #[inline(always)]
     pub fn syn(mut self) -> PacketBuilderStep<TcpHeader>
-        ensures { result ≡ with_header self (record (transport_header self) { syn = true }) }
+        ensures header { result ≡ with_header self (record (transport_header self) { syn = true }) }
+        ensures wire { SetsFlag 13 2 (transport_header self) (transport_header result) }
     {
         self.last.syn = true;
         self
     }
 
-    /// Sets the TCP flag RST: reset the connection.
+    /// Sets the TCP flag RST (byte 13, bit 2): reset the connection.
     #[inline(always)]
     pub fn rst(mut self) -> PacketBuilderStep<TcpHeader>
-        ensures { result ≡ with_header self (record (transport_header self) { rst = true }) }
+        ensures header { result ≡ with_header self (record (transport_header self) { rst = true }) }
+        ensures wire { SetsFlag 13 4 (transport_header self) (transport_header result) }
     {
         self.last.rst = true;
         self
     }
 
-    /// Sets the TCP flag PSH: push buffered data to the application.
+    /// Sets the TCP flag PSH (byte 13, bit 3): push buffered data to the application.
     #[inline(always)]
     pub fn psh(mut self) -> PacketBuilderStep<TcpHeader>
-        ensures { result ≡ with_header self (record (transport_header self) { psh = true }) }
+        ensures header { result ≡ with_header self (record (transport_header self) { psh = true }) }
+        ensures wire { SetsFlag 13 8 (transport_header self) (transport_header result) }
     {
         self.last.psh = true;
         self
     }
 
-    /// Sets the TCP flag ACK and the acknowledgment number: the next sequence number that the sender expects.
+    /// Sets the TCP flag ACK (byte 13, bit 4) and the acknowledgment number: the next sequence number that the sender
+    /// expects.
     #[inline(always)]
     pub fn ack(mut self, acknowledgment_number: u32) -> PacketBuilderStep<TcpHeader>
-        ensures { result ≡ with_header self (record (transport_header self) {
+        ensures header { result ≡ with_header self (record (transport_header self) {
           ack = true;
           acknowledgment_number = acknowledgment_number;
         }) }
+        ensures wire { let before = record (transport_header self) { acknowledgment_number = acknowledgment_number } in
+            SetsFlag 13 16 before (transport_header result) }
     {
         self.last.ack = true;
         self.last.acknowledgment_number = acknowledgment_number;
         self
     }
 
-    /// Sets the TCP flag URG and the urgent pointer: the end of the urgent data, counted from the sequence number.
+    /// Sets the TCP flag URG (byte 13, bit 5) and the urgent pointer: the end of the urgent data, counted from the
+    /// sequence number.
     #[inline(always)]
     pub fn urg(mut self, urgent_pointer: u16) -> PacketBuilderStep<TcpHeader>
-        ensures { result ≡ with_header self (record (transport_header self) {
+        ensures header { result ≡ with_header self (record (transport_header self) {
           urg = true;
           urgent_pointer = urgent_pointer;
         }) }
+        ensures wire { let before = record (transport_header self) { urgent_pointer = urgent_pointer } in
+            SetsFlag 13 32 before (transport_header result) }
     {
         self.last.urg = true;
         self.last.urgent_pointer = urgent_pointer;
         self
     }
 
-    /// Sets the TCP flag ECE: congestion was experienced (ECN-Echo, RFC 3168).
+    /// Sets the TCP flag ECE (byte 13, bit 6): congestion was experienced (ECN-Echo, RFC 3168).
     #[inline(always)]
     pub fn ece(mut self) -> PacketBuilderStep<TcpHeader>
-        ensures { result ≡ with_header self (record (transport_header self) { ece = true }) }
+        ensures header { result ≡ with_header self (record (transport_header self) { ece = true }) }
+        ensures wire { SetsFlag 13 64 (transport_header self) (transport_header result) }
     {
         self.last.ece = true;
         self
     }
 
-    /// Sets the TCP flag CWR: congestion window reduced (RFC 3168).
+    /// Sets the TCP flag CWR (byte 13, bit 7): congestion window reduced (RFC 3168).
     #[inline(always)]
     pub fn cwr(mut self) -> PacketBuilderStep<TcpHeader>
-        ensures { result ≡ with_header self (record (transport_header self) { cwr = true }) }
+        ensures header { result ≡ with_header self (record (transport_header self) { cwr = true }) }
+        ensures wire { SetsFlag 13 128 (transport_header self) (transport_header result) }
     {
         self.last.cwr = true;
         self

@@ -10,9 +10,10 @@ ghost use Rattle.ep_packet.specs.IpHeaders.{ip_headers_parts, payload_of_headers
 use crate::ip_headers::IpHeaders;
 
 /// States that IP headers written before a payload are decoded back with that payload, no trailing bytes, and the
-/// written checksum. Before the headers are written, their length field is set for the payload, and their next header
-/// values are set to lead through all extension headers to the protocol number of the payload. Each field has to fit
-/// its width, and that protocol number must not be that of an extension header.
+/// written checksum, and their extension headers in the order of RFC 8200 (4.1). Before the headers are written, their
+/// length field is set for the payload, and their next header values are set to lead through all extension headers to
+/// the protocol number of the payload. Each field has to fit its width, and that protocol number must not be that of an
+/// extension header.
 pub fn read_back()
     ensures leads { (headers : IpHeaders) (last : IpNumber) (len : ℕ) → LeadThrough (headers_for headers last len)
         (ip_headers_parts (headers_for headers last len)) last.0 }

@@ -8,6 +8,7 @@ use crate::*;
 use std::alloc::Global;
 use std::process::Abort;
 
+mod bounds;
 mod frames;
 mod refusals;
 mod writers;

@@ -33,24 +33,16 @@ fn is_printed<T: Debug>() {}
 fn is_error<T: Clone + Debug + Eq + Error>() {}
 
 #[test]
-fn derives_of_packets() {
+fn derived_traits() {
     clones_and_orders::<PayloadSlice<'_>>();
     clones_and_hashes::<NetSetNextHeaderError>();
     copies::<Entry>();
     clones::<IpHeaders>();
-}
-
-#[test]
-fn errors() {
     is_error::<SliceError>();
     is_error::<NetSetNextHeaderError>();
     is_error::<HeadersWriteError>();
     is_error::<BuildWriteError>();
     is_error::<BuildSliceWriteError>();
-}
-
-#[test]
-fn derives_of_defrag() {
     copies_and_orders::<IpFragRange>();
     clones_and_orders::<IpDefragError>();
     clones_and_hashes::<IpFragVersionSpecId>();

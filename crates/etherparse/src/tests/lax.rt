@@ -98,26 +98,38 @@ fn stops(rt: &impl Abort, packet: &LaxSlicedPacket<'_>, error: SliceError, layer
     same(rt, &packet.stop_err, &Some((error, layer)));
 }
 
+/// Sets the total length field of the frame `UDP`, and asserts the number of bytes of the IP payload, whether bytes of it
+/// are missing (`incomplete`), and the length field that limits it (`source`).
+fn reads_total_length(
+    rt: &impl Abort,
+    total_len: u16,
+    len: usize,
+    incomplete: bool,
+    source: LenSource,
+) {
+    let mut frame = UDP;
+    let [high, low] = total_len.to_be_bytes();
+    frame[16] = high;
+    frame[17] = low;
+    let packet = read(rt, Entry::Ethernet, &frame);
+    has_ip(rt, &packet, len, incomplete, source);
+    same(rt, &packet.transport.is_some(), &true);
+}
+
 /// Lax parsing of an IPv4 packet for several values of its total length field: 0, below 20, and up to and above the
 /// bytes that are present.
 #[test]
 fn total_lengths(rt: HostRuntime) {
     let limited = LenSource::Ipv4HeaderTotalLen;
-    for (length_field, len, incomplete, source) in [
-        (0u16, 16, false, LenSource::Slice),
+    for (total_len, len, incomplete, source) in [
+        (0, 16, false, LenSource::Slice),
         (19, 16, false, LenSource::Slice),
         (28, 8, false, limited),
         (36, 16, false, limited),
         (37, 16, true, LenSource::Slice),
         (65535, 16, true, LenSource::Slice),
     ] {
-        let mut frame = UDP;
-        let bytes = length_field.to_be_bytes();
-        frame[16] = bytes[0];
-        frame[17] = bytes[1];
-        let packet = read(&rt, Entry::Ethernet, &frame);
-        has_ip(&rt, &packet, len, incomplete, source);
-        same(&rt, &packet.transport.is_some(), &true);
+        reads_total_length(&rt, total_len, len, incomplete, source);
     }
 }
 
@@ -137,12 +149,29 @@ fn total_length_of_a_header(rt: HostRuntime) {
     );
 }
 
+/// Sets the lower bytes of the total length field and of the UDP length field of the frame `UDP`. Asserts the length of
+/// the payload, whether bytes of it are missing (`incomplete`) and how many, and whether strict slicing accepts the
+/// packet.
+fn reads_datagram_length(
+    rt: &impl Abort,
+    (total_len, udp_len): (u8, u8),
+    (len, incomplete, missing): (usize, bool, usize),
+    is_frame: bool,
+) {
+    let mut frame = UDP;
+    frame[17] = total_len;
+    frame[39] = udp_len;
+    let packet = read(rt, Entry::Ethernet, &frame);
+    ends_in(rt, &packet, len, incomplete);
+    lacks(rt, &packet, missing, is_frame);
+}
+
 /// Lax parsing of a UDP datagram for several values of its length field, in a complete and in an incomplete IPv4
 /// payload.
 #[test]
 fn datagram_lengths(rt: HostRuntime) {
     for (total_len, udp_len, len, incomplete, missing, is_frame) in [
-        (36u8, 0u8, 8, false, 0, true),
+        (36, 0, 8, false, 0, true),
         (36, 7, 8, false, 0, false),
         (36, 8, 0, false, 0, true),
         (36, 15, 7, false, 0, true),
@@ -156,39 +185,67 @@ fn datagram_lengths(rt: HostRuntime) {
         (0, 0, 8, false, 0, false),
         (0, 17, 8, true, 1, false),
     ] {
-        let mut frame = UDP;
-        frame[17] = total_len;
-        frame[39] = udp_len;
-        let packet = read(&rt, Entry::Ethernet, &frame);
-        ends_in(&rt, &packet, len, incomplete);
-        lacks(&rt, &packet, missing, is_frame);
+        let payload = (len, incomplete, missing);
+        reads_datagram_length(&rt, (total_len, udp_len), payload, is_frame);
     }
+}
+
+/// Sets the payload length field of the packet `IPV6_PACKET`, and asserts the length of the payload, the number of bytes
+/// that are missing, and the length field that limits the payload (`source`).
+fn reads_payload_length(
+    rt: &impl Abort,
+    payload_len: u16,
+    len: usize,
+    missing: usize,
+    source: LenSource,
+) {
+    let mut bytes = IPV6_PACKET;
+    let [high, low] = payload_len.to_be_bytes();
+    bytes[4] = high;
+    bytes[5] = low;
+    let packet = read(rt, IPV6, &bytes);
+    has_ip(rt, &packet, len, missing > 0, source);
+    ends_in(rt, &packet, len, missing > 0);
+    lacks(rt, &packet, missing, missing == 0);
 }
 
 /// Lax parsing of an IPv6 packet whose payload length field is 0, smaller than the payload, correct or too large.
 #[test]
 fn payload_lengths(rt: HostRuntime) {
     let limited = LenSource::Ipv6HeaderPayloadLen;
-    for (length_field, len, missing, source) in [
-        (0u16, 4, 0, LenSource::Slice),
+    for (payload_len, len, missing, source) in [
+        (0, 4, 0, LenSource::Slice),
         (1, 1, 0, limited),
         (4, 4, 0, limited),
         (5, 4, 1, LenSource::Slice),
         (65535, 4, 65531, LenSource::Slice),
     ] {
-        let mut bytes = IPV6_PACKET;
-        let field = length_field.to_be_bytes();
-        bytes[4] = field[0];
-        bytes[5] = field[1];
-        let packet = read(&rt, IPV6, &bytes);
-        has_ip(&rt, &packet, len, missing > 0, source);
-        ends_in(&rt, &packet, len, missing > 0);
-        lacks(&rt, &packet, missing, missing == 0);
+        reads_payload_length(&rt, payload_len, len, missing, source);
     }
     let mut header = IPV6_PACKET;
     header[5] = 0;
     let packet = read(&rt, IPV6, &header[..40]);
     has_ip(&rt, &packet, 0, false, limited);
+}
+
+/// Sets the MACsec short length and the lower byte of the total length of the packet `MACSEC_PACKET`. Asserts the length
+/// of the IP payload, whether bytes of it are missing (`incomplete`), the length field that limits it (`source`), and
+/// whether strict slicing accepts the packet.
+fn reads_short_length(
+    rt: &impl Abort,
+    (short_len, total_len): (u8, u8),
+    (len, incomplete, source): (usize, bool, LenSource),
+    is_frame: bool,
+) {
+    let mut bytes = MACSEC_PACKET;
+    bytes[1] = short_len;
+    bytes[15] = total_len;
+    let packet = read(rt, MACSEC, &bytes);
+    same(rt, &packet.link_exts.len(), &2);
+    same(rt, &packet.vlan_ids().len(), &1);
+    has_ip(rt, &packet, len, incomplete, source);
+    ends_in(rt, &packet, len, incomplete);
+    same(rt, &packet.is_frame(), &is_frame);
 }
 
 /// Lax parsing of a MACsec tag with a VLAN tag and an IPv4 packet as payload, for several values of the MACsec short
@@ -197,7 +254,7 @@ fn payload_lengths(rt: HostRuntime) {
 fn short_lengths(rt: HostRuntime) {
     let total = LenSource::Ipv4HeaderTotalLen;
     for (short_len, total_len, len, incomplete, source, is_frame) in [
-        (0u8, 24u8, 4, false, total, true),
+        (0, 24, 4, false, total, true),
         (30, 24, 4, false, total, true),
         (28, 22, 2, false, total, true),
         (28, 24, 2, true, LenSource::Slice, false),
@@ -208,16 +265,28 @@ fn short_lengths(rt: HostRuntime) {
         (63, 19, 4, true, LenSource::Slice, false),
         (30, 0, 4, false, LenSource::Slice, false),
     ] {
-        let mut bytes = MACSEC_PACKET;
-        bytes[1] = short_len;
-        bytes[15] = total_len;
-        let packet = read(&rt, MACSEC, &bytes);
-        same(&rt, &packet.link_exts.len(), &2);
-        same(&rt, &packet.vlan_ids().len(), &1);
-        has_ip(&rt, &packet, len, incomplete, source);
-        ends_in(&rt, &packet, len, incomplete);
-        same(&rt, &packet.is_frame(), &is_frame);
+        let payload = (len, incomplete, source);
+        reads_short_length(&rt, (short_len, total_len), payload, is_frame);
     }
+}
+
+/// Sets the MACsec short length of the packet `MACSEC_PACKET`, and asserts the length of the payload after the tags,
+/// whether bytes of it are missing (`incomplete`), and the length field that limits it (`source`).
+fn reads_ether_payload(
+    rt: &impl Abort,
+    short_len: u8,
+    len: usize,
+    incomplete: bool,
+    source: LenSource,
+) {
+    let mut bytes = MACSEC_PACKET;
+    bytes[1] = short_len;
+    let packet = read(rt, MACSEC, &bytes);
+    let payload = packet.ether_payload().expect(rt, "its type is known");
+    same(rt, &payload.ether_type, &EtherType::IPV4);
+    same(rt, &payload.payload.len(), &len);
+    same(rt, &payload.incomplete, &incomplete);
+    same(rt, &payload.len_source, &source);
 }
 
 /// Lax parsing of a MACsec tag, a VLAN tag and the payload after both, for several values of the MACsec short length,
@@ -225,19 +294,12 @@ fn short_lengths(rt: HostRuntime) {
 #[test]
 fn ether_payloads(rt: HostRuntime) {
     for (short_len, len, incomplete, source) in [
-        (0u8, 24, false, LenSource::Slice),
+        (0, 24, false, LenSource::Slice),
         (28, 22, false, LenSource::MacsecShortLength),
         (30, 24, false, LenSource::MacsecShortLength),
         (31, 24, true, LenSource::Slice),
     ] {
-        let mut bytes = MACSEC_PACKET;
-        bytes[1] = short_len;
-        let packet = read(&rt, MACSEC, &bytes);
-        let payload = packet.ether_payload().expect(&rt, "its type is known");
-        same(&rt, &payload.ether_type, &EtherType::IPV4);
-        same(&rt, &payload.payload.len(), &len);
-        same(&rt, &payload.incomplete, &incomplete);
-        same(&rt, &payload.len_source, &source);
+        reads_ether_payload(&rt, short_len, len, incomplete, source);
     }
 }
 
@@ -268,12 +330,24 @@ fn short_lengths_that_stop(rt: HostRuntime) {
     same(&rt, &packet.payload().len(), &36);
 }
 
+/// Asserts the length of the encrypted payload after a MACsec tag with this short length, and whether bytes of it are
+/// missing (`incomplete`).
+fn reads_modified_payload(rt: &impl Abort, short_len: u8, len: usize, incomplete: bool) {
+    let mut bytes = [0; 55];
+    bytes[0] = 0x0c;
+    bytes[1] = short_len;
+    let packet = read(rt, MACSEC, &bytes);
+    ends_in(rt, &packet, len, incomplete);
+    lacks(rt, &packet, 0, !incomplete);
+    same(rt, &packet.ether_payload().is_none(), &true);
+}
+
 /// Tests lax slicing of a MACsec packet whose tag has both E and C set (encrypted payload), for several values of the
 /// short length.
 #[test]
 fn modified_payloads(rt: HostRuntime) {
     for (short_len, len, incomplete) in [
-        (0u8, 49, false),
+        (0, 49, false),
         (1, 1, false),
         (2, 2, false),
         (47, 47, false),
@@ -281,75 +355,85 @@ fn modified_payloads(rt: HostRuntime) {
         (50, 49, true),
         (63, 49, true),
     ] {
-        let mut bytes = [0; 55];
-        bytes[0] = 0x0c;
-        bytes[1] = short_len;
-        let packet = read(&rt, MACSEC, &bytes);
-        ends_in(&rt, &packet, len, incomplete);
-        lacks(&rt, &packet, 0, !incomplete);
-        same(&rt, &packet.ether_payload().is_none(), &true);
+        reads_modified_payload(&rt, short_len, len, incomplete);
+    }
+}
+
+/// Asserts how lax parsing ends in the first `n` bytes of the frame `UDP`, fewer than its 50.
+fn reads_truncated_datagram(rt: &impl Abort, n: usize) {
+    let slice = LenSource::Slice;
+    let bytes = UDP.get(..n).expect(rt, "its first bytes");
+    let mut packet = LaxSlicedPacket::new();
+    let done = packet.slice_into(Entry::Ethernet, bytes);
+    same(rt, &done.is_ok(), &(n >= 14));
+    if n >= 34 {
+        lacks(rt, &packet, 50usize.saturating_sub(n), false);
+    }
+    if n >= 42 {
+        ends_in(rt, &packet, n - 42, true);
+    } else if n >= 34 {
+        misses(rt, &packet, &Layer::UdpHeader, (34, 8, n - 34), slice);
+        has_ip(rt, &packet, n - 34, true, slice);
+    } else if n >= 14 {
+        misses(rt, &packet, &Layer::Ipv4Header, (14, 20, n - 14), slice);
+        same(rt, &packet.net.is_none(), &true);
     }
 }
 
 /// Lax parsing of an Ethernet II frame with a UDP datagram, truncated to each length from 0 to 49 of its 50 bytes.
 #[test]
 fn truncated_datagrams(rt: HostRuntime) {
-    for n in 0..50usize {
-        let bytes = UDP.get(..n).expect(&rt, "a front of it");
-        let mut packet = LaxSlicedPacket::new();
-        let done = packet.slice_into(Entry::Ethernet, bytes);
-        same(&rt, &done.is_ok(), &(n >= 14));
-        if n >= 34 {
-            lacks(&rt, &packet, 50 - n, false);
-        }
-        if n >= 42 {
-            ends_in(&rt, &packet, n - 42, true);
-        } else if n >= 34 {
-            misses(
-                &rt,
-                &packet,
-                &Layer::UdpHeader,
-                (34, 8, n - 34),
-                LenSource::Slice,
-            );
-            has_ip(&rt, &packet, n - 34, true, LenSource::Slice);
-        } else if n >= 14 {
-            misses(
-                &rt,
-                &packet,
-                &Layer::Ipv4Header,
-                (14, 20, n - 14),
-                LenSource::Slice,
-            );
-            same(&rt, &packet.net.is_none(), &true);
-        }
+    for n in 0..50 {
+        reads_truncated_datagram(&rt, n);
     }
+}
+
+/// Asserts that lax parsing of the first bytes of `FRAGMENT_TWICE`, `start` and `len` more, stops in the fragment header
+/// that starts at byte `start`.
+fn stops_in_fragment_header(rt: &impl Abort, start: usize, len: usize) {
+    let n = start.saturating_add(len);
+    let bytes = FRAGMENT_TWICE.get(..n).expect(rt, "its first bytes");
+    let packet = read(rt, IPV6, bytes);
+    same(rt, &packet.transport.is_none(), &true);
+    lacks(rt, &packet, 64usize.saturating_sub(n), false);
+    let (slice, layer) = (LenSource::Slice, Layer::Ipv6FragHeader);
+    misses(rt, &packet, &layer, (start, 8, len), slice);
+    has_ip(rt, &packet, len, true, slice);
+    same(rt, &packet.is_ip_payload_fragmented(), &false);
+}
+
+/// Asserts that lax parsing of the first bytes of `FRAGMENT_TWICE`, 56 and `len` more, finds both fragment headers.
+fn ends_after_fragment_headers(rt: &impl Abort, len: usize) {
+    let n = len.saturating_add(56);
+    let bytes = FRAGMENT_TWICE.get(..n).expect(rt, "its first bytes");
+    let packet = read(rt, IPV6, bytes);
+    same(rt, &packet.transport.is_none(), &true);
+    lacks(rt, &packet, 64usize.saturating_sub(n), false);
+    ends_in(rt, &packet, len, true);
+    same(rt, &packet.is_ip_payload_fragmented(), &true);
 }
 
 /// Lax parsing of an IPv6 packet with two fragment headers, truncated to each length from 40 (the IPv6 header alone) to
 /// 63 of its 64 bytes.
 #[test]
 fn truncated_chains(rt: HostRuntime) {
-    for n in 40..64usize {
-        let bytes = FRAGMENT_TWICE.get(..n).expect(&rt, "a front of it");
-        let packet = read(&rt, IPV6, bytes);
-        same(&rt, &packet.transport.is_none(), &true);
-        lacks(&rt, &packet, 64 - n, false);
-        if n >= 56 {
-            ends_in(&rt, &packet, n - 56, true);
-            same(&rt, &packet.is_ip_payload_fragmented(), &true);
-        } else {
-            let start = if n < 48 { 40 } else { 48 };
-            misses(
-                &rt,
-                &packet,
-                &Layer::Ipv6FragHeader,
-                (start, 8, n - start),
-                LenSource::Slice,
-            );
-            has_ip(&rt, &packet, n - start, true, LenSource::Slice);
-            same(&rt, &packet.is_ip_payload_fragmented(), &false);
-        }
+    for len in 0..8 {
+        stops_in_fragment_header(&rt, 40, len);
+        stops_in_fragment_header(&rt, 48, len);
+        ends_after_fragment_headers(&rt, len);
+    }
+}
+
+/// Asserts how lax parsing ends in the first `n` bytes of the packet `AUTHENTICATED`, from 20 on and fewer than its 36.
+fn reads_truncated_authentication(rt: &impl Abort, n: usize) {
+    let bytes = AUTHENTICATED.get(..n).expect(rt, "its first bytes");
+    let packet = read(rt, Entry::Ip, bytes);
+    if n >= 32 {
+        ends_in(rt, &packet, n - 32, true);
+    } else {
+        let (slice, len) = (LenSource::Slice, n.saturating_sub(20));
+        misses(rt, &packet, &Layer::IpAuthHeader, (20, 12, len), slice);
+        has_ip(rt, &packet, len, true, slice);
     }
 }
 
@@ -357,21 +441,8 @@ fn truncated_chains(rt: HostRuntime) {
 /// alone) to 35 of its 36 bytes.
 #[test]
 fn truncated_authentication_headers(rt: HostRuntime) {
-    for n in 20..36usize {
-        let bytes = AUTHENTICATED.get(..n).expect(&rt, "a front of it");
-        let packet = read(&rt, Entry::Ip, bytes);
-        if n >= 32 {
-            ends_in(&rt, &packet, n - 32, true);
-        } else {
-            misses(
-                &rt,
-                &packet,
-                &Layer::IpAuthHeader,
-                (20, 12, n - 20),
-                LenSource::Slice,
-            );
-            has_ip(&rt, &packet, n - 20, true, LenSource::Slice);
-        }
+    for n in 20..36 {
+        reads_truncated_authentication(&rt, n);
     }
 }
 

@@ -2,6 +2,7 @@
 
 use crate::tests::checks::{same, shows};
 use crate::*;
+use std::process::Abort;
 
 /// An Ethernet II frame with an ICMPv4 error, port unreachable. Its ICMP header starts at byte 34; at byte 42 it quotes
 /// a UDP datagram to port 1234 with the payload `abcd`.
@@ -34,11 +35,22 @@ fn truncated_icmp_error(rt: HostRuntime) {
     same(&rt, &quoted_port(&PORT_UNREACHABLE[..70]), &Some(1234));
 }
 
+/// Asserts whether an ICMP message of this type quotes a packet: its bytes after the first 8.
+fn quotes_packet(rt: &impl Abort, number: IpNumber, message_type: u8, quotes: bool) {
+    let mut bytes = [0; 20];
+    bytes[0] = message_type;
+    bytes[12] = 0x50;
+    let read = TransportSlice::from_ip_number(number, false, &bytes).expect(rt, "a header");
+    let message = read.as_ref().expect(rt, "a transport layer");
+    let quoted = if quotes { Some(&bytes[8..]) } else { None };
+    same(rt, &quoted_packet(message), &quoted);
+}
+
 /// Types of ICMP messages, and whether they quote a packet (RFC 792; RFC 4443, 2.1).
 #[test]
 fn messages_that_quote(rt: HostRuntime) {
     for (number, message_type, quotes) in [
-        (IpNumber::ICMP, 0u8, false),
+        (IpNumber::ICMP, 0, false),
         (IpNumber::ICMP, 3, true),
         (IpNumber::ICMP, 4, true),
         (IpNumber::ICMP, 5, true),
@@ -53,12 +65,6 @@ fn messages_that_quote(rt: HostRuntime) {
         (IpNumber::UDP, 3, false),
         (IpNumber::TCP, 3, false),
     ] {
-        let mut bytes = [0; 20];
-        bytes[0] = message_type;
-        bytes[12] = 0x50;
-        let read = TransportSlice::from_ip_number(number, false, &bytes).expect(&rt, "a header");
-        let message = read.as_ref().expect(&rt, "a transport layer");
-        let quoted = if quotes { Some(&bytes[8..]) } else { None };
-        same(&rt, &quoted_packet(message), &quoted);
+        quotes_packet(&rt, number, message_type, quotes);
     }
 }

@@ -30,10 +30,7 @@ fn merged_ranges(rt: HostRuntime) {
         merges(&rt, (3, 7), (1, end), Some((1, 7)));
     }
     merges(&rt, (3, 7), (1, 8), Some((1, 8)));
-}
-
-#[test]
-fn merged_reversed_ranges(rt: HostRuntime) {
+    // ranges whose end is before their start
     merges(&rt, (5, 2), (2, 6), Some((2, 6)));
     merges(&rt, (5, 2), (3, 3), None);
     merges(&rt, (5, 2), (5, 2), None);
@@ -62,11 +59,6 @@ fn texts_of_refused_fragments(rt: HostRuntime) {
     let text = "Overall length of IP fragment (offset 6, payload len: 65488) \
          bigger then the maximum allowed size of 65535.";
     shows(&rt, alloc, &error, text);
-}
-
-#[test]
-fn texts_of_ends_and_memory(rt: HostRuntime) {
-    let alloc = rt.alloc();
     let error = IpDefragError::ConflictingEnd {
         previous_end: 48,
         conflicting_end: 64,
@@ -316,10 +308,6 @@ fn kinds_of_net_slices(rt: HostRuntime) {
     same(&rt, &kinds_of_slices(&net), &KINDS[1]);
     let payload = four_bytes(LenSource::Slice);
     same(&rt, &net.ip_payload_ref(), &Some(&payload));
-}
-
-#[test]
-fn kinds_of_an_arp_slice(rt: HostRuntime) {
     let net = NetSlice::Arp(ArpPacketSlice::from_slice(ARP).expect(&rt, "refused"));
     same(&rt, &kinds_of_slices(&net), &KINDS[2]);
     same(&rt, &net.ip_payload_ref(), &None);
@@ -331,7 +319,7 @@ const SEGMENT: &[u8] =
     \x01\x03\x03\x07\xaa\xbb";
 
 #[test]
-fn numbers_of_a_segment(rt: HostRuntime) {
+fn parts_of_a_segment(rt: HostRuntime) {
     let segment = TcpSlice::from_slice(SEGMENT).expect(&rt, "refused");
     let ports = (segment.source_port(), segment.destination_port());
     same(&rt, &ports, &(0x0102, 0x0304));
@@ -345,11 +333,6 @@ fn numbers_of_a_segment(rt: HostRuntime) {
         segment.urgent_pointer(),
     );
     same(&rt, &rest, &(0x0d0e, 0x0f10, 0x1112));
-}
-
-#[test]
-fn parts_of_a_segment(rt: HostRuntime) {
-    let segment = TcpSlice::from_slice(SEGMENT).expect(&rt, "refused");
     same(&rt, &segment.slice(), &SEGMENT);
     same(&rt, &segment.header_slice(), &&SEGMENT[..24]);
     same(&rt, &segment.options(), &&SEGMENT[20..24]);

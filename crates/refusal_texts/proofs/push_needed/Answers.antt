@@ -13,10 +13,10 @@ returns c =
     let error = c.args.error.now in
     let name = c.as_bytes.ensures.value ∙ c.name.ensures in
     let needed = codes ": " ++ decimal error.required_len in
-    let there = codes " bytes needed, " ++ decimal error.len in
+    let present = codes " bytes needed, " ++ decimal error.len in
     on_ok_weaker c.push_with_text-2.result
     (λ last.
     three_parts start c.extend_from_slice.new.self.items c.push_with_text.new.output.items
-    c.push_with_text-2.new.output.items c.as_bytes.result.now needed there c.in_ok-extend_from_slice.ensures.items
+    c.push_with_text-2.new.output.items c.as_bytes.result.now needed present c.in_ok-extend_from_slice.ensures.items
     c.in_ok-push_with_text.ensures.text last
-    ∙ (λ i. start ++ (name i ++ needed ++ there))) c.push_with_text-2.ensures.text
+    ∙ (λ i. start ++ (name i ++ needed ++ present))) c.push_with_text-2.ensures.text

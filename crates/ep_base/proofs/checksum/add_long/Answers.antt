@@ -1,3 +1,4 @@
+use Rattle.std.proofs.lemmas.Grind.{common_steps}
 use Rattle.std.proofs.Common.{◌∙◌, ◌*◌, ◌/◌, arith, refl}
 use Rattle.ep_base.proofs.SumLemmas.{sum_with_piece}
 use Rattle.ep_base.proofs.checksum.add_long.Goals as goal
@@ -13,3 +14,6 @@ loop-rest-preserved c =
           (omega arith) (cut.front, cut.back, cut.back_len) refl (λ long. c.block_sum.ensures)
           ∙ c.loop-rest.invariant.same;
     }
+
+pub block_sum-requires-clause-short : goal.block_sum-requires-clause-short
+block_sum-requires-clause-short c = grind (arith, common_steps)

@@ -16,8 +16,8 @@ loop-piece-preserved c =
     let evens = c.loop-piece.invariant.0 in
     let known = c.loop-piece.invariant.1 in
     let before = 256 * evens + c.loop-piece.odd in
-    let behind = 256 * (evens + even) + (c.loop-piece.odd + odd) in
-    let added : residue behind ≡ residue (before + (256 * even + odd)) = ap residue (omega arith) in (
+    let following = 256 * (evens + even) + (c.loop-piece.odd + odd) in
+    let added : residue following ≡ residue (before + (256 * even + odd)) = ap residue (omega arith) in (
       evens + even,
       record {
         even_fits = omega (arith, known.even_fits, and_le_r word 71777214294589695, cut.2);
@@ -25,7 +25,7 @@ loop-piece-preserved c =
         words = omega (arith, known.words, cut.2);
         both = omega (arith, known.both, even_and_odd word fits);
         same =
-            sum_with_piece 8 before (256 * even + odd) behind piece c.in-Some.after.now c.loop-piece.rest.now refl cut
+            sum_with_piece 8 before (256 * even + odd) following piece c.in-Some.after.now c.loop-piece.rest.now refl cut
             added (λ long. turned_even_and_odd word piece long c.from_le_bytes-word.ensures fits)
             ∙ known.same;
       },

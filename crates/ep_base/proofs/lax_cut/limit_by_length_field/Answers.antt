@@ -1,5 +1,5 @@
 use Rattle.std.proofs.Common.{◌⊎◌, ◌-◌, ◌<◌, [], drop, length, inl, inr, arith}
-use Rattle.ep_base.proofs.LaxSliceLemmas.{slice_cut, slice_whole}
+use Rattle.ep_base.proofs.LaxSliceLemmas.{slice_cut, slice_complete}
 use Rattle.ep_base.proofs.lax_cut.limit_by_length_field.Goals as goal
 use Rattle.ep_base.proofs.lax_cut.limit_by_length_field.Goals.{then-stated-least-via-then-stated-least, then-stated-least-via-else-stated-least+then-slice-stated}
 
@@ -12,7 +12,7 @@ returns-then-stated-least c =
       | then-stated-least-via-then-stated-least w ↦ inl w.if-stated-least.true
       | then-stated-least-via-else-stated-least+then-slice-stated w ↦ inr w.if-slice-stated.true
     ] in
-    ([], slice_whole least stated c.args.field.source c.args.outer c.args.header_len bytes c.requires.header why)
+    ([], slice_complete least stated c.args.field.source c.args.outer c.args.header_len bytes c.requires.header why)
 
 pub returns : goal.returns
 returns c =

@@ -14,25 +14,25 @@ returns-clause-filled g c =
     let headers = g.Headers.IsIpHeaders.headers c.args.headers.now in
     let linked = g.Headers.IsIpHeaders.headers c.link.new.self in
     let payload = c.args.payload.now in
-    let held = ip_frame_headers c.args.link.now headers c.args.last in
-    let front = link_part_bytes (link_with_type c.args.link.now c.in-Ok.ether_type) in
+    let kept = ip_frame_headers c.args.link.now headers c.args.last in
+    let prefix = link_part_bytes (link_with_type c.args.link.now c.in-Ok.ether_type) in
     let written = written_headers linked (ip_headers_parts linked) in
-    let whole = is_ip_frame c.args.link.now headers linked c.args.last c.in-Ok.ether_type payload c.in-Ok.ensures.1
+    let complete = is_ip_frame c.args.link.now headers linked c.args.last c.in-Ok.ether_type payload c.in-Ok.ensures.1
     c.in-Ok.ensures.2 in
-    fills held payload _ _ _ _
+    fills kept payload _ _ _ _
     (first_row-as_none error.PayloadLen (payload_len_rows headers (length payload)) c.in-Ok.ensures.0)
     (omega (
       arith,
       c.header_len.ensures.value,
       c.headers_len.ensures.value,
-      ap length whole,
-      length-append front (written ++ payload),
+      ap length complete,
+      length-append prefix (written ++ payload),
       length-append written payload,
       link_len c.args.link.now c.in-Ok.ether_type c.link_fits.ensures,
       headers_len linked c.headers_len.ensures.fits,
     ))
-    (packet_at front written payload (built_frame held payload) _ _ _ _ _ c.place_headers-ip_end.ensures.bytes
-    c.put.ensures whole)
+    (packet_at prefix written payload (built_frame kept payload) _ _ _ _ _ c.place_headers-ip_end.ensures.bytes
+    c.put.ensures complete)
 
 pub returns-clause-fragment : goal.returns-clause-fragment
 returns-clause-fragment g c =

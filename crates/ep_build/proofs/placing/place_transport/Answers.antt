@@ -2,11 +2,11 @@ use Rattle.std.proofs.Common.{◌++◌, length, refl, sym, subst, arith}
 use Rattle.std.specs.Prelude.{drop}
 use Rattle.std.proofs.lemmas.List.{length-append}
 use Rattle.ep_base.specs.Bytes.{AreBytes}
-use Rattle.ep_base.proofs.BytesLemmas.{AreBytes-front}
+use Rattle.ep_base.proofs.BytesLemmas.{AreBytes-prefix}
 use Rattle.ep_packet.specs.IpHeaders.{ip_headers_parts, written_headers}
 use Rattle.ep_transport.specs.TransportHeaders.{transport_bytes}
 use Rattle.ep_build.specs.BuiltFrames.{built_frame, transport_frame_headers, link_with_type, link_part_bytes}
-use Rattle.ep_build.proofs.PlacingLemmas.{at_front, both_at, fills, packet_at, same_len}
+use Rattle.ep_build.proofs.PlacingLemmas.{at_start, both_at, fills, packet_at, same_len}
 use Rattle.ep_build.proofs.SizeLemmas.{headers_len, link_len}
 use Rattle.ep_build.proofs.WritingLemmas.{prepared_back, prepared_frame, prepared_len, transport_len}
 use Rattle.ep_build.proofs.placing.place_transport.Goals as goal
@@ -21,7 +21,7 @@ put-requires g c =
     let made = c.in-Ok.ensures in
     let linked = g.Headers.IsIpHeaders.headers c.prepared.new.headers in
     let filled = c.prepared.new.transport in
-    let front = link_part_bytes (link_with_type c.args.link.now c.in-Ok.prepared.0) in
+    let prefix = link_part_bytes (link_with_type c.args.link.now c.in-Ok.prepared.0) in
     let written = written_headers linked (ip_headers_parts linked) in
     let first = c.place_headers-ip_end.ensures.bytes in
     let second = c.place_header-header_end.ensures in
@@ -33,7 +33,7 @@ put-requires g c =
       same_len _ _ _ _ _ second,
       c.if-slice-size.false,
       made.parts,
-      length-append front written,
+      length-append prefix written,
       link_len c.args.link.now c.in-Ok.prepared.0 made.fits_link,
       headers_len linked made.fits_header,
       transport_len filled made.fits_transport,
@@ -45,11 +45,11 @@ returns-clause-filled g c =
     let linked = g.Headers.IsIpHeaders.headers c.prepared.new.headers in
     let filled = c.prepared.new.transport in
     let payload = c.args.payload.now in
-    let held = transport_frame_headers c.args.link.now (g.Headers.IsIpHeaders.headers c.args.headers.now) c.args.transport.now in
-    let front = link_part_bytes (link_with_type c.args.link.now c.in-Ok.prepared.0) in
+    let kept = transport_frame_headers c.args.link.now (g.Headers.IsIpHeaders.headers c.args.headers.now) c.args.transport.now in
+    let prefix = link_part_bytes (link_with_type c.args.link.now c.in-Ok.prepared.0) in
     let written = written_headers linked (ip_headers_parts linked) in
-    fills held payload _ _ _ _ made.buildable (prepared_len _ _ _ _ _ _ _ _ made)
-    (packet_at front written (transport_bytes filled ++ payload) (built_frame held payload) _ _ _ _ _
+    fills kept payload _ _ _ _ made.buildable (prepared_len _ _ _ _ _ _ _ _ made)
+    (packet_at prefix written (transport_bytes filled ++ payload) (built_frame kept payload) _ _ _ _ _
     c.place_headers-ip_end.ensures.bytes
     (both_at (transport_bytes filled) payload _ _ _ _ _ _ c.place_header-header_end.ensures c.put.ensures)
     (prepared_frame _ _ _ _ _ _ _ _ made))
@@ -60,16 +60,16 @@ returns-clause-read_back g c =
     let linked = g.Headers.IsIpHeaders.headers c.prepared.new.headers in
     let filled = c.prepared.new.transport in
     let payload = c.args.payload.now in
-    let held = transport_frame_headers c.args.link.now (g.Headers.IsIpHeaders.headers c.args.headers.now) c.args.transport.now in
-    let front = link_part_bytes (link_with_type c.args.link.now c.in-Ok.prepared.0) in
+    let kept = transport_frame_headers c.args.link.now (g.Headers.IsIpHeaders.headers c.args.headers.now) c.args.transport.now in
+    let prefix = link_part_bytes (link_with_type c.args.link.now c.in-Ok.prepared.0) in
     let written = written_headers linked (ip_headers_parts linked) in
-    let frame = built_frame held payload in
-    let there = packet_at front written (transport_bytes filled ++ payload) frame _ _ _ _ _
+    let frame = built_frame kept payload in
+    let present = packet_at prefix written (transport_bytes filled ++ payload) frame _ _ _ _ _
     c.place_headers-ip_end.ensures.bytes
     (both_at (transport_bytes filled) payload _ _ _ _ _ _ c.place_header-header_end.ensures c.put.ensures)
     (prepared_frame _ _ _ _ _ _ _ _ made) in
     let all : AreBytes c.put.new.slice = λ i. omega (arith, c.type_inv.slice i) in
-    let framed : AreBytes frame = AreBytes-front frame (drop (length frame) c.args.slice.now)
-    (subst AreBytes (at_front frame _ _ _ there) all) in
+    let framed : AreBytes frame = AreBytes-prefix frame (drop (length frame) c.args.slice.now)
+    (subst AreBytes (at_start frame _ _ _ present) all) in
     prepared_back _ _ _ _ _ _ _ _ made c.place_headers-ip_end.ensures.fits
     (subst AreBytes (sym (prepared_frame _ _ _ _ _ _ _ _ made)) framed)

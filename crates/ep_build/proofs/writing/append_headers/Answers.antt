@@ -22,21 +22,21 @@ append-requires-clause-capacity g c = omega (
 pub returns-clause-items : goal.returns-clause-items
 returns-clause-items g c =
     let headers = g.Headers.IsIpHeaders.headers c.args.headers.now in
-    let front = link_part_bytes (link_with_type c.args.link.now c.args.ether_type) in
+    let prefix = link_part_bytes (link_with_type c.args.link.now c.args.ether_type) in
     let written = written_headers headers (ip_headers_parts headers) in
     c.append.ensures.items ∙ ap (λ (b : List ℕ). b ++ written) c.append_with_type.ensures.items
-    ∙ append_assoc c.args.buf.now.items front written
+    ∙ append_assoc c.args.buf.now.items prefix written
 
 pub returns-clause-len : goal.returns-clause-len
 returns-clause-len g c =
     let headers = g.Headers.IsIpHeaders.headers c.args.headers.now in
-    let front = link_part_bytes (link_with_type c.args.link.now c.args.ether_type) in
+    let prefix = link_part_bytes (link_with_type c.args.link.now c.args.ether_type) in
     let written = written_headers headers (ip_headers_parts headers) in
     omega (
       arith,
       ap length (returns-clause-items g c),
-      length-append c.args.buf.now.items (front ++ written),
-      length-append front written,
+      length-append c.args.buf.now.items (prefix ++ written),
+      length-append prefix written,
       link_len c.args.link.now c.args.ether_type c.link_fits.ensures,
       headers_len headers c.requires.fits,
     )

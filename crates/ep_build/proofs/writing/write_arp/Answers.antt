@@ -43,13 +43,13 @@ unwrap-requires c = succeeds c.write.result _ _ c.write.ensures.full (omega (
 pub returns-clause-ok : goal.returns-clause-ok
 returns-clause-ok c =
     let old = c.args.buf.now.items in
-    let front = link_part_bytes (link_with_type c.args.link.now (as_ether_type arp_type)) in
+    let prefix = link_part_bytes (link_with_type c.args.link.now (as_ether_type arp_type)) in
     let packet = arp_bytes (arp_of c.args.packet.now) in
     on_ok c.write.result _ (ap is_ok c.unwrap.ensures) c.write.ensures.ok
     ∙ ap (λ (l : List ℕ). l ++ packet)
-    (c.append_with_type.ensures.items ∙ ap (λ (l : List ℕ). l ++ front) c.reserve.ensures.items)
-    ∙ append_assoc old front packet
-    ∙ ap (λ (l : List ℕ). old ++ (front ++ l)) (sym (append-nil packet))
+    (c.append_with_type.ensures.items ∙ ap (λ (l : List ℕ). l ++ prefix) c.reserve.ensures.items)
+    ∙ append_assoc old prefix packet
+    ∙ ap (λ (l : List ℕ). old ++ (prefix ++ l)) (sym (append-nil packet))
 
 pub returns-clause-read_back : goal.returns-clause-read_back
 returns-clause-read_back c =

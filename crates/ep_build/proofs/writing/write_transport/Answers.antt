@@ -65,21 +65,21 @@ pub returns-clause-ok : goal.returns-clause-ok
 returns-clause-ok g c =
     let made = c.in_ok-ether_type.ensures in
     let linked = g.Headers.IsIpHeaders.headers c.prepared.new.headers in
-    let front = link_part_bytes (link_with_type c.args.link.now c.in_ok-ether_type.ether_type) in
-    let whole = joined c.reserve.new.self.items front (written_headers linked (ip_headers_parts linked))
+    let prefix = link_part_bytes (link_with_type c.args.link.now c.in_ok-ether_type.ether_type) in
+    let complete = joined c.reserve.new.self.items prefix (written_headers linked (ip_headers_parts linked))
     (transport_bytes c.prepared.new.transport) c.args.payload.now _ _ c.extend_from_slice.new.self.items
     c.append_headers.ensures.items (on_ok c.write.result _ (ap is_ok c.unwrap.ensures) c.write.ensures.ok)
     (chosen _ _ _ _ (ap is_ok c.unwrap-2.ensures) c.extend_from_slice.ensures.items) in
-    (made.buildable, appended _ _ _ _ _ whole c.reserve.ensures.items (prepared_frame _ _ _ _ _ _ _ _ made))
+    (made.buildable, appended _ _ _ _ _ complete c.reserve.ensures.items (prepared_frame _ _ _ _ _ _ _ _ made))
 
 pub returns-clause-read_back : goal.returns-clause-read_back
 returns-clause-read_back g c =
     let linked = g.Headers.IsIpHeaders.headers c.prepared.new.headers in
-    let front = link_part_bytes (link_with_type c.args.link.now c.in_ok-ether_type.ether_type) in
-    let whole = joined c.reserve.new.self.items front (written_headers linked (ip_headers_parts linked))
+    let prefix = link_part_bytes (link_with_type c.args.link.now c.in_ok-ether_type.ether_type) in
+    let complete = joined c.reserve.new.self.items prefix (written_headers linked (ip_headers_parts linked))
     (transport_bytes c.prepared.new.transport) c.args.payload.now _ _ c.extend_from_slice.new.self.items
     c.append_headers.ensures.items (on_ok c.write.result _ (ap is_ok c.unwrap.ensures) c.write.ensures.ok)
     (chosen _ _ _ _ (ap is_ok c.unwrap-2.ensures) c.extend_from_slice.ensures.items) in
-    let bytes = are_bytes c.extend_from_slice.new.self.items (λ i there. c.type_inv.buf i 0 there) in
+    let bytes = are_bytes c.extend_from_slice.new.self.items (λ i present. c.type_inv.buf i 0 present) in
     prepared_back _ _ _ _ _ _ _ _ c.in_ok-ether_type.ensures c.append_headers.ensures.fits
-    (AreBytes-back c.reserve.new.self.items _ (subst AreBytes whole bytes))
+    (AreBytes-back c.reserve.new.self.items _ (subst AreBytes complete bytes))

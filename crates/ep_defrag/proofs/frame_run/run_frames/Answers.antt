@@ -1,7 +1,13 @@
 use Rattle.std.proofs.Common.{rules, sym, ◌∙◌, arith}
 use Rattle.ep_defrag.proofs.FrameLemmas.{only_read, one_reading, read_cuts_at}
-use Rattle.ep_defrag.proofs.LoopLemmas.{answered_all, answered_none, some_left, has_room, next_at, answered_more}
+use Rattle.ep_defrag.proofs.LoopLemmas.{answered_all, answered_none, some_left, has_space, next_at, answered_more}
 use Rattle.ep_defrag.proofs.frame_run.run_frames.Goals as goal
+
+pub returns-clause-answers : goal.returns-clause-answers
+returns-clause-answers g c = λ reads read decide decided.
+    let known = c.loop-call.invariant in
+    let all = answered_all known (sym c.loop-call.call-iterator.rest.ok.0 ∙ c.in-None.ensures.steps.0) in
+    rw (one_reading c.loop-call.yielded known.reads reads known.each (rw all read)) (known.answered decide decided)
 
 pub loop-call-init : goal.loop-call-init
 loop-call-init g c = answered_none c.in-Ok.ensures.items (search rules) (search rules) c.new-pool.ensures.holds
@@ -22,7 +28,7 @@ loop-call-preserved g c =
 pub unwrap-requires : goal.unwrap-requires
 unwrap-requires g c = c.push.ensures.succeeds (omega (
   arith,
-  has_room c.loop-call.invariant _ _
+  has_space c.loop-call.invariant _ _
       c.in-Some.ensures.steps.0,
 ))
 
@@ -60,12 +66,6 @@ returns-clause-read g c =
     let known = c.loop-call.invariant in
     let all = answered_all known (sym c.loop-call.call-iterator.rest.ok.0 ∙ c.in-None.ensures.steps.0) in
     (known.reads, rw (← all) (only_read c.loop-call.yielded known.reads known.each))
-
-pub returns-clause-answers : goal.returns-clause-answers
-returns-clause-answers g c = λ reads read decide decided.
-    let known = c.loop-call.invariant in
-    let all = answered_all known (sym c.loop-call.call-iterator.rest.ok.0 ∙ c.in-None.ensures.steps.0) in
-    rw (one_reading c.loop-call.yielded known.reads reads known.each (rw all read)) (known.answered decide decided)
 
 pub returns-clause-holds : goal.returns-clause-holds
 returns-clause-holds g c = λ reads read decide decided.

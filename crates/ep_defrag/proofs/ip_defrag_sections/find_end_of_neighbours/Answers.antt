@@ -50,7 +50,7 @@ returns c =
     (starts_rise sections c.requires.separate))
     (λ a r f called. search rules) in
     let order : c.args.from + 2 < to = elim (cases_lt (c.args.from + 2) to) [
-      | inl behind ↦ behind
+      | inl after ↦ after
       | inr before ↦ absurd (omega (
         arith,
         last.1 range,

@@ -4,7 +4,7 @@ use Rattle.ep_defrag.specs.FrameCalls.{calls_pool, pool_answers}
 use Rattle.ep_defrag.specs.Pools.{IsDecidedBy, plain_call, plain_answer}
 use Rattle.ep_defrag.proofs.AloneLemmas.{cuts_at}
 use Rattle.ep_defrag.proofs.FrameLemmas.{calls_read, calls_answered}
-use Rattle.ep_defrag.proofs.LoopLemmas.{answered_all, answered_none, some_left, has_room, next_at, answered_more}
+use Rattle.ep_defrag.proofs.LoopLemmas.{answered_all, answered_none, some_left, has_space, next_at, answered_more}
 use Rattle.ep_defrag.proofs.pool_run.run_calls_with_limit.Goals as goal
 
 pub loop-call-init : goal.loop-call-init
@@ -16,7 +16,7 @@ loop-call-preserved g c =
     let step = c.in-Ok-answer_next.ensures in
     answered_more c.loop-call.invariant c.in-Some.call c.next.new.self.rest.items c.in-Some.ensures.steps.0
     {read = calls_pool (plain_call c.in-Some.call)} {new = c.answer_next.new.pool} refl (record {
-      stated = λ table held. ap (λ said. pool_answers said) (step.answer table held);
+      stated = λ table holds. ap (λ printed. pool_answers printed) (step.answer table holds);
       holds = step.holds;
       limit = step.limit;
       no_memory = step.no_memory;
@@ -25,7 +25,7 @@ loop-call-preserved g c =
 pub unwrap-requires : goal.unwrap-requires
 unwrap-requires g c = c.push.ensures.succeeds (omega (
   arith,
-  has_room c.loop-call.invariant _ _
+  has_space c.loop-call.invariant _ _
       c.in-Some.ensures.steps.0,
 ))
 

@@ -20,13 +20,13 @@ loop-at-preserved c =
     let pushed : c.push.new.self.items ≡ c.loop-at.answers.items ++ answer ∷ [] =
     rw c.unwrap.ensures at c.push.ensures.items in
     record {
-      held = rw (more, accepted_after-push [] sofar next)
-          (c.in-Ok-answer_next.ensures.holds (accepted_after [] sofar) known.held);
+      holds = rw (more, accepted_after-push [] sofar next)
+          (c.in-Ok-answer_next.ensures.holds (accepted_after [] sofar) known.holds);
       answered =
           pushed
           ∙ ap (λ answers. answers ++ answer ∷ []) known.answered
           ∙ ap (λ last. answers_after [] sofar ++ last ∷ [])
-          (c.in-Ok-answer_next.ensures.answer (accepted_after [] sofar) known.held)
+          (c.in-Ok-answer_next.ensures.answer (accepted_after [] sofar) known.holds)
           ∙ sym (answers_after-push [] sofar next)
           ∙ ap (answers_after []) (sym more);
       counted = search rules;
@@ -46,7 +46,7 @@ returns-in_default-answer_next-clause-stopped c above default =
     let next = c.index-fragments-at.result in
     let same : get_or fragments at default ≡ next =
     get_or_default fragments at default next (omega arith) ∙ sym c.index-fragments-at.is in
-    rw same (c.in_default-answer_next.ensures.memory (accepted_after [] (take at fragments)) c.loop-at.invariant.held)
+    rw same (c.in_default-answer_next.ensures.memory (accepted_after [] (take at fragments)) c.loop-at.invariant.holds)
 
 pub returns-in_default-answer_next-clause-within : goal.returns-in_default-answer_next-clause-within
 returns-in_default-answer_next-clause-within c = c.loop-at-test.true

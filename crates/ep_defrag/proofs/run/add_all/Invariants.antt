@@ -6,7 +6,7 @@ use Rattle.ep_defrag.proofs.run.add_all.Given as goal
 -- The fragments so far are held and answered, and there is capacity for the answers to the others.
 abbrev pub invariant-loop-at : goal.invariant-loop-at
 invariant-loop-at l = record {
-  held : HoldsFragments l.buffer (accepted_after [] (take l.at l.fragments));
+  holds : HoldsFragments l.buffer (accepted_after [] (take l.at l.fragments));
   answered : l.answers.items ≡ answers_after [] (take l.at l.fragments);
   counted : vec_len l.answers ≡ l.at;
   capacity : length l.fragments ≤ vec_capacity l.answers;

@@ -1,9 +1,9 @@
 use Rattle.std.proofs.Common.{◌≡◌, ◌+◌, ◌-◌, ◌++◌, length, take, drop, subst, arith}
 use Rattle.std.proofs.lemmas.List.{length-take, length-drop}
 use Rattle.ep_base.specs.Bytes.{AreBytes, word_at}
-use Rattle.ep_base.proofs.BytesLemmas.{AreBytes-front}
+use Rattle.ep_base.proofs.BytesLemmas.{AreBytes-prefix}
 use Rattle.ep_ip.proofs.CutLemmas.{cut_parts}
-use Rattle.ep_ip.proofs.Ipv4Lemmas.{IsWhole, packet_there}
+use Rattle.ep_ip.proofs.Ipv4Lemmas.{IsComplete, packet_present}
 use Rattle.ep_ip.proofs.ipv4_slice.parse_limited.Goals as goal
 
 pub returns-clause-ok : goal.returns-clause-ok
@@ -16,8 +16,8 @@ returns-clause-ok c =
     let t = c.total_len-total_len.result in
     let content = take (t - n) (drop n bytes) in
     let fits : AreBytes bytes = λ i. omega (arith, c.type_inv.slice i) in
-    let whole : IsWhole e = record {
-      fits = AreBytes-front e ok.0 (subst AreBytes ok.1 fits);
+    let complete : IsComplete e = record {
+      fits = AreBytes-prefix e ok.0 (subst AreBytes ok.1 fits);
       version = shown.version;
       words = shown.words;
       whole = shown.whole;
@@ -26,4 +26,4 @@ returns-clause-ok c =
     cut_parts bytes e ok.0 n t ok.1 c.header_len-header_len.ensures.bytes (omega arith) in
     let cut : word_at e 2 ≡ length e + length content =
     omega (arith, length-take (t - n) (drop n bytes), length-drop n bytes) in
-    (drop t bytes, parts, packet_there bytes e content (drop t bytes) whole parts cut)
+    (drop t bytes, parts, packet_present bytes e content (drop t bytes) complete parts cut)

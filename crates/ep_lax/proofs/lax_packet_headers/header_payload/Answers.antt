@@ -6,7 +6,7 @@ use Rattle.ep_base.specs.declared.len_source.LenSource.TheVariants as source
 use Rattle.ep_transport.specs.TransportParts.{IsTransportPart, transport_layer}
 use Rattle.ep_transport.specs.declared.transport_header.TransportHeader.{TransportHeader}
 use Rattle.ep_lax.specs.LaxPayloadParts.{icmpv4, icmpv6, lax_payload_part_of, tcp}
-use Rattle.ep_lax.proofs.LaxPacketHeadersLemmas.{ShowsPayload, behind_udp, shows_icmpv4, shows_icmpv6, shows_tcp, shows_udp}
+use Rattle.ep_lax.proofs.LaxPacketHeadersLemmas.{ShowsPayload, after_udp, shows_icmpv4, shows_icmpv6, shows_tcp, shows_udp}
 use Rattle.ep_lax.proofs.lax_packet_headers.header_payload.Goals as goal
 
 pub returns-in-Udp : goal.returns-in-Udp
@@ -19,7 +19,7 @@ returns-in-Udp c =
     (Some (transport_layer h rest))) c.in-Udp.is c.requires in
     let cut = c.udp_payload.ensures in
     let limited = subst (λ (b : List ℕ). IsLaxCut 8 datagram.length source.UdpHeaderLen payload.incomplete 8 b cut.0)
-    (behind_udp bytes datagram rest part.1.1) cut.1 in
+    (after_udp bytes datagram rest part.1.1) cut.1 in
     subst (λ (h : TransportHeader). ShowsPayload (lax_ip_payload_of payload) payload.incomplete rest (Some h)
     (lax_payload_part_of c.udp_payload.result)) (sym c.in-Udp.is)
     (shows_udp (lax_ip_payload_of payload) payload.incomplete rest datagram cut.0

@@ -1,7 +1,7 @@
 use Rattle.std.proofs.Common.{sym, ◌∙◌, inr, arith}
 use Rattle.ep_base.specs.Readings.{slices}
 use Rattle.ep_lax.specs.LaxSlices.{lax_ipv6_of}
-use Rattle.ep_ip.proofs.LaxIpLemmas.{told_stop}
+use Rattle.ep_ip.proofs.LaxIpLemmas.{reported_stop}
 use Rattle.ep_lax.proofs.LaxNetLemmas.{ipv6_stop_within}
 use Rattle.ep_lax.proofs.lax_sliced_packet_walk.fill_ipv6.Goals as goal
 
@@ -12,7 +12,7 @@ fill_ipv6_packet-requires-clause-stop c = λ error_with_layer same.
     omega (
       arith,
       ipv6_stop_within slices c.args.inside.incomplete c.args.inside.slice.now (lax_ipv6_of read.0 ok.0 ok.1) ok.3 error_with_layer.0
-          (told_stop ok.1 error_with_layer (sym ok.4 ∙ same)),
+          (reported_stop ok.1 error_with_layer (sym ok.4 ∙ same)),
       c.requires,
     )
 

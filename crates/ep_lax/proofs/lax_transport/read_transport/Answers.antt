@@ -1,4 +1,5 @@
-use Rattle.std.proofs.Common.{◌≡◌, ◌≢◌, Bool, false, subst, sym, inr, rules, tests}
+use Rattle.std.proofs.lemmas.Grind.{common_steps}
+use Rattle.std.proofs.Common.{◌≡◌, ◌≢◌, Bool, false, subst, sym, inr, rules, tests, arith}
 use Rattle.std.proofs.lemmas.Result.{IfOk-weaker}
 use Rattle.ep_base.specs.IpNumbers.{udp_number}
 use Rattle.ep_lax.proofs.LaxTransportLemmas.{IsReadLaxly, others_read, udp_read_laxly}
@@ -20,3 +21,6 @@ returns-clause-ok c =
     (λ part is. subst (λ (f : Bool). IsReadLaxly p.ip_number.0 f p.payload.now p.incomplete part)
     (sym c.if-payload.false) (others_read p.ip_number.0 false p.payload.now p.incomplete (inr other) part is))
     c.from_ip_number.ensures.ok
+
+pub returns-clause-err : goal.returns-clause-err
+returns-clause-err c = grind (arith, common_steps)

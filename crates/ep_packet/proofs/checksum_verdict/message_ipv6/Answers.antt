@@ -1,4 +1,4 @@
-use Rattle.std.proofs.Common.{◌≡◌, ◌∙◌, ◌+◌, ◌*◌, ◌%◌, ◌++◌, List, ℕ, [], ◌∷◌, length, ap, refl, arith}
+use Rattle.std.proofs.Common.{◌∙◌, ◌+◌, ◌*◌, ◌++◌, List, ℕ, [], ◌∷◌, length, ap, refl, arith}
 use Rattle.std.specs.Int.{w32, to_be_bytes}
 use Rattle.ep_base.specs.Checksum.{residue, word_sum}
 use Rattle.ep_base.proofs.SumLemmas.{sum_more}
@@ -19,12 +19,10 @@ pub returns : goal.returns
 returns c =
     let a = c.args in
     let len = length a.message.now in
-    let source : length a.source % 2 ≡ 0 = omega arith in
-    let destination : length a.destination % 2 ≡ 0 = omega arith in
     let stated = c.add_little_endian-sum.ensures.value
     ∙ ap (λ (b : List ℕ). residue (256 * 0 + word_sum b)) c.to_be_bytes.ensures in
     let sum = message_words a.source a.destination (to_be_bytes w32 len) (0 ∷ 0 ∷ 0 ∷ a.number.0 ∷ []) a.message.now _ _ _ _ _
-    source destination refl refl stated c.add_little_endian-sum-2.ensures.value
+    (omega arith) (omega arith) refl refl stated c.add_little_endian-sum-2.ensures.value
     c.add_little_endian-sum-3.ensures.value c.add_little_endian-sum-4.ensures.value c.add_little_endian.ensures.value in
     verdict_by_sum 4294967295 len _ (pseudo_header_ipv6 a.source a.destination a.number.0 len ++ a.message.now) _
     c.if-len-gt4294967295.false sum c.verdict_of_words.ensures

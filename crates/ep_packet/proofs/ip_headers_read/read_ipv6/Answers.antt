@@ -1,26 +1,21 @@
 use Rattle.std.proofs.Common.{[], false, ap, sym, ◌∙◌, arith}
-use Rattle.ep_base.specs.Readings.{headers}
 use Rattle.ep_base.specs.declared.err.len_error.LenError.{LenError}
 use Rattle.ep_ext.specs.declared.ipv6_exts.Ipv6Extensions.{Ipv6Extensions}
 use Rattle.ep_ext.specs.Chains.{chain_fragments, chain_of}
 use Rattle.ep_ext.specs.Ipv6Chains.{ipv6_parts}
 use Rattle.ep_ext.proofs.ValueLawLemmas.{chain_value_fragments}
 use Rattle.ep_ip.specs.Ipv6.{ipv6_payload_source}
-use Rattle.ep_ip.proofs.ExtensionLawLemmas.{exts_within}
 use Rattle.ep_ip.proofs.PacketLemmas.{shown_packet}
 use Rattle.ep_packet.specs.declared.ip_headers.IpHeaders.TheVariants as variant
 use Rattle.ep_packet.proofs.IpHeadersLemmas.{ipv6_by_value}
-use Rattle.ep_packet.proofs.NetFillLemmas.{plain_ipv6}
+use Rattle.ep_packet.proofs.NetFillLemmas.{exts_start, plain_ipv6}
 use Rattle.ep_packet.proofs.ip_headers_read.read_ipv6.Goals as goal
 
 pub after_header-requires : goal.after_header-requires
 after_header-requires c =
-    let error = c.in-Err-Len.error in
-    let cut = c.in-Ok.cut in
-    let within = exts_within headers cut.0.next_header.0 cut.1.now c.in-Err-Len.field-0 error c.in-Err-Len.field-0-is
-    c.in-Err-Len.ensures.err in
-    let same = ap (λ (e : LenError). e.layer_start_offset) c.in-Err-Len.error-is in
-    omega (arith, within, same, c.in-Ok.ensures.within)
+    let found = c.in-Err-Len in
+    let start = exts_start c.in-Ok.cut.0 c.in-Ok.cut.1.now _ _ _ found.field-0-is found.ensures.err c.in-Ok.ensures.within in
+    omega (arith, start, ap (λ (e : LenError). e.layer_start_offset) found.error-is)
 
 pub returns-in-Ok-from_slice-clause-ok : goal.returns-in-Ok-from_slice-clause-ok
 returns-in-Ok-from_slice-clause-ok c =

@@ -1,34 +1,29 @@
 use Rattle.std.proofs.Common.{◌≡◌, ap, ◌∙◌, arith}
 use Rattle.ep_base.specs.IpPayload.{ip_payload_of}
-use Rattle.ep_base.specs.Readings.{headers}
 use Rattle.ep_base.specs.declared.err.len_error.LenError.{LenError}
 use Rattle.ep_base.specs.declared.ip_payload_slice.IpPayloadSlice.{IpPayloadSlice}
 use Rattle.ep_ext.specs.Chains.{chain_fragments, chain_of}
 use Rattle.ep_ext.proofs.ValueLawLemmas.{chain_value_fragments}
 use Rattle.ep_ip.specs.IpPackets.{ipv6_part}
 use Rattle.ep_ip.specs.Ipv6.{ipv6_payload_source}
-use Rattle.ep_ip.proofs.ExtensionLawLemmas.{exts_within}
 use Rattle.ep_ip.proofs.PacketLemmas.{shown_packet}
 use Rattle.ep_packet.proofs.HeadersLemmas.{fills_read}
 use Rattle.ep_packet.proofs.IpHeadersLemmas.{ipv6_by_value}
-use Rattle.ep_packet.proofs.NetFillLemmas.{chain_content}
+use Rattle.ep_packet.proofs.NetFillLemmas.{chain_content, exts_start}
 use Rattle.ep_packet.proofs.net_headers_fill.fill_ipv6_extensions.Goals as goal
 
 pub overflow_sub-offset : goal.overflow_sub-offset
 overflow_sub-offset c =
     let read = c.in-Ok-store_ipv6_extensions.ensures.ok in
-    let whole = chain_content c.args.slice.now c.in-Ok.cut.1.now c.in-Ok.ensures.ok.0 c.in-Ok.cut.0 read.0
+    let complete = chain_content c.args.slice.now c.in-Ok.cut.1.now c.in-Ok.ensures.ok.0 c.in-Ok.cut.0 read.0
     c.in-Ok-store_ipv6_extensions.ip_number.0 c.in-Ok-store_ipv6_extensions.payload.now c.in-Ok.ensures.ok.1 read.2 in
-    omega (arith, whole)
+    omega (arith, complete)
 
 pub after_header-requires : goal.after_header-requires
 after_header-requires c =
-    let error = c.in-Err-Len.error in
-    let cut = c.in-Ok.cut in
-    let within = exts_within headers cut.0.next_header.0 cut.1.now c.in-Err-Len.field-0 error c.in-Err-Len.field-0-is
-    c.in-Err-Len.ensures.err in
-    let same = ap (λ (e : LenError). e.layer_start_offset) c.in-Err-Len.error-is in
-    omega (arith, within, same, c.in-Ok.ensures.within)
+    let found = c.in-Err-Len in
+    let start = exts_start c.in-Ok.cut.0 c.in-Ok.cut.1.now _ _ _ found.field-0-is found.ensures.err c.in-Ok.ensures.within in
+    omega (arith, start, ap (λ (e : LenError). e.layer_start_offset) found.error-is)
 
 pub returns-in-Ok-store_ipv6_extensions-clause-ok : goal.returns-in-Ok-store_ipv6_extensions-clause-ok
 returns-in-Ok-store_ipv6_extensions-clause-ok c =
@@ -53,10 +48,10 @@ returns-in-Ok-store_ipv6_extensions-clause-ok c =
     } in
     let same : ip_payload_of payload ≡ packet.payload =
     λ i. record { number = number; fragmented = fragments i; source = source i; bytes = rest } in
-    let whole = chain_content bytes content cut.0 header read.0 number rest cut.1 read.2 in (
+    let complete = chain_content bytes content cut.0 header read.0 number rest cut.1 read.2 in (
       packet,
       is,
       fills_read bytes (ipv6_part packet) _ payload _ is
           read.1 same
-          (omega (arith, whole)),
+          (omega (arith, complete)),
     )

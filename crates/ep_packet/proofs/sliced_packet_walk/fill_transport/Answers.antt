@@ -32,44 +32,44 @@ ipv4_end : (offset header_len extensions_len : ℕ) (net : NetSlice) (packet : I
     → extensions ++ (ipv4_slice_payload packet).bytes ≡ ipv4_slice_content packet
     → header_len ≡ length header → extensions_len ≡ length extensions
     → HeadersEnd offset (slice.Ipv4 packet) (header_len + extensions_len)
-ipv4_end offset header_len extensions_len net packet header extensions is place has front behind header_is
+ipv4_end offset header_len extensions_len net packet header extensions is place has prefix after header_is
     extensions_are =
     let here : HasHeaders (slice.Ipv4 packet) = subst HasHeaders is has in
-    let there : offset + length (ipv4_slice_bytes packet) < 2 ^ 64 =
+    let present : offset + length (ipv4_slice_bytes packet) < 2 ^ 64 =
     subst (λ (n : NetSlice). offset + length (net_slice_bytes n) < 2 ^ 64) is place in
     let len = headers_len (ipv4_slice_bytes packet) header (ipv4_slice_content packet) extensions
-    (ipv4_slice_payload packet).bytes (net_payload_offset (net_layer_of (slice.Ipv4 packet))) front behind here in
+    (ipv4_slice_payload packet).bytes (net_payload_offset (net_layer_of (slice.Ipv4 packet))) prefix after here in
     record {
       same = omega (arith, len, header_is, extensions_are);
-      within = omega (arith, len, header_is, extensions_are, here, there);
+      within = omega (arith, len, header_is, extensions_are, here, present);
     }
 
 ipv6_end : (offset : ℕ) (net : NetSlice) (packet : Ipv6Slice) (extensions shown : List ℕ) → net ≡ slice.Ipv6 packet
     → offset + length (net_slice_bytes net) < 2 ^ 64 → HasHeaders net
     → extensions ++ (ipv6_slice_payload packet).bytes ≡ ipv6_slice_content packet → shown ≡ extensions
     → HeadersEnd offset (slice.Ipv6 packet) (40 + length shown)
-ipv6_end offset net packet extensions shown is place has behind same =
+ipv6_end offset net packet extensions shown is place has after same =
     let here : HasHeaders (slice.Ipv6 packet) = subst HasHeaders is has in
-    let there : offset + length (ipv6_slice_bytes packet) < 2 ^ 64 =
+    let present : offset + length (ipv6_slice_bytes packet) < 2 ^ 64 =
     subst (λ (n : NetSlice). offset + length (net_slice_bytes n) < 2 ^ 64) is place in
     let len = headers_len (ipv6_slice_bytes packet) (ipv6_header_slice_bytes packet.header) (ipv6_slice_content packet)
-    extensions (ipv6_slice_payload packet).bytes (net_payload_offset (net_layer_of (slice.Ipv6 packet))) refl behind here in
+    extensions (ipv6_slice_payload packet).bytes (net_payload_offset (net_layer_of (slice.Ipv6 packet))) refl after here in
     record {
       same = omega (arith, len, packet.header.bytes.whole, ap length same);
-      within = omega (arith, len, packet.header.bytes.whole, ap length same, here, there);
+      within = omega (arith, len, packet.header.bytes.whole, ap length same, here, present);
     }
 
 -- The payload of a packet is the payload of its network layer.
 payload_in : (net packet : NetSlice) (payload known : IpPayload) → net ≡ packet → payload ≡ known
     → Some known ≡ net_payload (net_layer_of packet) → Some payload ≡ net_payload (net_layer_of net)
-payload_in net packet payload known is same there =
-    ap Some same ∙ there ∙ sym (ap (λ (n : NetSlice). net_payload (net_layer_of n)) is)
+payload_in net packet payload known is same present =
+    ap Some same ∙ present ∙ sym (ap (λ (n : NetSlice). net_payload (net_layer_of n)) is)
 
 -- The transport layer of the payload is the transport layer of the network layer.
-lies_behind : (net : NetSlice) (payload : IpPayload) (transport : Option TransportLayer)
+is_after : (net : NetSlice) (payload : IpPayload) (transport : Option TransportLayer)
     → Some payload ≡ net_payload (net_layer_of net) → IsTransportIn slices payload transport
     → IsTransportAfterNet slices (net_payload (net_layer_of net)) transport
-lies_behind net payload transport same inside =
+is_after net payload transport same inside =
     subst (λ (p : Option IpPayload). IsTransportAfterNet slices p transport) same inside
 
 pub overflow_add-headers_len : goal.overflow_add-headers_len
@@ -123,7 +123,7 @@ returns-in-Ipv4-clause-ok c =
     let same = payload_in c.args.net.now (slice.Ipv4 c.in-Ipv4.packet) payload (ipv4_slice_payload c.in-Ipv4.packet)
     c.in-Ipv4.is c.payload.ensures refl in
     IfOk-weaker c.fill_transport_in.result _ _
-    (λ done inside. lies_behind c.args.net.now payload
+    (λ done inside. is_after c.args.net.now payload
     (option_map transport_layer_of c.fill_transport_in.new.transport) same inside)
     c.fill_transport_in.ensures.ok
 
@@ -152,7 +152,7 @@ returns-in-Ipv6-clause-ok c =
     let same = payload_in c.args.net.now (slice.Ipv6 c.in-Ipv6.packet) payload (ipv6_slice_payload c.in-Ipv6.packet)
     c.in-Ipv6.is c.payload-in-Ipv6.ensures refl in
     IfOk-weaker c.fill_transport_in-in-Ipv6.result _ _
-    (λ done inside. lies_behind c.args.net.now payload
+    (λ done inside. is_after c.args.net.now payload
     (option_map transport_layer_of c.fill_transport_in-in-Ipv6.new.transport) same inside)
     c.fill_transport_in-in-Ipv6.ensures.ok
 
@@ -172,11 +172,11 @@ returns-in-Ipv6-clause-err c =
     let ends = ipv6_end c.args.offset c.args.net.now c.in-Ipv6.packet (extensions_bytes c.extensions-in-Ipv6.result)
     c.slice.result.now c.in-Ipv6.is c.requires.place c.requires.headers c.extensions-in-Ipv6.ensures.bytes
     c.slice.ensures in
-    let behind = ends.same ∙ sym (ap (λ (n : NetSlice). net_payload_offset (net_layer_of n)) c.in-Ipv6.is) in
+    let after = ends.same ∙ sym (ap (λ (n : NetSlice). net_payload_offset (net_layer_of n)) c.in-Ipv6.is) in
     IfErr-weaker c.fill_transport_in-in-Ipv6.result _ _
     (λ error refused. subst (λ (p : Option IpPayload).
     RefusesTransportAfterNet slices (c.args.offset + net_payload_offset (net_layer_of net)) p error)
-    same (subst (λ (n : ℕ). RefusesTransportIn slices (c.args.offset + n) payload error) behind refused))
+    same (subst (λ (n : ℕ). RefusesTransportIn slices (c.args.offset + n) payload error) after refused))
     c.fill_transport_in-in-Ipv6.ensures.err
 
 pub returns-in-Arp-clause-ok : goal.returns-in-Arp-clause-ok

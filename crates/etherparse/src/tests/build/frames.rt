@@ -45,6 +45,9 @@ const ICMP_REQUEST: &[u8] = b"\x08\x00\xe5\xa8\x00\x7b\x01\xc8\x01\x02\x03\x04\x
 
 const ICMP_REPLY: &[u8] = b"\x00\x00\xef\xe8\x00\x01\x00\x02\x01\x02\x03\x04\x05\x06\x07\x08";
 
+/// ICMPv4 message of type 200 and code 1, with the payload bytes 1 to 8.
+const ICMP_RAW: &[u8] = b"\xc8\x01\x23\xe4\x01\x02\x03\x04\x01\x02\x03\x04\x05\x06\x07\x08";
+
 const ICMP_IP_6: &[u8] = b"\x60\x00\x00\x00\x00\x10\x3a\x2f\
       \x0b\x0c\x0d\x0e\x0f\x10\x11\x12\x13\x0a\x15\x16\x17\x18\x19\x1a\
       \x1f\x20\x21\x22\x23\x24\x25\x26\x27\x28\x29\x2a\x2b\x2c\x2d\x2e";
@@ -239,6 +242,56 @@ fn after_one_tag(rt: HostRuntime) {
     are_built(&rt, rt.alloc(), &frames, &parts);
 }
 
+/// Returns a VLAN tag with these fields: priority code point (PCP), drop eligible indicator (DEI) and identifier.
+fn tag(rt: &impl Abort, (pcp, eligible, id): (u8, bool, u16)) -> SingleVlanHeader {
+    SingleVlanHeader {
+        pcp: VlanPcp::try_new(pcp).expect(rt, "above 7"),
+        drop_eligible_indicator: eligible,
+        vlan_id: vlan_id(rt, id),
+        ether_type: EtherType(0),
+    }
+}
+
+/// Asserts the bytes from 12 on of a frame with an Ethernet II header, these VLAN tags and an ARP packet: the ether
+/// types and the tags.
+fn has_tags(rt: &impl Abort, alloc: Global, tags: VlanHeader, bytes: &[u8]) {
+    let mut frame = Vec::new(alloc);
+    let written = ethernet().vlan(tags).arp(arp_request(rt)).write(&mut frame);
+    same(rt, &written, &Ok(()));
+    let end = bytes.len().saturating_add(12);
+    same(rt, &frame.get(12..end), &Some(bytes));
+}
+
+/// Tests tags with each bit of PCP and with DEI (IEEE 802.1Q, 9.6): alone, and as the outer and the inner of two tags.
+#[test]
+fn priorities_of_tags(rt: HostRuntime) {
+    for (fields, bytes) in [
+        ((4, false, 0x123), [0x81, 0, 0x81, 0x23, 8, 6]),
+        ((2, false, 0x123), [0x81, 0, 0x41, 0x23, 8, 6]),
+        ((1, false, 0x123), [0x81, 0, 0x21, 0x23, 8, 6]),
+        ((0, true, 0x123), [0x81, 0, 0x11, 0x23, 8, 6]),
+    ] {
+        let tags = VlanHeader::Single(tag(&rt, fields));
+        has_tags(&rt, rt.alloc(), tags, &bytes);
+    }
+    for (outer, inner, bytes) in [
+        (
+            (5, false, 0x123),
+            (2, true, 0x234),
+            b"\x88\xa8\xa1\x23\x81\x00\x52\x34\x08\x06",
+        ),
+        (
+            (2, true, 0x123),
+            (5, false, 0x234),
+            b"\x88\xa8\x51\x23\x81\x00\xa2\x34\x08\x06",
+        ),
+    ] {
+        let (outer, inner) = (tag(&rt, outer), tag(&rt, inner));
+        let tags = VlanHeader::Double(DoubleVlanHeader { outer, inner });
+        has_tags(&rt, rt.alloc(), tags, bytes);
+    }
+}
+
 #[test]
 fn after_two_tags(rt: HostRuntime) {
     let mut frames = Vec::new(rt.alloc());
@@ -307,6 +360,49 @@ fn tcp(rt: HostRuntime) {
     are_built(&rt, rt.alloc(), &frames, &parts);
 }
 
+/// Builds an IPv4 header and a TCP header without flags, acknowledgment number, urgent pointer and options.
+fn without_flags() -> PacketBuilderStep<TcpHeader> {
+    ipv4().tcp(1, 2, 3, 4)
+}
+
+/// Asserts that the TCP header begun in `tcp`, after an IPv4 header of 20 bytes, is written with the given bytes 8 to 11
+/// (acknowledgment number), 12 and 13 (data offset and flags), and 18 and 19 (urgent pointer).
+fn has_flag(
+    rt: &impl Abort,
+    alloc: Global,
+    tcp: PacketBuilderStep<TcpHeader>,
+    (number, flags, pointer): ([u8; 4], [u8; 2], [u8; 2]),
+) {
+    let mut frame = Vec::new(alloc);
+    push_tcp(rt, &mut frame, tcp);
+    let shown = (frame.get(28..32), frame.get(32..34), frame.get(38..40));
+    let expected = (number.as_slice(), flags.as_slice(), pointer.as_slice());
+    let (number, flags, pointer) = expected;
+    same(rt, &shown, &(Some(number), Some(flags), Some(pointer)));
+}
+
+/// Tests each flag alone: its bit in the figure of RFC 9293, 3.1, and that of NS in RFC 3540.
+#[test]
+fn tcp_flags(rt: HostRuntime) {
+    for (tcp, bytes) in [
+        (without_flags(), ([0; 4], [0x50, 0x00], [0; 2])),
+        (without_flags().ns(), ([0; 4], [0x51, 0x00], [0; 2])),
+        (without_flags().cwr(), ([0; 4], [0x50, 0x80], [0; 2])),
+        (without_flags().ece(), ([0; 4], [0x50, 0x40], [0; 2])),
+        (without_flags().urg(0x0102), ([0; 4], [0x50, 0x20], [1, 2])),
+        (
+            without_flags().ack(0x0102_0304),
+            ([1, 2, 3, 4], [0x50, 0x10], [0; 2]),
+        ),
+        (without_flags().psh(), ([0; 4], [0x50, 0x08], [0; 2])),
+        (without_flags().rst(), ([0; 4], [0x50, 0x04], [0; 2])),
+        (without_flags().syn(), ([0; 4], [0x50, 0x02], [0; 2])),
+        (without_flags().fin(), ([0; 4], [0x50, 0x01], [0; 2])),
+    ] {
+        has_flag(&rt, rt.alloc(), tcp, bytes);
+    }
+}
+
 /// Appends a packet to `frames`: the headers begun in `icmp`, which end in an ICMPv4 header, and the payload bytes 1 to
 /// 8.
 fn push_icmpv4(rt: &impl Abort, frames: &mut Vec<u8>, icmp: PacketBuilderStep<Icmpv4Header>) {
@@ -322,6 +418,7 @@ fn icmpv4(rt: HostRuntime) {
     push_icmpv4(&rt, &mut frames, ipv4().icmpv4_echo_reply(1, 2));
     push_icmpv4(&rt, &mut frames, ipv4().icmpv4_raw(0, 0, [0, 1, 0, 2]));
     push_icmpv4(&rt, &mut frames, ipv4().icmpv4(reply));
+    push_icmpv4(&rt, &mut frames, ipv4().icmpv4_raw(200, 1, [1, 2, 3, 4]));
     let parts = [
         ICMP_IP,
         ICMP_REQUEST,
@@ -331,6 +428,8 @@ fn icmpv4(rt: HostRuntime) {
         ICMP_REPLY,
         ICMP_IP,
         ICMP_REPLY,
+        ICMP_IP,
+        ICMP_RAW,
     ];
     are_built(&rt, rt.alloc(), &frames, &parts);
 }
@@ -381,14 +480,10 @@ fn is_fragment(
 }
 
 #[test]
-fn fragments_of_ipv4(rt: HostRuntime) {
+fn fragments(rt: HostRuntime) {
     let (first, last) = (ipv4_fragment(&rt, 0, true), ipv4_fragment(&rt, 2, false));
     is_fragment(&rt, rt.alloc(), first, IpNumber(253), FIRST_IPV4, 20);
     is_fragment(&rt, rt.alloc(), last, IpNumber(253), LAST_IPV4, 20);
-}
-
-#[test]
-fn fragments_of_ipv6(rt: HostRuntime) {
     let (first, last) = (ipv6_fragment(&rt, 0, true), ipv6_fragment(&rt, 1, false));
     is_fragment(&rt, rt.alloc(), first, IpNumber::UDP, FIRST_IPV6, 48);
     is_fragment(&rt, rt.alloc(), last, IpNumber::UDP, LAST_IPV6, 48);

@@ -83,39 +83,31 @@ fn too_many_raw_options(rt: HostRuntime) {
 }
 
 #[test]
-fn texts_of_lengths(rt: HostRuntime) {
-    let alloc = rt.alloc();
-    let length = too_long(65516, 65515, ValueType::Ipv4PayloadLength);
-    shows(
-        &rt,
-        alloc,
-        &length,
-        "Ipv4PayloadLength: 65516 is above 65515",
-    );
-    shows(&rt, alloc, &BuildWriteError::OutOfMemory, "out of memory");
-    let text = "slice is too small: the frame has 50 bytes";
-    shows(&rt, alloc, &BuildSliceWriteError::Space(50), text);
-    shows(
-        &rt,
-        alloc,
-        &BuildSliceWriteError::Build(BuildWriteError::OutOfMemory),
-        "out of memory",
-    );
-    let text = "address size defined in the ARP header does not match the actual size";
-    shows(&rt, alloc, &BuildWriteError::ArpHeaderNotMatch, text);
-}
-
-#[test]
-fn texts_of_combinations(rt: HostRuntime) {
-    let alloc = rt.alloc();
-    let text =
-        "Error: ICMPv6 can not be combined with an IPv4 headers (checksum can not be calculated).";
-    shows(&rt, alloc, &BuildWriteError::Icmpv6InIpv4, text);
+fn texts_of_errors(rt: HostRuntime) {
     let missing_ext = ip_number::AUTHENTICATION_HEADER;
     let missing = ipv4_exts::ExtsWalkError::ExtNotReferenced { missing_ext };
-    let error = BuildWriteError::Ipv4Exts(missing);
-    shows(&rt, alloc, &error, "ExtNotReferenced 51");
     let not_first = ipv6_exts::ExtsWalkError::HopByHopNotAtStart;
-    let error = BuildWriteError::Ipv6Exts(not_first);
-    shows(&rt, alloc, &error, "HopByHopNotAtStart");
+    for (error, text) in [
+        (
+            too_long(65516, 65515, ValueType::Ipv4PayloadLength),
+            "Ipv4PayloadLength: 65516 is above 65515",
+        ),
+        (BuildWriteError::OutOfMemory, "out of memory"),
+        (
+            BuildWriteError::ArpHeaderNotMatch,
+            "address size defined in the ARP header does not match the actual size",
+        ),
+        (
+            BuildWriteError::Icmpv6InIpv4,
+            "Error: ICMPv6 can not be combined with an IPv4 headers (checksum can not be calculated).",
+        ),
+        (BuildWriteError::Ipv4Exts(missing), "ExtNotReferenced 51"),
+        (BuildWriteError::Ipv6Exts(not_first), "HopByHopNotAtStart"),
+    ] {
+        shows(&rt, rt.alloc(), &error, text);
+    }
+    let text = "slice is too small: the frame has 50 bytes";
+    shows(&rt, rt.alloc(), &BuildSliceWriteError::Space(50), text);
+    let error = BuildSliceWriteError::Build(BuildWriteError::OutOfMemory);
+    shows(&rt, rt.alloc(), &error, "out of memory");
 }

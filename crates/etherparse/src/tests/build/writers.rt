@@ -63,18 +63,18 @@ fn builds(rt: &impl Abort, alloc: Global, last: Last, payload_len: usize, len: u
     same(rt, &buf.len().saturating_sub(100_000), &len);
 }
 
-/// The longest IPv4 packets (65,535 bytes) are built after an Ethernet II header and two VLAN tags.
+/// The longest IPv4 packets (65,535 bytes), and IPv6 packets with the longest payload (65,535 bytes), are built after an
+/// Ethernet II header and two VLAN tags.
 #[test]
-fn longest_frames_of_ipv4(rt: HostRuntime) {
-    builds(&rt, rt.alloc(), Last::Ipv4, 65515, 22 + 65535);
-    builds(&rt, rt.alloc(), Last::Icmpv4, 65507, 22 + 65535);
-    builds(&rt, rt.alloc(), Last::Tcp, 65495, 22 + 65535);
-}
-
-/// IPv6 packets with the longest payload (65,535 bytes) are built after an Ethernet II header and two VLAN tags.
-#[test]
-fn longest_frames_of_ipv6(rt: HostRuntime) {
-    builds(&rt, rt.alloc(), Last::Ipv6, 65535, 65597);
-    builds(&rt, rt.alloc(), Last::Udp, 65527, 65597);
-    builds(&rt, rt.alloc(), Last::Icmpv6, 65527, 65597);
+fn longest_frames(rt: HostRuntime) {
+    for (last, payload_len, len) in [
+        (Last::Ipv4, 65515, 22 + 65535),
+        (Last::Icmpv4, 65507, 22 + 65535),
+        (Last::Tcp, 65495, 22 + 65535),
+        (Last::Ipv6, 65535, 65597),
+        (Last::Udp, 65527, 65597),
+        (Last::Icmpv6, 65527, 65597),
+    ] {
+        builds(&rt, rt.alloc(), last, payload_len, len);
+    }
 }

@@ -10,53 +10,30 @@ use crate::tests::checks::shows;
 use crate::{IpNumber, LenSource};
 
 #[test]
-fn too_short(rt: HostRuntime) {
-    let error = SliceError::Len(LenError {
-        required_len: 14,
-        len: 0,
-        len_source: LenSource::Slice,
-        layer: Layer::Ethernet2Header,
-        layer_start_offset: 0,
-    });
-    let text = "Ethernet2Header: 14 bytes needed, 0 there (limit Slice, offset 0)";
-    shows(&rt, rt.alloc(), &error, text);
-}
-
-#[test]
-fn errors_of_links(rt: HostRuntime) {
-    let alloc = rt.alloc();
+fn errors_of_slicing(rt: HostRuntime) {
+    let short = LenError::at_start(14, 0, LenSource::Slice, Layer::Ethernet2Header);
+    let short_text = "Ethernet2Header: 14 bytes needed, 0 there (limit Slice, offset 0)";
     let sll = linux_sll::HeaderError::UnsupportedPacketTypeField { packet_type: 8 };
-    let text = "UnsupportedPacketTypeField 8";
-    shows(&rt, alloc, &SliceError::LinuxSll(sll), text);
     let macsec = macsec::HeaderError::UnexpectedVersion;
-    shows(&rt, alloc, &SliceError::Macsec(macsec), "UnexpectedVersion");
-}
-
-#[test]
-fn errors_of_versions(rt: HostRuntime) {
-    let alloc = rt.alloc();
     let ip = ip::HeaderError::UnsupportedIpVersion { version_number: 5 };
-    shows(&rt, alloc, &SliceError::Ip(ip), "UnsupportedIpVersion 5");
     let ipv4 = ipv4::HeaderError::UnexpectedVersion { version_number: 5 };
-    shows(&rt, alloc, &SliceError::Ipv4(ipv4), "UnexpectedVersion 5");
     let ipv6 = ipv6::HeaderError::UnexpectedVersion { version_number: 4 };
-    shows(&rt, alloc, &SliceError::Ipv6(ipv6), "UnexpectedVersion 4");
-}
-
-#[test]
-fn errors_after_ip(rt: HostRuntime) {
-    let alloc = rt.alloc();
     let zero = ip_auth::HeaderError::ZeroPayloadLen;
-    shows(&rt, alloc, &SliceError::Ipv4Exts(zero), "ZeroPayloadLen");
     let hop_by_hop = ipv6_exts::HeaderError::HopByHopNotAtStart;
-    shows(
-        &rt,
-        alloc,
-        &SliceError::Ipv6Exts(hop_by_hop),
-        "HopByHopNotAtStart",
-    );
     let tcp = tcp::HeaderError::DataOffsetTooSmall { data_offset: 4 };
-    shows(&rt, alloc, &SliceError::Tcp(tcp), "DataOffsetTooSmall 4");
+    for (error, text) in [
+        (SliceError::Len(short), short_text),
+        (SliceError::LinuxSll(sll), "UnsupportedPacketTypeField 8"),
+        (SliceError::Macsec(macsec), "UnexpectedVersion"),
+        (SliceError::Ip(ip), "UnsupportedIpVersion 5"),
+        (SliceError::Ipv4(ipv4), "UnexpectedVersion 5"),
+        (SliceError::Ipv6(ipv6), "UnexpectedVersion 4"),
+        (SliceError::Ipv4Exts(zero), "ZeroPayloadLen"),
+        (SliceError::Ipv6Exts(hop_by_hop), "HopByHopNotAtStart"),
+        (SliceError::Tcp(tcp), "DataOffsetTooSmall 4"),
+    ] {
+        shows(&rt, rt.alloc(), &error, text);
+    }
 }
 
 #[test]

@@ -9,11 +9,11 @@ returns c =
     let new = c.expire.new.self in
     record {
       does = record {
-        step = λ rows number held.
+        step = λ rows number kept.
             subst (λ (now : ℕ). DoesStep nat_eq old new (expires_names now c.args.idle) number None rows)
             c.from-time.ensures
             (subst (λ (idle : ℕ). DoesStep nat_eq old new (expires_names c.from-time.result idle) number None rows)
-            c.from-longest.ensures (c.expire.ensures.step rows number held));
+            c.from-longest.ensures (c.expire.ensures.step rows number kept));
         bounded = c.expire.ensures.bounded;
         waiting = refl;
       };

@@ -9,9 +9,9 @@ returns-else-remove c =
     inr (
       refl,
       record {
-        keeps = λ rows held.
-            keeps_names _ rows c.in-Some.ensures (sym (c.remove.ensures.present rows held) ∙ c.if-remove.false) fit held
-            (c.remove.ensures.step rows 0 held);
+        keeps = λ rows kept.
+            keeps_names _ rows c.in-Some.ensures (sym (c.remove.ensures.present rows kept) ∙ c.if-remove.false) fit kept
+            (c.remove.ensures.step rows 0 kept);
         bounded = c.remove.ensures.bounded;
         waiting = refl;
       },

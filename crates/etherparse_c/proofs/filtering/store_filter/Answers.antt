@@ -8,6 +8,6 @@ returns c =
       (
         c.in-Ok-new.made.value,
         c.of-2.ensures ∙ ap Some c.of.ensures,
-        ap (λ held. held.pointer.filter) c.in-Ok-new.ensures.ok ∙ c.pointer_to.ensures ∙ ap Some c.in-Ok.ensures.ok,
+        ap (λ kept. kept.pointer.filter) c.in-Ok-new.ensures.ok ∙ c.pointer_to.ensures ∙ ap Some c.in-Ok.ensures.ok,
       ),
     )

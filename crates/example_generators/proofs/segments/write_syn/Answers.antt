@@ -6,7 +6,7 @@ use Rattle.etherparse.specs.Types.TcpHeader.{TcpHeader}
 use Rattle.etherparse.specs.Types.TransportHeader.TheVariants as header
 use Rattle.example_generators.specs.Ends.{ethernet_header}
 use Rattle.example_generators.specs.Segments.{syn_headers}
-use Rattle.example_generators.proofs.BuildingLemmas.{appends_known, held_with_tcp, unwrapped}
+use Rattle.example_generators.proofs.BuildingLemmas.{appends_known, kept_with_tcp, unwrapped}
 use Rattle.example_generators.proofs.segments.write_syn.Goals as goal
 
 pub returns : goal.returns
@@ -24,8 +24,8 @@ returns c =
     })) = search rules in
     let same : transport_step_frame header.Tcp c.unwrap.result ≡ syn_headers c.args.sequence_number =
     ap (transport_step_frame header.Tcp) (unwrapped _ _ _ _ c.unwrap.ensures c.options.ensures).1
-    ∙ ap (held_with_tcp with_options) (ap (transport_step_frame header.Tcp) c.syn.ensures ∙ ap (held_with_tcp with_syn) plain)
-    in
+    ∙ ap (kept_with_tcp with_options)
+    (ap (transport_step_frame header.Tcp) c.syn.ensures.header ∙ ap (kept_with_tcp with_syn) plain) in
     appends_known (transport_step_frame header.Tcp c.unwrap.result) (syn_headers c.args.sequence_number) [] c.args.buf.now
     c.write.new.buf c.write.result same
     c.write.ensures.ok c.write.ensures.err c.write.ensures.refused c.write.ensures.full

@@ -4,4 +4,4 @@ use Rattle.filter_tokens.proofs.value.address.Goals as goal
 
 pub returns-in-Ok-clause-only : goal.returns-in-Ok-clause-only
 returns-in-Ok-clause-only c =
-    λ value said. ap Some (IsIpText_unique c.args.word.now c.in-Ok.address value c.in-Ok.ensures said)
+    λ value stated. ap Some (IsIpText_unique c.args.word.now c.in-Ok.address value c.in-Ok.ensures stated)

@@ -5,8 +5,8 @@ use Rattle.filter_tokens.proofs.value.leading_octet.Goals as goal
 
 pub returns-in_default-clause-only : goal.returns-in_default-clause-only
 returns-in_default-clause-only c =
-    λ first rest value is said.
-    omega (arith, (octet_first c.args.text.now first rest value is said).0, c.in_default.ensures)
+    λ first rest value is stated.
+    omega (arith, (octet_first c.args.text.now first rest value is stated).0, c.in_default.ensures)
 
 pub returns-in-Some-octet-clause-some : goal.returns-in-Some-octet-clause-some
 returns-in-Some-octet-clause-some c = (
@@ -18,16 +18,16 @@ returns-in-Some-octet-clause-some c = (
 
 pub returns-in-Some-octet-clause-only : goal.returns-in-Some-octet-clause-only
 returns-in-Some-octet-clause-only c =
-    λ first rest value is said.
-    let there = octet_first c.args.text.now first rest value is said in (
+    λ first rest value is stated.
+    let present = octet_first c.args.text.now first rest value is stated in (
       some_is c.in-Some-octet.value value (c.in-Some-octet.ensures.only value
-          (subst (λ t. IsOctet t value) (sym (c.in-Some.ensures.1 ∙ there.1)) said)),
-      c.in-Some.ensures.2 ∙ there.2,
+          (subst (λ t. IsOctet t value) (sym (c.in-Some.ensures.1 ∙ present.1)) stated)),
+      c.in-Some.ensures.2 ∙ present.2,
     )
 
 pub returns-in-None-clause-only : goal.returns-in-None-clause-only
 returns-in-None-clause-only c =
-    λ first rest value is said.
-    let there = octet_first c.args.text.now first rest value is said in
+    λ first rest value is stated.
+    let present = octet_first c.args.text.now first rest value is stated in
     none_is_some (c.in-None.ensures.only value
-    (subst (λ t. IsOctet t value) (sym (c.in-Some.ensures.1 ∙ there.1)) said))
+    (subst (λ t. IsOctet t value) (sym (c.in-Some.ensures.1 ∙ present.1)) stated))

@@ -6,7 +6,7 @@ use Rattle.filter_tokens.proofs.value.mask_length.Goals as goal
 
 pub returns-in_default-clause-only : goal.returns-in_default-clause-only
 returns-in_default-clause-only c =
-    λ mask bits said. absurd (no_mask c.args.word.now c.in_default.ensures mask bits said)
+    λ mask bits stated. absurd (no_mask c.args.word.now c.in_default.ensures mask bits stated)
 
 pub returns-then-contains-clause-some : goal.returns-then-contains-clause-some
 returns-then-contains-clause-some c = (
@@ -20,12 +20,12 @@ returns-then-contains-clause-some c = (
 
 pub returns-then-contains-clause-only : goal.returns-then-contains-clause-only
 returns-then-contains-clause-only c =
-    λ mask bits said.
-    ap Some (mask_is c.args.word.now c.in-Ok.mask c.ones-bits.result c.in-Ok.ensures (search rules) mask bits said).0
+    λ mask bits stated.
+    ap Some (mask_is c.args.word.now c.in-Ok.mask c.ones-bits.result c.in-Ok.ensures (search rules) mask bits stated).0
 
 pub returns-else-contains-clause-only : goal.returns-else-contains-clause-only
 returns-else-contains-clause-only c =
-    λ mask bits said.
-    let there = mask_is c.args.word.now c.in-Ok.mask c.ones-bits.result c.in-Ok.ensures (search rules) mask bits said in
+    λ mask bits stated.
+    let present = mask_is c.args.word.now c.in-Ok.mask c.ones-bits.result c.in-Ok.ensures (search rules) mask bits stated in
     absurd (mask_differs c.ones-bits.result bits (ipv4_octets c.in-Ok.mask)
-    (sym c.contains.ensures ∙ c.if-contains.false) there.0 there.1)
+    (sym c.contains.ensures ∙ c.if-contains.false) present.0 present.1)

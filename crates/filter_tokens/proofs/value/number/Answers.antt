@@ -14,5 +14,5 @@ returns-in-Some-clause-only c =
 
 pub returns-in-None-clause-only : goal.returns-in-None-clause-only
 returns-in-None-clause-only c =
-    λ value said.
-    c.decimal.ensures.only value (decimal_if_no_mark most_number c.args.word.now value c.in-None.ensures.none said)
+    λ value stated.
+    c.decimal.ensures.only value (decimal_if_no_mark most_number c.args.word.now value c.in-None.ensures.none stated)

@@ -5,9 +5,9 @@ use Rattle.filter_tokens.proofs.value.port_range.Goals as goal
 
 pub returns-in_err-port-in-None-clause-only : goal.returns-in_err-port-in-None-clause-only
 returns-in_err-port-in-None-clause-only c =
-    λ low high said.
+    λ low high stated.
     absurd (none_is_some (c.in_err-port-in-None.ensures.only low
-    (one_port c.args.word.now low high c.in-None.ensures said).0))
+    (one_port c.args.word.now low high c.in-None.ensures stated).0))
 
 pub returns-in-Some-clause-some : goal.returns-in-Some-clause-some
 returns-in-Some-clause-some c =
@@ -16,14 +16,14 @@ returns-in-Some-clause-some c =
 
 pub returns-in-Some-clause-only : goal.returns-in-Some-clause-only
 returns-in-Some-clause-only c =
-    λ low high said.
-    let (a, b, a_is, b_is, low_is, high_is) = two_ports c.args.word.now low high c.in-Some.ensures.0 said in
+    λ low high stated.
+    let (a, b, a_is, b_is, low_is, high_is) = two_ports c.args.word.now low high c.in-Some.ensures.0 stated in
     c.port_pair.ensures.only a b (subst (λ t. IsDecimal 65535 t a) (sym c.in-Some.ensures.1) a_is)
     (subst (λ t. IsDecimal 65535 t b) (sym c.in-Some.ensures.2) b_is)
     ∙ (λ i. Some (sym low_is i, sym high_is i))
 
 pub returns-in_ok-port-in-None-clause-only : goal.returns-in_ok-port-in-None-clause-only
 returns-in_ok-port-in-None-clause-only c =
-    λ low high said.
-    let there = one_port c.args.word.now low high c.in-None.ensures said in
-    one_result c.in_ok-port-in-None.port low high (c.in_ok-port-in-None.ensures.only low there.0) there.1
+    λ low high stated.
+    let present = one_port c.args.word.now low high c.in-None.ensures stated in
+    one_result c.in_ok-port-in-None.port low high (c.in_ok-port-in-None.ensures.only low present.0) present.1

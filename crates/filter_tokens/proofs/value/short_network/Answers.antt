@@ -8,8 +8,8 @@ returns-in_default-clause-some c =
 
 pub returns-in_default-clause-only : goal.returns-in_default-clause-only
 returns-in_default-clause-only c =
-    λ numbers said.
-    let (a, is, decimal_a, some) = one_part c.args.word.now numbers c.in_default.ensures said in
+    λ numbers stated.
+    let (a, is, decimal_a, some) = one_part c.args.word.now numbers c.in_default.ensures stated in
     leading_result numbers (a ∷ []) c.one_number_network.result is (c.one_number_network.ensures.only a decimal_a some)
 
 pub returns-in-Some-split_once-clause-some : goal.returns-in-Some-split_once-clause-some
@@ -21,11 +21,11 @@ returns-in-Some-split_once-clause-some c =
 
 pub returns-in-Some-split_once-clause-only : goal.returns-in-Some-split_once-clause-only
 returns-in-Some-split_once-clause-only c =
-    λ numbers said.
+    λ numbers stated.
     let (x, y, z, is, first_is, second_is, third_is) =
     three_parts c.args.word.now c.in-Some.first.now c.in-Some.others.now c.in-Some-split_once.second.now
     c.in-Some-split_once.third.now numbers c.in-Some.ensures.0 c.in-Some.ensures.1 c.in-Some.ensures.2
-    c.in-Some-split_once.ensures.0 c.in-Some-split_once.ensures.1 c.in-Some-split_once.ensures.2 said in
+    c.in-Some-split_once.ensures.0 c.in-Some-split_once.ensures.1 c.in-Some-split_once.ensures.2 stated in
     leading_result numbers (x ∷ y ∷ z ∷ []) c.three_number_network.result is
     (c.three_number_network.ensures.only x y z first_is second_is third_is)
 
@@ -36,9 +36,9 @@ returns-in-None-clause-some c =
 
 pub returns-in-None-clause-only : goal.returns-in-None-clause-only
 returns-in-None-clause-only c =
-    λ numbers said.
+    λ numbers stated.
     let (x, y, is, first_is, second_is) =
     two_parts c.args.word.now c.in-Some.first.now c.in-Some.others.now numbers c.in-Some.ensures.0
-    c.in-Some.ensures.1 c.in-Some.ensures.2 c.in-None.ensures said in
+    c.in-Some.ensures.1 c.in-Some.ensures.2 c.in-None.ensures stated in
     leading_result numbers (x ∷ y ∷ []) c.two_number_network.result is
     (c.two_number_network.ensures.only x y first_is second_is)

@@ -3,30 +3,30 @@ use Rattle.filter_tokens.proofs.value.station.Goals as goal
 
 pub returns-in_err-a-clause-only : goal.returns-in_err-a-clause-only
 returns-in_err-a-clause-only c =
-    λ octets said.
-    absurd (no_octet 4 c.args.word.now c.in_err-a.ensures.only octets said)
+    λ octets stated.
+    absurd (no_octet 4 c.args.word.now c.in_err-a.ensures.only octets stated)
 
 pub returns-in_err-b-clause-only : goal.returns-in_err-b-clause-only
 returns-in_err-b-clause-only c =
-    λ octets said.
+    λ octets stated.
     let after_a =
-    after_octet 4 c.args.word.now c.in_ok-a.others.now c.in_ok-a.a c.in_ok-a.ensures.only octets said in
+    after_octet 4 c.args.word.now c.in_ok-a.others.now c.in_ok-a.a c.in_ok-a.ensures.only octets stated in
     absurd (no_octet 3 c.in_ok-a.others.now c.in_err-b.ensures.only after_a.0 after_a.2)
 
 pub returns-in_err-c-clause-only : goal.returns-in_err-c-clause-only
 returns-in_err-c-clause-only c =
-    λ octets said.
+    λ octets stated.
     let after_a =
-    after_octet 4 c.args.word.now c.in_ok-a.others.now c.in_ok-a.a c.in_ok-a.ensures.only octets said in
+    after_octet 4 c.args.word.now c.in_ok-a.others.now c.in_ok-a.a c.in_ok-a.ensures.only octets stated in
     let after_b =
     after_octet 3 c.in_ok-a.others.now c.in_ok-b.others.now c.in_ok-b.b c.in_ok-b.ensures.only after_a.0 after_a.2 in
     absurd (no_octet 2 c.in_ok-b.others.now c.in_err-c.ensures.only after_b.0 after_b.2)
 
 pub returns-in_err-d-clause-only : goal.returns-in_err-d-clause-only
 returns-in_err-d-clause-only c =
-    λ octets said.
+    λ octets stated.
     let after_a =
-    after_octet 4 c.args.word.now c.in_ok-a.others.now c.in_ok-a.a c.in_ok-a.ensures.only octets said in
+    after_octet 4 c.args.word.now c.in_ok-a.others.now c.in_ok-a.a c.in_ok-a.ensures.only octets stated in
     let after_b =
     after_octet 3 c.in_ok-a.others.now c.in_ok-b.others.now c.in_ok-b.b c.in_ok-b.ensures.only after_a.0 after_a.2 in
     let after_c =
@@ -35,9 +35,9 @@ returns-in_err-d-clause-only c =
 
 pub returns-in_err-e-clause-only : goal.returns-in_err-e-clause-only
 returns-in_err-e-clause-only c =
-    λ octets said.
+    λ octets stated.
     let after_a =
-    after_octet 4 c.args.word.now c.in_ok-a.others.now c.in_ok-a.a c.in_ok-a.ensures.only octets said in
+    after_octet 4 c.args.word.now c.in_ok-a.others.now c.in_ok-a.a c.in_ok-a.ensures.only octets stated in
     let after_b =
     after_octet 3 c.in_ok-a.others.now c.in_ok-b.others.now c.in_ok-b.b c.in_ok-b.ensures.only after_a.0 after_a.2 in
     let after_c =
@@ -48,9 +48,9 @@ returns-in_err-e-clause-only c =
 
 pub returns-in_err-f-clause-only : goal.returns-in_err-f-clause-only
 returns-in_err-f-clause-only c =
-    λ octets said.
+    λ octets stated.
     let after_a =
-    after_octet 4 c.args.word.now c.in_ok-a.others.now c.in_ok-a.a c.in_ok-a.ensures.only octets said in
+    after_octet 4 c.args.word.now c.in_ok-a.others.now c.in_ok-a.a c.in_ok-a.ensures.only octets stated in
     let after_b =
     after_octet 3 c.in_ok-a.others.now c.in_ok-b.others.now c.in_ok-b.b c.in_ok-b.ensures.only after_a.0 after_a.2 in
     let after_c =
@@ -63,9 +63,9 @@ returns-in_err-f-clause-only c =
 
 pub returns-clause-only : goal.returns-clause-only
 returns-clause-only c =
-    λ octets said.
+    λ octets stated.
     let after_a =
-    after_octet 4 c.args.word.now c.in_ok-a.others.now c.in_ok-a.a c.in_ok-a.ensures.only octets said in
+    after_octet 4 c.args.word.now c.in_ok-a.others.now c.in_ok-a.a c.in_ok-a.ensures.only octets stated in
     let after_b =
     after_octet 3 c.in_ok-a.others.now c.in_ok-b.others.now c.in_ok-b.b c.in_ok-b.ensures.only after_a.0 after_a.2 in
     let after_c =

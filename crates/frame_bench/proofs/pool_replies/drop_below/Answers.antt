@@ -5,9 +5,9 @@ use Rattle.frame_bench.specs.LineCalls.{table_after_lines}
 use Rattle.frame_bench.proofs.pool_replies.drop_below.Goals as goal
 
 pub returns : goal.returns
-returns c = λ history held. record {
-  limit = c.retain.ensures.answered.limit ∙ held.limit;
+returns c = λ history kept. record {
+  limit = c.retain.ensures.answered.limit ∙ kept.limit;
   table = holds_one_more c.one_more_call.ensures c.retain.new.self history.limit history.calls
-      (drops_streams c.args.timestamp) (c.retain.ensures.holds (table_after_lines history) held.table
+      (drops_streams c.args.timestamp) (c.retain.ensures.holds (table_after_lines history) kept.table
       (nat_le c.args.timestamp) (λ timestamp answer met. search (rules, of_calls)));
 }

@@ -16,8 +16,8 @@ reply_answers : (line : List ℕ) (request : Request) (bytes old new : List ℕ)
     × (new ≡ old ++ reply))
     → (before : List (List ℕ)) → HoldsLines before pool → (answer : List ℕ) × IsAnswer before line answer
     × (new ≡ old ++ answer)
-reply_answers line request bytes old new pool asks replied before (history, are, held) =
-    let reply = replied history held in
+reply_answers line request bytes old new pool asks replied before (history, are, kept) =
+    let reply = replied history kept in
     (reply.0, inl (request, bytes, asks, (history, are, reply.1)), reply.2)
 
 -- The pool after a line's request is in the state after the line.
@@ -26,16 +26,16 @@ reply_holds : (line : List ℕ) (request : Request) (bytes : List ℕ) (pool nex
     → ((history : PoolHistory) → HoldsHistory history pool → (after : PoolHistory)
     × IsAfterRequest history request bytes after × HoldsHistory after next)
     → (before : List (List ℕ)) → HoldsLines before pool → HoldsLines (before ++ line ∷ []) next
-reply_holds line request bytes pool next asks made before (history, are, held) =
-    let more = made history held in
+reply_holds line request bytes pool next asks made before (history, are, kept) =
+    let more = made history kept in
     HoldsLines-push before line history more.0 next are (inl (request, bytes, asks, more.1)) more.2
 
 -- A line that is not a request does not change the pool.
 nothing_holds : (line : List ℕ) (pool : IpDefragPool ℕ ℕ)
     → ((request : Request) (bytes : List ℕ) → Asks line request bytes → ⊥)
     → (before : List (List ℕ)) → HoldsLines before pool → HoldsLines (before ++ line ∷ []) pool
-nothing_holds line pool none before (history, are, held) =
-    HoldsLines-push before line history history pool are (inr (none, refl)) held
+nothing_holds line pool none before (history, are, kept) =
+    HoldsLines-push before line history history pool are (inr (none, refl)) kept
 
 pub returns-in-Some-clause-answer : goal.returns-in-Some-clause-answer
 returns-in-Some-clause-answer c =

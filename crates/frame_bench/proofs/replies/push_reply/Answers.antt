@@ -7,11 +7,11 @@ use Rattle.frame_bench.proofs.replies.push_reply.Goals as goal
 
 pub returns-in-Slice-clause-reply : goal.returns-in-Slice-clause-reply
 returns-in-Slice-clause-reply c =
-    rw c.in-Slice.is (on_ok_weaker c.push_slice.result (λ told history held. told) c.push_slice.ensures)
+    rw c.in-Slice.is (on_ok_weaker c.push_slice.result (λ reported history kept. reported) c.push_slice.ensures)
 
 pub returns-in-Slice-clause-holds : goal.returns-in-Slice-clause-holds
 returns-in-Slice-clause-holds c =
-    rw c.in-Slice.is (at_ok c.push_slice.result (λ history held. (history, refl, held)))
+    rw c.in-Slice.is (at_ok c.push_slice.result (λ history kept. (history, refl, kept)))
 
 pub returns-in-Fragment-clause-reply : goal.returns-in-Fragment-clause-reply
 returns-in-Fragment-clause-reply c = rw c.in-Fragment.is c.push_fragment.ensures.reply
@@ -23,14 +23,14 @@ pub returns-in-Drop-clause-holds : goal.returns-in-Drop-clause-holds
 returns-in-Drop-clause-holds c =
     rw c.in-Drop.is
     (at_ok c.extend_from_slice.result
-    (λ history held.
-    (with_call history (drops_streams c.in-Drop.timestamp), refl, c.drop_below.ensures history held)))
+    (λ history kept.
+    (with_call history (drops_streams c.in-Drop.timestamp), refl, c.drop_below.ensures history kept)))
 
 pub returns-in-Limit-clause-holds : goal.returns-in-Limit-clause-holds
 returns-in-Limit-clause-holds c =
     rw c.in-Limit.is
     (at_ok c.extend_from_slice-in-Limit.result
-    (λ history held. (
+    (λ history kept. (
       new_pool c.in-Limit.max,
       refl,
       HoldsHistory-new c.with_limit.result c.in-Limit.max c.with_limit.ensures.limit c.with_limit.ensures.holds,

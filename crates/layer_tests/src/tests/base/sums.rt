@@ -64,8 +64,8 @@ fn is_added(rt: &impl Abort, alloc: Global, number: u64, bytes: &[u8]) {
 }
 
 fn are_added(rt: &impl Abort, alloc: Global, bytes: &[u8], length: usize) {
-    let behind = bytes.get(length % 8..).expect(rt, "too few bytes");
-    let piece = behind.get(..length).expect(rt, "too few bytes");
+    let rest = bytes.get(length % 8..).expect(rt, "too few bytes");
+    let piece = rest.get(..length).expect(rt, "too few bytes");
     for number in [0, 1, 0xffff, u64::MAX - 1, u64::MAX] {
         is_added(rt, alloc, number, piece);
     }

@@ -13,7 +13,7 @@ use ep_base::{
 };
 
 #[test]
-fn copied_ordered_and_hashed() {
+fn derived_traits() {
     are_copied_ordered_and_hashed::<
         (
             EtherType,
@@ -29,20 +29,8 @@ fn copied_ordered_and_hashed() {
             VlanPcp,
         ),
     >();
-}
-
-#[test]
-fn ordered_and_hashed() {
     are_ordered_and_hashed::<(EtherPayloadSlice<'_>, IpPayloadSlice<'_>)>();
-}
-
-#[test]
-fn hashed() {
     are_hashed::<(Layer, ValueType)>();
-}
-
-#[test]
-fn errors() {
     are_hashed::<
         (
             LenError,
@@ -98,19 +86,7 @@ fn errors() {
         ipv6_exts::HeaderSliceError,
         ipv6_exts::HeaderWriteError,
     >();
-}
-
-#[test]
-fn copied() {
     is_copied::<AtLeast<'_, 20>>();
-}
-
-#[test]
-fn compared() {
     are_compared::<Sum16BitWords>();
-}
-
-#[test]
-fn defaults() {
     have_defaults::<VlanId>();
 }

@@ -14,13 +14,9 @@ use ep_ip::{
 };
 
 #[test]
-fn errors() {
+fn derived_traits() {
     are_hashed::<(BadOptionsLen, ExtPayloadLenError, IcvLenError)>();
     are_errors::<BadOptionsLen, ExtPayloadLenError, IcvLenError>();
-}
-
-#[test]
-fn compared() {
     are_compared::<
         (
             IpAuthHeader,
@@ -50,10 +46,6 @@ fn compared() {
             Ipv6Slice<'_>,
         ),
     >();
-}
-
-#[test]
-fn defaults() {
     have_defaults::<
         (
             Ipv4Extensions,

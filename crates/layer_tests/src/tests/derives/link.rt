@@ -11,18 +11,10 @@ use ep_link::{
 };
 
 #[test]
-fn copied_ordered_and_hashed() {
+fn derived_traits() {
     are_copied_ordered_and_hashed::<(ArpHardwareId, ArpOperation)>();
-}
-
-#[test]
-fn errors() {
     are_hashed::<(ArpHwAddrError, ArpNewError, ArpProtoAddrError)>();
     are_errors::<ArpHwAddrError, ArpNewError, ArpProtoAddrError>();
-}
-
-#[test]
-fn compared() {
     are_compared::<
         (
             ArpPacket,
@@ -55,9 +47,5 @@ fn compared() {
             VlanSlice<'_>,
         ),
     >();
-}
-
-#[test]
-fn defaults() {
     have_defaults::<(LinkExtHeader, LinkExtSlice<'_>)>();
 }

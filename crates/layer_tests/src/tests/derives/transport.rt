@@ -9,7 +9,7 @@ use ep_transport::{
 };
 
 #[test]
-fn errors() {
+fn derived_traits() {
     are_hashed::<
         (
             TcpOptionReadError,
@@ -18,10 +18,6 @@ fn errors() {
         ),
     >();
     are_errors::<TcpOptionReadError, TcpOptionWriteError, TransportChecksumError>();
-}
-
-#[test]
-fn compared() {
     are_compared::<
         (
             IcmpEchoHeader,
@@ -49,9 +45,5 @@ fn compared() {
             icmpv6::TimeExceededCode,
         ),
     >();
-}
-
-#[test]
-fn defaults() {
     have_defaults::<(TcpHeader, TcpOptions, UdpHeader)>();
 }

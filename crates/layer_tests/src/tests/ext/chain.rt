@@ -60,9 +60,7 @@ fn reads_slices(
     rt: &impl Abort,
     alloc: Global,
     (number, bytes): (u8, &[u8]),
-    kinds: &[u8],
-    fragments: bool,
-    (last, left): (u8, usize),
+    (kinds, fragments, last, left): (&[u8], bool, u8, usize),
 ) {
     let (slices, shown_last, rest) = Ipv6ExtensionsSlice::from_slice(
         IpNumber(number),
@@ -85,9 +83,7 @@ fn reads_slices(
 fn reads_headers(
     rt: &impl Abort,
     (number, bytes): (u8, &[u8]),
-    header_len: usize,
-    fragments: bool,
-    last: u8,
+    (header_len, fragments, last): (usize, bool, u8),
 ) {
     let (headers, shown_last, rest) = Ipv6Extensions::from_slice(IpNumber(number), bytes).expect(
         rt, "refused",
@@ -104,46 +100,49 @@ fn reads_headers(
     same(rt, &rest.len(), &bytes.len().wrapping_sub(header_len));
 }
 
+/// Tests chains with both parsers (slices and owned headers). Owned IPv6 extension headers have space for one header of
+/// each type, and for second destination options after a routing header. Parsing them ends before a header for which
+/// there is no space; the protocol number of this header is the next header after the chain.
 #[test]
-fn slices(rt: HostRuntime) {
-    let rows: [(u8, &[u8], &[u8], bool, u8, usize); 8] = [
-        (0, EVERY_KIND, &[0, 60, 43, 60, 44, 51], true, 17, 2),
-        (0, LINKED, &[0, 60, 43, 44, 51, 60], true, 6, 0),
-        (60, OPTIONS, &[60, 60], false, 17, 1),
-        (43, ROUTING, &[43, 43], false, 17, 1),
-        (44, FRAGMENT, &[44, 44], true, 17, 1),
-        (51, AUTHENTICATIONS, &[51, 51], false, 17, 1),
-        (43, FINAL_OPTIONS, &[43, 60, 60], false, 17, 1),
-        (60, BOTH_OPTIONS, &[60, 43, 60, 60], false, 17, 1),
+fn chains(rt: HostRuntime) {
+    let rows: [(u8, &[u8], (&[u8], bool, u8, usize), (usize, bool, u8)); 8] = [
+        (
+            0,
+            EVERY_KIND,
+            (&[0, 60, 43, 60, 44, 51], true, 17, 2),
+            (52, true, 17),
+        ),
+        (
+            0,
+            LINKED,
+            (&[0, 60, 43, 44, 51, 60], true, 6, 0),
+            (52, true, 6),
+        ),
+        (60, OPTIONS, (&[60, 60], false, 17, 1), (8, false, 60)),
+        (43, ROUTING, (&[43, 43], false, 17, 1), (8, false, 43)),
+        (44, FRAGMENT, (&[44, 44], true, 17, 1), (8, false, 44)),
+        (
+            51,
+            AUTHENTICATIONS,
+            (&[51, 51], false, 17, 1),
+            (12, false, 51),
+        ),
+        (
+            43,
+            FINAL_OPTIONS,
+            (&[43, 60, 60], false, 17, 1),
+            (16, false, 60),
+        ),
+        (
+            60,
+            BOTH_OPTIONS,
+            (&[60, 43, 60, 60], false, 17, 1),
+            (24, false, 60),
+        ),
     ];
-    for (number, bytes, kinds, fragments, last, left) in rows {
-        reads_slices(
-            &rt,
-            rt.alloc(),
-            (number, bytes),
-            kinds,
-            fragments,
-            (last, left),
-        );
-    }
-}
-
-/// Tests that owned IPv6 extension headers have space for one header of each type, and for second destination options
-/// after a routing header. Parsing ends before a header for which there is no space; the protocol number of this header
-/// is the next header after the chain.
-#[test]
-fn headers(rt: HostRuntime) {
-    for (number, bytes, header_len, fragments, last) in [
-        (0, EVERY_KIND, 52, true, 17),
-        (0, LINKED, 52, true, 6),
-        (60, OPTIONS, 8, false, 60),
-        (43, ROUTING, 8, false, 43),
-        (44, FRAGMENT, 8, false, 44),
-        (51, AUTHENTICATIONS, 12, false, 51),
-        (43, FINAL_OPTIONS, 16, false, 60),
-        (60, BOTH_OPTIONS, 24, false, 60),
-    ] {
-        reads_headers(&rt, (number, bytes), header_len, fragments, last);
+    for (number, bytes, slices, headers) in rows {
+        reads_slices(&rt, rt.alloc(), (number, bytes), slices);
+        reads_headers(&rt, (number, bytes), headers);
     }
 }
 
@@ -213,42 +212,37 @@ fn every_kind(rt: &impl Abort) -> Ipv6Extensions {
     read
 }
 
+/// Asserts that IPv6 extension headers that start with the IP protocol number `first` are written as the given bytes.
+fn writes(rt: &impl Abort, alloc: Global, headers: &Ipv6Extensions, first: IpNumber, bytes: &[u8]) {
+    let mut buf = full(rt, alloc);
+    let written = headers.write(&mut buf, first).is_ok();
+    is_written(rt, written, &buf, bytes);
+}
+
 #[test]
-fn writes_every_kind(rt: HostRuntime) {
+fn writes_headers(rt: HostRuntime) {
     let first = IpNumber::IPV6_HEADER_HOP_BY_HOP;
-    let mut buf = full(&rt, rt.alloc());
-    let written = every_kind(&rt).write(&mut buf, first).is_ok();
-    is_written(&rt, written, &buf, &EVERY_KIND[..52]);
+    let mut headers = every_kind(&rt);
+    writes(&rt, rt.alloc(), &headers, first, &EVERY_KIND[..52]);
+    same(&rt, &headers.set_next_headers(IpNumber::TCP), &first);
+    writes(&rt, rt.alloc(), &headers, first, LINKED);
+    let none = Ipv6Extensions::default();
+    writes(&rt, rt.alloc(), &none, IpNumber::UDP, b"");
 }
 
-#[test]
-fn writes_linked_headers(rt: HostRuntime) {
-    let mut linked = every_kind(&rt);
-    let first = linked.set_next_headers(IpNumber::TCP);
-    same(&rt, &first, &IpNumber::IPV6_HEADER_HOP_BY_HOP);
-    let mut buf = full(&rt, rt.alloc());
-    let written = linked.write(&mut buf, first).is_ok();
-    is_written(&rt, written, &buf, LINKED);
-}
+/// Payload of a generic IPv6 extension header of the maximum length, and ICV of an authentication header of the maximum
+/// length.
+const GREATEST_PAYLOAD: &[u8] = &[0xab; 2046];
 
-#[test]
-fn writes_no_headers(rt: HostRuntime) {
-    let first = IpNumber::UDP;
-    let mut buf = full(&rt, rt.alloc());
-    let written = Ipv6Extensions::default().write(&mut buf, first).is_ok();
-    is_written(&rt, written, &buf, b"");
-    let mut buf = full(&rt, rt.alloc());
-    let written = Ipv4Extensions::default().write(&mut buf, first).is_ok();
-    is_written(&rt, written, &buf, b"");
-}
+const GREATEST_ICV: &[u8] = &[0xcd; 1016];
 
 /// Returns a generic IPv6 extension header of the maximum length, 2048 bytes, with the given next header.
 fn greatest(rt: &impl Abort, next_header: u8) -> Ipv6RawExtHeader {
-    Ipv6RawExtHeader::new_raw(IpNumber(next_header), &[0xab; 2046]).expect(rt, "refused")
+    Ipv6RawExtHeader::new_raw(IpNumber(next_header), GREATEST_PAYLOAD).expect(rt, "refused")
 }
 
 fn greatest_authentication(rt: &impl Abort, next_header: u8) -> IpAuthHeader {
-    IpAuthHeader::new(IpNumber(next_header), 5, 6, &[0xcd; 1016]).expect(rt, "refused")
+    IpAuthHeader::new(IpNumber(next_header), 5, 6, GREATEST_ICV).expect(rt, "refused")
 }
 
 fn fragment(rt: &impl Abort, next_header: u8) -> Ipv6FragmentHeader {
@@ -276,42 +270,29 @@ fn greatest_chain(rt: &impl Abort) -> Ipv6Extensions {
 
 /// Returns the 9228 bytes of a chain of all IPv6 extension headers, each of the maximum length, before TCP.
 fn greatest_bytes(rt: &impl Abort, alloc: Global) -> Vec<u8> {
-    let mut bytes = Vec::new(alloc);
-    for next_header in [60, 43, 44] {
-        bytes
-            .extend_from_slice(&[next_header, 255])
-            .expect(rt, "refused");
-        bytes.extend_from_slice(&[0xab; 2046]).expect(rt, "refused");
-    }
-    bytes
-        .extend_from_slice(b"\x33\x00\xff\xf9\x00\x00\x00\x01")
-        .expect(rt, "refused");
-    bytes
-        .extend_from_slice(b"\x3c\xff\x00\x00\x00\x00\x00\x05\x00\x00\x00\x06")
-        .expect(rt, "refused");
-    bytes.extend_from_slice(&[0xcd; 1016]).expect(rt, "refused");
-    bytes.extend_from_slice(&[6, 255]).expect(rt, "refused");
-    bytes.extend_from_slice(&[0xab; 2046]).expect(rt, "refused");
-    bytes
+    let parts: [&[u8]; 10] = [
+        b"\x3c\xff",
+        GREATEST_PAYLOAD,
+        b"\x2b\xff",
+        GREATEST_PAYLOAD,
+        b"\x2c\xff",
+        GREATEST_PAYLOAD,
+        b"\x33\x00\xff\xf9\x00\x00\x00\x01\x3c\xff\x00\x00\x00\x00\x00\x05\x00\x00\x00\x06",
+        GREATEST_ICV,
+        b"\x06\xff",
+        GREATEST_PAYLOAD,
+    ];
+    parts.concat(alloc).expect(rt, "no memory")
 }
 
 #[test]
-fn writes_greatest_headers(rt: HostRuntime) {
-    let bytes = greatest_bytes(&rt, rt.alloc());
+fn greatest_headers(rt: HostRuntime) {
+    let (headers, bytes) = (greatest_chain(&rt), greatest_bytes(&rt, rt.alloc()));
     same(&rt, &bytes.len(), &9228);
     let first = IpNumber::IPV6_HEADER_HOP_BY_HOP;
-    let mut buf = full(&rt, rt.alloc());
-    let written = greatest_chain(&rt).write(&mut buf, first).is_ok();
-    is_written(&rt, written, &buf, &bytes);
-}
-
-#[test]
-fn reads_greatest_headers(rt: HostRuntime) {
-    let bytes = greatest_bytes(&rt, rt.alloc());
-    let (read, _, _) = Ipv6Extensions::from_slice(IpNumber::IPV6_HEADER_HOP_BY_HOP, &bytes).expect(
-        &rt, "refused",
-    );
-    same(&rt, &read, &greatest_chain(&rt));
+    writes(&rt, rt.alloc(), &headers, first, &bytes);
+    let (read, _, _) = Ipv6Extensions::from_slice(first, &bytes).expect(&rt, "refused");
+    same(&rt, &read, &headers);
 }
 
 /// Returns an IPv6 extension header of 8 bytes that contains one padding option (PadN), with the given next header.
@@ -430,26 +411,36 @@ fn headers_of_ipv4(rt: HostRuntime) {
     same(&rt, &headers, &authentication(&rt));
 }
 
+/// Asserts that IPv4 extension headers that start with the IP protocol number `first` are written as the given bytes.
+fn writes_ipv4(
+    rt: &impl Abort,
+    alloc: Global,
+    headers: &Ipv4Extensions,
+    first: IpNumber,
+    bytes: &[u8],
+) {
+    let mut buf = full(rt, alloc);
+    let written = headers.write(&mut buf, first).is_ok();
+    is_written(rt, written, &buf, bytes);
+}
+
 #[test]
 fn writes_headers_of_ipv4(rt: HostRuntime) {
     let number = IpNumber::AUTHENTICATION_HEADER;
+    let headers = authentication(&rt);
     let bytes = b"\x11\x01\x00\x00\x00\x00\x00\x05\x00\x00\x00\x06";
-    let mut buf = full(&rt, rt.alloc());
-    let written = authentication(&rt).write(&mut buf, number).is_ok();
-    is_written(&rt, written, &buf, bytes);
+    writes_ipv4(&rt, rt.alloc(), &headers, number, bytes);
     let headers = Ipv4Extensions {
         auth: Some(greatest_authentication(&rt, 17)),
     };
-    let mut bytes = vec![in rt.alloc(); 17, 255, 0, 0, 0, 0, 0, 5, 0, 0, 0, 6].expect(
-        &rt,
-        "no memory",
-    );
-    bytes
-        .extend_from_slice(&[0xcd; 1016])
-        .expect(&rt, "refused");
-    let mut buf = full(&rt, rt.alloc());
-    let written = headers.write(&mut buf, number).is_ok();
-    is_written(&rt, written, &buf, &bytes);
+    let parts: [&[u8]; 2] = [
+        b"\x11\xff\x00\x00\x00\x00\x00\x05\x00\x00\x00\x06",
+        GREATEST_ICV,
+    ];
+    let bytes = parts.concat(rt.alloc()).expect(&rt, "no memory");
+    writes_ipv4(&rt, rt.alloc(), &headers, number, &bytes);
+    let none = Ipv4Extensions::default();
+    writes_ipv4(&rt, rt.alloc(), &none, IpNumber::UDP, b"");
 }
 
 #[test]

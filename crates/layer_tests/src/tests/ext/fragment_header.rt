@@ -20,24 +20,16 @@ fn header(rt: &impl Abort) -> Ipv6FragmentHeader {
 }
 
 #[test]
-fn reads_each_field(rt: HostRuntime) {
-    let slice = Ipv6FragmentHeaderSlice::from_slice(FRAGMENT).expect(&rt, "refused");
-    same(&rt, &slice.to_header(), &header(&rt));
-    same(&rt, &slice.fragment_offset().byte_offset(), &1448);
-}
-
-#[test]
-fn reads_a_header_and_the_rest(rt: HostRuntime) {
-    let expected = Ok((header(&rt), b"\xfe\xff".as_slice()));
-    same(&rt, &Ipv6FragmentHeader::from_slice(FRAGMENT), &expected);
-}
-
-#[test]
-fn writes(rt: HostRuntime) {
+fn reads_and_writes(rt: HostRuntime) {
     let header = header(&rt);
+    let slice = Ipv6FragmentHeaderSlice::from_slice(FRAGMENT).expect(&rt, "refused");
+    same(&rt, &slice.to_header(), &header);
+    same(&rt, &slice.fragment_offset().byte_offset(), &1448);
     let mut buf = full(&rt, rt.alloc());
     let written = header.write(&mut buf).is_ok();
     is_written(&rt, written, &buf, &FRAGMENT[..8]);
+    let expected = Ok((header, b"\xfe\xff".as_slice()));
+    same(&rt, &Ipv6FragmentHeader::from_slice(FRAGMENT), &expected);
 }
 
 /// Parses an IPv6 fragment header of 8 bytes. Asserts its fields (offset in units of 8 bytes, M flag, and whether the
@@ -79,16 +71,16 @@ fn too_short() -> LenError {
 }
 
 #[test]
-fn refuses_a_shorter_front(rt: HostRuntime) {
-    let front = &FRAGMENT[..7];
+fn refuses_missing_bytes(rt: HostRuntime) {
+    let bytes = &FRAGMENT[..7];
     same(
         &rt,
-        &Ipv6FragmentHeaderSlice::from_slice(front),
+        &Ipv6FragmentHeaderSlice::from_slice(bytes),
         &Err(too_short()),
     );
     same(
         &rt,
-        &Ipv6FragmentHeader::from_slice(front),
+        &Ipv6FragmentHeader::from_slice(bytes),
         &Err(too_short()),
     );
 }

@@ -26,38 +26,52 @@ fn too_short(required_len: usize, len: usize) -> HeaderSliceError {
     })
 }
 
-#[test]
-fn reads_each_field(rt: HostRuntime) {
-    let slice = IpAuthHeaderSlice::from_slice(AUTHENTICATED).expect(&rt, "refused");
-    same(&rt, &slice.to_header(), &header(&rt));
-}
-
-#[test]
-fn reads_a_header_and_the_rest(rt: HostRuntime) {
-    let expected = Ok((header(&rt), b"\xfe\xff".as_slice()));
-    same(&rt, &IpAuthHeader::from_slice(AUTHENTICATED), &expected);
-}
-
-#[test]
-fn writes(rt: HostRuntime) {
-    let header = header(&rt);
-    let mut buf = full(&rt, rt.alloc());
+/// Asserts that an IP authentication header is written as the given bytes.
+fn writes(rt: &impl Abort, alloc: Global, header: &IpAuthHeader, bytes: &[u8]) {
+    let mut buf = full(rt, alloc);
     let written = header.write(&mut buf).is_ok();
-    is_written(&rt, written, &buf, &AUTHENTICATED[..24]);
+    is_written(rt, written, &buf, bytes);
 }
 
+/// Parses an IP authentication header with both parsers (slice and owned header). Asserts that both return the given
+/// header, and the second one the bytes after it, and that the header is written as the bytes `written`.
+fn reads_and_writes(
+    rt: &impl Abort,
+    alloc: Global,
+    bytes: &[u8],
+    header: &IpAuthHeader,
+    written: &[u8],
+) {
+    let slice = IpAuthHeaderSlice::from_slice(bytes).expect(rt, "refused");
+    same(rt, &slice.to_header(), header);
+    let (read, rest) = IpAuthHeader::from_slice(bytes).expect(rt, "refused");
+    same(rt, &read, header);
+    same(rt, &Some(rest), &bytes.get(written.len()..));
+    writes(rt, alloc, &read, written);
+    writes(rt, alloc, header, written);
+}
+
+/// Tests a header with a check value, and one whose reserved bytes are set, which are in no field.
 #[test]
-fn reserved_bytes_are_in_no_field(rt: HostRuntime) {
-    let set = b"\x06\x01\xab\xcd\x01\x02\x03\x04\xfe\xdc\xba\x98";
-    let expected = IpAuthHeader::new(IpNumber::TCP, 0x0102_0304, 0xfedc_ba98, b"").expect(
+fn headers(rt: HostRuntime) {
+    let with_value = header(&rt);
+    reads_and_writes(
+        &rt,
+        rt.alloc(),
+        AUTHENTICATED,
+        &with_value,
+        &AUTHENTICATED[..24],
+    );
+    let plain = IpAuthHeader::new(IpNumber::TCP, 0x0102_0304, 0xfedc_ba98, b"").expect(
         &rt, "refused",
     );
-    let (read, _) = IpAuthHeader::from_slice(set).expect(&rt, "refused");
-    same(&rt, &read, &expected);
-    let bytes = b"\x06\x01\x00\x00\x01\x02\x03\x04\xfe\xdc\xba\x98";
-    let mut buf = full(&rt, rt.alloc());
-    let written = read.write(&mut buf).is_ok();
-    is_written(&rt, written, &buf, bytes);
+    reads_and_writes(
+        &rt,
+        rt.alloc(),
+        b"\x06\x01\xab\xcd\x01\x02\x03\x04\xfe\xdc\xba\x98",
+        &plain,
+        b"\x06\x01\x00\x00\x01\x02\x03\x04\xfe\xdc\xba\x98",
+    );
 }
 
 /// Parses an IP authentication header with both parsers (slice and owned header), and asserts that both return a header
@@ -116,13 +130,11 @@ fn lengths_of_check_values(rt: HostRuntime) {
 fn writes_len(rt: &impl Abort, alloc: Global, len: usize, field: u8) {
     const ICV: &[u8] = &[0xab; 1016];
     let icv = ICV.get(..len).expect(rt, "too long");
-    let front = [17, field, 0, 0, 0, 0, 0, 1, 0, 0, 0, 2];
-    let mut bytes = Vec::from_array(alloc, front).expect(rt, "no memory");
+    let fixed_fields = [17, field, 0, 0, 0, 0, 0, 1, 0, 0, 0, 2];
+    let mut bytes = Vec::from_array(alloc, fixed_fields).expect(rt, "no memory");
     bytes.extend_from_slice(icv).expect(rt, "no memory");
     let header = IpAuthHeader::new(IpNumber::UDP, 1, 2, icv).expect(rt, "refused");
-    let mut buf = full(rt, alloc);
-    let written = header.write(&mut buf).is_ok();
-    is_written(rt, written, &buf, &bytes);
+    writes(rt, alloc, &header, &bytes);
 }
 
 #[test]

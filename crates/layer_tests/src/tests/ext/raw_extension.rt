@@ -14,24 +14,21 @@ fn header(rt: &impl Abort) -> Ipv6RawExtHeader {
     Ipv6RawExtHeader::new_raw(IpNumber::TCP, &OPTIONS[2..16]).expect(rt, "refused")
 }
 
-#[test]
-fn reads_each_field(rt: HostRuntime) {
-    let slice = Ipv6RawExtHeaderSlice::from_slice(OPTIONS).expect(&rt, "refused");
-    same(&rt, &slice.to_header(), &header(&rt));
-}
-
-#[test]
-fn reads_a_header_and_the_rest(rt: HostRuntime) {
-    let expected = Ok((header(&rt), b"\xfe\xff".as_slice()));
-    same(&rt, &Ipv6RawExtHeader::from_slice(OPTIONS), &expected);
-}
-
-#[test]
-fn writes(rt: HostRuntime) {
-    let header = header(&rt);
-    let mut buf = full(&rt, rt.alloc());
+/// Asserts that a generic IPv6 extension header is written as the given bytes.
+fn writes(rt: &impl Abort, alloc: Global, header: &Ipv6RawExtHeader, bytes: &[u8]) {
+    let mut buf = full(rt, alloc);
     let written = header.write(&mut buf).is_ok();
-    is_written(&rt, written, &buf, &OPTIONS[..16]);
+    is_written(rt, written, &buf, bytes);
+}
+
+#[test]
+fn reads_and_writes(rt: HostRuntime) {
+    let header = header(&rt);
+    let slice = Ipv6RawExtHeaderSlice::from_slice(OPTIONS).expect(&rt, "refused");
+    same(&rt, &slice.to_header(), &header);
+    writes(&rt, rt.alloc(), &header, &OPTIONS[..16]);
+    let expected = Ok((header, b"\xfe\xff".as_slice()));
+    same(&rt, &Ipv6RawExtHeader::from_slice(OPTIONS), &expected);
 }
 
 /// Parses a generic IPv6 extension header with both parsers (slice and owned header). Asserts that both return a header
@@ -135,9 +132,7 @@ fn writes_len(rt: &impl Abort, alloc: Global, len: usize, field: u8) {
     let mut bytes = Vec::from_array(alloc, [17, field]).expect(rt, "no memory");
     bytes.extend_from_slice(payload).expect(rt, "no memory");
     let header = Ipv6RawExtHeader::new_raw(IpNumber::UDP, payload).expect(rt, "refused");
-    let mut buf = full(rt, alloc);
-    let written = header.write(&mut buf).is_ok();
-    is_written(rt, written, &buf, &bytes);
+    writes(rt, alloc, &header, &bytes);
 }
 
 #[test]

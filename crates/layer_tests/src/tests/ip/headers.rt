@@ -78,14 +78,10 @@ fn ipv6_header(rt: &impl Abort) -> Ipv6Header {
 }
 
 #[test]
-fn reads_ipv6(rt: HostRuntime) {
-    let shown = Ipv6HeaderSlice::from_slice(IPV6).expect(&rt, "refused");
-    same(&rt, &shown.to_header(), &ipv6_header(&rt));
-}
-
-#[test]
-fn writes_ipv6(rt: HostRuntime) {
+fn reads_and_writes_ipv6(rt: HostRuntime) {
     let header = ipv6_header(&rt);
+    let shown = Ipv6HeaderSlice::from_slice(IPV6).expect(&rt, "refused");
+    same(&rt, &shown.to_header(), &header);
     let mut buf = full(&rt, rt.alloc());
     let written = header.write(&mut buf).is_ok();
     is_written(&rt, written, &buf, IPV6);
@@ -93,18 +89,19 @@ fn writes_ipv6(rt: HostRuntime) {
 
 #[test]
 fn ipv6_refusals(rt: HostRuntime) {
-    for len in [0, 1, 39] {
-        let expected = LenError::at_start(40, len, LenSource::Slice, Layer::Ipv6Header);
-        let expected = Err(ipv6::HeaderSliceError::Len(expected));
-        same(&rt, &Ipv6Header::from_slice(&IPV6[..len]), &expected);
+    let short = |len| {
+        let error = LenError::at_start(40, len, LenSource::Slice, Layer::Ipv6Header);
+        ipv6::HeaderSliceError::Len(error)
+    };
+    let version = ipv6::HeaderError::UnexpectedVersion { version_number: 4 };
+    for (bytes, error) in [
+        (b"".as_slice(), short(0)),
+        (&IPV6[..1], short(1)),
+        (&IPV6[..39], short(39)),
+        (&[0x45; 40], ipv6::HeaderSliceError::Content(version)),
+    ] {
+        same(&rt, &Ipv6Header::from_slice(bytes), &Err(error));
     }
-}
-
-#[test]
-fn ipv6_header_of_version_4(rt: HostRuntime) {
-    let expected = ipv6::HeaderError::UnexpectedVersion { version_number: 4 };
-    let expected = Err(ipv6::HeaderSliceError::Content(expected));
-    same(&rt, &Ipv6Header::from_slice(&[0x45; 40]), &expected);
 }
 
 #[test]

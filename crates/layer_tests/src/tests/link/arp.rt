@@ -27,23 +27,12 @@ fn request(rt: &impl Abort) -> ArpPacket {
 }
 
 #[test]
-fn reads_a_request(rt: HostRuntime) {
-    let slice = ArpPacketSlice::from_slice(REQUEST).expect(&rt, "refused");
-    same(&rt, &slice.to_header(), &request(&rt));
-}
-
-#[test]
-fn reads_a_request_as_header(rt: HostRuntime) {
-    same(
-        &rt,
-        &ArpPacket::from_slice(REQUEST).expect(&rt, "refused"),
-        &request(&rt),
-    );
-}
-
-#[test]
-fn writes_a_request(rt: HostRuntime) {
+fn reads_and_writes_a_request(rt: HostRuntime) {
     let packet = request(&rt);
+    let slice = ArpPacketSlice::from_slice(REQUEST).expect(&rt, "refused");
+    same(&rt, &slice.to_header(), &packet);
+    let read = ArpPacket::from_slice(REQUEST).expect(&rt, "refused");
+    same(&rt, &read, &packet);
     let mut buf = full(&rt, rt.alloc());
     let written = packet.write(&mut buf).is_ok();
     is_written(&rt, written, &buf, &REQUEST[..28]);
@@ -67,8 +56,8 @@ fn packet(rt: &impl Abort, len: u8) -> ArpPacket {
 
 /// Asserts that an ARP packet with four addresses of `len` bytes each is written as the expected bytes.
 fn writes_len(rt: &impl Abort, alloc: Global, len: u8) {
-    let front = [3, 4, 0xab, 0xcd, len, len, 0x12, 0x34];
-    let mut bytes = Vec::from_array(alloc, front).expect(rt, "no memory");
+    let fixed_fields = [3, 4, 0xab, 0xcd, len, len, 0x12, 0x34];
+    let mut bytes = Vec::from_array(alloc, fixed_fields).expect(rt, "no memory");
     for byte in 1..5 {
         bytes
             .extend_from_slice(&[byte; 255][..len as usize])

@@ -42,10 +42,6 @@ fn reads_each_field(rt: HostRuntime) {
     let packet = MacsecSlice::from_slice(PROTECTED).expect(&rt, "refused");
     same(&rt, &packet.to_header(), &header(&rt));
     same(&rt, &packet.payload.slice(), &&PROTECTED[16..56]);
-}
-
-#[test]
-fn reads_a_header_and_the_rest(rt: HostRuntime) {
     let Ok((read, rest)) = MacsecHeader::from_slice(PROTECTED) else {
         panic!(rt; "refused");
     };

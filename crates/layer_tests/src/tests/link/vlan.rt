@@ -36,19 +36,11 @@ pub(super) fn both_tags(rt: &impl Abort) -> DoubleVlanHeader {
 }
 
 #[test]
-fn reads_a_tag(rt: HostRuntime) {
+fn reads_tags(rt: HostRuntime) {
     let inner = SingleVlanSlice::from_slice(&TAGGED[4..]).expect(&rt, "refused");
     same(&rt, &inner.to_header(), &inner_tag(&rt));
-}
-
-#[test]
-fn reads_a_tag_as_header(rt: HostRuntime) {
     let expected = Ok((outer_tag(&rt), &TAGGED[4..]));
     same(&rt, &SingleVlanHeader::from_slice(TAGGED), &expected);
-}
-
-#[test]
-fn reads_both_tags_as_header(rt: HostRuntime) {
     let expected = Ok((both_tags(&rt), &TAGGED[8..]));
     same(&rt, &DoubleVlanHeader::from_slice(TAGGED), &expected);
 }

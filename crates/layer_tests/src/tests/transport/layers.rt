@@ -149,25 +149,17 @@ fn refusals(rt: HostRuntime) {
 }
 
 #[test]
-fn lent_udp(rt: HostRuntime) {
+fn lent_headers(rt: HostRuntime) {
     let mut header = udp();
     header.mut_udp().expect(&rt, "none").source_port = 22;
     same(&rt, &header.mut_tcp().is_none(), &true);
     same(&rt, &header.mut_icmpv4().is_none(), &true);
     same(&rt, &header.mut_icmpv6().is_none(), &true);
     same(&rt, &header.udp().map(|udp| udp.source_port), &Some(22));
-}
-
-#[test]
-fn lent_tcp(rt: HostRuntime) {
     let mut header = tcp();
     header.mut_tcp().expect(&rt, "none").window_size = 1;
     same(&rt, &header.mut_udp().is_none(), &true);
     same(&rt, &header.tcp().map(|tcp| tcp.window_size), &Some(1));
-}
-
-#[test]
-fn lent_icmp(rt: HostRuntime) {
     let mut header = icmpv4();
     header.mut_icmpv4().expect(&rt, "none").checksum = 2;
     same(

@@ -6,6 +6,7 @@ use ep_transport::tcp::{HeaderError, HeaderSliceError};
 use ep_transport::{
     Layer, LenError, LenSource, TcpHeader, TcpSlice, TransportHeader, ValueTooBigError, ValueType,
 };
+use std::alloc::Global;
 use std::process::Abort;
 
 /// A TCP segment with all flags set and the payload bytes 1 to 9. Its options are four no-operations, timestamps and
@@ -50,35 +51,33 @@ fn segment_header(rt: &impl Abort) -> TcpHeader {
     header
 }
 
-#[test]
-fn reads_a_header(rt: HostRuntime) {
-    let expected = Ok((plain_header(), b"".as_slice()));
-    same(&rt, &TcpHeader::from_slice(PLAIN), &expected);
+/// Parses a TCP segment with both parsers (slice and owned header). Asserts that both return the given header and the
+/// payload, and the first one the options, and that the header is written as the bytes `written`.
+fn reads_and_writes(
+    rt: &impl Abort,
+    alloc: Global,
+    bytes: &[u8],
+    header: &TcpHeader,
+    (written, options, payload): (&[u8], &[u8], &[u8]),
+) {
+    let (read, rest) = TcpHeader::from_slice(bytes).expect(rt, "refused");
+    same(rt, &(&read, rest), &(header, payload));
+    let segment = TcpSlice::from_slice(bytes).expect(rt, "refused");
+    same(rt, &segment.to_header(), header);
+    let parts = (segment.options_iterator().rest(), segment.payload());
+    same(rt, &parts, &(options, payload));
+    let mut buf = full(rt, alloc);
+    let is_ok = header.write(&mut buf).is_ok();
+    is_written(rt, is_ok, &buf, written);
 }
 
 #[test]
-fn reads_a_header_and_the_rest(rt: HostRuntime) {
-    let expected = Ok((segment_header(&rt), &SEGMENT[36..]));
-    same(&rt, &TcpHeader::from_slice(SEGMENT), &expected);
-}
-
-#[test]
-fn reads_a_segment(rt: HostRuntime) {
-    let segment = TcpSlice::from_slice(SEGMENT).expect(&rt, "refused");
-    same(&rt, &segment.to_header(), &segment_header(&rt));
-    same(&rt, &segment.payload(), &&SEGMENT[36..]);
-    same(&rt, &segment.options_iterator().rest(), &&SEGMENT[20..36]);
-}
-
-#[test]
-fn writes(rt: HostRuntime) {
-    let mut buf = full(&rt, rt.alloc());
-    let written = plain_header().write(&mut buf).is_ok();
-    is_written(&rt, written, &buf, PLAIN);
-    let header = segment_header(&rt);
-    let mut buf = full(&rt, rt.alloc());
-    let written = header.write(&mut buf).is_ok();
-    is_written(&rt, written, &buf, &SEGMENT[..36]);
+fn segments(rt: HostRuntime) {
+    let plain = plain_header();
+    reads_and_writes(&rt, rt.alloc(), PLAIN, &plain, (PLAIN, b"", b""));
+    let parts = (&SEGMENT[..36], &SEGMENT[20..36], &SEGMENT[36..]);
+    let with_options = segment_header(&rt);
+    reads_and_writes(&rt, rt.alloc(), SEGMENT, &with_options, parts);
 }
 
 /// Returns the longest TCP header, 60 bytes, with 40 bytes of options.
@@ -169,13 +168,6 @@ fn checksums_over_ipv4(rt: HostRuntime) {
 }
 
 #[test]
-fn checksum_of_parts(rt: HostRuntime) {
-    let payload = b"\x01\x02\x03\x04\x05\x06\x07\x08";
-    let sum = plain_header().calc_checksum_ipv4_raw([192, 168, 1, 1], [192, 168, 1, 2], payload);
-    same(&rt, &sum, &Ok(0xdc7a));
-}
-
-#[test]
 fn checksums_over_ipv6(rt: HostRuntime) {
     let mut bytes = [0; 44];
     bytes[..36].copy_from_slice(&SEGMENT[..36]);
@@ -225,8 +217,12 @@ fn segment_too_long_to_sum(rt: HostRuntime) {
     );
 }
 
+/// Tests the checksum of a header and a payload, and a payload that is too long.
 #[test]
-fn payload_too_long_to_sum(rt: HostRuntime) {
+fn checksums_of_parts(rt: HostRuntime) {
+    let payload = b"\x01\x02\x03\x04\x05\x06\x07\x08";
+    let sum = plain_header().calc_checksum_ipv4_raw([192, 168, 1, 1], [192, 168, 1, 2], payload);
+    same(&rt, &sum, &Ok(0xdc7a));
     let long = [0x50; 65516];
     let refused = plain_header().calc_checksum_ipv4_raw([0; 4], [0; 4], &long);
     same(&rt, &refused, &Err(too_long(65516, 65515)));

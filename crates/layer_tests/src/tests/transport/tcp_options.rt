@@ -148,9 +148,12 @@ fn gaps_are_closed(rt: HostRuntime) {
     same(&rt, &set, &Ok(()));
     let bytes = b"\x05\x12\x00\x00\x00\x01\x00\x00\x00\x02\x00\x00\x00\x03\x00\x00\x00\x04\x01\x00";
     same(&rt, &header.options.as_slice(), &bytes.as_slice());
-    let front = TcpOptionElement::SelectiveAcknowledgement((1, 2), [Some((3, 4)), None, None]);
+    let without_gap = TcpOptionElement::SelectiveAcknowledgement(
+        (1, 2),
+        [Some((3, 4)), None, None],
+    );
     let mut options = header.options.elements_iter();
-    same(&rt, &options.next(), &Some(Ok(front)));
+    same(&rt, &options.next(), &Some(Ok(without_gap)));
     same(&rt, &options.next(), &Some(Ok(TcpOptionElement::Noop)));
     same(&rt, &options.next(), &None);
 }

@@ -18,16 +18,12 @@ fn header() -> UdpHeader {
 }
 
 #[test]
-fn reads(rt: HostRuntime) {
+fn reads_and_writes(rt: HostRuntime) {
     let expected = Ok((header(), &DATAGRAM[8..]));
     same(&rt, &UdpHeader::from_slice(DATAGRAM), &expected);
     let datagram = UdpSlice::from_slice(DATAGRAM).expect(&rt, "refused");
     same(&rt, &datagram.to_header(), &header());
     same(&rt, &datagram.payload(), &&DATAGRAM[8..]);
-}
-
-#[test]
-fn writes(rt: HostRuntime) {
     let mut buf = full(&rt, rt.alloc());
     let written = header().write(&mut buf).is_ok();
     is_written(&rt, written, &buf, &DATAGRAM[..8]);

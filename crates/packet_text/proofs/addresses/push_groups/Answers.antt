@@ -3,7 +3,7 @@ use Rattle.std.proofs.lemmas.Grind.{common_steps}
 use Rattle.std.proofs.lemmas.List.{append-nil, length-drop, take_all}
 use Rattle.std.specs.Net.Text.{hex_groups_text}
 use Rattle.line_io.proofs.ResultLemmas.{OnOk-appended}
-use Rattle.packet_text.proofs.AddressLemmas.{compressed_groups, put_two, whole_groups}
+use Rattle.packet_text.proofs.AddressLemmas.{compressed_groups, put_two, complete_groups}
 use Rattle.packet_text.proofs.addresses.push_groups.Goals as goal
 use Rattle.packet_text.proofs.addresses.push_groups.Goals.{then-run_len-gt1, else-run_len-gt1}
 
@@ -12,7 +12,7 @@ returns c =
     let groups = c.args.groups.now in
     let run = c.longest_run-run_start.result in
     let start = c.if-run_len-gt1.start in
-    let whole : take (42 - start) (drop start c.if-run_len-gt1.text) ≡ hex_groups_text groups =
+    let complete : take (42 - start) (drop start c.if-run_len-gt1.text) ≡ hex_groups_text groups =
     elim c.if-run_len-gt1.branch [
       | then-run_len-gt1 w ↦
           let tail = w.put_groups-tail in
@@ -32,7 +32,7 @@ returns c =
           (take_all (42 - first) (drop first text)
           (omega (arith, length-drop first text, w.put_groups-start-else-run_len-gt1.array_long))
           ∙ w.put_groups-start-else-run_len-gt1.ensures.text ∙ append-nil _
-          ∙ whole_groups groups run c.longest_run-run_start.ensures.value w.if-run_len-gt1.false)
+          ∙ complete_groups groups run c.longest_run-run_start.ensures.value w.if-run_len-gt1.false)
     ] in
     OnOk-appended c.extend_from_slice.result c.args.output.now.items c.extend_from_slice.new.self.items
-    (take (42 - start) (drop start c.if-run_len-gt1.text)) _ c.extend_from_slice.ensures.items whole
+    (take (42 - start) (drop start c.if-run_len-gt1.text)) _ c.extend_from_slice.ensures.items complete

@@ -17,7 +17,7 @@ returns-clause-text c =
     grind (arith, common_steps) in
     let written : c.copy_from_slice.new.self ≡ digits = grind (arith, common_steps) in
     let after = drop (end - (end - 4)) (drop (end - 4) text) in
-    let behind : after ≡ drop end text = grind (arith, common_steps) in
+    let following : after ≡ drop end text = grind (arith, common_steps) in
     rw (start, written)
     (drop_part text digits after (end - 4) skip (omega (arith, c.told-text, c.requires)) (omega (arith, few))
-    ∙ ap (λ t. t ++ after) (hex_is group) ∙ ap (λ t. hex group ++ t) behind)
+    ∙ ap (λ t. t ++ after) (hex_is group) ∙ ap (λ t. hex group ++ t) following)

@@ -11,8 +11,8 @@ slice_bounds-extend_from_slice-end c =
     let b = c.copy_from_slice-2.new.self in
     let first : length a ≡ 17 = search rules in
     let second : length b ≡ 17 = search rules in
-    let whole = ap length (two_addresses a b first) in
-    omega (arith, whole, first, second, length-append a (codes " > " ++ b))
+    let complete = ap length (two_addresses a b first) in
+    omega (arith, complete, first, second, length-append a (codes " > " ++ b))
 
 pub returns : goal.returns
 unfolding mac_text

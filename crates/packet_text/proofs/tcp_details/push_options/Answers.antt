@@ -10,12 +10,12 @@ use Rattle.packet_text.proofs.tcp_details.push_options.Goals as goal
 pub loop-item-preserved : goal.loop-item-preserved
 loop-item-preserved c =
     let left = options_left c.loop-item.item-iterator in
-    let behind = options_left c.next.new.self in
+    let after = options_left c.next.new.self in
     let gives =
-    subst (λ (item : Result TcpOptionElement TcpOptionReadError). GivesItem left (Some item) behind) c.in-Ok.is
+    subst (λ (item : Result TcpOptionElement TcpOptionReadError). GivesItem left (Some item) after) c.in-Ok.is
     c.in-Some.ensures.steps in (
       goes_on c.args.output.now.items c.loop-item.output.items c.push_option.new.output.items
-          (options_left c.args.options) left behind c.in-Ok.option c.loop-item.invariant.0 gives
+          (options_left c.args.options) left after c.in-Ok.option c.loop-item.invariant.0 gives
           c.in_ok-push_option-in-Ok.ensures,
       search rules,
       search rules,
@@ -24,9 +24,9 @@ loop-item-preserved c =
 pub returns-in-Err : goal.returns-in-Err
 returns-in-Err c =
     let left = options_left c.loop-item.item-iterator in
-    let behind = options_left c.next.new.self in
+    let after = options_left c.next.new.self in
     let gives =
-    subst (λ (item : Result TcpOptionElement TcpOptionReadError). GivesItem left (Some item) behind) c.in-Err.is
+    subst (λ (item : Result TcpOptionElement TcpOptionReadError). GivesItem left (Some item) after) c.in-Err.is
     c.in-Some.ensures.steps in
     on_ok_weaker c.push_unread_option.result
     (stops c.args.output.now.items c.loop-item.output.items c.push_unread_option.new.output.items

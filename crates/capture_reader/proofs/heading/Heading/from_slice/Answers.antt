@@ -7,8 +7,8 @@ pub returns-clause-ok : goal.returns-clause-ok
 returns-clause-ok c =
     let bytes = c.args.bytes.now in
     let magic = ap style_of (sym c.word32-magic.ensures) in
-    let said = c.style_of.ensures in
-    let style : style_in bytes ≡ Some (c.in-Some.order, c.in-Some.resolution) = cc (magic, said, c.in-Some.is) in
+    let stated = c.style_of.ensures in
+    let style : style_in bytes ≡ Some (c.in-Some.order, c.in-Some.resolution) = cc (magic, stated, c.in-Some.is) in
     let passed : Passes (c.in-Some.order, c.in-Some.resolution) bytes = record {
       long = omega arith;
       major = omega (arith, c.word16-major.ensures);

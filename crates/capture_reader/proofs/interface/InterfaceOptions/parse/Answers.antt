@@ -2,17 +2,17 @@ use Rattle.std.proofs.Common.{◌≡◌, ◌+◌, ◌∙◌, true, false, refl, 
 use Rattle.std.proofs.Common.{option_copied, arith}
 use Rattle.std.proofs.lemmas.List.{take_all}
 use Rattle.capture_reader.specs.Options.{ends_options, has_option}
-use Rattle.capture_reader.proofs.OptionLemmas.{told_end, told_start, told_step}
+use Rattle.capture_reader.proofs.OptionLemmas.{reported_end, reported_start, reported_step}
 use Rattle.capture_reader.proofs.interface.InterfaceOptions.parse.Goals as goal
 
 pub options-init : goal.options-init
-options-init c = told_start c.args.order c.args.bytes.now
+options-init c = reported_start c.args.order c.args.bytes.now
 
 pub options-preserved : goal.options-preserved
 options-preserved c =
     let rest = c.options.rest.now in
     let has : has_option c.args.order rest ≡ true = sym c.has_option.ensures ∙ c.options-test.true in
-    told_step c.args.order c.args.bytes.now rest (option_copied c.options.resolution) (option_copied c.options.offset)
+    reported_step c.args.order c.args.bytes.now rest (option_copied c.options.resolution) (option_copied c.options.offset)
     (option_copied c.first_of-resolution.result) (option_copied c.first_of-offset.result)
     c.word16-code.result c.word16-len.result c.padding_of.result _ _ c.options.invariant has
     c.word16-code.ensures c.word16-len.ensures c.padding_of.ensures refl
@@ -23,18 +23,18 @@ options-preserved c =
 pub returns-clause-resolution : goal.returns-clause-resolution
 returns-clause-resolution c =
     let stuck : has_option c.args.order c.options.rest.now ≡ false = sym c.has_option.ensures ∙ c.options-test.false in
-    (told_end c.args.order c.args.bytes.now c.options.rest.now (option_copied c.options.resolution)
+    (reported_end c.args.order c.args.bytes.now c.options.rest.now (option_copied c.options.resolution)
     (option_copied c.options.offset) c.options.invariant stuck).0
 
 pub returns-clause-offset : goal.returns-clause-offset
 returns-clause-offset c =
     let stuck : has_option c.args.order c.options.rest.now ≡ false = sym c.has_option.ensures ∙ c.options-test.false in
-    (told_end c.args.order c.args.bytes.now c.options.rest.now (option_copied c.options.resolution)
+    (reported_end c.args.order c.args.bytes.now c.options.rest.now (option_copied c.options.resolution)
     (option_copied c.options.offset) c.options.invariant stuck).1
 
 pub returns-clause-ended : goal.returns-clause-ended
 returns-clause-ended c =
     let stuck : has_option c.args.order c.options.rest.now ≡ false = sym c.has_option.ensures ∙ c.options-test.false in
     c.ends_options.ensures ∙ ap (ends_options c.args.order)
-    (told_end c.args.order c.args.bytes.now c.options.rest.now (option_copied c.options.resolution)
+    (reported_end c.args.order c.args.bytes.now c.options.rest.now (option_copied c.options.resolution)
     (option_copied c.options.offset) c.options.invariant stuck).2

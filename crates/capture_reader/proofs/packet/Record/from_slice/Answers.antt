@@ -13,3 +13,6 @@ returns-clause-ok c =
     let is = (record_is_read_by order).reads bytes (λ i. omega (arith, c.type_inv.bytes i))
     (grind (arith, common_steps)) in
     rw (c.word32.ensures, c.word32-2.ensures, c.word32-3.ensures, kept) is
+
+pub returns-then-kept-gt-MOST_KEPT-clause-err : goal.returns-then-kept-gt-MOST_KEPT-clause-err
+returns-then-kept-gt-MOST_KEPT-clause-err c = grind (arith, common_steps)

@@ -23,13 +23,13 @@ always (Ok x) p = p
 always (Err e) p = tt
 
 -- bytes written just before a position are followed by the bytes from that position on
-drop_front : (bytes part : List ℕ) (end : ℕ) → length part ≤ end → end ≤ length bytes
+drop_prefix : (bytes part : List ℕ) (end : ℕ) → length part ≤ end → end ≤ length bytes
     → drop (end - length part) (take (end - length part) bytes ++ (part ++ drop end bytes)) ≡ part ++ drop end bytes
-drop_front bytes part end part_fits within =
-    let front = take (end - length part) bytes in
-    let len : length front ≡ end - length part = grind (arith, common_steps) in
-    subst (λ n. drop n (front ++ (part ++ drop end bytes)) ≡ part ++ drop end bytes) len
-    (drop-append_seam front (part ++ drop end bytes))
+drop_prefix bytes part end part_fits within =
+    let prefix = take (end - length part) bytes in
+    let len : length prefix ≡ end - length part = grind (arith, common_steps) in
+    subst (λ n. drop n (prefix ++ (part ++ drop end bytes)) ≡ part ++ drop end bytes) len
+    (drop-append_seam prefix (part ++ drop end bytes))
 
 pub returns-clause-ok : goal.returns-clause-ok
 returns-clause-ok c =
@@ -39,11 +39,11 @@ returns-clause-ok c =
     let bytes = c.args.buffer.now.items in
     let piece = take c.args.count (drop start bytes) in
     let len : c.len.result - self.end ≡ length part = grind (arith, common_steps) in
-    let whole : drop start bytes ≡ piece =
+    let complete : drop start bytes ≡ piece =
     sym (take_all c.args.count (drop start bytes) (grind (arith, common_steps))) in
     let placed : c.swap.new.x.items ≡ take (start - length part) bytes ++ (part ++ drop start bytes) = search rules in
     let rest : drop (start - (c.len.result - self.end)) c.swap.new.x.items ≡ part ++ piece =
     ap (λ n. drop (start - n) c.swap.new.x.items) len ∙ ap (λ (l : List ℕ). drop (start - length part) l) placed
-    ∙ drop_front bytes part start (grind (arith, common_steps)) (grind (arith, common_steps))
-    ∙ ap (λ l. part ++ l) whole in
+    ∙ drop_prefix bytes part start (grind (arith, common_steps)) (grind (arith, common_steps))
+    ∙ ap (λ l. part ++ l) complete in
     always c.resize.result (takes_more self _ piece refl c.reserve-2.ensures.items rest refl)

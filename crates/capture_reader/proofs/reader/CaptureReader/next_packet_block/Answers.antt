@@ -10,9 +10,9 @@ returns-in-Packet c =
     let n = c.args.ahead.now in
     let one = c.in-Some.block in
     let it = c.in-Packet.packet in
-    let said = rw (c.as_slice.ensures.value, c.rest_after-rest.ensures) at c.in-Some.ensures in
-    let found = block_ahead self n c.args.order one.len one.content it c.requires.within c.requires.blocks said.short
-    said.ok said.within said.least said.fits said.shown c.in-Packet.is in
+    let stated = rw (c.as_slice.ensures.value, c.rest_after-rest.ensures) at c.in-Some.ensures in
+    let found = block_ahead self n c.args.order one.len one.content it c.requires.within c.requires.blocks stated.short
+    stated.ok stated.within stated.least stated.fits stated.shown c.in-Packet.is in
     let shown = c.shown.ensures
     ∙ ap (λ (b : List ℕ). known_shown it.known (slice_range b (8 + it.start) (8 + it.start + it.kept)))
     c.rest_after-rest.ensures in

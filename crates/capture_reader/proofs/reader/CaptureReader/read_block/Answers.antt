@@ -40,5 +40,5 @@ pub push_reserved-requires : goal.push_reserved-requires
 push_reserved-requires c =
     let self = c.args.self.now in
     let read = c.requires.1 in
-    let long : 20 ≤ c.args.block.len = subst (λ said. FitsLen said c.args.block.len) c.in-Interface.is read.fits in
+    let long : 20 ≤ c.args.block.len = subst (λ stated. FitsLen stated c.args.block.len) c.in-Interface.is read.fits in
     omega (arith, long, read.within, length-drop self.end self.buffer.items)

@@ -4,7 +4,7 @@ use Rattle.capture_reader.specs.BlockContents.{section_of}
 use Rattle.capture_reader.specs.Captures.{in_section, inside, long_header, long_rows}
 use Rattle.capture_reader.specs.Numbers.{word32_at}
 use Rattle.capture_reader.specs.Readers.{Answers, reader_rest, stage_of}
-use Rattle.capture_reader.proofs.ReaderLemmas.{front_refused, refused_part}
+use Rattle.capture_reader.proofs.ReaderLemmas.{prefix_refused, refused_part}
 use Rattle.capture_reader.proofs.StepLemmas.{part_steps}
 use Rattle.capture_reader.proofs.reader.CaptureReader.read_long_header.Goals as goal
 
@@ -29,7 +29,7 @@ returns-in-Err c =
     let refused : Refuses (long_rows c.args.order (reader_rest self)) c.in-Err.refusal = rw c.rest.ensures at
     c.in-Err.ensures.err in
     let section = section_of c.args.order self.interfaces.items in
-    let rows = front_refused section (reader_rest self) c.in-Err.refusal c.requires.long refused in
+    let rows = prefix_refused section (reader_rest self) c.in-Err.refusal c.requires.long refused in
     subst (Answers self self) (sym c.refuse.ensures)
     (refused_part self (in_section section) c.in-Err.refusal
     (ap (λ s. stage_of s self.interfaces.items) c.requires.blocks) rows.0 rows.1)

@@ -14,8 +14,8 @@ returns c =
     let rest = reader_rest self in
     let k = c.min-wanted.result in
     let is : k ≡ min left most_stretch = c.min-wanted.ensures in
-    let there : length c.rest-available.result.now ≡ length rest = ap length c.rest-available.ensures in
-    let within : k ≤ length rest = omega (arith, there) in
+    let present : length c.rest-available.result.now ≡ length rest = ap length c.rest-available.ensures in
+    let within : k ≤ length rest = omega (arith, present) in
     let size : length (take k rest) ≡ k = length-take-le k rest within in
     part_steps self _ (inside section c.args.len left) (inside section c.args.len (left - k)) (stretch (take k rest)) k
     (ap (λ s. stage_of s self.interfaces.items) c.requires.inside) (c.requires.some, size ∙ is) refl

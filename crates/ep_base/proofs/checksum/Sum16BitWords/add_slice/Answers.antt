@@ -8,9 +8,9 @@ pub returns : goal.returns
 returns c =
     let sum = c.self.inside.sum in
     let bytes = c.args.slice.now in
-    let whole : residue c.if-slice-lt-LONG.result ≡ residue (sum + word_sum bytes) =
+    let complete : residue c.if-slice-lt-LONG.result ≡ residue (sum + word_sum bytes) =
     elim c.if-slice-lt-LONG.branch [
       | then-slice-lt-LONG w ↦ ap residue w.result-is ∙ w.add_short.ensures
       | else-slice-lt-LONG w ↦ ap residue w.result-is ∙ w.add_long.ensures
     ] in
-    rw (← c.self.view_is) (whole ∙ ones_add-words sum bytes)
+    rw (← c.self.view_is) (complete ∙ ones_add-words sum bytes)

@@ -11,10 +11,10 @@ returns-in-Ok c =
     let old = c.args.self.now in
     let last = c.args.last in
     let linked = c.set_next_headers-ether_type.ensures.linked in
-    let there = subst (λ (h : IpHeaders). (c.args.len + ip_extensions_len h ≤ most_after_header h)
+    let present = subst (λ (h : IpHeaders). (c.args.len + ip_extensions_len h ≤ most_after_header h)
     × (c.set_payload_len.new.self ≡ with_payload_len h c.args.len)) linked c.in-Ok.ensures in (
-      sym (ap first_row (rows_linked old last c.args.len)) ∙ counted (linked_headers old last) c.args.len there.0,
-      there.1,
+      sym (ap first_row (rows_linked old last c.args.len)) ∙ counted (linked_headers old last) c.args.len present.0,
+      present.1,
       c.set_next_headers-ether_type.ensures.ether_type,
     )
 

@@ -6,6 +6,6 @@ use Rattle.ep_defrag.proofs.bounded_defrag_pool.BoundedDefragPool.clear.Goals as
 pub returns-clause-step : goal.returns-clause-step
 returns-clause-step g c =
     let all = c.remove_all.ensures.removed in
-    rw (← c.self.view_is) (λ rows number held.
-    cleared g.CustomChannelId.PartialEq.eq _ _ rows number held c.fit.ensures (λ i. names_of (all.table i))
+    rw (← c.self.view_is) (λ rows number holds_rows.
+    cleared g.CustomChannelId.PartialEq.eq _ _ rows number holds_rows c.fit.ensures (λ i. names_of (all.table i))
     ((λ i. (all.evicted i).items) ∙ c.clear.ensures.items) refl all.statistics)

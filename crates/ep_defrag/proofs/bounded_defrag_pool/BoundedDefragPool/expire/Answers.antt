@@ -10,9 +10,9 @@ returns-clause-step g c =
     let table = c.self.inside.holdings.table in
     let limits = c.self.inside.limits in
     let counters = c.self.inside.holdings.statistics in
-    rw (← c.self.view_is) (λ rows number held.
+    rw (← c.self.view_is) (λ rows number holds_rows.
     expired_step g.CustomChannelId.PartialEq.eq g.met.CustomChannelId.Eq.laws _ _ rows number c.args.now c.args.idle
-    held c.fit.ensures
+    holds_rows c.fit.ensures
     ((λ i. names_of (due.table i)) ∙ names_not_due limits c.args.now c.args.idle table)
     (due.evicted ∙ (λ i. c.clear.ensures.items i ++ reports_due limits c.args.now c.args.idle table i))
     refl

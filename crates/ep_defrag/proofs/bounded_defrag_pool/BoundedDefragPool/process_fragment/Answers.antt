@@ -5,7 +5,7 @@ use Rattle.ep_defrag.specs.BoundedNames.{names_of, open_names}
 use Rattle.ep_defrag.specs.BoundedCounts.{with_answer}
 use Rattle.ep_defrag.specs.BoundedHoldings.{report_of}
 use Rattle.ep_defrag.proofs.HeldNameLemmas.{has_without}
-use Rattle.ep_defrag.proofs.HeldPoolLemmas.{within_left, hashed_left}
+use Rattle.ep_defrag.proofs.HoldingsLemmas.{within_left, hashed_left}
 use Rattle.ep_defrag.proofs.AnswerCounterLemmas.{answer_adds_up}
 use Rattle.ep_defrag.proofs.FragmentCallLemmas.{takes_bounded, own_absent, own_young, own_expired, table_differs}
 use Rattle.ep_defrag.proofs.RowRemovalLemmas.{one_name, no_name}
@@ -73,13 +73,14 @@ begin_stream-answer-requires-clause-within g c = c.self.invariant.0
 
 pub invariant_of-self-inside-2 : goal.invariant_of-self-inside-2
 invariant_of-self-inside-2 g c =
-    let held = c.match-lookup.self-inside.holdings in
+    let holdings = c.match-lookup.self-inside.holdings in
     record {
-      room = held.room;
-      states = held.states;
-      reportable = held.reportable;
+      room = holdings.room;
+      states = holdings.states;
+      reportable = holdings.reportable;
       sums = rw (c.count_answer.ensures)
-          (answer_adds_up held.statistics (open_names (names_of held.table)) c.match-lookup.answer held.sums);
+          (answer_adds_up holdings.statistics (open_names (names_of holdings.table)) c.match-lookup.answer
+          holdings.sums);
     }
 
 pub invariant_of-self : goal.invariant_of-self

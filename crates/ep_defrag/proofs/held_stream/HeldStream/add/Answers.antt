@@ -2,7 +2,7 @@ use Rattle.std.proofs.Common.{◌≡◌, ◌≤◌, ◌<◌, Bool, true, false, 
 use Rattle.std.proofs.lemmas.Bool.{cases_lt, false≢true}
 use Rattle.ep_defrag.specs.IpFragments.{IpFragment, fragment_end}
 use Rattle.ep_defrag.specs.declared.bounded_limits.DefragLimits.{DefragLimits}
-use Rattle.ep_defrag.proofs.HeldAddingLemmas.{stream_discards, stream_rejects, stream_accepts}
+use Rattle.ep_defrag.proofs.StreamAddingLemmas.{stream_discards, stream_rejects, stream_accepts}
 use Rattle.ep_defrag.proofs.held_stream.HeldStream.add.Goals as goal
 
 within : (limits : DefragLimits) (fragment : IpFragment) (long : Bool) → long ≡ false

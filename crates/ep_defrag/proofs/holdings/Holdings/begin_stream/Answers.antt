@@ -7,9 +7,9 @@ use Rattle.ep_defrag.specs.declared.ip_defrag_error.IpDefragError.TheVariants.{A
 use Rattle.ep_defrag.specs.declared.bounded_defrag_error.BoundedDefragError.TheVariants.{Rejected}
 use Rattle.ep_defrag.specs.IpFragments.{fragment_end}
 use Rattle.ep_defrag.specs.BoundedNames.{HeldName, names_of}
-use Rattle.ep_defrag.proofs.HeldNameLemmas.{HeldEntries}
-use Rattle.ep_defrag.proofs.HeldEntryLemmas.{hashed_pushed}
-use Rattle.ep_defrag.proofs.HeldPoolLemmas.{hashed_left}
+use Rattle.ep_defrag.proofs.HeldNameLemmas.{StreamEntries}
+use Rattle.ep_defrag.proofs.StreamEntryLemmas.{hashed_pushed}
+use Rattle.ep_defrag.proofs.HoldingsLemmas.{hashed_left}
 use Rattle.ep_defrag.proofs.FragmentTakingLemmas.{takes_complete, takes_rest, accepts_absent}
 use Rattle.ep_defrag.proofs.FragmentBeginLemmas.{pushed, pushed_removed, pushed_touched, absent_names, begins_rejected, begins_starved, begins_discarded}
 use Rattle.ep_defrag.proofs.holdings.Holdings.begin_stream.Goals as goal
@@ -97,25 +97,26 @@ returns-clause-takes g c =
     let mid = c.hold.new.self in
     let eq = g.CustomChannelId.PartialEq.eq in
     let laws = g.met.CustomChannelId.Eq.laws in
-    let held : HeldName _ = (c.args.id, c.add.new.self) in
+    let held_name : HeldName _ = (c.args.id, c.add.new.self) in
     let done : is_err c.hold.result ≡ false = sym c.is_err.ensures.value ∙ c.if-is_err.false in
     let added = on_ok c.hold.result _ done c.hold.ensures.table in
-    let is = pushed c.args.slot held self.table c.requires.vacant.free in
-    let at_slot : entry_at c.args.slot mid.table ≡ Some held =
-    ap (λ (entries : HeldEntries _). entry_at c.args.slot entries) added ∙ is.found in
+    let is = pushed c.args.slot held_name self.table c.requires.vacant.free in
+    let at_slot : entry_at c.args.slot mid.table ≡ Some held_name =
+    ap (λ (entries : StreamEntries _). entry_at c.args.slot entries) added ∙ is.found in
     let over = rw at_slot at c.settle.ensures.over_budget in
     let absent = absent_names eq laws g.CustomChannelId.Hash.hash_input
     g.met.CustomChannelId.Hash.respects_eq self.keys self.table c.requires.names c.args.slot c.args.id c.requires.hashed
     (λ entry inside hash. sym (c.names.ensures c.args.id entry.1.0) ∙ c.requires.vacant.absent entry inside hash) in
-    takes_rest eq laws c.args.limits.now self c.args.id c.args.fragment.now c.args.now (names_of self.table) held true
+    takes_rest eq laws c.args.limits.now self c.args.id c.args.fragment.now c.args.now (names_of self.table)
+    held_name true
     c.fit.ensures _
     (accepts_absent eq laws c.args.limits.now self c.args.id c.args.fragment.now c.args.now absent _ c.add.new.self refl
     (record { contents = c.new-3.ensures.holds; within = tt }) false c.in-Continues.ensures)
     mid c.hold.ensures.evicted (on_ok c.hold.result _ done c.hold.ensures.statistics) c.args.slot
-    (ap (λ (entries : HeldEntries _). names_of (without c.args.slot entries)) added
-    ∙ pushed_removed c.args.slot held self.table c.requires.vacant.free)
-    (ap (λ (entries : HeldEntries _). names_of (with_newest c.args.slot entries)) added
-    ∙ pushed_touched c.args.slot held self.table c.requires.vacant.free)
+    (ap (λ (entries : StreamEntries _). names_of (without c.args.slot entries)) added
+    ∙ pushed_removed c.args.slot held_name self.table c.requires.vacant.free)
+    (ap (λ (entries : StreamEntries _). names_of (with_newest c.args.slot entries)) added
+    ∙ pushed_touched c.args.slot held_name self.table c.requires.vacant.free)
     c.in-Continues.ensures.is_open c.settle.result
     (λ above. over (omega (arith, above, c.room-room.ensures.shown)))
     (λ below. c.settle.ensures.settled (omega (arith, below, c.room-room.ensures.shown)))

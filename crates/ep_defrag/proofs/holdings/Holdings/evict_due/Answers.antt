@@ -1,9 +1,9 @@
 use Rattle.std.proofs.Common.{arith, inl, inr, refl, sym, subst, ◌∙◌}
 use Rattle.ep_defrag.specs.BoundedCounts.{AddUp}
 use Rattle.ep_defrag.proofs.HeldNameLemmas.{has_touched}
-use Rattle.ep_defrag.proofs.HeldEntryLemmas.{oldest_taken, oldest_none}
-use Rattle.ep_defrag.proofs.HeldPoolLemmas.{left_touched}
-use Rattle.ep_defrag.proofs.HeldWalkLemmas.{oldest_at, visits_none, visits_due, visits_other, visits_all}
+use Rattle.ep_defrag.proofs.StreamEntryLemmas.{oldest_taken, oldest_none}
+use Rattle.ep_defrag.proofs.HoldingsLemmas.{left_touched}
+use Rattle.ep_defrag.proofs.StreamWalkLemmas.{oldest_at, visits_none, visits_due, visits_other, visits_all}
 use Rattle.ep_defrag.proofs.holdings.Holdings.evict_due.Goals.{then-is_due, else-is_due}
 use Rattle.ep_defrag.proofs.holdings.Holdings.evict_due.Goals as goal
 

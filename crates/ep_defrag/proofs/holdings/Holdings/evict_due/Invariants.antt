@@ -1,4 +1,4 @@
-use Rattle.ep_defrag.proofs.HeldWalkLemmas.{Visits}
+use Rattle.ep_defrag.proofs.StreamWalkLemmas.{Visits}
 use Rattle.ep_defrag.proofs.holdings.Holdings.evict_due.Given as goal
 
 abbrev pub invariant-loop-visited : goal.invariant-loop-visited

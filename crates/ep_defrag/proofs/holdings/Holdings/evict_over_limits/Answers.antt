@@ -1,8 +1,8 @@
 use Rattle.std.proofs.Common.{ℕ, ◌∷◌, [], length, ap, arith}
 use Rattle.std.proofs.lemmas.List.{length-append}
 use Rattle.ep_defrag.specs.BoundedHoldings.{report_of}
-use Rattle.ep_defrag.proofs.HeldEntryLemmas.{oldest_taken, oldest_shorter}
-use Rattle.ep_defrag.proofs.HeldPoolLemmas.{left_then}
+use Rattle.ep_defrag.proofs.StreamEntryLemmas.{oldest_taken, oldest_shorter}
+use Rattle.ep_defrag.proofs.HoldingsLemmas.{left_then}
 use Rattle.ep_defrag.proofs.LimitHoldingLemmas.{evicts_none, oldest_evicted}
 use Rattle.ep_defrag.proofs.holdings.Holdings.evict_over_limits.Goals as goal
 

@@ -1,5 +1,6 @@
+use Rattle.std.proofs.lemmas.Grind.{common_steps}
 use Rattle.std.proofs.Common.{arith}
-use Rattle.ep_defrag.proofs.HeldPoolLemmas.{len_of_names}
+use Rattle.ep_defrag.proofs.HoldingsLemmas.{len_of_names}
 use Rattle.ep_defrag.proofs.LimitHoldingLemmas.{cause_streams, cause_bytes, cause_none}
 use Rattle.ep_defrag.proofs.holdings.Holdings.limit_cause.Goals as goal
 
@@ -14,3 +15,6 @@ returns-then-self-limits-clause-cause g c rows all =
 pub returns-clause-cause : goal.returns-clause-cause
 returns-clause-cause g c rows all =
     cause_none c.args.limits.now _ rows all (omega (arith, len_of_names c.args.self.now.table)) (omega arith)
+
+pub returns-clause-within : goal.returns-clause-within
+returns-clause-within g c = grind (arith, common_steps)

@@ -1,6 +1,6 @@
 use Rattle.std.proofs.Common.{ℕ, length, ap, arith}
-use Rattle.ep_defrag.proofs.HeldEntryLemmas.{oldest_taken, oldest_none, oldest_shorter}
-use Rattle.ep_defrag.proofs.HeldWalkLemmas.{oldest_at, removes_none, removes_oldest, removes_all}
+use Rattle.ep_defrag.proofs.StreamEntryLemmas.{oldest_taken, oldest_none, oldest_shorter}
+use Rattle.ep_defrag.proofs.StreamWalkLemmas.{oldest_at, removes_none, removes_oldest, removes_all}
 use Rattle.ep_defrag.proofs.holdings.Holdings.remove_all.Goals as goal
 
 pub remove-requires : goal.remove-requires

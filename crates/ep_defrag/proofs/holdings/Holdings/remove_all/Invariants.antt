@@ -1,5 +1,5 @@
 use Rattle.std.proofs.Common.{length}
-use Rattle.ep_defrag.proofs.HeldWalkLemmas.{Removes}
+use Rattle.ep_defrag.proofs.StreamWalkLemmas.{Removes}
 use Rattle.ep_defrag.proofs.holdings.Holdings.remove_all.Given as goal
 
 abbrev pub invariant-loop-slot : goal.invariant-loop-slot

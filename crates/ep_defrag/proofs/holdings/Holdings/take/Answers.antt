@@ -1,26 +1,34 @@
 use Rattle.std.proofs.Common.{◌≡◌, ℕ, ◌+◌, cond, refl, sym, ap, subst, ◌∙◌, arith}
 use Rattle.lru_table.specs.LruTable.{without}
 use Rattle.ep_defrag.specs.BoundedCounts.{AddUp}
-use Rattle.ep_defrag.specs.BoundedNames.{HeldName}
-use Rattle.ep_defrag.proofs.HeldNameLemmas.{open_once, open_in, has_without}
-use Rattle.ep_defrag.proofs.HeldPoolLemmas.{left_without}
+use Rattle.ep_defrag.proofs.HeldNameLemmas.{Placed, HasBeside, open_once, open_in, has_without}
+use Rattle.ep_defrag.proofs.HoldingsLemmas.{left_without}
 use Rattle.ep_defrag.proofs.DepartureLemmas.{departed}
-use Rattle.ep_defrag.proofs.holdings.Holdings.take.Goals.{then-is_some, else-is_some}
+use Rattle.ep_defrag.proofs.holdings.Holdings.take.Given.{Over}
+use Rattle.ep_defrag.proofs.holdings.Holdings.take.Goals.{then-is_some, else-is_some, After-room as AfterRemoval}
 use Rattle.ep_defrag.proofs.holdings.Holdings.take.Goals as goal
+
+-- the entry of the slot in the table before
+entry : (g : Over) (c : AfterRemoval g)
+    → Placed c.args.self.now.table c.args.slot (c.in_ok-id.id, c.in_ok-id.stream)
+entry g c =
+    c.places.ensures.taken c.args.self.now.table c.args.slot (c.in_ok-id.id, c.in_ok-id.stream)
+    (sym c.in_ok-id.ensures.removed)
+
+-- The sums of the table before, beside those of the table without the entry.
+sums_without : (g : Over) (c : AfterRemoval g)
+    → HasBeside c.args.self.now.table c.in_ok-id.stream (without c.args.slot c.args.self.now.table)
+sums_without g c = has_without c.args.self.now.table c.args.slot (c.in_ok-id.id, c.in_ok-id.stream) (entry g c)
 
 pub overflow_sub-self : goal.overflow_sub-self
 overflow_sub-self g c =
-    let name : HeldName _ = (c.in_ok-id.id, c.in_ok-id.stream) in
-    let placed = c.places.ensures.taken c.args.self.now.table c.args.slot name (sym c.in_ok-id.ensures.removed) in
-    let sums = has_without c.args.self.now.table c.args.slot name placed in
+    let sums = sums_without g (goal.at.overflow_sub-self g c).After-room in
     omega (arith, sums.room, c.args.self.now.room, c.room.ensures.shown)
 
 pub invariant_of-self-then-is_some : goal.invariant_of-self-then-is_some
 invariant_of-self-then-is_some g c =
     let self = c.args.self.now in
-    let name : HeldName _ = (c.in_ok-id.id, c.in_ok-id.stream) in
-    let placed = c.places.ensures.taken self.table c.args.slot name (sym c.in_ok-id.ensures.removed) in
-    let sums = has_without self.table c.args.slot name placed in
+    let sums = sums_without g (goal.at.invariant_of-self-then-is_some g c).After-room in
     let rest : ℕ = open_in (without c.args.slot self.table) in
     let once : open_once c.in_ok-id.stream ≡ 1 =
     ap {B = ℕ} (λ b. cond b 1 0) (sym c.is_some.ensures ∙ c.if-is_some.true) in
@@ -36,9 +44,7 @@ invariant_of-self-then-is_some g c =
 pub overflow_sub-self-else-is_some : goal.overflow_sub-self-else-is_some
 overflow_sub-self-else-is_some g c =
     let self = c.args.self.now in
-    let name : HeldName _ = (c.in_ok-id.id, c.in_ok-id.stream) in
-    let placed = c.places.ensures.taken self.table c.args.slot name (sym c.in_ok-id.ensures.removed) in
-    let sums = has_without self.table c.args.slot name placed in
+    let sums = sums_without g (goal.at.overflow_sub-self-else-is_some g c).After-room in
     let none : open_once c.in_ok-id.stream ≡ 0 =
     ap {B = ℕ} (λ b. cond b 1 0) (sym c.is_some.ensures ∙ c.if-is_some.false) in
     omega (arith, sums.streams, sums.len, sums.fit, self.states, none)
@@ -46,9 +52,7 @@ overflow_sub-self-else-is_some g c =
 pub invariant_of-self-else-is_some : goal.invariant_of-self-else-is_some
 invariant_of-self-else-is_some g c =
     let self = c.args.self.now in
-    let name : HeldName _ = (c.in_ok-id.id, c.in_ok-id.stream) in
-    let placed = c.places.ensures.taken self.table c.args.slot name (sym c.in_ok-id.ensures.removed) in
-    let sums = has_without self.table c.args.slot name placed in
+    let sums = sums_without g (goal.at.invariant_of-self-else-is_some g c).After-room in
     let none : open_once c.in_ok-id.stream ≡ 0 =
     ap {B = ℕ} (λ b. cond b 1 0) (sym c.is_some.ensures ∙ c.if-is_some.false) in
     rw (c.remove.ensures.kept) (record {
@@ -67,9 +71,8 @@ returns-clause-vacated g c = elim c.if-is_some.branch [
 pub returns-clause-left : goal.returns-clause-left
 returns-clause-left g c =
     let self = c.args.self.now in
-    let name : HeldName _ = (c.in_ok-id.id, c.in_ok-id.stream) in
-    let placed = c.places.ensures.taken self.table c.args.slot name (sym c.in_ok-id.ensures.removed) in
+    let placed = entry g (goal.at.returns-clause-left g c).After-room in
     elim c.if-is_some.branch [
-      | then-is_some w ↦ rw (w.self-is) (left_without self _ c.args.slot name placed c.remove.ensures.kept refl)
-      | else-is_some w ↦ rw (w.self-is) (left_without self _ c.args.slot name placed c.remove.ensures.kept refl)
+      | then-is_some w ↦ rw (w.self-is) (left_without self _ c.args.slot _ placed c.remove.ensures.kept refl)
+      | else-is_some w ↦ rw (w.self-is) (left_without self _ c.args.slot _ placed c.remove.ensures.kept refl)
     ]

@@ -1,55 +1,41 @@
-use Rattle.std.proofs.Common.{◌≡◌, ◌≤◌, length, List, ◌∙◌, ℕ, true, not, IsOk, sym, ap, inr, rules}
-use Rattle.std.specs.List.{list_any}
-use Rattle.std.proofs.lemmas.Bool.{false≢true}
-use Rattle.ep_defrag.specs.declared.ip_defrag_error.IpDefragError.TheVariants.{AllocationFailure}
-use Rattle.ep_defrag.specs.Ranges.{merges}
+use Rattle.std.proofs.Common.{List, ◌∙◌, inr, rules}
 use Rattle.ep_defrag.specs.IpFragments.{IpFragment, fragment_with}
 use Rattle.ep_defrag.specs.FragmentRefusals.{RefusesFragment}
-use Rattle.ep_defrag.specs.Buffers.{HoldsFragments, IsUnchanged, data_of, sections_of}
-use Rattle.ep_defrag.proofs.HeldLemmas.{data_len, HoldsFragments-push, HoldsFragments-same, in_place_when_held}
+use Rattle.ep_defrag.specs.Buffers.{HoldsFragments, IsUnchanged}
+use Rattle.ep_defrag.proofs.BufferLemmas.{HoldsFragments-push, HoldsFragments-same, refusal_by_reach, failed_needs_memory}
 use Rattle.ep_defrag.proofs.ip_defrag_buf.IpDefragBuf.add.Goals as goal
 
 pub returns-clause-fits : goal.returns-clause-fits
-returns-clause-fits c accepted held =
-    rw (← held.end, ← data_len c.args.self.now accepted held, ← c.reach.ensures) c.in_ok-range.ensures.answer
+returns-clause-fits c accepted holds =
+    refusal_by_reach c.args.self.now c.reach.result c.reach.ensures accepted
+    (fragment_with c.args.offset c.args.more_fragments c.args.payload.now) holds
+    ∙ c.in_ok-range.ensures.answer
+
+pub returns-clause-holds : goal.returns-clause-holds
+returns-clause-holds c accepted holds =
+    HoldsFragments-push c.args.self.now c.accept.new.self accepted
+    (fragment_with c.args.offset c.args.more_fragments c.args.payload.now) holds
+    (returns-clause-fits c accepted holds) (search rules) (search rules) (search rules)
 
 pub returns-in_err-range-clause-refused : goal.returns-in_err-range-clause-refused
 returns-in_err-range-clause-refused c =
     let fragment = fragment_with c.args.offset c.args.more_fragments c.args.payload.now in
     let refuses : (accepted : List IpFragment) → HoldsFragments c.args.self.now accepted
-    → RefusesFragment accepted fragment c.in_err-range.field-0.0 = λ accepted held.
-    rw (← held.end, ← data_len c.args.self.now accepted held, ← c.reach.ensures) c.in_err-range.ensures.answer in
+    → RefusesFragment accepted fragment c.in_err-range.field-0.0 = λ accepted holds.
+    refusal_by_reach c.args.self.now c.reach.result c.reach.ensures accepted fragment holds
+    ∙ c.in_err-range.ensures.answer in
     search (rules, refuses)
 
-pub returns-clause-holds : goal.returns-clause-holds
-returns-clause-holds c accepted held =
-    HoldsFragments-push c.args.self.now c.accept.new.self accepted
-    (fragment_with c.args.offset c.args.more_fragments c.args.payload.now) held
-    (rw (← held.end, ← data_len c.args.self.now accepted held, ← c.reach.ensures) c.in_ok-range.ensures.answer)
-    (search rules)
-    (search rules)
-    (search rules)
-
 pub returns-then-is_err-clause-refused : goal.returns-then-is_err-clause-refused
-returns-then-is_err-clause-refused c accepted held =
-    let fragment = fragment_with c.args.offset c.args.more_fragments c.args.payload.now in
-    let self = c.args.self.now in
-    let range = c.in_ok-range.range in
-    let taken : IsOk c.accept.result → ⊥ =
-    λ ok. false≢true (sym (c.is_err.ensures.negation ∙ ap not c.if-is_err.true) ∙ ok) in
-    inr (
-      (
-        rw (← held.end, ← data_len self accepted held, ← c.reach.ensures) c.in_ok-range.ensures.answer,
-        λ placed.
-            let found = in_place_when_held self accepted fragment held placed in
-            let within : range.end ≤ length (data_of self) = rw c.in_ok-range.ensures.ok found.0 in
-            let merging : list_any (merges range) (sections_of self) ≡ true = rw c.in_ok-range.ensures.ok found.1 in
-            taken (c.accept.ensures.in_place within merging),
-      ),
-      ap (λ (len : ℕ). AllocationFailure len) (c.from.ensures ∙ ap (λ range. range.end) c.in_ok-range.ensures.ok),
-    )
+returns-then-is_err-clause-refused c accepted holds =
+    inr
+    (failed_needs_memory c.args.self.now c.reach.result c.reach.ensures accepted
+    (fragment_with c.args.offset c.args.more_fragments c.args.payload.now) holds
+    c.in_ok-range.ensures.answer c.in_ok-range.range c.in_ok-range.ensures.ok _ c.is_err.result
+    c.is_err.ensures.negation c.if-is_err.true
+    c.accept.ensures.in_place c.from.result c.from.ensures)
 
 pub returns-then-is_err-clause-keeps : goal.returns-then-is_err-clause-keeps
-returns-then-is_err-clause-keeps c accepted held =
+returns-then-is_err-clause-keeps c accepted holds =
     let same : IsUnchanged c.args.self.now c.accept.new.self = search rules in
-    HoldsFragments-same c.args.self.now c.accept.new.self accepted held same.contents same.sections same.end
+    HoldsFragments-same c.args.self.now c.accept.new.self accepted holds same.contents same.sections same.end

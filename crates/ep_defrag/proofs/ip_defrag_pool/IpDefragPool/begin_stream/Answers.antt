@@ -4,7 +4,7 @@ use Rattle.ep_defrag.specs.Calls.{Payload}
 use Rattle.ep_defrag.specs.Pools.{stream_at, stream_named}
 use Rattle.ep_defrag.specs.Streams.{source_of}
 use Rattle.ep_defrag.proofs.EntryLemmas.{put_stream}
-use Rattle.ep_defrag.proofs.TakingLemmas.{begins_refused, begins_whole, begins}
+use Rattle.ep_defrag.proofs.TakingLemmas.{begins_refused, begins_complete, begins}
 use Rattle.ep_defrag.proofs.ip_defrag_pool.IpDefragPool.begin_stream.Goals as goal
 
 pub returns-in-Err : goal.returns-in-Err
@@ -16,7 +16,7 @@ returns-in-Err g c =
 
 pub returns-then-payload_complete : goal.returns-then-payload_complete
 returns-then-payload_complete g c =
-    begins_whole g.CustomChannelId.PartialEq.eq g.met.CustomChannelId.Eq.laws c.args.self.now _ c.args.id
+    begins_complete g.CustomChannelId.PartialEq.eq g.met.CustomChannelId.Eq.laws c.args.self.now _ c.args.id
     c.args.fragment.now c.args.timestamp c.requires c.take-buffer.result
     c.take-buffer.ensures.holds c.self.view_is c.add.new.buffer c.payload_of.result
     (c.payload_of.ensures ∙ ap {B = Payload} (λ bytes. record {

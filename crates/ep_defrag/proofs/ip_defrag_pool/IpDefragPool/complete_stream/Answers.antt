@@ -1,24 +1,23 @@
 use Rattle.std.proofs.Common.{ap, sym, refl, ◌∙◌, Some}
 use Rattle.ep_defrag.specs.Calls.{Payload}
 use Rattle.ep_defrag.specs.Streams.{source_of}
-use Rattle.ep_defrag.proofs.EntryLemmas.{absent_stream, present_stream, removed_stream}
+use Rattle.ep_defrag.proofs.EntryLemmas.{absent_in, present_stream, removed_from}
 use Rattle.ep_defrag.proofs.ip_defrag_pool.IpDefragPool.complete_stream.Goals as goal
 
 pub returns-in_err-stream-clause-payload : goal.returns-in_err-stream-clause-payload
 returns-in_err-stream-clause-payload g c =
     rw (
       c.from_residual.ensures,
-      ← c.self.view_is,
-      absent_stream g.CustomChannelId.PartialEq.eq g.met.CustomChannelId.Eq.laws _ (λ i a b. c.names.ensures a b i)
-          c.self.inside.limit c.self.inside.streams.entries c.args.id.now (sym c.in_err-stream.ensures.value),
+      absent_in g.CustomChannelId.PartialEq.eq g.met.CustomChannelId.Eq.laws _ (λ i a b. c.names.ensures a b i)
+          c.self.inside.limit c.self.inside.streams.entries _ c.self.view_is c.args.id.now
+          c.in_err-stream.ensures.value,
     ) refl
 
 pub returns-in_err-stream-clause-ends : goal.returns-in_err-stream-clause-ends
 returns-in_err-stream-clause-ends g c =
-    rw (← c.self.view_is)
-    (removed_stream g.CustomChannelId.PartialEq.eq g.met.CustomChannelId.Eq.laws _ (λ i a b. c.names.ensures a b i)
-    c.self.inside.limit c.self.inside.streams.entries c.remove.new.self.entries c.args.id.now
-    c.remove.ensures.unique c.remove.ensures.updates.1 c.remove.ensures.entries)
+    removed_from g.CustomChannelId.PartialEq.eq g.met.CustomChannelId.Eq.laws _ (λ i a b. c.names.ensures a b i)
+    c.self.inside.limit c.self.inside.streams.entries c.remove.new.self.entries c.args.id.now c.remove.ensures.unique
+    _ c.self.view_is c.remove.ensures.updates.1 c.remove.ensures.entries
 
 pub returns-clause-payload : goal.returns-clause-payload
 returns-clause-payload g c =
@@ -35,7 +34,6 @@ returns-clause-payload g c =
 
 pub returns-clause-ends : goal.returns-clause-ends
 returns-clause-ends g c =
-    rw (← c.self.view_is)
-    (removed_stream g.CustomChannelId.PartialEq.eq g.met.CustomChannelId.Eq.laws _ (λ i a b. c.names.ensures a b i)
-    c.self.inside.limit c.self.inside.streams.entries c.remove.new.self.entries c.args.id.now
-    c.remove.ensures.unique c.remove.ensures.updates.1 c.remove.ensures.entries)
+    removed_from g.CustomChannelId.PartialEq.eq g.met.CustomChannelId.Eq.laws _ (λ i a b. c.names.ensures a b i)
+    c.self.inside.limit c.self.inside.streams.entries c.remove.new.self.entries c.args.id.now c.remove.ensures.unique
+    _ c.self.view_is c.remove.ensures.updates.1 c.remove.ensures.entries

@@ -3,7 +3,7 @@ use Rattle.std.specs.Option.{option_map}
 use Rattle.ep_defrag.specs.declared.ip_defrag_pool.OpenStream.{OpenStream}
 use Rattle.ep_defrag.specs.Pools.{stream_at, payload_in, IsWhetherComplete}
 use Rattle.ep_defrag.proofs.EntryLemmas.{absent_stream, changed_again, rewritten_stream}
-use Rattle.ep_defrag.proofs.TakingLemmas.{goes_on_refused, goes_on_more, goes_on_whole}
+use Rattle.ep_defrag.proofs.TakingLemmas.{goes_on_refused, goes_on_more, goes_on_complete}
 use Rattle.ep_defrag.proofs.ip_defrag_pool.IpDefragPool.process_fragment.Goals as goal
 
 pub begin_stream-requires : goal.begin_stream-requires
@@ -43,7 +43,7 @@ returns g c =
     (λ i a b. c.names.ensures a b i) c.self.inside.limit c.self.inside.streams.entries
     (c.get_mut.follows.lender next).entries c.args.id (c.get_mut.follows.holds next).4 c.in-Some.stream.now next
     (sym c.in-Some.ensures.value) (c.get_mut.follows.holds next).0 in
-    rw (← c.self.view_is) (goes_on_whole g.CustomChannelId.PartialEq.eq g.met.CustomChannelId.Eq.laws _ _ c.args.id _
+    rw (← c.self.view_is) (goes_on_complete g.CustomChannelId.PartialEq.eq g.met.CustomChannelId.Eq.laws _ _ c.args.id _
     c.args.timestamp (stream_at (of.key, c.in-Some.stream.now)) (stream_at (of.key, next)) of.named refl
     (changed_again g.CustomChannelId.PartialEq.eq g.met.CustomChannelId.Eq.laws _ _ _ c.args.id _ _ of.now
     c.complete_stream.ensures.ends)

@@ -1,5 +1,5 @@
 use Rattle.std.proofs.Common.{◌≡◌, rules, of_calls, refl}
-use Rattle.ep_defrag.proofs.HeldStreamLemmas.{HoldsTable-answered, leaves_answered, holds_answered}
+use Rattle.ep_defrag.proofs.PoolTableLemmas.{HoldsTable-answered, leaves_answered, holds_answered}
 use Rattle.ep_defrag.proofs.ip_defrag_pool.IpDefragPool.retain.Goals as goal
 
 pub returns-clause-answered : goal.returns-clause-answered
@@ -14,11 +14,11 @@ returns-clause-answered g c =
     c.retain.ensures.filtered)
 
 pub returns-clause-holds : goal.returns-clause-holds
-returns-clause-holds g c = λ table held answers told.
-    HoldsTable-answered g.F.Fn c.args.keep answers told g.CustomChannelId.PartialEq.eq c.args.self.now _ table held
+returns-clause-holds g c = λ table holds answers reported.
+    HoldsTable-answered g.F.Fn c.args.keep answers reported g.CustomChannelId.PartialEq.eq c.args.self.now _ table holds
     (returns-clause-answered g c)
 
 pub returns-clause-entries : goal.returns-clause-entries
-returns-clause-entries g c = λ table held.
-    holds_answered g.F.Fn c.args.keep g.CustomChannelId.PartialEq.eq c.args.self.now _ table held
+returns-clause-entries g c = λ table holds.
+    holds_answered g.F.Fn c.args.keep g.CustomChannelId.PartialEq.eq c.args.self.now _ table holds
     (returns-clause-answered g c)

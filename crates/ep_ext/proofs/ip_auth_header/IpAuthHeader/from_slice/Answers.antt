@@ -1,5 +1,5 @@
 use Rattle.std.proofs.Common.{arith}
-use Rattle.ep_base.proofs.BytesLemmas.{front_within}
+use Rattle.ep_base.proofs.BytesLemmas.{prefix_within}
 use Rattle.ep_base.proofs.TableLemmas.{value_shown}
 use Rattle.ep_ext.specs.IpAuthSlices.{ip_auth_slice_bytes}
 use Rattle.ep_ext.proofs.IpAuthLemmas.{ip_auth_is_read}
@@ -8,12 +8,12 @@ use Rattle.ep_ext.proofs.ip_auth_header.IpAuthHeader.from_slice.Goals as goal
 pub slice_bounds-result-count : goal.slice_bounds-result-count
 slice_bounds-result-count c =
     let ok = c.in_ok-header.ensures.ok in
-    omega (arith, front_within c.args.slice.now (ip_auth_slice_bytes c.in_ok-header.header) ok.0 _ ok.1 c.header_len.ensures.bytes)
+    omega (arith, prefix_within c.args.slice.now (ip_auth_slice_bytes c.in_ok-header.header) ok.0 _ ok.1 c.header_len.ensures.bytes)
 
 pub slice_bounds-result-start : goal.slice_bounds-result-start
 slice_bounds-result-start c =
     let ok = c.in_ok-header.ensures.ok in
-    omega (arith, front_within c.args.slice.now (ip_auth_slice_bytes c.in_ok-header.header) ok.0 _ ok.1 c.header_len.ensures.bytes)
+    omega (arith, prefix_within c.args.slice.now (ip_auth_slice_bytes c.in_ok-header.header) ok.0 _ ok.1 c.header_len.ensures.bytes)
 
 pub returns : goal.returns
 returns c =

@@ -17,3 +17,12 @@ returns c =
       only = λ header rest other. sym (ap (λ read. read.0) (ip_auth_is_read.is_read bytes (header, rest) other).1);
       err = tt;
     }
+
+pub invariant_of-result : goal.invariant_of-result
+invariant_of-result c = grind (arith, common_steps)
+
+pub returns-then-slice-eq0-clause-only : goal.returns-then-slice-eq0-clause-only
+returns-then-slice-eq0-clause-only c = grind (arith, common_steps)
+
+pub returns-then-slice-eq0-clause-err : goal.returns-then-slice-eq0-clause-err
+returns-then-slice-eq0-clause-err c = grind (arith, common_steps)

@@ -5,7 +5,7 @@ use Rattle.ep_base.specs.Readings.{headers}
 use Rattle.ep_ext.specs.ExtensionParts.{auth_refusal, authentication}
 use Rattle.ep_ext.specs.Chains.{ipv4, chain_of}
 use Rattle.ep_ext.proofs.ChainLemmas.{ends_at_once, one_authentication, number_other, number_same}
-use Rattle.ep_ext.proofs.FrontLemmas.{auth_stops, one_lax_chain, same_auth_stop}
+use Rattle.ep_ext.proofs.PrefixLemmas.{auth_stops, one_lax_chain, same_auth_stop}
 use Rattle.ep_ext.proofs.ipv4_exts.Ipv4Extensions.from_slice_lax.Goals as goal
 
 pub returns-then-ne-clause-chain : goal.returns-then-ne-clause-chain

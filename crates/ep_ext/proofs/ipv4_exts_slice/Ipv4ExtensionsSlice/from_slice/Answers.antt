@@ -4,7 +4,7 @@ use Rattle.ep_base.specs.Bytes.{AreBytes}
 use Rattle.ep_base.specs.Readings.{slices}
 use Rattle.ep_ext.specs.ExtensionParts.{authentication}
 use Rattle.ep_ext.specs.IpAuthSlices.{ip_auth_slice_bytes, ip_auth_slice_header}
-use Rattle.ep_base.proofs.BytesLemmas.{front_within, rest_of}
+use Rattle.ep_base.proofs.BytesLemmas.{prefix_within, rest_of}
 use Rattle.ep_ext.specs.Chains.{ipv4, chain_of}
 use Rattle.ep_ext.proofs.HeaderLawLemmas.{header_laws}
 use Rattle.ep_ext.proofs.ChainLemmas.{one_chain, refused_no_chain, auth_refused, ends_at_once, one_authentication, number_other, number_same}
@@ -35,12 +35,12 @@ returns-in_err-header-clause-only c =
 pub slice_bounds-rest-count : goal.slice_bounds-rest-count
 slice_bounds-rest-count c =
     let ok = c.in_ok-header.ensures.ok in
-    omega (arith, front_within c.args.slice.now (ip_auth_slice_bytes c.in_ok-header.header) ok.0 _ ok.1 c.header_len.ensures.bytes)
+    omega (arith, prefix_within c.args.slice.now (ip_auth_slice_bytes c.in_ok-header.header) ok.0 _ ok.1 c.header_len.ensures.bytes)
 
 pub slice_bounds-rest-start : goal.slice_bounds-rest-start
 slice_bounds-rest-start c =
     let ok = c.in_ok-header.ensures.ok in
-    omega (arith, front_within c.args.slice.now (ip_auth_slice_bytes c.in_ok-header.header) ok.0 _ ok.1 c.header_len.ensures.bytes)
+    omega (arith, prefix_within c.args.slice.now (ip_auth_slice_bytes c.in_ok-header.header) ok.0 _ ok.1 c.header_len.ensures.bytes)
 
 pub returns-clause-only : goal.returns-clause-only
 returns-clause-only c =

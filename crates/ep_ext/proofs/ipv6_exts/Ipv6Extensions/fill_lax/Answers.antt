@@ -2,7 +2,7 @@ use Rattle.std.proofs.Common.{◌≡◌, ◌-◌, ◌≤◌, Some, length, sym, 
 use Rattle.std.proofs.lemmas.Bool.{eqb-true, eqb-false}
 use Rattle.ep_ext.specs.declared.ipv6_exts.Ipv6Extensions.{Ipv6Extensions}
 use Rattle.ep_ext.proofs.RefusalLemmas.{part_at_start}
-use Rattle.ep_ext.proofs.ValueFrontLemmas.{IsLaxValueOf, value_nothing, value_more, value_refused, value_misplaced, value_ends, value_second}
+use Rattle.ep_ext.proofs.ValuePrefixLemmas.{IsLaxValueOf, value_nothing, value_more, value_refused, value_misplaced, value_ends, value_second}
 use Rattle.ep_ext.proofs.ipv6_exts.Ipv6Extensions.fill_lax.Goals as goal
 use Rattle.ep_ext.proofs.ipv6_exts.Ipv6Extensions.fill_lax.Goals.{else-eq-via-then-eq+else-offset-gt0, else-eq-via-else-eq}
 

@@ -1,5 +1,5 @@
 use Rattle.std.proofs.Common.{length}
-use Rattle.ep_ext.proofs.ValueFrontLemmas.{ValueRead}
+use Rattle.ep_ext.proofs.ValuePrefixLemmas.{ValueRead}
 use Rattle.ep_ext.proofs.ipv6_exts.Ipv6Extensions.fill_lax.Given as goal
 
 abbrev pub invariant-loop-offset : goal.invariant-loop-offset

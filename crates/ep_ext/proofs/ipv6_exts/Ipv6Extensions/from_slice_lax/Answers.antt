@@ -1,6 +1,6 @@
 use Rattle.std.proofs.Common.{arith}
 use Rattle.ep_base.specs.Bytes.{AreBytes}
-use Rattle.ep_ext.proofs.ValueFrontLemmas.{one_lax_value}
+use Rattle.ep_ext.proofs.ValuePrefixLemmas.{one_lax_value}
 use Rattle.ep_ext.proofs.ipv6_exts.Ipv6Extensions.from_slice_lax.Goals as goal
 
 pub returns-clause-only : goal.returns-clause-only

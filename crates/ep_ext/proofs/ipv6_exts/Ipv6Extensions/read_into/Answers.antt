@@ -1,3 +1,4 @@
+use Rattle.std.proofs.lemmas.Grind.{common_steps}
 use Rattle.std.proofs.Common.{◌≡◌, ◌∙◌, arith}
 use Rattle.ep_base.specs.Bytes.{AreBytes}
 use Rattle.ep_base.specs.Readings.{headers}
@@ -22,3 +23,6 @@ returns-in-Err-clause-only c =
     let bytes = c.args.slice.now in
     let fits : AreBytes bytes = λ i. omega (arith, c.type_inv.slice i) in
     λ chain is. refused_no_chain header_laws ipv6 headers c.args.number.0 bytes fits _ c.in-Err.ensures.err chain is
+
+pub returns-in-Err-clause-none : goal.returns-in-Err-clause-none
+returns-in-Err-clause-none c = grind (arith, common_steps)

@@ -8,14 +8,14 @@ use Rattle.ep_ext.proofs.ipv6_exts.Ipv6Extensions.read_one.Goals as goal
 pub slice_bounds-result-count : goal.slice_bounds-result-count
 slice_bounds-result-count c =
     let ok = c.in-Ok.ensures.ok in
-    let front = extension_slice_bytes c.in-Ok.part in
-    omega (arith, ap length ok.1, length-append front ok.0, ap length c.slice.ensures)
+    let prefix = extension_slice_bytes c.in-Ok.part in
+    omega (arith, ap length ok.1, length-append prefix ok.0, ap length c.slice.ensures)
 
 pub slice_bounds-result-start : goal.slice_bounds-result-start
 slice_bounds-result-start c =
     let ok = c.in-Ok.ensures.ok in
-    let front = extension_slice_bytes c.in-Ok.part in
-    omega (arith, ap length ok.1, length-append front ok.0, ap length c.slice.ensures)
+    let prefix = extension_slice_bytes c.in-Ok.part in
+    omega (arith, ap length ok.1, length-append prefix ok.0, ap length c.slice.ensures)
 
 pub returns-clause-ok : goal.returns-clause-ok
 returns-clause-ok c =

@@ -1,3 +1,4 @@
+use Rattle.std.proofs.lemmas.Grind.{common_steps}
 use Rattle.std.proofs.Common.{◌≡◌, ◌+◌, suc, List, [], ◌∷◌, ◌++◌, length, length-append, vec_len, vec_capacity, None, Err, refl, sym, ap, subst, ◌∙◌, arith}
 use Rattle.std.proofs.lemmas.List.{append-nil}
 use Rattle.std.specs.Option.{option_map}
@@ -7,9 +8,9 @@ use Rattle.ep_ext.specs.ExtensionParts.{ExtensionPart, part_bytes, part_next}
 use Rattle.ep_ext.specs.Chains.{parts_bytes}
 use Rattle.ep_ext.specs.Ipv6Chains.{RefusesWalk, missing_number, extensions_of, ipv6_parts}
 use Rattle.ep_ext.specs.Walks.{marked, header_ref_part, header_at}
-use Rattle.ep_ext.proofs.WalkLemmas.{WalkedBy, walk_start, walk_more, walk_fewer, walk_end, written_more, fit_more, one_walk, one_walk_refusal, walks_not_refused, room_for, succeeds, on_ok, on_err, when_ok}
+use Rattle.ep_ext.proofs.WalkLemmas.{WalkedBy, walk_start, walk_more, walk_fewer, walk_end, written_more, fit_more, one_walk, one_walk_refusal, walks_not_refused, space_for, succeeds, on_ok, on_err, when_ok}
 use Rattle.ep_ext.proofs.WalkLengthLemmas.{walk_len}
-use Rattle.ep_ext.proofs.WalkLawLemmas.{walk_there}
+use Rattle.ep_ext.proofs.WalkLawLemmas.{walk_present}
 use Rattle.ep_ext.proofs.WalkMarkLemmas.{no_marks, marks_left}
 use Rattle.ep_ext.proofs.ipv6_exts.Ipv6Extensions.write.Goals as goal
 
@@ -83,12 +84,12 @@ unwrap-requires c =
     let new = marked c.loop-header.marks part in
     let more = walk_more e first inv.parts c.loop-header.number.0 c.loop-header.marks part (part_next part) new
     inv.by c.in-Some.ensures refl refl in
-    let front = inv.parts ++ part ∷ [] in
-    let behind = walk_there (suc (marks_left new)) e more.taken (extensions_of front) new (part_next part)
+    let prefix = inv.parts ++ part ∷ [] in
+    let after = walk_present (suc (marks_left new)) e more.taken (extensions_of prefix) new (part_next part)
     (omega arith) more.is_marked in
     let walks = c.in_default.ensures.ok in
-    let same = one_walk e [] first walks.0 (front ++ behind.0) c.in_default.field-0.0 behind.1 walks.1.0
-    (more.walk behind.0 behind.1 behind.2) in
+    let same = one_walk e [] first walks.0 (prefix ++ after.0) c.in_default.field-0.0 after.1 walks.1.0
+    (more.walk after.0 after.1 after.2) in
     let start = c.args.buf.now in
     let now = c.loop-header.buf in
     let size : vec_len now ≡ vec_len start + length (parts_bytes inv.parts) = omega (
@@ -99,8 +100,8 @@ unwrap-requires c =
       length-append start.items (parts_bytes inv.parts),
     ) in
     succeeds c.write.result (vec_capacity now) (vec_len now + length (part_bytes part)) c.write.ensures.full
-    (room_for (vec_capacity now) (vec_len start) (vec_len now) (length (parts_bytes (ipv6_parts e)))
-    inv.parts part behind.0 inv.room
+    (space_for (vec_capacity now) (vec_len start) (vec_len now) (length (parts_bytes (ipv6_parts e)))
+    inv.parts part after.0 inv.room
     (sym (ap (λ (p : List ExtensionPart). length (parts_bytes p)) same.0)
     ∙ walk_len e first walks.0 c.in_default.field-0.0 walks.1) size)
 
@@ -155,3 +156,6 @@ returns-clause-walk c =
           error walks.1 refused)),
       (λ same. absurd (cc)),
     )
+
+pub returns-then-is_err-clause-err : goal.returns-then-is_err-clause-err
+returns-then-is_err-clause-err c = grind (arith, common_steps)

@@ -8,21 +8,21 @@ use Rattle.ep_base.specs.declared.err.ipv6_exts.HeaderSliceError.TheVariants as 
 use Rattle.ep_base.proofs.BytesLemmas.{rest_of}
 use Rattle.ep_ext.specs.ChainPrefixes.{chain_stop}
 use Rattle.ep_ext.specs.Ipv6ExtensionSlices.{extension_slice_bytes, extension_slice_part, ipv6_slice_bytes, ipv6_slice_number}
-use Rattle.ep_ext.proofs.FrontLemmas.{front_answered, front_ends, front_fragments, front_misplaced, front_more, front_nothing, front_refused, front_within}
+use Rattle.ep_ext.proofs.PrefixLemmas.{prefix_answered, prefix_ends, prefix_fragments, prefix_misplaced, prefix_more, prefix_nothing, prefix_refused, prefix_within}
 use Rattle.ep_ext.proofs.RefusalLemmas.{part_at_start}
 use Rattle.ep_ext.proofs.ipv6_exts_slice.Ipv6ExtensionsSlice.from_slice_lax.Goals as goal
 use Rattle.ep_ext.proofs.ipv6_exts_slice.Ipv6ExtensionsSlice.from_slice_lax.Goals.{else-eq-via-then-eq+else-offset-gt0, else-eq-via-else-eq}
 
 pub loop-offset-init : goal.loop-offset-init
-loop-offset-init c = front_nothing slices c.args.number.0 c.args.slice.now
+loop-offset-init c = prefix_nothing slices c.args.number.0 c.args.slice.now
 
 pub headers_before-ahead-requires : goal.headers_before-ahead-requires
 headers_before-ahead-requires c =
     let here = c.loop-offset in
     record {
-      fragments = front_fragments c.args.number.0 c.args.slice.now here.next.0 here.rest.now here.fragmented
+      fragments = prefix_fragments c.args.number.0 c.args.slice.now here.next.0 here.rest.now here.fragmented
           here.invariant;
-      within = front_within c.args.number.0 c.args.slice.now here.next.0 here.rest.now here.fragmented here.invariant;
+      within = prefix_within c.args.number.0 c.args.slice.now here.next.0 here.rest.now here.fragmented here.invariant;
     }
 
 pub returns-then-offset-gt0 : goal.returns-then-offset-gt0
@@ -32,9 +32,9 @@ returns-then-offset-gt0 c =
     let here = c.loop-offset in
     let first = c.args.number.0 in
     let misplaced = header_error.Content content.HopByHopNotAtStart in
-    let front = front_misplaced first bytes here.next.0 here.rest.now here.fragmented here.invariant
+    let prefix = prefix_misplaced first bytes here.next.0 here.rest.now here.fragmented here.invariant
     (eqb-true _ _ (sym c.eq.ensures ∙ c.if-eq.true)) c.if-offset-gt0.true in
-    let is = front_answered first bytes here.next.0 here.rest.now here.fragmented (Some misplaced) fits front
+    let is = prefix_answered first bytes here.next.0 here.rest.now here.fragmented (Some misplaced) fits prefix
     (ipv6_slice_bytes c.headers_before-ahead.result) c.headers_before-ahead.ensures.bytes (ipv6_slice_number c.headers_before-ahead.result)
     c.headers_before-ahead.ensures.number in
     record {
@@ -50,9 +50,9 @@ pub headers_before-before_error-requires : goal.headers_before-before_error-requ
 headers_before-before_error-requires c =
     let here = c.loop-offset in
     record {
-      fragments = front_fragments c.args.number.0 c.args.slice.now here.next.0 here.rest.now here.fragmented
+      fragments = prefix_fragments c.args.number.0 c.args.slice.now here.next.0 here.rest.now here.fragmented
           here.invariant;
-      within = front_within c.args.number.0 c.args.slice.now here.next.0 here.rest.now here.fragmented here.invariant;
+      within = prefix_within c.args.number.0 c.args.slice.now here.next.0 here.rest.now here.fragmented here.invariant;
     }
 
 pub with_offset-requires : goal.with_offset-requires
@@ -72,19 +72,19 @@ returns-in-Err c =
       | else-eq-via-then-eq+else-offset-gt0 w ↦ omega arith
       | else-eq-via-else-eq w ↦ absurd (eqb-false _ _ (sym c.eq.ensures ∙ w.if-eq.false) zero_is)
     ] in
-    let front = front_refused first bytes number rest here.fragmented c.in-Err.error c.with_offset.result here.invariant
+    let prefix = prefix_refused first bytes number rest here.fragmented c.in-Err.error c.with_offset.result here.invariant
     (sym c.is_extension.ensures ∙ c.loop-offset-test.true) start c.in-Err.ensures.err c.with_offset.ensures in
-    let is = front_answered first bytes number rest here.fragmented (Some c.with_offset.result) fits front
+    let is = prefix_answered first bytes number rest here.fragmented (Some c.with_offset.result) fits prefix
     (ipv6_slice_bytes c.headers_before-before_error.result) c.headers_before-before_error.ensures.bytes
     (ipv6_slice_number c.headers_before-before_error.result)
     c.headers_before-before_error.ensures.number in
-    let told = ap Some c.error_with_layer.ensures in
+    let reported = ap Some c.error_with_layer.ensures in
     record {
       bytes = is.0;
-      chain = (Some c.with_offset.result, is.1, told);
+      chain = (Some c.with_offset.result, is.1, reported);
       only = λ chain stop other.
           let same = is.2 chain stop other in
-          (same.0, told ∙ ap (option_map chain_stop) same.1);
+          (same.0, reported ∙ ap (option_map chain_stop) same.1);
       number = c.headers_before-before_error.ensures.number;
     }
 
@@ -101,7 +101,7 @@ loop-offset-preserved c =
     let part = c.in-Ok.part in
     let after = rest_of rest (extension_slice_bytes part) ok.0 (length c.slice.result.now) ok.1
     (ap length c.slice.ensures) in
-    front_more c.args.number.0 bytes number rest c.loop-offset.fragmented
+    prefix_more c.args.number.0 bytes number rest c.loop-offset.fragmented
     (extension_slice_part part) ok.0 _ _ _ c.loop-offset.invariant
     (sym c.is_extension.ensures ∙ c.loop-offset-test.true) start ok.2 c.next_header-next.ensures after
     (ap (λ (b : Bool). c.loop-offset.fragmented || b) c.is_fragmenting_payload-fragmented.ensures)
@@ -110,9 +110,9 @@ pub headers_before-all-requires : goal.headers_before-all-requires
 headers_before-all-requires c =
     let here = c.loop-offset in
     record {
-      fragments = front_fragments c.args.number.0 c.args.slice.now here.next.0 here.rest.now here.fragmented
+      fragments = prefix_fragments c.args.number.0 c.args.slice.now here.next.0 here.rest.now here.fragmented
           here.invariant;
-      within = front_within c.args.number.0 c.args.slice.now here.next.0 here.rest.now here.fragmented here.invariant;
+      within = prefix_within c.args.number.0 c.args.slice.now here.next.0 here.rest.now here.fragmented here.invariant;
     }
 
 pub returns : goal.returns
@@ -121,9 +121,9 @@ returns c =
     let fits : AreBytes bytes = λ i. omega (arith, c.type_inv.slice i) in
     let here = c.loop-offset in
     let first = c.args.number.0 in
-    let front = front_ends first bytes here.next.0 here.rest.now here.fragmented here.invariant
+    let prefix = prefix_ends first bytes here.next.0 here.rest.now here.fragmented here.invariant
     (sym c.is_extension.ensures ∙ c.loop-offset-test.false) in
-    let is = front_answered first bytes here.next.0 here.rest.now here.fragmented None fits front
+    let is = prefix_answered first bytes here.next.0 here.rest.now here.fragmented None fits prefix
     (ipv6_slice_bytes c.headers_before-all.result) c.headers_before-all.ensures.bytes (ipv6_slice_number c.headers_before-all.result)
     c.headers_before-all.ensures.number in
     record {

@@ -1,4 +1,5 @@
-use Rattle.std.proofs.Common.{rules}
+use Rattle.std.proofs.lemmas.Grind.{common_steps}
+use Rattle.std.proofs.Common.{rules, arith}
 use Rattle.ep_ext.proofs.ipv6_fragment_header.Ipv6FragmentHeader.to_bytes.Goals as goal
 
 pub returns-clause-fits : goal.returns-clause-fits
@@ -7,3 +8,6 @@ returns-clause-fits c = record {
   fragment_offset = search rules;
   identification = search rules;
 }
+
+pub returns-clause-bytes : goal.returns-clause-bytes
+returns-clause-bytes c = grind (arith, common_steps)

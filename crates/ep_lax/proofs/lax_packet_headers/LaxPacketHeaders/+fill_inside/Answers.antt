@@ -1,16 +1,17 @@
-use Rattle.std.proofs.Common.{◌≡◌, ◌-◌, ◌+◌, suc, List, [], ◌∷◌, ◌++◌, length, length-append, Bool, None}
+use Rattle.std.proofs.Common.{◌≡◌, ◌-◌, ◌+◌, suc, List, [], ◌∷◌, ◌++◌, length, Bool, None}
 use Rattle.std.proofs.Common.{sym, ap, subst, ◌∙◌, arith, inl, inr}
 use Rattle.std.proofs.lemmas.Grind.{common_steps}
 use Rattle.ep_link.specs.declared.link_ext.link_ext_header.LinkExtHeader.{LinkExtHeader}
 use Rattle.ep_link.specs.LinkExtensions.{LinkExtension}
 use Rattle.ep_packet.specs.Frame.{most_link_exts}
+use Rattle.ep_packet.proofs.WalkLemmas.{space_after}
 use Rattle.ep_lax.specs.Lax.{RefusesLaxExtension}
 use Rattle.ep_lax.specs.LaxPacketHeaders.{lax_headers_of}
 use Rattle.ep_lax.specs.LaxPayloadParts.{macsec_modified}
 use Rattle.ep_lax.specs.LaxPayloads.{lax_ether_payload_of}
 use Rattle.ep_lax.specs.LaxViews.{extension_incomplete, lax_extension_of}
 use Rattle.ep_lax.proofs.LaxPacketHeadersLemmas.{fills_modified, fills_no_more, fills_one, fills_stopped}
-use Rattle.ep_lax.proofs.LaxWalkLemmas.{found_there, lax_extension_len, none_there, tag_refused, tag_start}
+use Rattle.ep_lax.proofs.LaxWalkLemmas.{found_present, lax_extension_len, none_present, tag_refused, tag_start}
 use Rattle.ep_lax.proofs.lax_packet_headers.LaxPacketHeaders.+fill_inside.Goals as goal
 
 pub returns-then-is_full : goal.returns-then-is_full
@@ -21,7 +22,7 @@ returns-then-is_full t c =
 
 pub returns-in-Ok-None : goal.returns-in-Ok-None
 returns-in-Ok-None t c =
-    let none = none_there c.args.payload.ether_type c.in-Ok-None.field-0 c.in-Ok-None.field-0-is
+    let none = none_present c.args.payload.ether_type c.in-Ok-None.field-0 c.in-Ok-None.field-0-is
     c.in-Ok-None.ensures.none in
     fills_no_more (most_link_exts - length c.args.self.now.link_exts.items) c.args.offset
     (lax_ether_payload_of c.args.payload) (lax_headers_of c.args.self.now)
@@ -37,42 +38,38 @@ extension_stop-requires t c =
 
 pub returns-in-Err : goal.returns-in-Err
 returns-in-Err t c =
-    let room = most_link_exts - length c.args.self.now.link_exts.items in
+    let space = most_link_exts - length c.args.self.now.link_exts.items in
     let payload = c.args.payload in
-    let more : room ≡ suc (room - 1) = grind (arith, common_steps) in
+    let more : space ≡ suc (space - 1) = grind (arith, common_steps) in
     let refused = subst (RefusesLaxExtension c.args.offset payload.ether_type payload.payload.now)
     (sym c.extension_stop.ensures)
     (tag_refused c.args.offset payload.ether_type payload.payload.now c.in-Err.error c.in-Err.ensures.err) in
-    fills_stopped room (room - 1) c.args.offset (lax_ether_payload_of payload) c.extension_stop.result
+    fills_stopped space (space - 1) c.args.offset (lax_ether_payload_of payload) c.extension_stop.result
     (lax_headers_of c.args.self.now) (lax_headers_of c.stop_in.new.self) more refused c.stop_in.ensures
 
 pub overflow_add-inside_offset : goal.overflow_add-inside_offset
 overflow_add-inside_offset t c =
     let payload = c.args.payload in
     let found = c.in-Ok-Some.extension in
-    let there = found_there payload.ether_type payload.payload.now payload.incomplete c.in-Ok-Some.field-0 found
+    let present = found_present payload.ether_type payload.payload.now payload.incomplete c.in-Ok-Some.field-0 found
     c.in-Ok-Some.field-0-is c.in-Ok-Some.ensures.ok in
     let len = lax_extension_len payload.incomplete payload.ether_type payload.payload.now
-    (lax_extension_of found, extension_incomplete payload.incomplete found) there.is in
+    (lax_extension_of found, extension_incomplete payload.incomplete found) present.is in
     omega (arith, len, c.header_len.ensures, c.requires)
 
 pub returns-in-Some : goal.returns-in-Some
 returns-in-Some t c =
     let payload = c.args.payload in
-    let found = c.in-Ok-Some.extension in
-    let tagged : LinkExtension × Bool = (lax_extension_of found, extension_incomplete payload.incomplete found) in
-    let there = found_there payload.ether_type payload.payload.now payload.incomplete c.in-Ok-Some.field-0 found
-    c.in-Ok-Some.field-0-is c.in-Ok-Some.ensures.ok in
+    let found = c.in-Ok-Some in
+    let present = found_present payload.ether_type payload.payload.now payload.incomplete found.field-0 found.extension
+    found.field-0-is found.ensures.ok in
     let old = lax_headers_of c.args.self.now in
-    let pushed = c.push.new.self.items in
-    let room = most_link_exts - length old.link_exts in
-    let rest = most_link_exts - length pushed in
-    let more : room ≡ suc rest =
-    grind (arith, common_steps, ap length c.push.ensures.items, length-append {A = LinkExtHeader}) in
+    let more = space_after old.link_exts _ _ c.push.ensures.items (grind (arith, common_steps)) in
     let tags = c.push.ensures.items ∙ ap (λ (h : LinkExtHeader). old.link_exts ++ h ∷ []) c.to_header.ensures in
     let type = c.in-Some.ether_type in
-    fills_one room rest c.args.offset _ (lax_ether_payload_of payload) _ tagged old
-    (record old { link_exts = pushed }) (lax_headers_of c.fill_inside.new.self) more there.is
+    fills_one _ _ c.args.offset _ (lax_ether_payload_of payload) _
+    (lax_extension_of found.extension, extension_incomplete payload.incomplete found.extension) old
+    (record old { link_exts = c.push.new.self.items }) (lax_headers_of c.fill_inside.new.self) more present.is
     (sym c.next_ether_type.ensures ∙ c.in-Some.is)
     (λ i. record {
       ether_type = type;
@@ -88,17 +85,13 @@ returns-in-None t c =
     let payload = c.args.payload in
     let found = c.in-Ok-Some.extension in
     let tagged : LinkExtension × Bool = (lax_extension_of found, extension_incomplete payload.incomplete found) in
-    let there = found_there payload.ether_type payload.payload.now payload.incomplete c.in-Ok-Some.field-0 found
+    let present = found_present payload.ether_type payload.payload.now payload.incomplete c.in-Ok-Some.field-0 found
     c.in-Ok-Some.field-0-is c.in-Ok-Some.ensures.ok in
     let old = lax_headers_of c.args.self.now in
-    let pushed = c.push.new.self.items in
-    let room = most_link_exts - length old.link_exts in
-    let rest = most_link_exts - length pushed in
-    let more : room ≡ suc rest =
-    grind (arith, common_steps, ap length c.push.ensures.items, length-append {A = LinkExtHeader}) in
+    let more = space_after old.link_exts _ _ c.push.ensures.items (grind (arith, common_steps)) in
     let tags = c.push.ensures.items ∙ ap (λ (h : LinkExtHeader). old.link_exts ++ h ∷ []) c.to_header.ensures in
-    fills_modified room rest c.args.offset (lax_ether_payload_of payload) tagged old
-    (lax_headers_of c.set_payload.new.self) more there.is (sym c.next_ether_type.ensures ∙ c.in-None.is)
+    fills_modified _ _ c.args.offset (lax_ether_payload_of payload) tagged old
+    (lax_headers_of c.set_payload.new.self) more present.is (sym c.next_ether_type.ensures ∙ c.in-None.is)
     (c.set_payload.ensures
     ∙ (λ i. record old {
       link_exts = tags i;

@@ -4,7 +4,7 @@ use Rattle.ep_base.specs.Readings.{headers}
 use Rattle.ep_ext.specs.Chains.{ipv4, ipv6}
 use Rattle.ep_ext.specs.ExtensionParts.{auth_refusal}
 use Rattle.ep_ip.specs.IpPackets.{ipv4_part, ipv6_part}
-use Rattle.ep_ip.proofs.LaxIpLemmas.{told_stop}
+use Rattle.ep_ip.proofs.LaxIpLemmas.{reported_stop}
 use Rattle.ep_packet.specs.Layers.{ipv4_layer, ipv6_layer}
 use Rattle.ep_lax.specs.Lax.{chain_refusal}
 use Rattle.ep_lax.specs.LaxPacketHeaders.{lax_headers_of}
@@ -28,7 +28,7 @@ chain_stop-stop-requires c = λ error_with_layer same.
     omega (
       arith,
       ipv6_stop_within headers false c.args.slice.now ok.0 ok.1 error_with_layer.0
-          (told_stop ok.0.stop error_with_layer (sym ok.3 ∙ same)),
+          (reported_stop ok.0.stop error_with_layer (sym ok.3 ∙ same)),
     )
 
 pub returns-in-Ok-clause-ok : goal.returns-in-Ok-clause-ok

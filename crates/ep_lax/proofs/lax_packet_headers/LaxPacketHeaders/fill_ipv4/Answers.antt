@@ -1,4 +1,4 @@
-use Rattle.std.proofs.Common.{Some, refl, sym, ap, ◌∙◌, inl, inr, arith}
+use Rattle.std.proofs.Common.{refl, sym, ap, ◌∙◌, inl, inr, arith}
 use Rattle.std.specs.Option.{option_map}
 use Rattle.ep_base.specs.Readings.{headers}
 use Rattle.ep_base.specs.declared.err.ipv4.HeaderSliceError.{HeaderSliceError}
@@ -7,15 +7,15 @@ use Rattle.ep_ext.specs.ExtensionParts.{auth_refusal}
 use Rattle.ep_ip.specs.IpPackets.{ipv4_part}
 use Rattle.ep_ip.specs.Ipv4.{of_header_error}
 use Rattle.ep_packet.specs.declared.err.slice_error.SliceError.TheVariants as packet_error
+use Rattle.ep_packet.specs.Frame.{only_ipv4}
 use Rattle.ep_packet.specs.FrameRefusals.{ipv4_refusal}
 use Rattle.ep_packet.specs.Layers.{ipv4_layer}
 use Rattle.ep_lax.specs.Lax.{chain_refusal}
-use Rattle.ep_lax.specs.LaxLayers.{error_with_layer, no_net}
 use Rattle.ep_lax.specs.LaxPacketHeaders.{lax_headers_of}
 use Rattle.ep_lax.specs.LaxPayloadParts.{ether}
 use Rattle.ep_lax.specs.LaxPayloads.{lax_ether_payload_of}
 use Rattle.ep_lax.proofs.LaxNetLemmas.{ipv4_stop_within}
-use Rattle.ep_lax.proofs.LaxPacketHeadersLemmas.{lax_ip_filled}
+use Rattle.ep_lax.proofs.LaxPacketHeadersLemmas.{lax_ip_filled, net_stopped}
 use Rattle.ep_lax.proofs.lax_packet_headers.LaxPacketHeaders.fill_ipv4.Goals as goal
 
 pub auth_stop-stop-requires : goal.auth_stop-stop-requires
@@ -23,15 +23,13 @@ auth_stop-stop-requires c = λ error same.
     let ok = c.in-Ok.ensures.ok in
     omega (
       arith,
+      c.requires,
       ipv4_stop_within headers c.args.payload.incomplete c.args.payload.payload.now ok.0 ok.1 (auth_refusal error)
           (sym ok.3 ∙ ap (option_map auth_refusal) same),
-      c.requires,
     )
 
 pub overflow_add-offset : goal.overflow_add-offset
-overflow_add-offset c =
-    let ok = c.in-Ok.ensures.ok in
-    omega (arith, ok.2.within, c.requires)
+overflow_add-offset c = omega (arith, c.in-Ok.ensures.ok.2.within, c.requires)
 
 pub returns-in-Ok : goal.returns-in-Ok
 returns-in-Ok c =
@@ -47,31 +45,16 @@ pub returns-in-Err-Len : goal.returns-in-Err-Len
 returns-in-Err-Len c =
     let refused = c.in-Err-Len in
     let place = λ (e : HeaderSliceError). ipv4_refusal c.args.offset (of_header_error e) in
-    record {
-      net = no_net c.args.payload.incomplete (Some (error_with_layer (packet_error.Len c.add_offset.result)));
-      part = inl (
-        packet_error.Len c.add_offset.result,
-        (
-          refused.field-0,
-          refused.ensures.err,
-          ap packet_error.Len c.add_offset.ensures ∙ sym (ap place refused.field-0-is),
-        ),
-        refl,
-      );
-      filled = c.stop_in.ensures;
-    }
+    let named = ap packet_error.Len c.add_offset.ensures ∙ sym (ap place refused.field-0-is) in
+    let error = packet_error.Len c.add_offset.result in
+    net_stopped c.args.offset c.args.payload.incomplete only_ipv4 c.args.payload.payload.now _ _ _ error
+    (inl (error, (refused.field-0, refused.ensures.err, named), refl)) c.stop_in.ensures
 
 pub returns-in-Err-Content : goal.returns-in-Err-Content
 returns-in-Err-Content c =
     let refused = c.in-Err-Content in
     let place = λ (e : HeaderSliceError). ipv4_refusal c.args.offset (of_header_error e) in
     let error = packet_error.Ipv4 refused.error in
-    record {
-      net = no_net c.args.payload.incomplete (Some (error_with_layer error));
-      part = inl (
-        error,
-        (refused.field-0, refused.ensures.err, sym (ap place refused.field-0-is)),
-        refl,
-      );
-      filled = c.stop_in-in-Err-Content.ensures;
-    }
+    net_stopped c.args.offset c.args.payload.incomplete only_ipv4 c.args.payload.payload.now _ _ _ error
+    (inl (error, (refused.field-0, refused.ensures.err, sym (ap place refused.field-0-is)), refl))
+    c.stop_in-in-Err-Content.ensures

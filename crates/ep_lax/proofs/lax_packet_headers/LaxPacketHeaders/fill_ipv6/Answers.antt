@@ -1,19 +1,19 @@
-use Rattle.std.proofs.Common.{Some, refl, sym, ap, ◌∙◌, inl, inr, arith}
+use Rattle.std.proofs.Common.{refl, sym, ap, ◌∙◌, inl, inr, arith}
 use Rattle.ep_base.specs.Readings.{headers}
 use Rattle.ep_base.specs.declared.err.ipv6.HeaderSliceError.{HeaderSliceError}
 use Rattle.ep_ext.specs.Chains.{ipv6}
 use Rattle.ep_ip.specs.IpPackets.{ipv6_part}
-use Rattle.ep_ip.proofs.LaxIpLemmas.{told_stop}
+use Rattle.ep_ip.proofs.LaxIpLemmas.{reported_stop}
 use Rattle.ep_ip.specs.Ipv6.{of_header_error}
 use Rattle.ep_packet.specs.declared.err.slice_error.SliceError.TheVariants as packet_error
+use Rattle.ep_packet.specs.Frame.{only_ipv6}
 use Rattle.ep_packet.specs.FrameRefusals.{ipv6_refusal}
 use Rattle.ep_packet.specs.Layers.{ipv6_layer}
-use Rattle.ep_lax.specs.LaxLayers.{error_with_layer, no_net}
 use Rattle.ep_lax.specs.LaxPacketHeaders.{lax_headers_of}
 use Rattle.ep_lax.specs.LaxPayloadParts.{ether}
 use Rattle.ep_lax.specs.LaxPayloads.{lax_ether_payload_of}
 use Rattle.ep_lax.proofs.LaxNetLemmas.{ipv6_stop_within}
-use Rattle.ep_lax.proofs.LaxPacketHeadersLemmas.{lax_ip_filled}
+use Rattle.ep_lax.proofs.LaxPacketHeadersLemmas.{lax_ip_filled, net_stopped}
 use Rattle.ep_lax.proofs.lax_packet_headers.LaxPacketHeaders.fill_ipv6.Goals as goal
 
 pub chain_stop-stop-requires : goal.chain_stop-stop-requires
@@ -21,15 +21,13 @@ chain_stop-stop-requires c = λ error_with_layer same.
     let ok = c.in-Ok.ensures.ok in
     omega (
       arith,
-      ipv6_stop_within headers c.args.payload.incomplete c.args.payload.payload.now ok.0 ok.1 error_with_layer.0
-          (told_stop ok.0.stop error_with_layer (sym ok.3 ∙ same)),
       c.requires,
+      ipv6_stop_within headers c.args.payload.incomplete c.args.payload.payload.now ok.0 ok.1 error_with_layer.0
+          (reported_stop ok.0.stop error_with_layer (sym ok.3 ∙ same)),
     )
 
 pub overflow_add-offset : goal.overflow_add-offset
-overflow_add-offset c =
-    let ok = c.in-Ok.ensures.ok in
-    omega (arith, ok.2.within, c.requires)
+overflow_add-offset c = omega (arith, c.in-Ok.ensures.ok.2.within, c.requires)
 
 pub returns-in-Ok : goal.returns-in-Ok
 returns-in-Ok c =
@@ -45,31 +43,16 @@ pub returns-in-Err-Len : goal.returns-in-Err-Len
 returns-in-Err-Len c =
     let refused = c.in-Err-Len in
     let place = λ (e : HeaderSliceError). ipv6_refusal c.args.offset (of_header_error e) in
-    record {
-      net = no_net c.args.payload.incomplete (Some (error_with_layer (packet_error.Len c.add_offset.result)));
-      part = inl (
-        packet_error.Len c.add_offset.result,
-        (
-          refused.field-0,
-          refused.ensures.err,
-          ap packet_error.Len c.add_offset.ensures ∙ sym (ap place refused.field-0-is),
-        ),
-        refl,
-      );
-      filled = c.stop_in.ensures;
-    }
+    let named = ap packet_error.Len c.add_offset.ensures ∙ sym (ap place refused.field-0-is) in
+    let error = packet_error.Len c.add_offset.result in
+    net_stopped c.args.offset c.args.payload.incomplete only_ipv6 c.args.payload.payload.now _ _ _ error
+    (inl (error, (refused.field-0, refused.ensures.err, named), refl)) c.stop_in.ensures
 
 pub returns-in-Err-Content : goal.returns-in-Err-Content
 returns-in-Err-Content c =
     let refused = c.in-Err-Content in
     let place = λ (e : HeaderSliceError). ipv6_refusal c.args.offset (of_header_error e) in
     let error = packet_error.Ipv6 refused.error in
-    record {
-      net = no_net c.args.payload.incomplete (Some (error_with_layer error));
-      part = inl (
-        error,
-        (refused.field-0, refused.ensures.err, sym (ap place refused.field-0-is)),
-        refl,
-      );
-      filled = c.stop_in-in-Err-Content.ensures;
-    }
+    net_stopped c.args.offset c.args.payload.incomplete only_ipv6 c.args.payload.payload.now _ _ _ error
+    (inl (error, (refused.field-0, refused.ensures.err, sym (ap place refused.field-0-is)), refl))
+    c.stop_in-in-Err-Content.ensures

@@ -1,6 +1,6 @@
 use Rattle.std.proofs.Common.{Some, refl}
 use Rattle.ep_lax.specs.declared.lax_sliced_packet.LaxSlicedPacket.{LaxSlicedPacket}
-use Rattle.ep_lax.proofs.LaxLinkLemmas.{lax_behind}
+use Rattle.ep_lax.proofs.LaxLinkLemmas.{lax_after}
 use Rattle.ep_lax.proofs.lax_sliced_packet.LaxSlicedPacket.fill_from_link.Goals as goal
 
 pub returns : goal.returns
@@ -13,4 +13,4 @@ returns c =
       transport = new.transport;
       stop_err = new.stop_err;
     } in
-    lax_behind c.args.part packet refl c.fill_inside.ensures
+    lax_after c.args.part packet refl c.fill_inside.ensures

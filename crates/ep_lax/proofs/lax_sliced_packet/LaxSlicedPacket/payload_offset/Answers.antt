@@ -1,6 +1,6 @@
 use Rattle.std.proofs.Common.{List, ap, map, ◌∙◌, arith}
 use Rattle.ep_packet.specs.Offsets.{tags_len}
-use Rattle.ep_packet.proofs.OffsetLemmas.{payload_there}
+use Rattle.ep_packet.proofs.OffsetLemmas.{payload_present}
 use Rattle.ep_lax.specs.declared.lax_link_ext_slice.LaxLinkExtSlice.{LaxLinkExtSlice}
 use Rattle.ep_lax.specs.LaxPackets.{lax_layers_of}
 use Rattle.ep_lax.specs.LaxViews.{lax_extension_of}
@@ -20,7 +20,7 @@ returns-clause-value c = omega (
 )
 
 pub returns-clause-place : goal.returns-clause-place
-returns-clause-place c = λ bytes order. payload_there bytes (layers_in (lax_layers_of c.args.self.now)) _
+returns-clause-place c = λ bytes order. payload_present bytes (layers_in (lax_layers_of c.args.self.now)) _
     (omega (
       arith,
       c.link_len.ensures.value,

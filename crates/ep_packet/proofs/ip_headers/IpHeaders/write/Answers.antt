@@ -53,7 +53,7 @@ pub unwrap-requires-2 : goal.unwrap-requires-2
 unwrap-requires-2 c =
     let leads = c.in_default.ensures.ok in
     let header = ip_header_bytes (with_checksum c.args.self.now) in
-    let front : c.write_header.new.buf.items ≡ c.reserve.new.self.items ++ header =
+    let prefix : c.write_header.new.buf.items ≡ c.reserve.new.self.items ++ header =
     on_ok c.write_header.result _ (ap is_err c.unwrap.ensures) c.write_header.ensures.ok in
     extensions_succeed c.args.self.now leads.0 c.in_default.field-0.0 (vec_len c.write_header.new.buf)
     (vec_capacity c.write_header.new.buf) c.write_extensions.result leads.1
@@ -64,7 +64,7 @@ unwrap-requires-2 c =
       c.write_header.ensures.capacity,
       c.write_header.new.buf.ok.0,
       c.reserve.new.self.ok.0,
-      ap length front,
+      ap length prefix,
       length-append c.reserve.new.self.items header,
     ))
     c.write_extensions.ensures.leading c.write_extensions.ensures.full
@@ -74,14 +74,14 @@ returns-clause-ok c =
     let ok = on_ok c.write_extensions.result _ (ap is_err c.unwrap-2.ensures) c.write_extensions.ensures.ok in
     let old = c.args.buf.now.items in
     let header = ip_header_bytes (with_checksum c.args.self.now) in
-    let front : c.write_header.new.buf.items ≡ old ++ header =
+    let prefix : c.write_header.new.buf.items ≡ old ++ header =
     on_ok c.write_header.result _ (ap is_err c.unwrap.ensures) c.write_header.ensures.ok
     ∙ ap (λ (s : List ℕ). s ++ header) c.reserve.ensures.items in (
       ok.0,
       ok.1,
       ok.2,
       ok.3,
-      ok.4 ∙ ap (λ (s : List ℕ). s ++ parts_bytes ok.0) front ∙ append_assoc old header (parts_bytes ok.0),
+      ok.4 ∙ ap (λ (s : List ℕ). s ++ parts_bytes ok.0) prefix ∙ append_assoc old header (parts_bytes ok.0),
     )
 
 pub returns-clause-fits : goal.returns-clause-fits

@@ -1,6 +1,6 @@
 use Rattle.std.proofs.lemmas.Result.{IfOk-weaker, IfErr-weaker}
 use Rattle.ep_packet.specs.PacketHeaders.{headers_of}
-use Rattle.ep_packet.proofs.EntryHeadersLemmas.{ethernet_behind_refused, ethernet_filled}
+use Rattle.ep_packet.proofs.EntryHeadersLemmas.{ethernet_after_refused, ethernet_filled}
 use Rattle.ep_packet.proofs.packet_headers.PacketHeaders.fill_ethernet.Goals as goal
 
 pub returns-clause-ok : goal.returns-clause-ok
@@ -16,7 +16,7 @@ pub returns-clause-err : goal.returns-clause-err
 returns-clause-err c =
     let ok = c.in-Ok.ensures.ok in
     IfErr-weaker c.fill_inside.result _ _
-    (λ error refused. ethernet_behind_refused c.args.bytes.now ok.0 c.in-Ok.frame c.payload.result
+    (λ error refused. ethernet_after_refused c.args.bytes.now ok.0 c.in-Ok.frame c.payload.result
     (headers_of c.args.self.now) c.set_link.new.self _ error ok.2 c.payload.ensures.ether_type c.payload.ensures.payload
     c.set_link.ensures refused)
     c.fill_inside.ensures.err

@@ -1,12 +1,12 @@
+use Rattle.std.proofs.lemmas.Grind.{common_steps}
 use Rattle.std.proofs.Common.{refl, ap, arith}
-use Rattle.std.proofs.lemmas.Result.{IfOk-weaker, IfErr-weaker}
 use Rattle.ep_base.specs.Readings.{headers}
 use Rattle.ep_base.specs.declared.err.len_error.LenError.{LenError}
 use Rattle.ep_ip.specs.IpPackets.{ipv6_part}
 use Rattle.ep_ip.proofs.RefusalPlaceLemmas.{ipv6_start, ipv6_within}
 use Rattle.ep_packet.specs.Frame.{only_ipv6}
 use Rattle.ep_packet.specs.PacketHeaders.{headers_of}
-use Rattle.ep_packet.proofs.HeadersLemmas.{fills_ip, ip_refused}
+use Rattle.ep_packet.proofs.HeadersLemmas.{ip_error, ip_filled}
 use Rattle.ep_packet.proofs.packet_headers.PacketHeaders.fill_ipv6.Goals as goal
 
 pub add_offset-requires : goal.add_offset-requires
@@ -22,19 +22,15 @@ add_offset-requires c =
 
 pub returns-clause-ok : goal.returns-clause-ok
 returns-clause-ok c =
-    let old = headers_of c.args.self.now in
-    let ok = c.in-Ok.ensures.ok in
-    let part = ipv6_part ok.0 in
-    IfOk-weaker c.fill_transport.result _ _
-    (λ done fills. fills_ip only_ipv6 c.args.slice.now part _ _ _ old (headers_of c.fill_transport.new.self)
-    (ok.0, ok.1, refl) ok.2 fills)
-    c.fill_transport.ensures.ok
+    let read = c.in-Ok.ensures.ok in
+    ip_filled only_ipv6 c.args.slice.now (ipv6_part read.0) _ _ _ (headers_of c.args.self.now) _ _
+    (read.0, read.1, refl) read.2 c.fill_transport.ensures.ok
 
 pub returns-clause-err : goal.returns-clause-err
 returns-clause-err c =
-    let ok = c.in-Ok.ensures.ok in
-    let part = ipv6_part ok.0 in
-    IfErr-weaker c.fill_transport.result _ _
-    (λ error refused. ip_refused only_ipv6 c.args.slice.now part _ _ c.args.offset _ _ error
-    (ok.0, ok.1, refl) ok.2 refl refused)
+    let read = c.in-Ok.ensures.ok in
+    ip_error only_ipv6 c.args.slice.now (ipv6_part read.0) _ _ c.args.offset _ _ (read.0, read.1, refl) read.2
     c.fill_transport.ensures.err
+
+pub returns-in-Err-Exts-clause-ok : goal.returns-in-Err-Exts-clause-ok
+returns-in-Err-Exts-clause-ok c = grind (arith, common_steps)

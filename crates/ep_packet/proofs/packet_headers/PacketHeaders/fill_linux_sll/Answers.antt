@@ -2,7 +2,7 @@ use Rattle.std.proofs.Common.{sym, ap, ◌∙◌}
 use Rattle.std.proofs.lemmas.Result.{IfOk-weaker, IfErr-weaker}
 use Rattle.ep_link.specs.LinuxSll.{protocol_ether_type}
 use Rattle.ep_packet.specs.PacketHeaders.{headers_of}
-use Rattle.ep_packet.proofs.EntryHeadersLemmas.{sll_behind_refused, sll_filled, sll_left_open}
+use Rattle.ep_packet.proofs.EntryHeadersLemmas.{sll_after_refused, sll_filled, sll_left_open}
 use Rattle.ep_packet.proofs.packet_headers.PacketHeaders.fill_linux_sll.Goals as goal
 
 pub returns-in-Some-clause-ok : goal.returns-in-Some-clause-ok
@@ -21,7 +21,7 @@ returns-in-Some-clause-err c =
     let ok = c.in-Ok.ensures.ok in
     let typed = sym (c.ether_type.ensures ∙ ap protocol_ether_type c.protocol_type.ensures) ∙ c.in-Some.is in
     IfErr-weaker c.fill_inside.result _ _
-    (λ error refused. sll_behind_refused c.args.bytes.now ok.0 c.payload_slice-payload.result.now c.in-Ok.frame
+    (λ error refused. sll_after_refused c.args.bytes.now ok.0 c.payload_slice-payload.result.now c.in-Ok.frame
     c.in-Some.ether_type c.link_ether_payload.result (headers_of c.args.self.now) c.set_link.new.self _ error ok.2 typed
     c.link_ether_payload.ensures c.payload_slice-payload.ensures c.set_link.ensures refused)
     c.fill_inside.ensures.err

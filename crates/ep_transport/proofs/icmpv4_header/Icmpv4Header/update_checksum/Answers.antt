@@ -8,16 +8,16 @@ use Rattle.ep_transport.proofs.icmpv4_header.Icmpv4Header.update_checksum.Goals 
 pub returns : goal.returns
 returns c =
     let header = c.args.self.now in
-    let front = icmpv4_bytes (record header { checksum = 0 }) in
+    let prefix = icmpv4_bytes (record header { checksum = 0 }) in
     let payload = c.args.payload.now in
     let written = c.as_slice.result.now in
-    let same : written ≡ front = c.as_slice.ensures.value ∙ c.to_bytes-bytes.ensures.bytes in
-    let even : length front % 2 ≡ 0 =
+    let same : written ≡ prefix = c.as_slice.ensures.value ∙ c.to_bytes-bytes.ensures.bytes in
+    let even : length prefix % 2 ≡ 0 =
     ap (λ (n : ℕ). n % 2) (sym (ap length c.to_bytes-bytes.ensures.bytes) ∙ c.to_bytes-bytes.ensures.len)
     ∙ len_even (icmpv4_kind header.icmp_type) in
     let first =
     c.add_slice.ensures ∙ ap (λ (n : ℕ). ones_add n (ones_sum written)) c.new.ensures ∙ ones_add-none written
     ∙ ap ones_sum same in
-    let second = sum_more front payload _ _ first even c.add_slice-2.ensures in
+    let second = sum_more prefix payload _ _ first even c.add_slice-2.ensures in
     let sum = c.ones_complement-self.ensures ∙ ap (λ (n : ℕ). 65535 - n) second in
     λ i. record { icmp_type = header.icmp_type; checksum = sum i }

@@ -1,4 +1,5 @@
 use Rattle.std.proofs.Common.{[], sym, arith}
+use Rattle.std.proofs.lemmas.Grind.{common_steps}
 use Rattle.std.proofs.lemmas.List.{append-nil}
 use Rattle.ep_transport.proofs.Icmpv4Lemmas.{icmpv4_is_read, kind_refuses_none}
 use Rattle.ep_transport.proofs.icmpv4_slice.Icmpv4Slice.from_slice.Goals as goal
@@ -12,3 +13,6 @@ returns-clause-ok c =
 
 pub returns-clause-only : goal.returns-clause-only
 returns-clause-only c message is = sym (icmpv4_is_read.is_read c.args.slice.now message is).1
+
+pub returns-then-slice-lt-MIN_LEN-clause-err : goal.returns-then-slice-lt-MIN_LEN-clause-err
+returns-then-slice-lt-MIN_LEN-clause-err c = grind (arith, common_steps)

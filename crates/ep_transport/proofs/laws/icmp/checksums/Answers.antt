@@ -10,6 +10,6 @@ returns-clause-icmpv4 c = λ header payload.
     (icmpv4_rest_with (0 ∷ 0 ∷ 0 ∷ 0 ∷ []) header.icmp_type ++ payload) refl refl
 
 pub returns-clause-icmpv6 : goal.returns-clause-icmpv6
-returns-clause-icmpv6 c = λ front header payload even.
-    filled front (icmpv6_type_u8 header.icmp_type ∷ icmpv6_code_u8 header.icmp_type ∷ [])
+returns-clause-icmpv6 c = λ prefix header payload even.
+    filled prefix (icmpv6_type_u8 header.icmp_type ∷ icmpv6_code_u8 header.icmp_type ∷ [])
     (icmpv6_rest_with (0 ∷ 0 ∷ 0 ∷ 0 ∷ []) header.icmp_type ++ payload) even refl

@@ -5,23 +5,23 @@ use Rattle.ep_base.proofs.SumLemmas.{sum_more}
 use Rattle.ep_transport.proofs.tcp_header.TcpHeader.checksum_with_pseudo_header.Goals as goal
 
 pub returns : goal.returns
-returns c = λ front even sum.
+returns c = λ prefix even sum.
     let fixed = c.fixed_bytes.result in
     let options = c.args.self.now.options in
     let payload = c.args.payload.now in
     let value = c.as_slice.ensures.value in
-    let first = sum_more front fixed _ _ sum even c.add_slice.ensures in
-    let len = length-append front fixed in
-    let even_first : length (front ++ fixed) % 2 ≡ 0 = omega (arith, even, len, c.fixed_bytes.ensures.len) in
+    let first = sum_more prefix fixed _ _ sum even c.add_slice.ensures in
+    let len = length-append prefix fixed in
+    let even_first : length (prefix ++ fixed) % 2 ≡ 0 = omega (arith, even, len, c.fixed_bytes.ensures.len) in
     let second =
-    sum_more (front ++ fixed) options _ _ first even_first
+    sum_more (prefix ++ fixed) options _ _ first even_first
     (c.add_slice-2.ensures ∙ ap (λ (s : List ℕ). ones_add c.add_slice.result (ones_sum s)) value) in
     let words : length options % 4 ≡ 0 = c.as_slice.ensures.words in
-    let even_second : length ((front ++ fixed) ++ options) % 2 ≡ 0 =
-    omega (arith, even_first, length-append (front ++ fixed) options, words) in
-    let third = sum_more ((front ++ fixed) ++ options) payload _ _ second even_second c.add_slice-3.ensures in
-    let header = ap (λ (s : List ℕ). front ++ (s ++ payload)) c.fixed_bytes.ensures.bytes in
+    let even_second : length ((prefix ++ fixed) ++ options) % 2 ≡ 0 =
+    omega (arith, even_first, length-append (prefix ++ fixed) options, words) in
+    let third = sum_more ((prefix ++ fixed) ++ options) payload _ _ second even_second c.add_slice-3.ensures in
+    let header = ap (λ (s : List ℕ). prefix ++ (s ++ payload)) c.fixed_bytes.ensures.bytes in
     let parts =
-    append_assoc (front ++ fixed) options payload ∙ append_assoc front fixed (options ++ payload)
-    ∙ ap (λ (s : List ℕ). front ++ s) (sym (append_assoc fixed options payload)) in
+    append_assoc (prefix ++ fixed) options payload ∙ append_assoc prefix fixed (options ++ payload)
+    ∙ ap (λ (s : List ℕ). prefix ++ s) (sym (append_assoc fixed options payload)) in
     c.ones_complement.ensures ∙ ap (λ (n : ℕ). 65535 - n) (third ∙ ap ones_sum (parts ∙ header))

@@ -1,11 +1,11 @@
 use Rattle.std.proofs.Common.{◌∙◌}
-use Rattle.ep_transport.proofs.TcpOptionLemmas.{whole_words}
+use Rattle.ep_transport.proofs.TcpOptionLemmas.{complete_words}
 use Rattle.ep_transport.proofs.tcp_slice.TcpSlice.to_header.Goals as goal
 
 pub returns : goal.returns
 returns c =
     let options =
-    c.copy_of.ensures ∙ whole_words c.options.result.now c.options.ensures.words ∙ c.options.ensures.value in
+    c.copy_of.ensures ∙ complete_words c.options.result.now c.options.ensures.words ∙ c.options.ensures.value in
     λ i. record {
       source_port = c.source_port.ensures i;
       destination_port = c.destination_port.ensures i;

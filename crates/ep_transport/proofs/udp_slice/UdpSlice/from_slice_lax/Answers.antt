@@ -1,7 +1,7 @@
 use Rattle.std.proofs.Common.{◌≡◌, ◌⊎◌, ◌∙◌, ◌<◌, length, false, inl, inr, arith}
 use Rattle.std.proofs.lemmas.Grind.{common_steps}
 use Rattle.ep_base.specs.Bytes.{AreBytes, word_at}
-use Rattle.ep_transport.proofs.UdpLemmas.{lax_udp_cut, lax_udp_whole, one_lax_udp}
+use Rattle.ep_transport.proofs.UdpLemmas.{lax_udp_cut, lax_udp_complete, one_lax_udp}
 use Rattle.ep_transport.proofs.udp_slice.UdpSlice.from_slice_lax.Goals as goal
 use Rattle.ep_transport.proofs.udp_slice.UdpSlice.from_slice_lax.Goals.{then-stated-lt-LEN-via-then-stated-lt-LEN, then-stated-lt-LEN-via-else-stated-lt-LEN+then-slice-stated}
 
@@ -28,7 +28,7 @@ returns-then-stated-lt-LEN c =
       | then-stated-lt-LEN-via-then-stated-lt-LEN w ↦ inl (omega (arith, field, w.if-stated-lt-LEN.true))
       | then-stated-lt-LEN-via-else-stated-lt-LEN+then-slice-stated w ↦ inr (omega (arith, field, w.if-slice-stated.true))
     ] in
-    let shows = lax_udp_whole false bytes fits (omega arith) why in
+    let shows = lax_udp_complete false bytes fits (omega arith) why in
     record {
       ok = (shows.cut, shows.parts, shows.is, shows.payload);
       only = λ read is.

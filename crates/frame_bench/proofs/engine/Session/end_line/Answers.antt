@@ -17,13 +17,13 @@ returns-then-is_empty-clause-holds c =
 pub returns-clause-answer : goal.returns-clause-answer
 returns-clause-answer c =
     let line = c.as_slice.ensures.value ∙ c.in_ok-extend_from_slice.ensures.items in
-    λ before held.
-    let answer = c.in_ok-push_line-2.ensures.answer before held in
+    λ before kept.
+    let answer = c.in_ok-push_line-2.ensures.answer before kept in
     (answer.0, subst (λ (t : List ℕ). IsAnswer before t answer.0) line answer.1, answer.2)
 
 pub returns-clause-holds : goal.returns-clause-holds
 returns-clause-holds c =
     let line = c.as_slice.ensures.value ∙ c.in_ok-extend_from_slice.ensures.items in
-    λ before held.
+    λ before kept.
     subst (λ (t : List ℕ). HoldsLines (before ++ t ∷ []) c.push_line-2.new.pool) line
-    (c.in_ok-push_line-2.ensures.holds before held)
+    (c.in_ok-push_line-2.ensures.holds before kept)

@@ -7,9 +7,9 @@ pub lines-init : goal.lines-init
 lines-init c = (
   [],
   refl,
-  λ before held.
+  λ before kept.
       rw c.clear.ensures.items
-      (AdvancesTo-none before c.args.self.now.line.items c.args.self.now.pool c.requires held),
+      (AdvancesTo-none before c.args.self.now.line.items c.args.self.now.pool c.requires kept),
 )
 
 pub lines-preserved : goal.lines-preserved
@@ -23,8 +23,8 @@ lines-preserved c =
     ∙ sym (append_assoc known.0 (end ++ line_feed ∷ []) after) in (
       known.0 ++ (end ++ line_feed ∷ []),
       parts,
-      λ before held.
-          let first = known.2 before held in
+      λ before kept.
+          let first = known.2 before kept in
           let lines = before ++ first.0.ended in
           let answer = ended.answer lines first.1 in
           rw (answer.2, ended.line)
@@ -34,9 +34,9 @@ lines-preserved c =
     )
 
 pub returns : goal.returns
-returns c = λ before held.
+returns c = λ before kept.
     let known = c.lines.invariant in
-    let first = known.2 before held in
+    let first = known.2 before kept in
     rw (c.in_ok-extend_from_slice.ensures.items, known.1)
     (AdvancesTo-rest before c.args.self.now.line.items known.0 c.lines.self.output.items c.lines.self.line.items
     c.lines.rest.now c.lines.self.pool first c.in_default.ensures.none)

@@ -18,3 +18,6 @@ parts-preserved g c =
       grind arith,
       (kept.0 ∙ before.0, kept.1 ∙ before.1),
     )
+
+pub returns-clause-all : goal.returns-clause-all
+returns-clause-all g c = grind (arith, common_steps)

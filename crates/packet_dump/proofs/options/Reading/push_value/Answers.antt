@@ -17,10 +17,10 @@ returns c =
     let option = c.args.option in
     let text = c.args.text.now in
     let state = reading_state c.args.self.now in
-    let said = c.in_ok-set.ensures.ok in
+    let stated = c.in_ok-set.ensures.ok in
     let apart : option ≡ Input → ⊥ = search rules in
-    let free = no_input state.settings option text said.0 said.1 apart in
-    let set = set_item option text said.0 state _ said.1 said.2 apart in
-    ap (λ (o : Option Item). value_step state option text o) (value_in-some option text said.0 said.1)
-    ∙ ap (λ (b : Bool). item_or_fault_step state text said.0 b) free
+    let free = no_input state.settings option text stated.0 stated.1 apart in
+    let set = set_item option text stated.0 state _ stated.1 stated.2 apart in
+    ap (λ (o : Option Item). value_step state option text o) (value_in-some option text stated.0 stated.1)
+    ∙ ap (λ (b : Bool). item_or_fault_step state text stated.0 b) free
     ∙ ap (λ (s : State). more (record s { awaited = None })) (sym (c.add_filter.ensures ∙ set))

@@ -5,9 +5,9 @@ use Rattle.packet_dump.proofs.PoolLemmas.{open_rows}
 use Rattle.packet_dump.proofs.pooling.Pooling.fragments.Goals as goal
 
 pub returns : goal.returns
-returns c = λ history held.
+returns c = λ history kept.
     let pool = c.args.self.now.pool in
-    let counters = c.statistics.ensures.shown ∙ held.statistics in
+    let counters = c.statistics.ensures.shown ∙ kept.statistics in
     let incomplete = c.stream_count.ensures.count
-    ∙ open_rows (limits_in pool) (names_in pool) history.rows held.rows.each in
+    ∙ open_rows (limits_in pool) (names_in pool) history.rows kept.rows.each in
     c.of.ensures ∙ (λ i. fragments_with (counters i) (c.reports_evictions.ensures i) (incomplete i))

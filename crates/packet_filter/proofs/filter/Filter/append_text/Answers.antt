@@ -1,6 +1,6 @@
 use Rattle.std.proofs.Common.{◌∙◌}
-use Rattle.filter_expressions.specs.Trees.{tree_of}
-use Rattle.filter_expressions.proofs.PrintingLemmas.{filter_appended}
+use Rattle.filter_language.specs.Trees.{tree_of}
+use Rattle.filter_language.proofs.PrintingLemmas.{filter_appended}
 use Rattle.packet_filter.proofs.filter.Filter.append_text.Goals as goal
 
 pub returns : goal.returns

@@ -1,10 +1,10 @@
 use Rattle.std.proofs.Common.{◌≡◌, ◌+◌, Bool, true, not, List, drop, refl, ap, sym, ◌∙◌}
 use Rattle.std.proofs.lemmas.List.{drop-drop, take_rest}
-use Rattle.filter_expressions.specs.declared.step.Step.{Step}
-use Rattle.filter_packets.specs.Running.{value_after}
-use Rattle.filter_packets.specs.Shown.{shown_packet}
+use Rattle.filter_language.specs.declared.step.Step.{Step}
+use Rattle.packet_filter.specs.Running.{value_after}
+use Rattle.packet_filter.specs.Shown.{shown_packet}
 use Rattle.packet_filter.proofs.FilterLemmas.{goes_on, set_ends, set_goes_on}
-use Rattle.filter_packets.proofs.StepLemmas.{compiled_means, first_runs, skips_if_false, skips_if_true, stays_if_false}
+use Rattle.packet_filter.proofs.StepLemmas.{compiled_means, first_runs, skips_if_false, skips_if_true, stays_if_false}
 use Rattle.packet_filter.proofs.filter.Filter.matches_subject.Goals as goal
 
 pub loop-steps-init : goal.loop-steps-init

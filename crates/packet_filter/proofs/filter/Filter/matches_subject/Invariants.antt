@@ -1,10 +1,10 @@
 use Rattle.std.proofs.Common.{◌≡◌, ℕ, drop, length}
 use Rattle.std.specs.List.{All}
-use Rattle.filter_packets.specs.HostSets.{HasHostSet}
-use Rattle.filter_packets.specs.Meaning.{meaning}
-use Rattle.filter_packets.specs.Running.{value_after}
-use Rattle.filter_packets.specs.Shown.{shown_packet}
-use Rattle.filter_expressions.specs.Trees.{tree_of}
+use Rattle.packet_filter.specs.HostSets.{HasHostSet}
+use Rattle.packet_filter.specs.Meaning.{meaning}
+use Rattle.packet_filter.specs.Running.{value_after}
+use Rattle.packet_filter.specs.Shown.{shown_packet}
+use Rattle.filter_language.specs.Trees.{tree_of}
 use Rattle.packet_filter.proofs.filter.Filter.matches_subject.Given as goal
 
 -- The steps that are left lead to the meaning of the filter, and the sets are sets of the filter.

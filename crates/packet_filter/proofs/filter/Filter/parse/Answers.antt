@@ -1,10 +1,10 @@
 use Rattle.std.proofs.Common.{List, ap, subst, sym, ◌∙◌}
 use Rattle.std.specs.List.{All}
-use Rattle.filter_expressions.specs.declared.step.Step.{Step}
-use Rattle.filter_packets.specs.HostSets.{HasHostSet}
-use Rattle.filter_expressions.specs.Refusals.{IsFilterText}
-use Rattle.filter_expressions.specs.Trees.{steps_of_text, tree_of}
-use Rattle.filter_expressions.proofs.TreeLemmas.{reads_back}
+use Rattle.filter_language.specs.declared.step.Step.{Step}
+use Rattle.packet_filter.specs.HostSets.{HasHostSet}
+use Rattle.filter_language.specs.Refusals.{IsFilterText}
+use Rattle.filter_language.specs.Trees.{steps_of_text, tree_of}
+use Rattle.filter_language.proofs.TreeLemmas.{reads_back}
 use Rattle.packet_filter.proofs.filter.Filter.parse.Goals as goal
 
 pub invariant_of-result : goal.invariant_of-result

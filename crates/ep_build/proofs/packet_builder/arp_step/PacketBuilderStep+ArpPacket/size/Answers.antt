@@ -8,7 +8,7 @@ use Rattle.ep_build.proofs.packet_builder.arp_step.PacketBuilderStep+ArpPacket.s
 pub returns-clause-frame : goal.returns-clause-frame
 returns-clause-frame c =
     let step = c.args.self.now in
-    let whole = arp_size step.before (arp_of step.last) c.link_fits.ensures
+    let complete = arp_size step.before (arp_of step.last) c.link_fits.ensures
     (sym c.packet_len.ensures.bytes ∙ c.packet_len.ensures.value) in
     let sized : built_size (arp_step_frame step) 0 ≡ c.header_len.result + c.packet_len.result = omega arith in
-    whole ∙ sized
+    complete ∙ sized

@@ -19,3 +19,6 @@ pub returns-clause-only : goal.returns-clause-only
 returns-clause-only c read is =
     let same = (arp_is_read.is_read c.args.slice.now read is).1 in
     λ i. ((sym same i).0, read.1)
+
+pub returns-then-slice-packet_len-clause-err : goal.returns-then-slice-packet_len-clause-err
+returns-then-slice-packet_len-clause-err c = grind (arith, common_steps)

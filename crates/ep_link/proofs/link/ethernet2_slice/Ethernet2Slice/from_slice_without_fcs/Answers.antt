@@ -14,3 +14,9 @@ pub returns-clause-only : goal.returns-clause-only
 returns-clause-only c frame is =
     let same = (ethernet2_is_read.is_read c.args.slice.now frame is).1 in
     λ i. record { header = (sym same i).header; payload = (sym same i).payload; left = frame.left }
+
+pub returns-then-slice-lt-LEN-clause-only : goal.returns-then-slice-lt-LEN-clause-only
+returns-then-slice-lt-LEN-clause-only c = grind (arith, common_steps)
+
+pub returns-then-slice-lt-LEN-clause-err : goal.returns-then-slice-lt-LEN-clause-err
+returns-then-slice-lt-LEN-clause-err c = grind (arith, common_steps)

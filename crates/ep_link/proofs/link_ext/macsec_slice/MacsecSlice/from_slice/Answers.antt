@@ -5,7 +5,7 @@ use Rattle.ep_base.proofs.TableLemmas.{one_value, refused_is_not}
 use Rattle.ep_base.specs.declared.err.macsec.HeaderSliceError.TheVariants as header_error
 use Rattle.ep_link.specs.Macsec.{IsMacsec, macsec_header_of, macsec_payload, macsec_payload_bytes}
 use Rattle.ep_link.specs.MacsecSlices.{macsec_payload_of}
-use Rattle.ep_link.proofs.MacsecReadLemmas.{IsWhole}
+use Rattle.ep_link.proofs.MacsecReadLemmas.{IsComplete}
 use Rattle.ep_link.proofs.MacsecLemmas.{EndsAt, cut_refused, macsec_is_read, payload_by_bytes, sliced_packet}
 use Rattle.ep_link.proofs.MacsecLemmas.{tag_refused}
 use Rattle.ep_link.proofs.link_ext.macsec_slice.MacsecSlice.from_slice.Goals as goal
@@ -17,7 +17,7 @@ returns c =
     let fits : AreBytes bytes = λ i. omega (arith, c.type_inv.slice i) in
     let facts = c.in_ok-header.header.tag in
     let tag = facts.slice.now in
-    let whole : IsWhole tag =
+    let complete : IsComplete tag =
     record { fixed = facts.fixed; version = facts.version; room = facts.holds_type; whole = facts.whole } in
     let n = c.header_len-header_len.result in
     let end = c.match-payload_len.end in
@@ -27,7 +27,7 @@ returns c =
     ] in
     let ok = c.in_ok-header.ensures.ok in
     let tag_len = c.header_len-header_len.ensures.bytes in
-    let is = sliced_packet bytes tag ok.0 n end fits ok.1 whole tag_len ends (omega arith) in
+    let is = sliced_packet bytes tag ok.0 n end fits ok.1 complete tag_len ends (omega arith) in
     let payload = take (end - n) (drop n bytes) in
     let left = drop end bytes in
     let header = macsec_header_of tag in
@@ -50,7 +50,7 @@ returns-then-slice-end c =
     let bytes = c.args.slice.now in
     let facts = c.in_ok-header.header.tag in
     let tag = facts.slice.now in
-    let whole : IsWhole tag =
+    let complete : IsComplete tag =
     record { fixed = facts.fixed; version = facts.version; room = facts.holds_type; whole = facts.whole } in
     let n = c.header_len-header_len.result in
     let end = c.match-payload_len.end in
@@ -60,7 +60,7 @@ returns-then-slice-end c =
     ] in
     let ok = c.in_ok-header.ensures.ok in
     let tag_len = c.header_len-header_len.ensures.bytes in
-    let refused = cut_refused bytes tag ok.0 n end ok.1 whole tag_len ends (omega arith) in
+    let refused = cut_refused bytes tag ok.0 n end ok.1 complete tag_len ends (omega arith) in
     record {
       ok = tt;
       payload = tt;

@@ -1,5 +1,0 @@
-use Rattle.ep_defrag.proofs.FrameLemmas.{read_once}
-use Rattle.ep_defrag_laws.proofs.pools.frame_calls.Goals as goal
-
-pub returns : goal.returns
-returns g c = read_once c.frames.ensures.slices

@@ -1,6 +1,0 @@
-use Rattle.ep_defrag_laws.proofs.CompletingLemmas.{one_fits, one_completes}
-use Rattle.ep_defrag_laws.proofs.pools.one_fragment_completes.Goals as goal
-
-pub returns : goal.returns
-returns c limit accepted bytes fit len =
-    (one_fits limit accepted fit bytes len, one_completes limit accepted fit bytes len)

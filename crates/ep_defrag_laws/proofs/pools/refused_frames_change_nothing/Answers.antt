@@ -1,6 +1,0 @@
-use Rattle.std.proofs.Common.{[]}
-use Rattle.ep_defrag.proofs.FrameLemmas.{answers_in}
-use Rattle.ep_defrag_laws.proofs.pools.refused_frames_change_nothing.Goals as goal
-
-pub returns : goal.returns
-returns g c limit keep reads = answers_in limit g.CustomChannelId.PartialEq.eq keep [] reads

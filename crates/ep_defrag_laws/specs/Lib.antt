@@ -1,4 +1,0 @@
-pub mod Completing
-pub mod BuiltCuts
-pub mod BoundedDiscards
-pub mod BoundedGiven

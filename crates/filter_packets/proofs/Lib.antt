@@ -1,3 +1,0 @@
-pub mod HostLemmas
-pub mod StepLemmas
-pub mod TagLemmas

@@ -1,5 +1,0 @@
-pub mod AcceptLemmas
-pub mod CloseLemmas
-pub mod ParseLemmas
-pub mod ParserLemmas
-pub mod StackLemmas

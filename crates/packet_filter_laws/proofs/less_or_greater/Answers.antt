@@ -1,5 +1,0 @@
-use Rattle.packet_filter_laws.proofs.LawLemmas.{less_or_greater}
-use Rattle.packet_filter_laws.proofs.less_or_greater.Goals as goal
-
-pub returns : goal.returns
-returns c = λ packet number. less_or_greater packet number

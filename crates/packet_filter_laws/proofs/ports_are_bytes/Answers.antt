@@ -1,5 +1,0 @@
-use Rattle.packet_filter_laws.proofs.LawLemmas.{ports_are_bytes}
-use Rattle.packet_filter_laws.proofs.ports_are_bytes.Goals as goal
-
-pub returns : goal.returns
-returns c = λ packet port. ports_are_bytes packet port
