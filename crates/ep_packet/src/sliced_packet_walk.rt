@@ -57,33 +57,40 @@ pub(crate) fn fill_inside<'a>(
     ensures ok { IfOk result (λ _. HoldsInside ether_type slice.now link_exts.new.items net.new transport.new) }
     ensures err { IfErr result (RefusesInside slices most_link_exts offset ether_type slice.now) }
 {
-    let payload = Inside {
+    let inside = match fill_extensions(link_exts, offset, ether_type, slice) {
+        Ok(inside) => inside,
+        Err(error) => return Err(error),
+    };
+    fill_net(
+        net,
+        transport,
+        inside.offset,
+        inside.ether_type,
+        inside.slice,
+        in_place,
+    )
+}
+
+/// Slices the link extensions (VLAN and MACsec tags) at the start of a link layer's payload, up to three, and returns
+/// the payload after them. `offset` is the offset of the payload from the start of the packet, in bytes.
+#[inline(always)]
+fn fill_extensions<'a>(
+    link_exts: &mut ArrayVec<LinkExtSlice<'a>, 3>,
+    offset: usize,
+    ether_type: Option<EtherType>,
+    slice: &'a [u8],
+) -> Result<Inside<'a>, SliceError>
+    requires place { offset + length slice.now < 2 ^ 64 }
+    requires empty { link_exts.old.items ≡ [] }
+    ensures ok { IfOk result (λ inside. HasExtensions offset ether_type slice.now link_exts.new.items
+        inside.offset inside.ether_type inside.slice.now) }
+    ensures err { IfErr result (RefusesInside slices most_link_exts offset ether_type slice.now) }
+{
+    let mut inside = Inside {
         offset,
         ether_type,
         slice,
     };
-    let inside = match fill_extensions(link_exts, payload) {
-        Ok(inside) => inside,
-        Err(error) => return Err(error),
-    };
-    fill_net(net, transport, inside, in_place)
-}
-
-/// Slices the link extensions (VLAN and MACsec tags) at the start of a link layer's payload, up to three, and returns
-/// the payload after them.
-#[inline(always)]
-fn fill_extensions<'a>(
-    link_exts: &mut ArrayVec<LinkExtSlice<'a>, 3>,
-    payload: Inside<'a>,
-) -> Result<Inside<'a>, SliceError>
-    requires place { payload.offset + length payload.slice.now < 2 ^ 64 }
-    requires empty { link_exts.old.items ≡ [] }
-    ensures ok { IfOk result (λ inside. HasExtensions payload.entry.offset payload.entry.ether_type
-        payload.entry.slice.now link_exts.new.items inside.offset inside.ether_type inside.slice.now) }
-    ensures err { IfErr result (RefusesInside slices most_link_exts payload.entry.offset payload.entry.ether_type
-        payload.entry.slice.now) }
-{
-    let mut inside = payload;
     while !link_exts.is_full() {
         let Some(known) = inside.ether_type else {
             return Ok(inside);
@@ -107,25 +114,25 @@ fn fill_extensions<'a>(
 }
 
 /// Slices the network layer (IPv4, IPv6 or ARP) that the ether type names, and the transport layer in it. Both are set
-/// to `None` for other ether types. `in_place` is false if the layers are local variables that should stay in
-/// registers.
+/// to `None` for other ether types. `offset` is the offset of the slice from the start of the packet; `in_place` is
+/// false if the layers are local variables that should stay in registers.
 #[inline(always)]
 fn fill_net<'a>(
     net: &mut Option<NetSlice<'a>>,
     transport: &mut Option<TransportSlice<'a>>,
-    inside: Inside<'a>,
+    offset: usize,
+    ether_type: Option<EtherType>,
+    slice: &'a [u8],
     in_place: bool,
 ) -> Result<(), SliceError>
-    requires { inside.offset + length inside.slice.now < 2 ^ 64 }
-    ensures ok { IfOk result (λ _.
-        HoldsNet (net_kind_in inside.entry.ether_type) inside.entry.slice.now net.new transport.new) }
-    ensures err { IfErr result
-        (RefusesNetPart slices inside.entry.offset (net_kind_in inside.entry.ether_type) inside.entry.slice.now) }
+    requires { offset + length slice.now < 2 ^ 64 }
+    ensures ok { IfOk result (λ _. HoldsNet (net_kind_in ether_type) slice.now net.new transport.new) }
+    ensures err { IfErr result (RefusesNetPart slices offset (net_kind_in ether_type) slice.now) }
 {
-    match inside.ether_type {
-        Some(ether_type::IPV4) => fill_ipv4(net, transport, inside),
-        Some(ether_type::IPV6) => fill_ipv6(net, transport, inside),
-        Some(ether_type::ARP) => fill_arp(net, transport, inside),
+    match ether_type {
+        Some(ether_type::IPV4) => fill_ipv4(net, transport, offset, slice),
+        Some(ether_type::IPV6) => fill_ipv6(net, transport, offset, slice),
+        Some(ether_type::ARP) => fill_arp(net, transport, offset, slice),
         _ => {
             if in_place {
                 clear_layers(net, transport);
@@ -149,52 +156,52 @@ fn clear_layers(net: &mut Option<NetSlice<'_>>, transport: &mut Option<Transport
     *transport = None;
 }
 
-/// Slices an IPv4 packet and the transport layer in it.
+/// Slices an IPv4 packet and the transport layer in it. `offset` is its offset from the start of the whole packet, in
+/// bytes.
 #[inline(always)]
 fn fill_ipv4<'a>(
     net: &mut Option<NetSlice<'a>>,
     transport: &mut Option<TransportSlice<'a>>,
-    inside: Inside<'a>,
+    offset: usize,
+    slice: &'a [u8],
 ) -> Result<(), SliceError>
-    requires { inside.offset + length inside.slice.now < 2 ^ 64 }
-    ensures ok { IfOk result (λ _. HoldsNet (Some only_ipv4) inside.entry.slice.now net.new transport.new) }
-    ensures err { IfErr result (RefusesNetPart slices inside.entry.offset (Some only_ipv4) inside.entry.slice.now) }
+    requires { offset + length slice.now < 2 ^ 64 }
+    ensures ok { IfOk result (λ _. HoldsNet (Some only_ipv4) slice.now net.new transport.new) }
+    ensures err { IfErr result (RefusesNetPart slices offset (Some only_ipv4) slice.now) }
 {
-    let packet = match Ipv4Slice::from_slice(inside.slice) {
+    let packet = match Ipv4Slice::from_slice(slice) {
         Ok(packet) => packet,
-        Err(ipv4::SliceError::Len(error)) => return Err(SliceError::Len(error.add_offset(
-            inside.offset,
-        ))),
+        Err(ipv4::SliceError::Len(error)) => return Err(SliceError::Len(error.add_offset(offset))),
         Err(ipv4::SliceError::Header(error)) => return Err(SliceError::Ipv4(error)),
         Err(ipv4::SliceError::Exts(error)) => return Err(SliceError::Ipv4Exts(error)),
     };
     let layer = NetSlice::Ipv4(packet);
-    fill_transport(transport, inside.offset, &layer)?;
+    fill_transport(transport, offset, &layer)?;
     *net = Some(layer);
     Ok(())
 }
 
-/// Slices an IPv6 packet and the transport layer in it.
+/// Slices an IPv6 packet and the transport layer in it. `offset` is its offset from the start of the whole packet, in
+/// bytes.
 #[inline(always)]
 fn fill_ipv6<'a>(
     net: &mut Option<NetSlice<'a>>,
     transport: &mut Option<TransportSlice<'a>>,
-    inside: Inside<'a>,
+    offset: usize,
+    slice: &'a [u8],
 ) -> Result<(), SliceError>
-    requires { inside.offset + length inside.slice.now < 2 ^ 64 }
-    ensures ok { IfOk result (λ _. HoldsNet (Some only_ipv6) inside.entry.slice.now net.new transport.new) }
-    ensures err { IfErr result (RefusesNetPart slices inside.entry.offset (Some only_ipv6) inside.entry.slice.now) }
+    requires { offset + length slice.now < 2 ^ 64 }
+    ensures ok { IfOk result (λ _. HoldsNet (Some only_ipv6) slice.now net.new transport.new) }
+    ensures err { IfErr result (RefusesNetPart slices offset (Some only_ipv6) slice.now) }
 {
-    let packet = match Ipv6Slice::from_slice(inside.slice) {
+    let packet = match Ipv6Slice::from_slice(slice) {
         Ok(packet) => packet,
-        Err(ipv6::SliceError::Len(error)) => return Err(SliceError::Len(error.add_offset(
-            inside.offset,
-        ))),
+        Err(ipv6::SliceError::Len(error)) => return Err(SliceError::Len(error.add_offset(offset))),
         Err(ipv6::SliceError::Header(error)) => return Err(SliceError::Ipv6(error)),
         Err(ipv6::SliceError::Exts(error)) => return Err(SliceError::Ipv6Exts(error)),
     };
     let layer = NetSlice::Ipv6(packet);
-    fill_transport(transport, inside.offset, &layer)?;
+    fill_transport(transport, offset, &layer)?;
     *net = Some(layer);
     Ok(())
 }
@@ -224,24 +231,26 @@ pub(crate) fn fill_ip<'a>(
     Ok(())
 }
 
-/// Slices an ARP packet, which has no transport layer.
+/// Slices an ARP packet, which has no transport layer. `offset` is its offset from the start of the whole packet, in
+/// bytes.
 #[inline(always)]
 fn fill_arp<'a>(
     net: &mut Option<NetSlice<'a>>,
     transport: &mut Option<TransportSlice<'a>>,
-    inside: Inside<'a>,
+    offset: usize,
+    slice: &'a [u8],
 ) -> Result<(), SliceError>
-    requires { inside.offset + length inside.slice.now < 2 ^ 64 }
-    ensures ok { IfOk result (λ _. HoldsNet (Some only_arp) inside.entry.slice.now net.new transport.new) }
-    ensures err { IfErr result (RefusesNetPart slices inside.entry.offset (Some only_arp) inside.entry.slice.now) }
+    requires { offset + length slice.now < 2 ^ 64 }
+    ensures ok { IfOk result (λ _. HoldsNet (Some only_arp) slice.now net.new transport.new) }
+    ensures err { IfErr result (RefusesNetPart slices offset (Some only_arp) slice.now) }
 {
-    match ArpPacketSlice::from_slice(inside.slice) {
+    match ArpPacketSlice::from_slice(slice) {
         Ok(packet) => {
             *net = Some(NetSlice::Arp(packet));
             *transport = None;
             Ok(())
         }
-        Err(error) => Err(SliceError::Len(error.add_offset(inside.offset))),
+        Err(error) => Err(SliceError::Len(error.add_offset(offset))),
     }
 }
 

@@ -13,13 +13,13 @@ use Rattle.ep_packet.proofs.sliced_packet_walk.fill_extensions.Goals as goal
 pub loop-known-init : goal.loop-known-init
 loop-known-init c =
     let none = c.requires.empty in
-    reads_nothing c.args.payload.offset (most_link_exts - length c.args.link_exts.now.items) c.args.payload.ether_type
-    c.args.payload.slice.now c.args.link_exts.now.items none (omega (arith, ap length none))
+    reads_nothing c.args.offset (most_link_exts - length c.args.link_exts.now.items) c.args.ether_type
+    c.args.slice.now c.args.link_exts.now.items none (omega (arith, ap length none))
 
 pub returns-in_default-clause-ok : goal.returns-in_default-clause-ok
 returns-in_default-clause-ok c =
     let here = c.loop-known in
-    extensions_end c.args.payload.offset c.args.payload.ether_type c.args.payload.slice.now here.link_exts.items
+    extensions_end c.args.offset c.args.ether_type c.args.slice.now here.link_exts.items
     (most_link_exts - length here.link_exts.items) here.inside.offset here.inside.ether_type here.inside.slice.now
     here.invariant (inr (unknown_begins_none here.inside.ether_type c.in_default.is))
 
@@ -27,7 +27,7 @@ pub returns-in-Ok-None-clause-ok : goal.returns-in-Ok-None-clause-ok
 returns-in-Ok-None-clause-ok c =
     let here = c.loop-known in
     let none = none_present c.in-Some.known c.in-Ok-None.field-0 c.in-Ok-None.field-0-is c.in-Ok-None.ensures.none in
-    extensions_end c.args.payload.offset c.args.payload.ether_type c.args.payload.slice.now here.link_exts.items
+    extensions_end c.args.offset c.args.ether_type c.args.slice.now here.link_exts.items
     (most_link_exts - length here.link_exts.items) here.inside.offset here.inside.ether_type here.inside.slice.now
     here.invariant (inr (known_begins_none here.inside.ether_type c.in-Some.known c.in-Some.is none))
 
@@ -36,7 +36,7 @@ returns-in-Err-Len-clause-err c =
     let here = c.loop-known in
     let space = most_link_exts - length here.link_exts.items in
     let more : space ≡ suc (space - 1) = grind (arith, common_steps) in
-    reads_refused c.args.payload.offset c.args.payload.ether_type c.args.payload.slice.now here.link_exts.items space (space - 1)
+    reads_refused c.args.offset c.args.ether_type c.args.slice.now here.link_exts.items space (space - 1)
     here.inside.offset here.inside.ether_type c.in-Some.known here.inside.slice.now (Len c.add_offset.result)
     here.invariant more c.in-Some.is
     (c.in-Err-Len.field-0, c.in-Err-Len.ensures.err, search (rules, tests))
@@ -47,7 +47,7 @@ returns-in-Err-Content-clause-err c =
     let space = most_link_exts - length here.link_exts.items in
     let more : space ≡ suc (space - 1) = grind (arith, common_steps) in
     let found = c.in-Err-Content in
-    reads_refused c.args.payload.offset c.args.payload.ether_type c.args.payload.slice.now here.link_exts.items space (space - 1)
+    reads_refused c.args.offset c.args.ether_type c.args.slice.now here.link_exts.items space (space - 1)
     here.inside.offset here.inside.ether_type c.in-Some.known here.inside.slice.now (Macsec found.error)
     here.invariant more c.in-Some.is
     (found.field-0, found.ensures.err, sym (ap (extension_refusal here.inside.offset) found.field-0-is))
@@ -68,7 +68,7 @@ loop-known-preserved c =
     let present = found_present c.in-Some.known here.inside.slice.now c.in-Ok-Some.field-0 found c.in-Ok-Some.field-0-is
     c.in-Ok-Some.ensures.ok in
     let more = space_after here.link_exts.items _ _ c.push.ensures.items (grind (arith, common_steps)) in
-    reads_one c.args.payload.offset c.args.payload.ether_type c.args.payload.slice.now here.link_exts.items
+    reads_one c.args.offset c.args.ether_type c.args.slice.now here.link_exts.items
     c.push.new.self.items _ _ here.inside.offset _ here.inside.ether_type c.next_ether_type.result c.in-Some.known
     here.inside.slice.now present.0 c.payload_slice.result.now found here.invariant more c.in-Some.is
     (present.0, present.1) present.2 c.push.ensures.items (ap (λ n. here.inside.offset + n) c.header_len.ensures)
@@ -78,5 +78,5 @@ pub returns-clause-ok : goal.returns-clause-ok
 returns-clause-ok c =
     let here = c.loop-known in
     let space = most_link_exts - length here.link_exts.items in
-    extensions_end c.args.payload.offset c.args.payload.ether_type c.args.payload.slice.now here.link_exts.items space here.inside.offset
+    extensions_end c.args.offset c.args.ether_type c.args.slice.now here.link_exts.items space here.inside.offset
     here.inside.ether_type here.inside.slice.now here.invariant (inl (grind (arith, common_steps)))

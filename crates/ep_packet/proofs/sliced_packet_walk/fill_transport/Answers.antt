@@ -53,7 +53,8 @@ ipv6_end offset net packet extensions shown is place has after same =
     let present : offset + length (ipv6_slice_bytes packet) < 2 ^ 64 =
     subst (λ (n : NetSlice). offset + length (net_slice_bytes n) < 2 ^ 64) is place in
     let len = headers_len (ipv6_slice_bytes packet) (ipv6_header_slice_bytes packet.header) (ipv6_slice_content packet)
-    extensions (ipv6_slice_payload packet).bytes (net_payload_offset (net_layer_of (slice.Ipv6 packet))) refl after here in
+    extensions (ipv6_slice_payload packet).bytes (net_payload_offset (net_layer_of (slice.Ipv6 packet))) refl after here
+    in
     record {
       same = omega (arith, len, packet.header.bytes.whole, ap length same);
       within = omega (arith, len, packet.header.bytes.whole, ap length same, here, present);
