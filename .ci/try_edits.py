@@ -98,7 +98,8 @@ def verdict_of(status, printed, open_goal):
         return "PROVED" if status == 0 else "BAD"
     if open_goal is None:
         return "refused"
-    return "open" if re.search(rf"not prove[^\n]*`{re.escape(open_goal)}`", printed) else "LOOK"
+    # (without an answer for all clauses of a goal, each clause is a goal)
+    return "open" if re.search(rf"not prove[^\n]*`{re.escape(open_goal)}(-clause-[^`]*)?`", printed) else "LOOK"
 
 
 def tried(edit, options, row):

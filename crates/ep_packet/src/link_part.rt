@@ -52,14 +52,14 @@ impl<'a> LinkPart<'a> {
         ensures place { IfOk result (λ part. part.offset + length part.slice.now < 2 ^ 64) }
         ensures err { IfErr result (RefusesLinuxSll slice.now) }
     {
-        let frame = match LinuxSllSlice::from_slice(slice) {
-            Ok(frame) => frame,
+        let packet = match LinuxSllSlice::from_slice(slice) {
+            Ok(packet) => packet,
             Err(error) => return Err(error),
         };
-        let ether_type = frame.protocol_type().ether_type();
-        let payload = frame.payload_slice();
+        let ether_type = packet.protocol_type().ether_type();
+        let payload = packet.payload_slice();
         Ok(LinkPart {
-            link: LinkSlice::LinuxSll(frame),
+            link: LinkSlice::LinuxSll(packet),
             offset: LinuxSllHeader::LEN,
             ether_type,
             slice: payload,

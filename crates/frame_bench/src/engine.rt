@@ -197,5 +197,6 @@ fn step<R: Read, W: Write>(
     laws::answers();
     let count = reader.read(piece)?;
     session.take(&piece[..count])?;
-    writer.write_all(session.output.as_slice())
+    let answers = session.output.as_slice();
+    writer.write_all(answers)
 }

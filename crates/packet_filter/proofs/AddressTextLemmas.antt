@@ -1,5 +1,5 @@
 -- Lemmas about IP addresses as text: the text of an address is one word, and it is read as the address.
-use Rattle.std.proofs.Common.{◌≡◌, ℕ, zero, suc, ◌+◌, ◌-◌, ◌<◌, ◌≤◌, ◌^◌, ◌⊎◌, inl, inr, Bool, true, false, List, [], ◌∷◌, ◌++◌, length, replicate, codes, decimal, slice_index, refl, ap, sym, subst, ◌∙◌, arith, lt_of_lt_of_le, lit≤, lt-ltb, le-ltb, length-append}
+use Rattle.std.proofs.Common.{◌≡◌, ℕ, zero, suc, ◌+◌, ◌-◌, ◌<◌, ◌≤◌, ◌^◌, ◌⊎◌, inl, inr, Bool, true, false, List, [], ◌∷◌, ◌++◌, length, replicate, codes, decimal, slice_index, refl, ap, sym, subst, ◌∙◌, arith, lt_of_lt_of_le, lit≤, lt-ltb, le-ltb}
 use Rattle.std.specs.Char.{digit_value}
 use Rattle.std.specs.Net.Addr.{MatchIp, IsIpv4Addr, IsIpv6Addr, ipv4_octets, ipv6_segments, segments_of}
 use Rattle.std.specs.Net.Grammar.{IsColonHex, IsDotted, IsGroups, IsGroupsAfter, IsIpText}
@@ -10,8 +10,8 @@ use Rattle.std.specs.declared.net.ip_addr.IpAddr.TheVariants.{V4, V6}
 use Rattle.std.proofs.NetLemmas.Texts.{IsColonHex-ipv6_text, IsDotted-ipv4_text}
 use Rattle.std.proofs.lemmas.Int.Digits.{digits_value-lt}
 use Rattle.std.proofs.lemmas.Bool.{cases_lt}
-use Rattle.std.proofs.lemmas.List.{length-replicate}
 use Rattle.filter_tokens.specs.Tokens.{is_alphanumeric, is_run_byte}
+use Rattle.filter_language.proofs.WitnessLemmas.{segments_length}
 use Rattle.packet_filter.proofs.WordTextLemmas
 use Rattle.packet_filter.proofs.WordTextLemmas.{Each, IsWord, alphanumeric_of_capital, alphanumeric_of_digit, alphanumeric_of_small, digit_test, begins_longer, begins_with_digit, begins_word, colons, colons_append, decimal_begins, decimal_each, each_append, each_weaker, is_plain_byte, plain_of_alphanumeric, plain_run}
 
@@ -77,25 +77,12 @@ segments_below text segments (inr elided) =
     (below_zeros 65536 (8 - length elided.head - length elided.tail) (omega arith)))
     (groups_below true [] elided.tail_text elided.tail elided.tail_groups))
 
-eight_segments : (text segments : List ℕ) → IsColonHex text segments → length segments ≡ 8
-eight_segments text segments (inl full) = full.1
-eight_segments text segments (inr elided) =
-    let zeros : List ℕ = replicate (8 - length elided.head - length elided.tail) 0 in
-    omega (
-      arith,
-      ap length elided.value,
-      length-append (elided.head ++ zeros) elided.tail,
-      length-append elided.head zeros,
-      length-replicate {A = ℕ} (8 - length elided.head - length elided.tail) 0,
-      elided.room,
-    )
-
 -- The text of an address gives numbers in range.
 pub address_of_text : (text : List ℕ) (address : IpAddr) → IsIpText text address → IsAddress address
 address_of_text text (V4 a) is =
     (ap length is.value, below_at 256 (ipv4_octets a) (omega arith) (dotted_octets text (ipv4_octets a) is))
 address_of_text text (V6 a) is = (
-  eight_segments text (ipv6_segments a) is,
+  segments_length text (ipv6_segments a) is,
   below_at 65536 (ipv6_segments a) (omega arith) (segments_below text (ipv6_segments a) is),
 )
 

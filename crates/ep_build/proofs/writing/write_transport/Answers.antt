@@ -1,5 +1,6 @@
 use Rattle.std.proofs.Common.{ℕ, length, sym, ap, subst, refl, inr, arith}
 use Rattle.std.specs.Prelude.{is_ok}
+use Rattle.std.proofs.lemmas.Grind.{common_steps}
 use Rattle.std.proofs.lemmas.List.{length-append}
 use Rattle.ep_base.specs.Bytes.{AreBytes}
 use Rattle.ep_base.proofs.BytesLemmas.{AreBytes-back}
@@ -11,6 +12,9 @@ use Rattle.ep_build.specs.BuiltFrames.{link_with_type, link_part_bytes, transpor
 use Rattle.ep_build.proofs.WritingLemmas.{appended, are_bytes, chosen, joined, on_err, on_ok, prepared_back}
 use Rattle.ep_build.proofs.WritingLemmas.{prepared_frame, succeeds, transport_len}
 use Rattle.ep_build.proofs.writing.write_transport.Goals as goal
+
+pub returns-in_err-ether_type-clause-err : goal.returns-in_err-ether_type-clause-err
+returns-in_err-ether_type-clause-err g c = grind (arith, common_steps)
 
 pub returns-then-is_err-clause-refused : goal.returns-then-is_err-clause-refused
 returns-then-is_err-clause-refused g c = inr (refl, c.in_ok-ether_type.ensures.buildable)

@@ -1,4 +1,5 @@
-use Rattle.std.proofs.Common.{◌≡◌, ◌+◌, ◌-◌, ◌++◌, length, take, drop, subst, arith}
+use Rattle.std.proofs.Common.{rules, ◌≡◌, ◌+◌, ◌-◌, ◌++◌, length, take, drop, subst, arith}
+use Rattle.std.proofs.lemmas.Grind.{common_steps}
 use Rattle.std.proofs.lemmas.List.{length-take, length-drop}
 use Rattle.ep_base.specs.Bytes.{AreBytes, word_at}
 use Rattle.ep_base.proofs.BytesLemmas.{AreBytes-prefix}
@@ -27,3 +28,6 @@ returns-clause-ok c =
     let cut : word_at e 2 ≡ length e + length content =
     omega (arith, length-take (t - n) (drop n bytes), length-drop n bytes) in
     (drop t bytes, parts, packet_present bytes e content (drop t bytes) complete parts cut)
+
+pub returns-then-slice-total_len-clause-err : goal.returns-then-slice-total_len-clause-err
+returns-then-slice-total_len-clause-err c = search (rules, common_steps)

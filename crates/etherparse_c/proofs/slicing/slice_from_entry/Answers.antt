@@ -1,4 +1,5 @@
 use Rattle.std.proofs.Common.{◌<◌, ◌^◌, length, rules, sym, ◌∙◌, arith}
+use Rattle.std.proofs.lemmas.Grind.{common_steps}
 use Rattle.etherparse.specs.Layers.{layers_of}
 use Rattle.etherparse_c.specs.SliceAnswers.{entry_of}
 use Rattle.etherparse_c.proofs.AnswerLemmas.{sliced}
@@ -17,3 +18,6 @@ returns-in-Ok c =
     sliced (entry_of c.args.entry c.args.ether_type) c.in-Some.entry c.args.bytes.now layers described
     (sym c.entry_of.ensures ∙ c.in-Some.is)
     (c.frame_offsets.ensures.places c.in-Some.entry c.args.bytes.now layers described c.in-Ok.ensures.ok c.describe.ensures)
+
+pub returns-in-Err : goal.returns-in-Err
+returns-in-Err c = grind (arith, common_steps)

@@ -1,4 +1,5 @@
-use Rattle.std.proofs.Common.{rules, ◌≡◌, ◌≢◌, ◌∙◌, [], Bool, true, false, refl}
+use Rattle.std.proofs.Common.{rules, arith, ◌≡◌, ◌≢◌, ◌∙◌, [], Bool, true, false, refl}
+use Rattle.std.proofs.lemmas.Grind.{common_steps}
 use Rattle.std.proofs.lemmas.Result.{on_err_weaker, on_ok_weaker}
 use Rattle.std.proofs.KnownBytes.{Appends-nil, Consumes-nil}
 use Rattle.std.proofs.lemmas.List.Elements.{All-nil}
@@ -97,3 +98,9 @@ returns-clause-err g c =
     (remaining (inner_of c.pieces.reader)) (contents (inner_of c.args.writer.now)) contents_second contents_third
     c.pieces.invariant.0 (rw c.as_slice.ensures.value c.in_ok-finish.ensures) more in
     on_err_weaker c.write_all.result prefix c.write_all.ensures.prefix
+
+pub returns-clause-ended : goal.returns-clause-ended
+returns-clause-ended g c = grind (arith, common_steps)
+
+pub returns-clause-all_read : goal.returns-clause-all_read
+returns-clause-all_read g c = grind (arith, common_steps)

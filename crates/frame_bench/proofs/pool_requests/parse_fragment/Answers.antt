@@ -1,4 +1,5 @@
-use Rattle.std.proofs.Common.{◌≡◌, true}
+use Rattle.std.proofs.Common.{◌≡◌, true, arith}
+use Rattle.std.proofs.lemmas.Grind.{common_steps}
 use Rattle.frame_bench.proofs.RequestLemmas.{asked_fragment, asked_fragment_of, asked_from_channel}
 use Rattle.frame_bench.proofs.RequestLemmas.{asked_from_timestamp}
 use Rattle.frame_bench.proofs.pool_requests.parse_fragment.Goals as goal
@@ -35,3 +36,6 @@ returns-else-branch-clause-none c = λ request frame asks.
     (number.1, number.2) request frame asked in
     let holds : c.in_ok-decode.field-0 ≡ true = c.in_ok-decode.ensures.only frame is.1 in
     cc (holds, c.if-branch.false)
+
+pub returns-then-branch-clause-some : goal.returns-then-branch-clause-some
+returns-then-branch-clause-some c = grind (arith, common_steps)

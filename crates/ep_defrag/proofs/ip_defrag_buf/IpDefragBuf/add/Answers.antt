@@ -5,6 +5,12 @@ use Rattle.ep_defrag.specs.Buffers.{HoldsFragments, IsUnchanged}
 use Rattle.ep_defrag.proofs.BufferLemmas.{HoldsFragments-push, HoldsFragments-same, refusal_by_reach, failed_needs_memory}
 use Rattle.ep_defrag.proofs.ip_defrag_buf.IpDefragBuf.add.Goals as goal
 
+pub returns-in_err-range-clause-err : goal.returns-in_err-range-clause-err
+returns-in_err-range-clause-err c = search rules
+
+pub returns-in_err-range-clause-keeps : goal.returns-in_err-range-clause-keeps
+returns-in_err-range-clause-keeps c = search rules
+
 pub returns-clause-fits : goal.returns-clause-fits
 returns-clause-fits c accepted holds =
     refusal_by_reach c.args.self.now c.reach.result c.reach.ensures accepted

@@ -4,3 +4,6 @@ use Rattle.ep_defrag.proofs.ip_defrag_pool.IpDefragPool.process_sliced_packet.Go
 
 pub returns-in_default : goal.returns-in_default
 returns-in_default g c = grind (arith, common_steps)
+
+pub returns : goal.returns
+returns g c = grind (arith, common_steps)

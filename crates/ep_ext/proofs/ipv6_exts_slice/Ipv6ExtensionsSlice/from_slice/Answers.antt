@@ -7,7 +7,6 @@ use Rattle.ep_ext.specs.Chains.{ipv6}
 use Rattle.ep_ext.specs.Ipv6ExtensionSlices.{extension_slice_part, extension_slice_bytes}
 use Rattle.ep_ext.proofs.HeaderLawLemmas.{header_laws}
 use Rattle.ep_ext.proofs.ChainLemmas.{one_chain, refused_no_chain}
-use Rattle.ep_ext.proofs.RefusalLemmas.{part_at_start}
 use Rattle.ep_ext.proofs.ReadLemmas.{read_nothing, slice_more, slice_refused, slice_misplaced, all_slices}
 use Rattle.ep_ext.proofs.ipv6_exts_slice.Ipv6ExtensionsSlice.from_slice.Goals as goal
 use Rattle.ep_ext.proofs.ipv6_exts_slice.Ipv6ExtensionsSlice.from_slice.Goals.{else-eq-via-then-eq+else-offset-gt0, else-eq-via-else-eq}
@@ -35,11 +34,6 @@ returns-then-offset-gt0-clause-only c =
     c.loop-offset.fragmented c.loop-offset.invariant
     (eqb-true _ _ (sym c.eq.ensures ∙ c.if-eq.true)) c.if-offset-gt0.true in
     λ chain is. refused_no_chain header_laws ipv6 slices c.args.number.0 bytes fits _ refused chain is
-
-pub with_offset-requires : goal.with_offset-requires
-with_offset-requires c =
-    let start = part_at_start c.loop-offset.next.0 c.loop-offset.rest.now c.in-Err.error c.in-Err.ensures.err in
-    omega (arith, start)
 
 pub returns-in-Err-clause-err : goal.returns-in-Err-clause-err
 returns-in-Err-clause-err c =

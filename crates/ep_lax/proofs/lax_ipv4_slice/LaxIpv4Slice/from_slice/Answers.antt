@@ -1,4 +1,5 @@
 use Rattle.std.proofs.Common.{◌≡◌, ◌++◌, ℕ, List, Option, false, arith}
+use Rattle.std.proofs.lemmas.Grind.{common_steps}
 use Rattle.ep_base.specs.Bytes.{AreBytes}
 use Rattle.ep_base.specs.Readings.{slices}
 use Rattle.ep_base.specs.declared.err.ip_auth.HeaderSliceError.{HeaderSliceError}
@@ -9,6 +10,9 @@ use Rattle.ep_lax.specs.LaxSlices.{lax_ipv4_of, lax_ipv4_slice_bytes}
 use Rattle.ep_ip.proofs.LaxIpLemmas.{one_lax_ipv4, refused_no_lax_ipv4}
 use Rattle.ep_base.proofs.LaxSliceLemmas.{only_answer}
 use Rattle.ep_lax.proofs.lax_ipv4_slice.LaxIpv4Slice.from_slice.Goals as goal
+
+pub returns-clause-err : goal.returns-clause-err
+returns-clause-err c = grind (arith, common_steps)
 
 pub returns-clause-only : goal.returns-clause-only
 returns-clause-only c =

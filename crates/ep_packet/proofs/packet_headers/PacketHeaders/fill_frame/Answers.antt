@@ -1,5 +1,6 @@
-use Rattle.std.proofs.Common.{◌-◌, length, sym, subst}
+use Rattle.std.proofs.Common.{◌-◌, arith, length, sym, subst}
 use Rattle.std.specs.Prelude.{OnOk}
+use Rattle.std.proofs.lemmas.Grind.{common_steps}
 use Rattle.std.proofs.lemmas.Result.{IfOk-weaker}
 use Rattle.ep_link.specs.EtherPayloads.{EtherPayload}
 use Rattle.ep_packet.specs.declared.entry.Entry.{Entry}
@@ -31,3 +32,9 @@ returns-in-Ip-clause-ok c =
     (λ done fills. ip_fills bytes (headers_of c.args.self.now) (headers_of c.set_link-in-Ip.new.self) new
     c.set_link-in-Ip.ensures fills)
     c.fill_ip.ensures.ok)
+
+pub returns-in-LinuxSll-clause-ok : goal.returns-in-LinuxSll-clause-ok
+returns-in-LinuxSll-clause-ok c = grind (arith, common_steps)
+
+pub returns-in-LinuxSll-clause-err : goal.returns-in-LinuxSll-clause-err
+returns-in-LinuxSll-clause-err c = grind (arith, common_steps)

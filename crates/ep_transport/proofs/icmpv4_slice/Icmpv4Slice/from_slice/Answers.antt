@@ -1,4 +1,4 @@
-use Rattle.std.proofs.Common.{[], sym, arith}
+use Rattle.std.proofs.Common.{[], sym, arith, rules, tests}
 use Rattle.std.proofs.lemmas.Grind.{common_steps}
 use Rattle.std.proofs.lemmas.List.{append-nil}
 use Rattle.ep_transport.proofs.Icmpv4Lemmas.{icmpv4_is_read, kind_refuses_none}
@@ -16,3 +16,6 @@ returns-clause-only c message is = sym (icmpv4_is_read.is_read c.args.slice.now 
 
 pub returns-then-slice-lt-MIN_LEN-clause-err : goal.returns-then-slice-lt-MIN_LEN-clause-err
 returns-then-slice-lt-MIN_LEN-clause-err c = grind (arith, common_steps)
+
+pub returns-then-slice-lt-MIN_LEN-clause-only : goal.returns-then-slice-lt-MIN_LEN-clause-only
+returns-then-slice-lt-MIN_LEN-clause-only c = search (rules, tests, common_steps)
