@@ -10,6 +10,8 @@ use Rattle.packet_dump.proofs.RunLemmas.{run_begins, run_begins_saved, run_flush
 use Rattle.packet_dump.proofs.RunLemmas.{run_new, run_prefix, run_taken, run_written, sound_new}
 use Rattle.packet_dump.proofs.engine.run.Goals as goal
 
+-- ---- the loop
+
 pub chunks-init : goal.chunks-init
 chunks-init g c = record {
   ran = run_new c.args.session.now _ c.requires.new;
@@ -21,6 +23,28 @@ chunks-init g c = record {
   end = search rules;
   file_sound = c.requires.file_sound ∙ sym (ap is_failed c.requires.new.state ∙ sound_new _);
 }
+
+pub chunks-preserved : goal.chunks-preserved
+chunks-preserved g c =
+    let drained = c.in_ok-capture_state.ensures in
+    let taken = c.in_ok-take.ensures in
+    let counted = c.in_ok-count.ensures.counted in
+    let before = c.chunks.invariant.taken in
+    record {
+      ran = run_taken c.take.new.self (g.R.Read.remaining (inner_of c.read_chunk.new.reader))
+          (take c.in_ok-count.count (drop 4096 c.read_chunk.new.buffer.items))
+          (run_flushed c.flush.new.self (g.F.Write.contents (inner_of c.flush.new.file))
+          (run_lines c.drain.new.self _ (g.W.Write.contents (inner_of c.write_all.new.self)) _ c.chunks.invariant.ran
+          drained.drains c.as_slice.ensures.value c.in_ok-write_all.ensures.all)
+          c.flush.ensures.flushes c.flush.ensures.bytes) c.in_ok-count.ensures.bytes.0 taken.processed;
+      reader_sound = c.in_ok-count.ensures.failed;
+      writer_sound = c.in_ok-write_all.ensures.failed;
+      buffer = grind (arith, common_steps);
+      counts = taken.counts drained.counts;
+      taken = grind (arith, common_steps, taken.taken, drained.taken, counted, before);
+      end = c.in_ok-count.ensures.end;
+      file_sound = c.flush.ensures.failed ∙ ap (λ s. is_failed s.state) (sym taken.saving);
+    }
 
 -- ---- errors
 
@@ -131,27 +155,3 @@ returns-then-ends_run-clause-saved g c =
     let (saved, stored, (read, lines, consumed, appended, (packets, is_run, pool, are, count, saves))) =
     returns-then-ends_run-clause-one_list g c in
     (read, saved, consumed, stored, (packets, is_run, saves))
-
--- ---- the loop
-
-pub chunks-preserved : goal.chunks-preserved
-chunks-preserved g c =
-    let drained = c.in_ok-capture_state.ensures in
-    let taken = c.in_ok-take.ensures in
-    let counted = c.in_ok-count.ensures.counted in
-    let before = c.chunks.invariant.taken in
-    record {
-      ran = run_taken c.take.new.self (g.R.Read.remaining (inner_of c.read_chunk.new.reader))
-          (take c.in_ok-count.count (drop 4096 c.read_chunk.new.buffer.items))
-          (run_flushed c.flush.new.self (g.F.Write.contents (inner_of c.flush.new.file))
-          (run_lines c.drain.new.self _ (g.W.Write.contents (inner_of c.write_all.new.self)) _ c.chunks.invariant.ran
-          drained.drains c.as_slice.ensures.value c.in_ok-write_all.ensures.all)
-          c.flush.ensures.flushes c.flush.ensures.bytes) c.in_ok-count.ensures.bytes.0 taken.processed;
-      reader_sound = c.in_ok-count.ensures.failed;
-      writer_sound = c.in_ok-write_all.ensures.failed;
-      buffer = grind (arith, common_steps);
-      counts = taken.counts drained.counts;
-      taken = grind (arith, common_steps, taken.taken, drained.taken, counted, before);
-      end = c.in_ok-count.ensures.end;
-      file_sound = c.flush.ensures.failed ∙ ap (λ s. is_failed s.state) (sym taken.saving);
-    }
