@@ -99,7 +99,7 @@ def verdict_of(status, printed, open_goal):
     if open_goal is None:
         return "refused"
     # (without an answer for all clauses of a goal, each clause is a goal)
-    return "open" if re.search(rf"not prove[^\n]*`{re.escape(open_goal)}(-clause-[^`]*)?`", printed) else "LOOK"
+    return "open" if re.search(rf"(not prove|no proof)[^\n]*`{re.escape(open_goal)}(-clause-[^`]*)?`", printed) else "LOOK"
 
 
 def tried(edit, options, row):
